@@ -1,0 +1,10 @@
+pub mod Order
+pub mod Closed
+pub mod Least
+pub mod Reached
+pub mod Blame
+pub mod Listed
+pub mod Before
+pub mod Breaking
+pub mod Ends
+pub mod Lasting

@@ -1,0 +1,7 @@
+-- What a reader must believe of two nodes that two lines join
+pub mod Nodes
+pub mod Past
+pub mod Endings
+pub mod Kept
+pub mod Idle
+pub mod Example
