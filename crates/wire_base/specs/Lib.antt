@@ -1,0 +1,7 @@
+pub mod BlockCheck
+pub mod PlainWindow
+pub mod RingWindow
+pub mod Seq
+pub mod Side
+pub mod Tally
+pub mod Window
