@@ -1,0 +1,99 @@
+-- No LF stands in the words of a line, and they are no longer than a line may be.
+use Rattle.std.proofs.Common.{◌≡◌, ℕ, ◌+◌, ◌*◌, ◌/◌, ◌%◌, ◌^◌, ◌<◌, ◌≤◌, true, false, eqb, not, List, [], ◌∷◌, length, refl, arith, lit<}
+use Rattle.std.specs.Prelude.{codes}
+use Rattle.std.specs.Fmt.{decimal}
+use Rattle.std.specs.List.{list_all}
+use Rattle.std.proofs.lemmas.Bool.{and_parts, eqb-false, not-true}
+use Rattle.std.proofs.lemmas.List.{length-append}
+use Rattle.std.proofs.lemmas.Fmt.{length-decimal-le}
+use Rattle.hex.specs.Hex.{IsBytes, lower_digits}
+use Rattle.hex.proofs.HexLemmas.{length-encode_with}
+use Rattle.capture.specs.declared.limit.TheConstants.{MAX_HINT, MAX_LINE, MAX_UNIT, MAX_MESSAGE}
+use Rattle.capture.specs.declared.event.Event.{Event}
+use Rattle.capture.specs.declared.event.Event.TheVariants.{Start, Halt, Open, Accept, Reject, In, Up, Close}
+use Rattle.capture.specs.declared.record.Record.{Record}
+use Rattle.capture.specs.declared.record.Record.TheVariants.{Sent, Received, User}
+use Rattle.capture.specs.declared.hint.HintForm.{HintForm}
+use Rattle.capture.specs.declared.hint.HintForm.TheVariants.{Number}
+use Rattle.capture.specs.Text.{spaced, bytes_text, hint_text, address_text, event_text, record_text, head_text}
+use Rattle.capture.specs.Range.{IsLink, IsNode, EventNumbersFit, event_bytes, HasSpelling, IsRecord}
+use Rattle.capture.proofs.PartLaws.{HasNo, HasNo-append}
+use Rattle.capture.proofs.NumberLaws.{decimal_lacks}
+use Rattle.capture.proofs.AddressLaws.{address_lacks}
+use Rattle.capture.proofs.BytesLaws.{bytes_lack}
+use Rattle.capture.proofs.RecordLaws.{hint_lacks}
+
+-- by a test that computes
+lacks : (mark : ℕ) (text : List ℕ) → list_all (λ b. not (eqb b mark)) text ≡ true → HasNo mark text
+lacks mark [] h = tt
+lacks mark (b ∷ text) h =
+    let parts = and_parts (not (eqb b mark)) (list_all (λ c. not (eqb c mark)) text) h in
+    (eqb-false b mark (not-true _ parts.0), lacks mark text parts.1)
+
+spaced_lacks : (a b : List ℕ) → HasNo 10 a → HasNo 10 b → HasNo 10 (spaced a b)
+spaced_lacks a b p q = HasNo-append 10 a (32 ∷ b) p (λ e. absurd (omega arith), q)
+
+link_lacks : (link : ℕ) → IsLink link → HasNo 10 (decimal link)
+link_lacks link h = let most = h.most in decimal_lacks 10 link (omega arith) (omega arith)
+
+event_lacks : (e : Event) → EventNumbersFit e → IsBytes (event_bytes e) → HasNo 10 (event_text e)
+event_lacks Start h fits = lacks 10 (codes "start") refl
+event_lacks Halt h fits = lacks 10 (codes "halt") refl
+event_lacks (Open link) h fits = HasNo-append 10 (codes "open ") (decimal link) (lacks 10 (codes "open ") refl) (link_lacks link h)
+event_lacks (Accept partner link) h fits = HasNo-append 10 (codes "accept ") (spaced (decimal partner) (decimal link)) (lacks 10 (codes "accept ") refl) (spaced_lacks (decimal partner) (decimal link) (link_lacks partner h.0) (link_lacks link h.1))
+event_lacks (Reject partner link) h fits = HasNo-append 10 (codes "reject ") (spaced (decimal partner) (decimal link)) (lacks 10 (codes "reject ") refl) (spaced_lacks (decimal partner) (decimal link) (link_lacks partner h.0) (link_lacks link h.1))
+event_lacks (In link bytes) h fits = HasNo-append 10 (codes "in ") (spaced (decimal link) (bytes_text bytes)) (lacks 10 (codes "in ") refl) (spaced_lacks (decimal link) (bytes_text bytes) (link_lacks link h) (bytes_lack 10 bytes (lit< tt) fits))
+event_lacks (Up link bytes) h fits = HasNo-append 10 (codes "up ") (spaced (decimal link) (bytes_text bytes)) (lacks 10 (codes "up ") refl) (spaced_lacks (decimal link) (bytes_text bytes) (link_lacks link h) (bytes_lack 10 bytes (lit< tt) fits))
+event_lacks (Close link) h fits = HasNo-append 10 (codes "close ") (decimal link) (lacks 10 (codes "close ") refl) (link_lacks link h)
+
+pub record_lacks : (form : HintForm) (r : Record) → HasSpelling r → HasNo 10 (record_text form r)
+record_lacks form (Sent bytes) h = HasNo-append 10 (codes "s ") (bytes_text bytes) (lacks 10 (codes "s ") refl) (bytes_lack 10 bytes (lit< tt) h.bytes)
+record_lacks form (Received hint false bytes) h = HasNo-append 10 (codes "r ") (spaced (hint_text form hint) (bytes_text bytes)) (lacks 10 (codes "r ") refl) (spaced_lacks (hint_text form hint) (bytes_text bytes) (hint_lacks form 10 hint (lit< tt) h.numbers) (bytes_lack 10 bytes (lit< tt) h.bytes))
+record_lacks form (Received hint true bytes) h = HasNo-append 10 (codes "k ") (spaced (hint_text form hint) (bytes_text bytes)) (lacks 10 (codes "k ") refl) (spaced_lacks (hint_text form hint) (bytes_text bytes) (hint_lacks form 10 hint (lit< tt) h.numbers) (bytes_lack 10 bytes (lit< tt) h.bytes))
+record_lacks form (User event) h = HasNo-append 10 (codes "u ") (event_text event) (lacks 10 (codes "u ") refl) (event_lacks event h.numbers h.bytes)
+
+pub head_lacks : (own peer : ℕ) → IsNode own → IsNode peer → HasNo 10 (head_text own peer)
+head_lacks own peer p q = HasNo-append 10 (codes "ddcap 1 ") (spaced (address_text own) (address_text peer)) (lacks 10 (codes "ddcap 1 ") refl) (spaced_lacks (address_text own) (address_text peer) (address_lacks 10 own (lit< tt) p) (address_lacks 10 peer (lit< tt) q))
+
+-- ---- lengths
+
+decimal_short : (k n : ℕ) → 0 < k → n < 10 ^ k → n < 2 ^ 64 → length (decimal n) ≤ k
+decimal_short k n some small fits = length-decimal-le k n some small fits
+
+link_short : (link : ℕ) → IsLink link → length (decimal link) ≤ 5
+link_short link h = let most = h.most in length-decimal-le 5 link (lit< tt) (omega arith) (omega arith)
+
+bytes_short : (most : ℕ) (bytes : List ℕ) → 1 ≤ most → length bytes ≤ most → length (bytes_text bytes) ≤ 2 * most
+bytes_short most [] some h = omega arith
+bytes_short most (b ∷ bytes) some h = let len = length-encode_with lower_digits (b ∷ bytes) in omega arith
+
+spaced_short : (a b : List ℕ) (m n : ℕ) → length a ≤ m → length b ≤ n → length (spaced a b) ≤ m + n + 1
+spaced_short a b m n p q = omega (arith, length-append a (32 ∷ b))
+
+hint_short : (form : HintForm) (hint : ℕ) → hint ≤ MAX_HINT → length (hint_text form hint) ≤ 19
+hint_short Number hint small = let short = length-decimal-le 18 hint (lit< tt) (omega arith) (omega arith) in omega arith
+
+event_short : (e : Event) → EventNumbersFit e → length (event_bytes e) ≤ MAX_MESSAGE → length (event_text e) ≤ 131079
+event_short Start h short = omega arith
+event_short Halt h short = omega arith
+event_short (Open link) h short = let n = link_short link h in omega arith
+event_short (Accept partner link) h short = let n = spaced_short (decimal partner) (decimal link) 5 5 (link_short partner h.0) (link_short link h.1) in omega arith
+event_short (Reject partner link) h short = let n = spaced_short (decimal partner) (decimal link) 5 5 (link_short partner h.0) (link_short link h.1) in omega arith
+event_short (In link bytes) h short = let n = spaced_short (decimal link) (bytes_text bytes) 5 131070 (link_short link h) (bytes_short MAX_MESSAGE bytes (omega arith) short) in omega arith
+event_short (Up link bytes) h short = let n = spaced_short (decimal link) (bytes_text bytes) 5 131070 (link_short link h) (bytes_short MAX_MESSAGE bytes (omega arith) short) in omega arith
+event_short (Close link) h short = let n = link_short link h in omega arith
+
+pub record_short : (form : HintForm) (r : Record) → IsRecord r → length (record_text form r) ≤ MAX_LINE
+record_short form (Sent bytes) h = let n = bytes_short MAX_UNIT bytes (omega arith) h.short in omega arith
+record_short form (Received hint false bytes) h = let n = spaced_short (hint_text form hint) (bytes_text bytes) 19 32786 (hint_short form hint h.spelling.numbers) (bytes_short MAX_UNIT bytes (omega arith) h.short) in omega arith
+record_short form (Received hint true bytes) h = let n = spaced_short (hint_text form hint) (bytes_text bytes) 19 32786 (hint_short form hint h.spelling.numbers) (bytes_short MAX_UNIT bytes (omega arith) h.short) in omega arith
+record_short form (User event) h = let n = event_short event h.spelling.numbers h.short in omega arith
+
+address_short : (address : ℕ) → IsNode address → length (address_text address) ≤ 7
+address_short address h =
+    let area = length-decimal-le 2 (address / 1024) (lit< tt) (omega (arith, h.most_area)) (omega (arith, h.most_area)) in
+    let node = length-decimal-le 4 (address % 1024) (lit< tt) (omega arith) (omega arith) in
+    omega (arith, length-append (decimal (address / 1024)) (46 ∷ decimal (address % 1024)))
+
+pub head_short : (own peer : ℕ) → IsNode own → IsNode peer → length (head_text own peer) ≤ MAX_LINE
+head_short own peer p q = let n = spaced_short (address_text own) (address_text peer) 7 7 (address_short own p) (address_short peer q) in omega arith

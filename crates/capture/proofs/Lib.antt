@@ -1,0 +1,15 @@
+pub mod PartLaws
+pub mod NumberLaws
+pub mod AddressLaws
+pub mod BytesLaws
+pub mod Shown
+pub mod EventLaws
+pub mod RecordLaws
+pub mod HeadLaws
+pub mod BlockLaws
+pub mod LineLaws
+pub mod SeekLaws
+pub mod TakeLaws
+pub mod RangeLaws
+pub mod LackLaws
+pub mod TextLaws

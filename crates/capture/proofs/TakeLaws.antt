@@ -1,0 +1,126 @@
+-- One record's turn, and the head's.
+use Rattle.std.proofs.Common.{◌≡◌, ℕ, ◌+◌, ◌-◌, ◌<◌, ◌≤◌, Bool, true, false, cond, leb, List, [], ◌∷◌, ◌++◌, length, take, drop, Option, Some, None, Result, Ok, Err, refl, sym, ap, subst, ◌∙◌, inl, inr, arith}
+use Rattle.std.specs.Prelude.{IfSome}
+use Rattle.std.specs.Io.KnownBytes.{prepend_known, Consumes, Keeps, IsAtEnd}
+use Rattle.std.proofs.KnownBytes.{prepend_known-nil}
+use Rattle.std.proofs.lemmas.List.{append_assoc}
+use Rattle.capture.specs.declared.limit.TheConstants.{MAX_RECORDS}
+use Rattle.capture.specs.declared.fault.Departure.{Departure}
+use Rattle.capture.specs.declared.fault.Departure.TheVariants.{Syntax, TooLong, TooMany}
+use Rattle.capture.specs.declared.hint.HintForm.TheVariants.{Number}
+use Rattle.capture.specs.declared.record.Record.{Record}
+use Rattle.capture.specs.Text.{record_text, ended}
+use Rattle.capture.specs.Range.{IsRecord, record_bytes, most_bytes}
+use Rattle.capture.specs.Departing.{first_line, IsWhole, LineDeparts, WordsDepart, RecordDeparts, HeadWordsDepart, HeadDeparts}
+use Rattle.capture.specs.Reading.{record_at, head_at}
+use Rattle.capture.specs.Faulty.{fault_at}
+use Rattle.capture.specs.Reader.{FaultShows}
+use Rattle.capture.proofs.BytesLaws.{limited}
+use Rattle.capture.proofs.LineLaws.{line-split, line-append, if_known}
+use Rattle.capture.proofs.RecordLaws.{IsRecordOf, IsLongRecordOf, record_shows, record_again}
+use Rattle.capture.proofs.HeadLaws.{head_again}
+use Rattle.capture.proofs.Shown.{Shows}
+
+-- ---- the line that was found
+
+pub line_is : (unread : List ℕ) (len : ℕ) → IsWhole unread → len ≡ length (first_line unread) → take len unread ≡ first_line unread
+line_is unread len whole e = ap (λ (k : ℕ). take k unread) e ∙ sym (line-split unread whole.ended).1
+
+pub line_within : (unread : List ℕ) (len : ℕ) → IsWhole unread → len ≡ length (first_line unread) → len < length unread
+line_within unread len whole e = let lt = (line-split unread whole.ended).2 in omega arith
+
+-- it was the first of what was to come, and what stands behind it is to come now
+pub line_consumed : (unread : List ℕ) (len : ℕ) (before after : Option (List ℕ)) (text : List ℕ) → IsWhole unread → len ≡ length (first_line unread) → first_line unread ≡ text
+    → Keeps before (prepend_known unread after) → Consumes before (prepend_known (drop (len + 1) unread) after) (ended text)
+line_consumed unread len None after text whole e words kept = tt
+line_consumed unread len (Some xs) None text whole e words kept = absurd kept
+line_consumed unread len (Some xs) (Some rest) text whole e words kept =
+    let split : unread ≡ ended text ++ drop (len + 1) unread =
+    (line-split unread whole.ended).0 ∙ ap (λ (k : ℕ). first_line unread ++ 10 ∷ drop (k + 1) unread) (sym e)
+    ∙ ap (λ (t : List ℕ). t ++ 10 ∷ drop (len + 1) unread) words ∙ sym (append_assoc text (10 ∷ []) (drop (len + 1) unread)) in
+    sym kept ∙ ap (λ (t : List ℕ). t ++ rest) split ∙ append_assoc (ended text) (drop (len + 1) unread) rest
+
+-- a whole line stays as it is, whatever follows
+pub whole-append : (unread rest : List ℕ) → IsWhole unread → IsWhole (unread ++ rest) × (first_line (unread ++ rest) ≡ first_line unread)
+whole-append unread rest whole =
+    let same = line-append unread rest whole.ended in
+    (record { short = rw same.0 whole.short; ended = same.1 }, same.0)
+
+-- ---- its words
+
+record_from : (text : List ℕ) (r : Record) → IsRecordOf Number text r → IsRecord r × (text ≡ record_text Number r)
+record_from text r h = (record { spelling = record { numbers = h.1; bytes = h.2 }; short = h.3 }, h.0)
+
+pub record_ok : (text : List ℕ) (r : Record) → record_at Number text ≡ Ok r → IsRecord r × (text ≡ record_text Number r)
+record_ok text r e = record_from text r (subst (Shows (IsRecordOf Number text) (IsLongRecordOf Number text)) e (record_shows Number text))
+
+-- neither `Ok` nor `TooLong` is `Syntax`
+limited_apart : (most : ℕ) (bytes : List ℕ) (r : Record) → limited most bytes r ≡ Err Syntax → ⊥
+limited_apart most bytes r e = by_test (leb (length bytes) most) e
+  where
+    by_test : (t : Bool) → ◌≡◌ {A = Result Record Departure} (cond t (Ok r) (Err TooLong)) (Err Syntax) → ⊥
+    by_test true h = cc
+    by_test false h = cc
+
+pub words_depart : (kind : Departure) (text : List ℕ) → record_at Number text ≡ Err kind → WordsDepart kind text
+words_depart Syntax text e = λ r h spelled. limited_apart (most_bytes r) (record_bytes r) r (sym (record_again Number r h) ∙ ap (record_at Number) (sym spelled) ∙ e)
+words_depart TooLong text e =
+    let shown = subst (Shows (IsRecordOf Number text) (IsLongRecordOf Number text)) e (record_shows Number text) in
+    long_from shown.0 shown.1
+  where
+    long_from : (r : Record) → IsLongRecordOf Number text r → WordsDepart TooLong text
+    long_from r h = (r, record { numbers = h.1; bytes = h.2 }, (λ short. let long = h.3 in absurd (omega arith)), h.0)
+words_depart TooMany text e = subst (Shows (IsRecordOf Number text) (IsLongRecordOf Number text)) e (record_shows Number text)
+
+-- ---- departures of what was to come
+
+pub record_departs : (kind : Departure) (unread : List ℕ) (len taken : ℕ) (before after : Option (List ℕ)) → taken < MAX_RECORDS + 1 → 1 ≤ taken → IsWhole unread → len ≡ length (first_line unread)
+    → Keeps before (prepend_known unread after) → record_at Number (take len unread) ≡ Err kind → IfSome before (RecordDeparts (taken - 1) kind)
+record_departs kind unread len taken before after lt some whole e kept read =
+    let departs = words_depart kind (first_line unread) (ap (record_at Number) (sym (line_is unread len whole e)) ∙ read) in
+    if_known before after unread (RecordDeparts (taken - 1) kind) kept (λ rest.
+    let same = whole-append unread rest whole in
+    inr (omega arith, same.0, subst (WordsDepart kind) (sym same.1) departs))
+
+pub line_departs : (kind : Departure) (taken : ℕ) (bytes : List ℕ) → 1 ≤ taken → LineDeparts (MAX_RECORDS + 1) taken kind bytes → RecordDeparts (taken - 1) kind bytes
+line_departs TooMany taken bytes some h = let le = h.0 in inl (omega arith, h.1)
+line_departs TooLong taken bytes some h = let lt = h.0 in inl (omega arith, h.1)
+line_departs Syntax taken bytes some h = let lt = h.0 in inl (omega arith, h.1, h.2, h.3)
+
+pub lines_depart : (kind : Departure) (taken : ℕ) (before : Option (List ℕ)) → 1 ≤ taken → IfSome before (LineDeparts (MAX_RECORDS + 1) taken kind) → IfSome before (RecordDeparts (taken - 1) kind)
+lines_depart kind taken None some h = tt
+lines_depart kind taken (Some bytes) some h = line_departs kind taken bytes some h
+
+pub shown_at : (departs : Departure → List ℕ → Type 0) (number : ℕ) (before : Option (List ℕ)) (kind : Departure) → IfSome before (departs kind) → FaultShows departs number before (fault_at kind number)
+shown_at departs number before Syntax h = (refl, h)
+shown_at departs number before TooLong h = (refl, h)
+shown_at departs number before TooMany h = (refl, h)
+
+-- ---- the head
+
+pub head_line_departs : (kind : Departure) (bytes : List ℕ) → LineDeparts 1 0 kind bytes → HeadDeparts kind bytes
+head_line_departs TooMany bytes h = let le = h.0 in absurd (omega arith)
+head_line_departs TooLong bytes h = h.1
+head_line_departs Syntax bytes h = inl (h.2, h.3)
+
+pub head_lines_depart : (kind : Departure) (before : Option (List ℕ)) → IfSome before (LineDeparts 1 0 kind) → IfSome before (HeadDeparts kind)
+head_lines_depart kind None h = tt
+head_lines_depart kind (Some bytes) h = head_line_departs kind bytes h
+
+pub no_head : (unread : List ℕ) (len : ℕ) (before after : Option (List ℕ)) → IsWhole unread → len ≡ length (first_line unread) → Keeps before (prepend_known unread after)
+    → head_at (take len unread) ≡ None → IfSome before (HeadDeparts Syntax)
+no_head unread len before after whole e kept read =
+    let none : head_at (first_line unread) ≡ None = ap head_at (sym (line_is unread len whole e)) ∙ read in
+    let departs : HeadWordsDepart Syntax (first_line unread) = λ own peer p q spelled. absurd (let some : None ≡ Some (own, peer) = sym none ∙ ap head_at spelled ∙ head_again own peer p q in cc) in
+    if_known before after unread (HeadDeparts Syntax) kept (λ rest.
+    let same = whole-append unread rest whole in
+    inr (same.0, subst (HeadWordsDepart Syntax) (sym same.1) departs))
+
+-- a text with no line has no head
+pub empty_head : (before : Option (List ℕ)) → IsAtEnd before → IfSome before (HeadDeparts Syntax)
+empty_head None end = tt
+empty_head (Some xs) end = rw end (inl (omega arith, refl))
+
+-- nothing was read ahead
+pub start_kept : (unread : List ℕ) (before after : Option (List ℕ)) → unread ≡ [] → Keeps (prepend_known unread before) after → Keeps before after
+start_kept unread before after e h = subst (λ (a : Option (List ℕ)). Keeps a after) (ap (λ (t : List ℕ). prepend_known t before) e ∙ prepend_known-nil before) h

@@ -1,0 +1,15 @@
+-- The block of a reader of lines.
+use Rattle.std.specs.Prelude.{◌≡◌, ◌≤◌, length}
+use Rattle.std.specs.List.{between}
+use Rattle.capture.specs.declared.line_reader.LineReader.TheInside.{Inside}
+use Rattle.capture.specs.declared.line_reader.TheConstants.{BLOCK}
+use Rattle.capture.specs.Lines.{LineState}
+
+-- the bytes read ahead are those from start to end
+abbrev pub line_state : Inside → LineState
+line_state r = record { taken = r.taken; unread = between r.start r.end r.block.items }
+
+pub record IsBlock (r : Inside) : Type 0 where
+  pub order : r.start ≤ r.end
+  pub within : r.end ≤ BLOCK
+  pub whole : length r.block.items ≡ BLOCK

@@ -1,0 +1,57 @@
+-- How the first line of some bytes departs from the format, and with which kind of departure.
+use Rattle.std.specs.Prelude.{◌≡◌, ◌≢◌, ℕ, ◌<◌, ◌≤◌, ◌==◌, ◌⊎◌, Bool, true, false, if◌then◌else◌, List, [], ◌∷◌, length}
+use Rattle.capture.specs.declared.limit.TheConstants.{MAX_LINE, MAX_RECORDS}
+use Rattle.capture.specs.declared.fault.Departure.{Departure}
+use Rattle.capture.specs.declared.fault.Departure.TheVariants.{Syntax, TooLong, TooMany}
+use Rattle.capture.specs.declared.record.Record.{Record}
+use Rattle.capture.specs.declared.hint.HintForm.TheVariants.{Number}
+use Rattle.capture.specs.Text.{record_text, head_text}
+use Rattle.capture.specs.Range.{IsNode, IsShort, HasSpelling}
+
+-- the first line: what stands before the first LF, or before the end
+abbrev pub first_line : List ℕ → List ℕ
+first_line [] = []
+first_line (b ∷ bs) = if b == 10 then [] else b ∷ first_line bs
+
+-- whether the first line has its LF
+abbrev pub has_lf : List ℕ → Bool
+has_lf [] = false
+has_lf (b ∷ bs) = if b == 10 then true else has_lf bs
+
+-- the first line is whole, and no longer than a line may be
+pub record IsWhole (bytes : List ℕ) : Type 0 where
+  pub short : length (first_line bytes) ≤ MAX_LINE
+  pub ended : has_lf bytes ≡ true
+
+-- The first line departs before a word of it is read, in a text that may have `most` lines and had `taken`
+-- before: it is one too many, whatever it holds; or else longer than a line may be; or else without its LF.
+abbrev pub LineDeparts : ℕ → ℕ → Departure → List ℕ → Type 0
+LineDeparts most taken TooMany bytes = (most ≤ taken) × (bytes ≢ [])
+LineDeparts most taken TooLong bytes = (taken < most) × (MAX_LINE < length (first_line bytes))
+LineDeparts most taken Syntax bytes = (taken < most) × (bytes ≢ []) × (length (first_line bytes) ≤ MAX_LINE) × (has_lf bytes ≡ false)
+
+-- The words of a line depart: they are no record's, of any length of BYTES; or they are a record's but for too long a BYTES.
+abbrev pub WordsDepart : Departure → List ℕ → Type 0
+WordsDepart TooMany line = ⊥
+WordsDepart TooLong line = (r : Record) × HasSpelling r × ¬ (IsShort r) × (line ≡ record_text Number r)
+WordsDepart Syntax line = (r : Record) → HasSpelling r → line ≡ record_text Number r → ⊥
+
+-- The first line of what is to come departs, after this many records.
+abbrev pub RecordDeparts : ℕ → Departure → List ℕ → Type 0
+RecordDeparts records kind bytes =
+    LineDeparts MAX_RECORDS records kind bytes
+    ⊎ ((records < MAX_RECORDS) × IsWhole bytes × WordsDepart kind (first_line bytes))
+
+-- The words of a head depart: they are no head's.
+abbrev pub HeadWordsDepart : Departure → List ℕ → Type 0
+HeadWordsDepart TooMany line = ⊥
+HeadWordsDepart TooLong line = ⊥
+HeadWordsDepart Syntax line = (own peer : ℕ) → IsNode own → IsNode peer → line ≡ head_text own peer → ⊥
+
+-- The first line of a text departs from a head: it is too long; or without its LF, as in a text with no line; or no head's.
+abbrev pub HeadDeparts : Departure → List ℕ → Type 0
+HeadDeparts TooMany bytes = ⊥
+HeadDeparts TooLong bytes = MAX_LINE < length (first_line bytes)
+HeadDeparts Syntax bytes =
+    ((length (first_line bytes) ≤ MAX_LINE) × (has_lf bytes ≡ false))
+    ⊎ (IsWhole bytes × HeadWordsDepart Syntax (first_line bytes))

@@ -1,0 +1,10 @@
+pub mod Text
+pub mod Range
+pub mod Departing
+pub mod Reading
+pub mod Lines
+pub mod Block
+pub mod Faulty
+pub mod Reader
+pub mod Captured
+pub mod Writing

@@ -1,0 +1,33 @@
+-- What a contract sees of a reader of lines, and what one call of it finds.
+use Rattle.std.specs.Prelude.{◌≡◌, ◌≢◌, ℕ, ◌<◌, ◌≤◌, Bool, MatchBool, slice_index, List, [], ◌++◌, length, Option, Some, None, Result, Ok, Err, IfSome}
+use Rattle.std.specs.Io.KnownBytes.{prepend_known, Consumes, Keeps, IsAtEnd}
+use Rattle.capture.specs.declared.fault.LineFault.{LineFault}
+use Rattle.capture.specs.declared.fault.LineFault.TheVariants.{Departs, Read}
+use Rattle.capture.specs.Departing.{first_line, IsWhole, LineDeparts}
+
+-- how many lines were taken, and the bytes that were read ahead
+pub record LineState : Type 0 where
+  pub taken : ℕ
+  pub unread : List ℕ
+
+-- what is to come: what was read ahead, and then what the reader has left
+abbrev pub to_come : List ℕ → Option (List ℕ) → Option (List ℕ)
+to_come unread left = prepend_known unread left
+
+-- What a search for the next line found, in a text that may have `most` lines. `before` was to come before it and
+-- `after` is to come now, where the reader tells its bytes. A line is found where it was read ahead whole.
+abbrev pub FindsLine : ℕ → LineState → Option (List ℕ) → Option (List ℕ) → Result (Option ℕ) LineFault → Type 0
+FindsLine most state before after (Ok (Some len)) =
+    (state.taken < most) × IsWhole state.unread × (len ≡ length (first_line state.unread)) × Keeps before after
+FindsLine most state before after (Ok None) = IsAtEnd before
+FindsLine most state before after (Err (Departs kind)) = IfSome before (LineDeparts most state.taken kind)
+FindsLine most state before after (Err Read) = Unit {0}
+
+-- A read moved bytes from the reader behind those read ahead, and none only where the reader is at its end.
+abbrev pub ReadsAhead : List ℕ → List ℕ → Option (List ℕ) → Option (List ℕ) → Bool → Type 0
+ReadsAhead old new before after more = (piece : List ℕ) × (new ≡ old ++ piece) × Consumes before after piece × MatchBool more (0 < length piece) ((piece ≡ []) × IsAtEnd after)
+
+-- the first LF from `searched` on
+abbrev pub FindsLf : ℕ → List ℕ → Option ℕ → Type 0
+FindsLf searched unread None = (j : ℕ) → searched ≤ j → j < length unread → slice_index unread j ≢ 10
+FindsLf searched unread (Some at) = (searched ≤ at) × (at < length unread) × (slice_index unread at ≡ 10) × ((j : ℕ) → searched ≤ j → j < at → slice_index unread j ≢ 10)

@@ -1,0 +1,55 @@
+-- What a contract sees of a reader of a capture, and what one call of it gives.
+use Rattle.std.specs.Prelude.{◌≡◌, ℕ, ◌+◌, ◌-◌, ◌<◌, ◌≤◌, List, Option, Some, None, Result, Ok, Err, IfSome}
+use Rattle.std.specs.Io.KnownBytes.{Consumes, IsAtEnd}
+use Rattle.capture.specs.declared.limit.TheConstants.{MAX_RECORDS}
+use Rattle.capture.specs.declared.fault.Departure.{Departure}
+use Rattle.capture.specs.declared.fault.Departure.TheVariants as kinds
+use Rattle.capture.specs.declared.fault.CaptureFault.{CaptureFault}
+use Rattle.capture.specs.declared.fault.CaptureFault.TheVariants.{Syntax, TooLong, TooMany, Read, OutOfMemory, Failed}
+use Rattle.capture.specs.declared.phase.Phase.{Phase}
+use Rattle.capture.specs.declared.phase.Phase.TheVariants as phases
+use Rattle.capture.specs.declared.record.Record.{Record}
+use Rattle.capture.specs.Text.{head_line, record_line}
+use Rattle.capture.specs.Range.{IsNode, IsRecord}
+use Rattle.capture.specs.Departing.{HeadDeparts, RecordDeparts}
+use Rattle.capture.specs.Lines.{LineState, to_come}
+
+-- the head, the count of records so far, whether more may come, and the bytes read ahead
+pub record CaptureState : Type 0 where
+  pub own : ℕ
+  pub peer : ℕ
+  pub records : ℕ
+  pub phase : Phase
+  pub unread : List ℕ
+
+-- A fault names the line at hand, by its number, and says how the first line of what was to come departs.
+abbrev pub FaultShows : (Departure → List ℕ → Type 0) → ℕ → Option (List ℕ) → CaptureFault → Type 0
+FaultShows departs number before (Syntax line) = (line ≡ number) × IfSome before (departs kinds.Syntax)
+FaultShows departs number before (TooLong line) = (line ≡ number) × IfSome before (departs kinds.TooLong)
+FaultShows departs number before (TooMany line) = (line ≡ number) × IfSome before (departs kinds.TooMany)
+FaultShows departs number before Read = Unit {0}
+FaultShows departs number before OutOfMemory = Unit {0}
+FaultShows departs number before Failed = ⊥
+
+-- What `open` gives, where these bytes were to come, and these are.
+abbrev pub Opens : Option (List ℕ) → Option (List ℕ) → Result CaptureState CaptureFault → Type 0
+Opens before after (Ok state) =
+    IsNode state.own × IsNode state.peer × (state.records ≡ 0) × (state.phase ≡ phases.Reading)
+    × Consumes before (to_come state.unread after) (head_line state.own state.peer)
+Opens before after (Err fault) = FaultShows HeadDeparts 1 before fault
+
+-- The lines taken and the bytes to come, before and after one record's turn.
+abbrev pub TakesRecord : LineState → LineState → Option (List ℕ) → Option (List ℕ) → Result (Option Record) CaptureFault → Type 0
+TakesRecord old new before after (Ok (Some r)) =
+    IsRecord r × (old.taken ≤ MAX_RECORDS) × (new.taken ≡ old.taken + 1) × Consumes before after (record_line r)
+TakesRecord old new before after (Ok None) = IsAtEnd before × (new.taken ≡ old.taken)
+TakesRecord old new before after (Err fault) = FaultShows (RecordDeparts (old.taken - 1)) (old.taken + 1) before fault × (new.taken ≡ old.taken)
+
+-- What `next` gives while more may come: a record, whose line was the first of what was to come; the end, where
+-- nothing was to come; or a fault of the line at hand.
+abbrev pub NextGives : CaptureState → CaptureState → Option (List ℕ) → Option (List ℕ) → Result (Option Record) CaptureFault → Type 0
+NextGives old new before after (Ok (Some r)) =
+    IsRecord r × (old.records < MAX_RECORDS) × (new.records ≡ old.records + 1) × (new.phase ≡ phases.Reading) × Consumes before after (record_line r)
+NextGives old new before after (Ok None) = IsAtEnd before × (new.records ≡ old.records) × (new.phase ≡ phases.Ended)
+NextGives old new before after (Err fault) =
+    FaultShows (RecordDeparts old.records) (old.records + 2) before fault × (new.records ≡ old.records) × (new.phase ≡ phases.Failed)

@@ -1,0 +1,49 @@
+//! The text of a capture, format 1: read and written line by line.
+//!
+//! The crate decides which bytes are a capture, which head and records they spell, and where and how
+//! a text departs from the format. It never touches a file or a clock, nor what a record means: what a
+//! unit says, and whether a node may have done it, is for the crates above.
+#![tactic(auto)]
+
+mod address;
+mod bytes;
+mod digits;
+mod event;
+mod event_words;
+mod fault;
+mod hint;
+mod laws;
+mod limit;
+mod line_reader;
+mod line_words;
+mod number;
+mod part;
+mod phase;
+mod reader;
+mod record;
+mod record_words;
+mod writer;
+
+pub use address::{address_of, is_node};
+pub use bytes::Bytes;
+pub use digits::bytes_of;
+pub use event::Event;
+pub use event_words::event_of;
+pub use fault::{CaptureFault, Departure, LineFault, PartFault, WriteFault};
+pub use hint::HintForm;
+pub use laws::{
+    begun_list, no_head_begins_another, no_line_begins_another, no_line_departs, one_departure,
+    one_head_and_list, written_is_read,
+};
+pub use limit::{MAX_HINT, MAX_LINE, MAX_LINK, MAX_MESSAGE, MAX_RECORDS, MAX_UNIT};
+pub use line_reader::LineReader;
+pub use number::{number_of, positive_of};
+pub use part::{after, cut_at};
+pub use phase::Phase;
+pub use reader::CaptureReader;
+pub use record::Record;
+pub use record_words::{head_of, record_of};
+pub use writer::{write_head, write_record};
+
+#[cfg(test)]
+mod tests;

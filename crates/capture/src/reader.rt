@@ -1,0 +1,163 @@
+//! Reading a capture, record by record.
+
+ghost use Rattle.std.specs.Prelude.{OnOk, ◌≡◌, ◌≤◌, ◌+◌, Ok, Err, None};
+ghost use Rattle.wire_base.specs.Tally.{CountedFault, tally_faults, tally_lent};
+ghost use Rattle.capture.specs.declared.limit.TheConstants.{MAX_RECORDS};
+ghost use Rattle.capture.specs.Lines.{to_come};
+ghost use Rattle.capture.specs.Reader.{NextGives, Opens, TakesRecord};
+
+use crate::fault::{CaptureFault, Departure, LineFault, PartFault};
+use crate::hint::HintForm;
+use crate::limit::MAX_RECORDS;
+use crate::line_reader::LineReader;
+use crate::phase::Phase;
+use crate::record::Record;
+use crate::record_words::{head_of, record_of};
+use std::alloc::Global;
+use std::io::Read;
+use std::marker::Model;
+use wire_base::Tally;
+
+/// Reads the head of a capture and then its records, one a call, from a reader that each call is
+/// lent, the same throughout.
+///
+/// A reader that failed stays failed: after any fault every call answers `Failed`. After the end
+/// every call answers `Ok(None)`.
+#[derive(Drop)]
+pub struct CaptureReader {
+    alloc: Global,
+    lines: LineReader,
+    own: u16,
+    peer: u16,
+    phase: Phase,
+}
+
+impl Model for CaptureReader {
+    ghost use Rattle.capture.specs.Reader.{CaptureState};
+
+    ghost Value = { CaptureState };
+
+    ghost use Rattle.capture.specs.Captured.{capture_state, IsCounted};
+
+    ghost view = { capture_state };
+
+    ghost invariant = { IsCounted };
+}
+
+// One record's turn.
+fn take_record<R: Read>(
+    alloc: Global,
+    lines: &mut LineReader,
+    reader: &mut Tally<R>,
+) -> Result<Option<Record>, CaptureFault>
+    requires head { 1 ≤ lines.old.taken }
+    requires few { lines.old.taken ≤ MAX_RECORDS + 1 }
+    ensures takes { TakesRecord lines.old lines.new
+        (to_come lines.old.unread (R.remaining (tally_lent reader.old)))
+        (to_come lines.new.unread (R.remaining (tally_lent reader.new))) result }
+    ensures read { result ≡ Err CaptureFault.Read → CountedFault (tally_faults reader.old) (tally_faults reader.new) }
+    ensures faults { OnOk result (tally_faults reader.new ≡ tally_faults reader.old) }
+{
+    let number = lines.taken() + 1;
+    match lines.next(MAX_RECORDS + 1, reader) {
+        Ok(Some(len)) => match record_of(alloc, HintForm::Number, lines.line(len)) {
+            Ok(record) => {
+                lines.skip(len);
+                Ok(Some(record))
+            }
+            Err(PartFault::Departs(kind)) => Err(CaptureFault::of_line(kind, number)),
+            Err(PartFault::OutOfMemory) => Err(CaptureFault::OutOfMemory),
+        },
+        Ok(None) => Ok(None),
+        Err(LineFault::Departs(kind)) => Err(CaptureFault::of_line(kind, number)),
+        Err(LineFault::Read) => Err(CaptureFault::Read),
+    }
+}
+
+impl CaptureReader {
+    /// Reads the head, `ddcap 1 OWN PEER`.
+    ///
+    /// Faults: `TooLong { line: 1 }` where more than 131,081 bytes stand before the first LF or the
+    /// end; `Syntax { line: 1 }` where the first line has no LF, as in an empty text, or is no head;
+    /// `Read` where the reader failed; `OutOfMemory` where there is no memory for the reader's block.
+    pub fn open<R: Read>(
+        alloc: Global,
+        reader: &mut Tally<R>,
+    ) -> Result<CaptureReader, CaptureFault>
+        ensures opens { Opens (R.remaining (tally_lent reader.old)) (R.remaining (tally_lent reader.new)) result }
+        ensures read { result ≡ Err CaptureFault.Read → CountedFault (tally_faults reader.old) (tally_faults reader.new) }
+        ensures faults { OnOk result (tally_faults reader.new ≡ tally_faults reader.old) }
+    {
+        let Ok(mut lines) = LineReader::new(alloc) else {
+            return Err(CaptureFault::OutOfMemory);
+        };
+        match lines.next(1, reader) {
+            Ok(Some(len)) => match head_of(lines.line(len)) {
+                Some((own, peer)) => {
+                    lines.skip(len);
+                    Ok(CaptureReader {
+                        alloc,
+                        lines,
+                        own,
+                        peer,
+                        phase: Phase::Reading,
+                    })
+                }
+                None => Err(CaptureFault::Syntax { line: 1 }),
+            },
+            Ok(None) => Err(CaptureFault::Syntax { line: 1 }),
+            Err(LineFault::Departs(kind)) => Err(CaptureFault::of_line(kind, 1)),
+            Err(LineFault::Read) => Err(CaptureFault::Read),
+        }
+    }
+
+    /// The address of the node whose capture it is. Takes no memory.
+    pub fn own(&self) -> u16
+        ensures { result ≡ self.now.own }
+    {
+        self.own
+    }
+
+    /// The address of the node at the other end of the line. Takes no memory.
+    pub fn peer(&self) -> u16
+        ensures { result ≡ self.now.peer }
+    {
+        self.peer
+    }
+
+    /// Reads the next record, or finds that none is left.
+    ///
+    /// Record i, counted from 0, stands on line i + 2. Faults of a line, in the order in which they
+    /// are tested: `TooMany` after 1,000,000,000,000 records, whatever the line holds; `TooLong` at
+    /// more than 131,081 bytes before its LF or the end; `Syntax` where it has no LF; `Syntax` where
+    /// it is no record's; `TooLong` where it is one but for too many bytes. `OutOfMemory` comes where
+    /// there is no memory for the bytes of the record, and `Read` where the reader failed.
+    pub fn next<R: Read>(&mut self, reader: &mut Tally<R>) -> Result<Option<Record>, CaptureFault>
+        ensures gives { self.old.phase ≡ Phase.Reading → NextGives self.old self.new
+            (to_come self.old.unread (R.remaining (tally_lent reader.old)))
+            (to_come self.new.unread (R.remaining (tally_lent reader.new))) result }
+        ensures ended { self.old.phase ≡ Phase.Ended → (result ≡ Ok None) × (self.new ≡ self.old) }
+        ensures failed { self.old.phase ≡ Phase.Failed → (result ≡ Err CaptureFault.Failed) × (self.new ≡ self.old) }
+        ensures head { (self.new.own ≡ self.old.own) × (self.new.peer ≡ self.old.peer) }
+        ensures read { result ≡ Err CaptureFault.Read → CountedFault (tally_faults reader.old) (tally_faults reader.new) }
+        ensures faults { OnOk result (tally_faults reader.new ≡ tally_faults reader.old) }
+    {
+        match self.phase {
+            Phase::Reading => {}
+            Phase::Ended => return Ok(None),
+            Phase::Failed => return Err(CaptureFault::Failed),
+        }
+        let alloc = self.alloc;
+        match take_record(alloc, &mut self.lines, reader) {
+            Ok(Some(record)) => Ok(Some(record)),
+            Ok(None) => {
+                self.phase = Phase::Ended;
+                Ok(None)
+            }
+            Err(fault) => {
+                self.phase = Phase::Failed;
+                Err(fault)
+            }
+        }
+    }
+}

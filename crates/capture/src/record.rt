@@ -1,0 +1,45 @@
+//! One record of a capture: what one side saw.
+
+use crate::bytes::Bytes;
+use crate::event::Event;
+use crate::limit::{MAX_HINT, MAX_UNIT};
+
+/// What one side of the line saw.
+#[derive(Debug, Drop)]
+pub enum Record {
+    /// The node sent this unit, of at most 16,393 bytes.
+    Sent(Bytes),
+    /// These bytes came, at most 16,393.
+    Received {
+        /// Which unit of the other side came, counted from 0, as the recorder has it: at most
+        /// 999,999,999,999,999,999.
+        hint: u64,
+        /// Whether the node kept the packet in the unit.
+        kept: bool,
+        /// The bytes as they came.
+        bytes: Bytes,
+    },
+    /// The node's user did something, or got something.
+    User(Event),
+}
+
+impl Record {
+    ghost use Rattle.std.specs.Prelude.{◌↔◌, IsTrue};
+    ghost use Rattle.capture.specs.Range.{IsRecord};
+
+    /// Whether the record has a line: its hint is at most 999,999,999,999,999,999, its unit has at
+    /// most 16,393 bytes, and its event is in range. Takes no memory.
+    pub fn in_range(&self) -> bool
+        ensures { IsTrue result ↔ IsRecord self.now }
+    {
+        match self {
+            Record::Sent(bytes) => bytes.as_slice().len() <= MAX_UNIT,
+            Record::Received {
+                hint,
+                kept: _,
+                bytes,
+            } => { *hint <= MAX_HINT && bytes.as_slice().len() <= MAX_UNIT }
+            Record::User(event) => event.in_range(),
+        }
+    }
+}

@@ -1,0 +1,114 @@
+use crate::{Bytes, Event, Record, address_of, is_node, number_of, positive_of};
+use std::test::Fail;
+
+#[test]
+fn a_number_has_no_leading_zero(rt: HostRuntime) {
+    let rows: [(&[u8], u64, Option<u64>); 12] = [
+        (b"0", 0, Some(0)),
+        (b"7", 6, None),
+        (b"7", 7, Some(7)),
+        (b"120", 999, Some(120)),
+        (b"07", 999, None),
+        (b"00", 999, None),
+        (b"", 999, None),
+        (b"+7", 999, None),
+        (b"7 ", 999, None),
+        (
+            b"999999999999999999",
+            999_999_999_999_999_999,
+            Some(999_999_999_999_999_999),
+        ),
+        (b"1000000000000000000", u64::MAX, None),
+        (b"18446744073709551616", u64::MAX, None),
+    ];
+    for (text, most, answer) in rows {
+        assert_eq!(rt; number_of(text, most), answer, "{text:?}");
+    }
+    assert_eq!(rt; positive_of(b"0", 9), None, "0 is not positive");
+    assert_eq!(rt; positive_of(b"9", 9), Some(9));
+}
+
+#[test]
+fn an_address_is_an_area_and_a_node(rt: HostRuntime) {
+    let rows: [(&[u8], Option<u16>); 8] = [
+        (b"1.1", Some(1025)),
+        (b"63.1023", Some(65_535)),
+        (b"0.1", None),
+        (b"64.1", None),
+        (b"1.0", None),
+        (b"1.1024", None),
+        (b"1", None),
+        (b"1.1.1", None),
+    ];
+    for (text, answer) in rows {
+        assert_eq!(rt; address_of(text), answer, "{text:?}");
+    }
+    for (address, answer) in [
+        (0, false),
+        (1023, false),
+        (1024, false),
+        (1025, true),
+        (2048, false),
+        (65_535, true),
+    ] {
+        assert_eq!(rt; is_node(address), answer, "{address}");
+    }
+}
+
+#[test]
+fn a_record_is_in_range_up_to_its_limits(rt: HostRuntime) -> Result<(), Fail> {
+    for (count, unit, message) in [
+        (0, true, true),
+        (16_393, true, true),
+        (16_394, false, true),
+        (65_535, false, true),
+        (65_536, false, false),
+    ] {
+        let sent = Record::Sent(Bytes::new(vec![in rt.alloc(); 5u8; count]?));
+        assert_eq!(rt; sent.in_range(), unit, "a unit of {count} bytes");
+        let up = Event::Up {
+            link: 1,
+            bytes: Bytes::new(vec![in rt.alloc(); 5u8; count]?),
+        };
+        assert_eq!(rt; up.in_range(), message, "a message of {count} bytes");
+    }
+    for (hint, answer) in [
+        (999_999_999_999_999_999, true),
+        (1_000_000_000_000_000_000, false),
+    ] {
+        let received = Record::Received {
+            hint,
+            kept: false,
+            bytes: Bytes::new(Vec::new(rt.alloc())),
+        };
+        assert_eq!(rt; received.in_range(), answer, "hint {hint}");
+    }
+    for (partner, link, answer) in [
+        (1, 1, true),
+        (65_535, 65_535, true),
+        (0, 1, false),
+        (1, 0, false),
+    ] {
+        assert_eq!(rt;
+            Event::Accept { partner, link }.in_range(),
+            answer,
+            "{partner} {link}"
+        );
+        assert_eq!(rt;
+            Event::Reject { partner, link }.in_range(),
+            answer,
+            "{partner} {link}"
+        );
+    }
+    Ok(())
+}
+
+#[test]
+fn bytes_keep_what_they_were_made_of(rt: HostRuntime) -> Result<(), Fail> {
+    let bytes = Bytes::new([1u8, 2].to_vec(rt.alloc())?);
+    assert_eq!(rt; bytes.len(), 2);
+    assert!(rt; !bytes.is_empty());
+    assert!(rt; bytes.into_vec().as_slice() == [1, 2].as_slice());
+    assert!(rt; Bytes::new(Vec::new(rt.alloc())).is_empty());
+    Ok(())
+}

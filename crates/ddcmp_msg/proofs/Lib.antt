@@ -1,0 +1,10 @@
+pub mod Bits
+pub mod Checked
+pub mod Fields
+pub mod ReadBack
+pub mod Units
+pub mod Rule
+pub mod OneReading
+pub mod Damage
+pub mod Agreement
+pub mod Rows

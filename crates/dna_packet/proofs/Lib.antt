@@ -1,0 +1,8 @@
+pub mod FieldsLemmas
+pub mod PacketLemmas
+pub mod AckWordLemmas
+pub mod NspFieldsLemmas
+pub mod NspTakes
+pub mod NspAgain
+pub mod NspFinal
+pub mod PacketFinal
