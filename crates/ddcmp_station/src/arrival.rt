@@ -1,0 +1,15 @@
+//! What comes to a station.
+
+use ddcmp_msg::Message;
+use dna_model::Tag;
+
+/// What comes to a station from its line.
+#[derive(Clone, Copy, Debug, PartialEq, Eq)]
+pub enum Arrival<'a> {
+    /// A message, as it was sent, with the tag that it was sent with.
+    Sound(Message<'a>, Tag),
+    /// A unit whose header shows damage.
+    HeaderBad,
+    /// A unit whose header is good and whose data shows damage.
+    DataBad,
+}

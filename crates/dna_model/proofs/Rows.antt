@@ -1,0 +1,109 @@
+-- Worked rows, computed from the definitions: an accepted row is its run, one record after another; a refused row is the
+-- answer to its last record in the world that the earlier ones lead to.
+use Rattle.std.proofs.Common.{◌≡◌, ℕ, Bool, true, false, List, [], ◌∷◌, refl, Option, Some, None}
+use Rattle.two_nodes.specs.Nodes.{World, Half, Run, Done, OfA, OfB, Outcome, Made, Waits, Refused, advance}
+use Rattle.wire_base.specs.BlockCheck.{is_good, check_of, after_byte, shift}
+use Rattle.ddcmp_msg.specs.Reading.{reading}
+use Rattle.capture.specs.declared.record.Record.{Record}
+use Rattle.capture.specs.declared.record.Record.TheVariants.{Sent, Received, User}
+use Rattle.capture.specs.declared.event.Event.TheVariants.{Start, Halt}
+use Rattle.dna_model.specs.declared.refusal.StationRefusal.TheVariants.{WrongState, WrongResponse, WrongKeep, CrossedPeriod, WrongUserEvent}
+use Rattle.dna_model.specs.declared.refusal.StepRefusal.{StepRefusal}
+use Rattle.dna_model.specs.declared.refusal.StepRefusal.TheVariants.{NotAMessage, HintOrder, Undetected, Station as OfStation}
+use Rattle.dna_model.specs.Line.{SentUnit}
+use Rattle.dna_model.specs.Node.{Node}
+use Rattle.dna_model.specs.Pair.{pair, start, IsRun}
+
+abbrev STRT : List ℕ
+STRT = 0x05 ∷ 0x06 ∷ 0xc0 ∷ 0 ∷ 0 ∷ 1 ∷ 0x75 ∷ 0x95 ∷ []
+
+abbrev STACK : List ℕ
+STACK = 0x05 ∷ 0x07 ∷ 0xc0 ∷ 0 ∷ 0 ∷ 1 ∷ 0x48 ∷ 0x55 ∷ []
+
+abbrev ACK0 : List ℕ
+ACK0 = 0x05 ∷ 1 ∷ 0 ∷ 0 ∷ 0 ∷ 1 ∷ 0xfc ∷ 0x55 ∷ []
+
+abbrev ACK1 : List ℕ
+ACK1 = 0x05 ∷ 1 ∷ 0 ∷ 1 ∷ 0 ∷ 1 ∷ 0xad ∷ 0x95 ∷ []
+
+abbrev first_start_lost_a : List Record
+first_start_lost_a = User Start ∷ Sent STRT ∷ Sent STRT ∷ Received 0 false STACK ∷ Sent ACK0 ∷ []
+
+abbrev first_start_lost_b : List Record
+first_start_lost_b = User Start ∷ Received 1 false STRT ∷ Sent STACK ∷ Received 2 false ACK0 ∷ []
+
+first_start_lost : IsRun first_start_lost_a first_start_lost_b
+unfolding reading is_good check_of after_byte shift
+first_start_lost = (_, OfA refl (OfA refl (OfA refl (OfB refl (OfB refl (OfB refl (OfA refl (OfA refl (OfB refl Done)))))))))
+
+-- both sides start at once
+abbrev both_sides_start_of : List Record
+both_sides_start_of = User Start ∷ Sent STRT ∷ Received 0 false STRT ∷ Sent STACK ∷ Received 1 false STACK ∷ Sent ACK0 ∷ Received 2 false ACK0 ∷ []
+
+both_sides_start : IsRun both_sides_start_of both_sides_start_of
+unfolding reading is_good check_of after_byte shift
+both_sides_start =
+    (_, OfA refl (OfA refl (OfB refl (OfB refl (OfA refl (OfA refl (OfB refl (OfB refl (OfA refl (OfA refl (OfB refl (OfB refl (OfA refl (OfB refl Done))))))))))))))
+
+two_empty_captures : IsRun [] []
+two_empty_captures = (_, Done)
+
+-- a STRT with its first byte damaged comes and changes nothing; the next one is sound
+damaged_start : IsRun (User Start ∷ Sent STRT ∷ Sent STRT ∷ []) (User Start ∷ Received 0 false (0x85 ∷ 0x06 ∷ 0xc0 ∷ 0 ∷ 0 ∷ 1 ∷ 0x75 ∷ 0x95 ∷ []) ∷ Received 1 false STRT ∷ [])
+unfolding reading is_good check_of after_byte shift
+damaged_start = (_, OfA refl (OfA refl (OfA refl (OfB refl (OfB refl (OfB refl Done))))))
+
+-- The records of a and of b are made, and what becomes of one more of b
+record EndsAt (as' bs : List Record) (of_b : Record) (outcome : Outcome Node SentUnit StepRefusal) : Type 0 where
+  world : World Node SentUnit
+  run : Run pair start as' bs world
+  becomes : advance pair.node_b world.b world.a of_b ≡ outcome
+
+-- 1
+not_a_message : EndsAt [] [] (Sent (0 ∷ [])) (Refused NotAMessage)
+unfolding reading is_good check_of after_byte shift
+not_a_message = record { world = start; run = Done; becomes = refl }
+
+-- 2: the same unit twice
+hint_goes_back : EndsAt (User Start ∷ Sent STRT ∷ []) (User Start ∷ Received 0 false STRT ∷ []) (Received 0 false STRT) (Refused HintOrder)
+unfolding reading is_good check_of after_byte shift
+hint_goes_back = record { world = _; run = OfA refl (OfA refl (OfB refl (OfB refl Done))); becomes = refl }
+
+-- no order goes on: the unit is not sent yet
+nobody_can_go_on : EndsAt [] [] (Received 0 false STRT) Waits
+nobody_can_go_on = record { world = start; run = Done; becomes = refl }
+
+-- 5: a STACK where an ACK was sent
+changed_unit : EndsAt first_start_lost_a (User Start ∷ Received 1 false STRT ∷ Sent STACK ∷ []) (Received 2 false STACK) (Refused Undetected)
+unfolding reading is_good check_of after_byte shift
+changed_unit = record { world = _; run = OfA refl (OfA refl (OfA refl (OfB refl (OfB refl (OfB refl (OfA refl (OfA refl Done))))))); becomes = refl }
+
+-- 6: STRT before the start
+start_unasked : EndsAt [] [] (Sent STRT) (Refused (OfStation WrongState))
+unfolding reading is_good check_of after_byte shift
+start_unasked = record { world = start; run = Done; becomes = refl }
+
+-- 8: an ACK of a data message that never came
+acknowledges_what_never_came : EndsAt (User Start ∷ Received 0 false STRT ∷ Sent STACK ∷ []) (User Start ∷ Sent STRT ∷ Received 0 false STACK ∷ []) (Sent ACK1) (Refused (OfStation WrongResponse))
+unfolding reading is_good check_of after_byte shift
+acknowledges_what_never_came = record { world = _; run = OfA refl (OfB refl (OfB refl (OfA refl (OfA refl (OfB refl Done))))); becomes = refl }
+
+-- 12: nothing is taken
+keeps_a_start : EndsAt (User Start ∷ Sent STRT ∷ []) (User Start ∷ []) (Received 0 true STRT) (Refused (OfStation WrongKeep))
+unfolding reading is_good check_of after_byte shift
+keeps_a_start = record { world = _; run = OfA refl (OfA refl (OfB refl Done)); becomes = refl }
+
+-- 13: the answer to b's first start comes in its second
+abbrev crossed_period_a : List Record
+crossed_period_a = User Start ∷ Received 0 false STRT ∷ Sent STACK ∷ Sent STACK ∷ []
+
+abbrev crossed_period_b : List Record
+crossed_period_b = User Start ∷ Sent STRT ∷ Received 0 false STACK ∷ Sent ACK0 ∷ User Halt ∷ User Start ∷ []
+
+crossed_period : EndsAt crossed_period_a crossed_period_b (Received 1 false STACK) (Refused (OfStation CrossedPeriod))
+unfolding reading is_good check_of after_byte shift
+crossed_period = record { world = _; run = OfA refl (OfB refl (OfB refl (OfA refl (OfA refl (OfA refl (OfB refl (OfB refl (OfB refl (OfB refl Done))))))))); becomes = refl }
+
+-- 14: a second start
+starts_twice : EndsAt [] (User Start ∷ []) (User Start) (Refused (OfStation WrongUserEvent))
+starts_twice = record { world = _; run = OfB refl Done; becomes = refl }

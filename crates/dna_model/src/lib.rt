@@ -1,0 +1,14 @@
+//! What a reader must believe of the protocols: one station, one node with its line, the run of two captures and the
+//! verdict on them, as definitions in `specs/`, with the few types that code and definitions share. It decides nothing and
+//! runs nothing: the machines above are proved to follow these definitions.
+#![tactic(auto)]
+
+mod finding;
+mod refusal;
+mod state;
+mod tag;
+
+pub use finding::{Cause, Finding};
+pub use refusal::{StationRefusal, StepRefusal};
+pub use state::{State, StationEvent};
+pub use tag::Tag;

@@ -1,0 +1,29 @@
+/* A library to preload: the Nth call of malloc, calloc or realloc that asks for memory answers that there is none,
+ * N being the number in REFUSE_GROWTH. With no number, or 0, none is refused. Calls before main count too. */
+#define _GNU_SOURCE
+#include <dlfcn.h>
+#include <errno.h>
+#include <stddef.h>
+#include <stdlib.h>
+
+extern void *__libc_malloc(size_t size);
+extern void *__libc_calloc(size_t count, size_t size);
+extern void *__libc_realloc(void *old, size_t size);
+
+static long left = -1;
+
+static int refused(void) {
+  if (left < 0) {
+    const char *number = getenv("REFUSE_GROWTH");
+    left = number ? strtol(number, NULL, 10) : 0;
+  }
+  if (left == 0) return 0;
+  left -= 1;
+  if (left != 0) return 0;
+  errno = ENOMEM;
+  return 1;
+}
+
+void *malloc(size_t size) { return refused() ? NULL : __libc_malloc(size); }
+void *calloc(size_t count, size_t size) { return refused() ? NULL : __libc_calloc(count, size); }
+void *realloc(void *old, size_t size) { return refused() ? NULL : __libc_realloc(old, size); }
