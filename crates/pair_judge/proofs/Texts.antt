@@ -1,0 +1,108 @@
+-- From what was read of two texts to the captures that they are.
+use Rattle.std.proofs.Common.{◌≡◌, ℕ, ◌+◌, ◌≤◌, ◌<◌, ◌^◌, List, [], ◌∷◌, ◌++◌, length, Option, Some, None, refl, sym, ap, subst, ◌∙◌, arith, length-append, append-nil, append_assoc}
+use Rattle.std.specs.Option.{IfSome}
+use Rattle.std.specs.List.{AllByRecursion}
+use Rattle.std.proofs.lemmas.List.Sums.{count_by-le-length}
+use Rattle.capture.specs.declared.limit.TheConstants.{MAX_RECORDS}
+use Rattle.capture.specs.declared.record.Record.{Record}
+use Rattle.capture.specs.Text.{head_line, record_lines}
+use Rattle.capture.specs.Range.{IsNode, IsRecord, IsText}
+use Rattle.capture.specs.Reader.{CaptureState}
+use Rattle.dna_model.specs.declared.finding.Finding.{Finding}
+use Rattle.dna_model.specs.declared.finding.Finding.TheVariants.{Accepted, Refused}
+use Rattle.dna_model.specs.Pair.{is_sent}
+use Rattle.pair_judge.specs.declared.course.Ahead.{Ahead}
+use Rattle.pair_judge.specs.declared.course.Ahead.TheVariants.{Unread, Waits, Ended}
+use Rattle.pair_judge.specs.declared.course.Course.{Course}
+use Rattle.pair_judge.specs.declared.summary.SideSummary.{SideSummary}
+use Rattle.pair_judge.specs.declared.summary.Summary.{Summary}
+use Rattle.pair_judge.specs.Counting.{is_received, is_damaged, is_kept, is_start}
+use Rattle.pair_judge.specs.Course.{IsRead, IsBeginning, waiting}
+use Rattle.pair_judge.specs.Summary.{summary_of, HasRoom}
+use Rattle.pair_judge.specs.Reached.{GoesOn, IsFound}
+use Rattle.pair_judge.specs.Judged.{AreARun, IsRunWhere, IsFoundIn}
+
+-- ---- counts
+
+pub has_room : (s : SideSummary) (made : List Record) → s ≡ summary_of made → length made ≤ MAX_RECORDS → HasRoom s
+has_room s made e few =
+    let sent = count_by-le-length is_sent made in
+    let received = count_by-le-length is_received made in
+    let damaged = count_by-le-length is_damaged made in
+    let kept = count_by-le-length is_kept made in
+    let periods = count_by-le-length is_start made in
+    rw e (record { records = omega arith; sent = omega arith; received = omega arith; damaged = omega arith; kept = omega arith; periods = omega arith })
+
+pub few_made : (text : Option (List ℕ)) (capture : CaptureState) (ahead : Ahead) (come : Option (List ℕ)) (made : List Record) → IsRead text capture ahead come made → length made ≤ MAX_RECORDS
+few_made text capture ahead come made h = omega (arith, h.few, length-append made (waiting ahead))
+
+-- ---- texts
+
+-- the laws of texts
+pub record TextLaws : Type 0 where
+  pub begun : (begun rs : List Record) (rest : List ℕ) → AllByRecursion IsRecord begun → AllByRecursion IsRecord rs → record_lines rs ≡ record_lines begun ++ rest → (more : List Record) × (rs ≡ begun ++ more) × (rest ≡ record_lines more)
+  pub heads : (own peer own' peer' : ℕ) (x y : List ℕ) → IsNode own → IsNode peer → IsNode own' → IsNode peer' → head_line own peer ++ x ≡ head_line own' peer' ++ y → (own ≡ own') × (peer ≡ peer') × (x ≡ y)
+  pub one : (own peer own' peer' : ℕ) (rs ss : List Record) (bytes : List ℕ) → IsText own peer rs bytes → IsText own' peer' ss bytes → (own ≡ own') × (peer ≡ peer') × (rs ≡ ss)
+
+-- a text that was read to its end
+pub whole_text : (text : List ℕ) (capture : CaptureState) (come : Option (List ℕ)) (made : List Record) → IsRead (Some text) capture Ended come made → IsText capture.own capture.peer (made ++ []) text
+whole_text text capture come made h = record {
+  fits = record { own_fits = h.own_fits; peer_fits = h.peer_fits; each = h.each; few = h.few };
+  spelled = h.beginning;
+}
+
+-- the records of a text that begins so begin so
+goes_behind : (laws : TextLaws) (text : List ℕ) (capture : CaptureState) (come : Option (List ℕ)) (read all : List Record) (own peer : ℕ) → IsNode capture.own → IsNode capture.peer → AllByRecursion IsRecord read → IsBeginning Unread (Some text) come (head_line capture.own capture.peer ++ record_lines read) → IsText own peer all text → (rest : List Record) × (all ≡ read ++ rest)
+goes_behind laws text capture None read all own peer own_fits peer_fits each begins is_text = absurd begins
+goes_behind laws text capture (Some left) read all own peer own_fits peer_fits each begins is_text =
+    let same : head_line own peer ++ record_lines all ≡ head_line capture.own capture.peer ++ (record_lines read ++ left) =
+        sym is_text.spelled ∙ begins ∙ append_assoc (head_line capture.own capture.peer) (record_lines read) left in
+    let after = (laws.heads own peer capture.own capture.peer (record_lines all) (record_lines read ++ left) is_text.fits.own_fits is_text.fits.peer_fits own_fits peer_fits same).2 in
+    let more = laws.begun read all left each is_text.fits.each after in
+    (more.0, more.1)
+
+pub goes_on : (laws : TextLaws) (text : List ℕ) (capture : CaptureState) (ahead : Ahead) (come : Option (List ℕ)) (made all : List Record) (own peer : ℕ) → IsRead (Some text) capture ahead come made → IsText own peer all text → GoesOn ahead (made ++ waiting ahead) all
+goes_on laws text capture Unread come made all own peer h is_text = goes_behind laws text capture come (made ++ []) all own peer h.own_fits h.peer_fits h.each h.beginning is_text
+goes_on laws text capture (Waits r) come made all own peer h is_text = goes_behind laws text capture come (made ++ r ∷ []) all own peer h.own_fits h.peer_fits h.each h.beginning is_text
+goes_on laws text capture Ended come made all own peer h is_text =
+    (laws.one own peer capture.own capture.peer all (made ++ []) text is_text (whole_text text capture come made h)).2
+
+-- ---- what was found
+
+goes_nowhere : (ahead : Ahead) (read : List Record) → ahead ≡ Ended → GoesOn ahead read read
+goes_nowhere ahead read is = subst (λ (x : Ahead). GoesOn x read read) (sym is) refl
+
+nothing_waits : (ahead : Ahead) (made : List Record) → ahead ≡ Ended → made ≡ made ++ waiting ahead
+nothing_waits ahead made is = sym (ap (λ (x : Ahead). made ++ waiting x) is ∙ append-nil made)
+
+text_at_end : (text : List ℕ) (capture : CaptureState) (ahead : Ahead) (come : Option (List ℕ)) (made : List Record) → ahead ≡ Ended → IsRead (Some text) capture ahead come made → IsText capture.own capture.peer (made ++ waiting ahead) text
+text_at_end text capture ahead come made is h =
+    subst (λ (x : Ahead). IsText capture.own capture.peer (made ++ waiting x) text) (sym is) (whole_text text capture come made (subst (λ (x : Ahead). IsRead (Some text) capture x come made) is h))
+
+accepts : (text_a text_b : List ℕ) (a b : Course) (come_a come_b : Option (List ℕ)) (summary : Summary) (finding : Finding) → (f : IsFound (Some text_a) (Some text_b) a b come_a come_b finding) → summary.a ≡ a.end.counts → summary.b ≡ b.end.counts → IsRunWhere finding text_a text_b summary
+accepts text_a text_b a b come_a come_b summary Accepted f sum_a sum_b = record {
+  own_a = a.capture.own;
+  peer_a = a.capture.peer;
+  of_a = f.made_a ++ waiting a.ahead;
+  own_b = b.capture.own;
+  peer_b = b.capture.peer;
+  of_b = f.made_b ++ waiting b.ahead;
+  is_text_a = text_at_end text_a a.capture a.ahead come_a f.made_a f.whole.0 f.read_a;
+  is_text_b = text_at_end text_b b.capture b.ahead come_b f.made_b f.whole.1 f.read_b;
+  run = f.verdict (f.made_a ++ waiting a.ahead) (f.made_b ++ waiting b.ahead) (goes_nowhere a.ahead _ f.whole.0) (goes_nowhere b.ahead _ f.whole.1);
+  counts_a = sum_a ∙ (f.counts refl).0 ∙ ap summary_of (nothing_waits a.ahead f.made_a f.whole.0);
+  counts_b = sum_b ∙ (f.counts refl).1 ∙ ap summary_of (nothing_waits b.ahead f.made_b f.whole.1);
+}
+accepts text_a text_b a b come_a come_b summary (Refused side place cause) f sum_a sum_b = tt
+
+pub found_in : (laws : TextLaws) (text_a text_b : List ℕ) (a b : Course) (come_a come_b : Option (List ℕ)) (summary : Summary) (finding : Finding) → IsFound (Some text_a) (Some text_b) a b come_a come_b finding → summary.a ≡ a.end.counts → summary.b ≡ b.end.counts → IsFoundIn finding summary text_a text_b
+found_in laws text_a text_b a b come_a come_b summary finding f sum_a sum_b = record {
+  accepted = accepts text_a text_b a b come_a come_b summary finding f sum_a sum_b;
+  verdict = λ own_a peer_a own_b peer_b of_a of_b is_a is_b. f.verdict of_a of_b (goes_on laws text_a a.capture a.ahead come_a f.made_a of_a own_a peer_a f.read_a is_a) (goes_on laws text_b b.capture b.ahead come_b f.made_b of_b own_b peer_b f.read_b is_b);
+}
+
+-- where the readers tell their bytes
+pub found_where : (laws : TextLaws) (text_a text_b : Option (List ℕ)) (a b : Course) (come_a come_b : Option (List ℕ)) (summary : Summary) (finding : Finding) → IsFound text_a text_b a b come_a come_b finding → summary.a ≡ a.end.counts → summary.b ≡ b.end.counts → IfSome text_a (λ bytes_a. IfSome text_b (λ bytes_b. IsFoundIn finding summary bytes_a bytes_b))
+found_where laws None text_b a b come_a come_b summary finding f sum_a sum_b = tt
+found_where laws (Some ta) None a b come_a come_b summary finding f sum_a sum_b = tt
+found_where laws (Some ta) (Some tb) a b come_a come_b summary finding f sum_a sum_b = found_in laws ta tb a b come_a come_b summary finding f sum_a sum_b

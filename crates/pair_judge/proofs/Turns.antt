@@ -1,0 +1,109 @@
+-- What one record does to the world that both sides of the judge stand for.
+use Rattle.std.proofs.Common.{◌≡◌, ℕ, ◌+◌, Bool, true, false, cond, List, [], ◌∷◌, ◌++◌, length, Option, Some, None, refl, sym, ap, subst, ◌∙◌, arith, length-append, append-nil, append_assoc, count_by}
+use Rattle.std.proofs.lemmas.List.Sums.{sum_by_push, count_by-le-length}
+use Rattle.two_nodes.specs.Nodes.{World, Half, Run, advance}
+use Rattle.two_nodes.specs.Nodes as any
+use Rattle.capture.specs.declared.record.Record.{Record}
+use Rattle.dna_model.specs.Pair.{pair, start, is_sent}
+use Rattle.dna_model.specs.Station.{Station}
+use Rattle.dna_model.specs.Line.{SentUnit}
+use Rattle.dna_model.specs.Node.{Node}
+use Rattle.pair_judge.specs.declared.line.Line.{Line}
+use Rattle.pair_judge.specs.declared.end.End.{End}
+use Rattle.pair_judge.specs.declared.summary.SideSummary.{SideSummary}
+use Rattle.pair_judge.specs.Counting.{is_received, is_damaged, is_kept, is_start, more_if}
+use Rattle.pair_judge.specs.Summary.{summary_of, counted, HasRoom}
+use Rattle.pair_judge.specs.Making.{StandsFor, IsMade}
+use Rattle.pair_judge.specs.Lines.{Shows}
+use Rattle.pair_judge.specs.declared.course.Course.{Course}
+use Rattle.pair_judge.specs.Course.{MayRead, IsBlocked}
+use Rattle.pair_judge.specs.Reached.{HasReached, IsHeldUp}
+
+-- ---- counts
+
+more_is : (b : Bool) (n : ℕ) → n + cond b 1 0 ≡ more_if b n
+more_is true n = refl
+more_is false n = omega arith
+
+count_by-push : (p : Record → Bool) (rs : List Record) (r : Record) → count_by p (rs ++ r ∷ []) ≡ more_if (p r) (count_by p rs)
+count_by-push p rs r = sum_by_push (λ x. cond (p x) 1 0) rs r ∙ more_is (p r) (count_by p rs)
+
+pub summary_of-push : (rs : List Record) (r : Record) → summary_of (rs ++ r ∷ []) ≡ counted (summary_of rs) r
+summary_of-push rs r =
+    let records : length (rs ++ r ∷ []) ≡ length rs + 1 = length-append rs (r ∷ []) in
+    let sent = count_by-push is_sent rs r in
+    let received = count_by-push is_received rs r in
+    let damaged = count_by-push is_damaged rs r in
+    let kept = count_by-push is_kept rs r in
+    let periods = count_by-push is_start rs r in
+    cc
+
+-- ---- a side made its next record
+
+-- `incoming` led to the side that made it
+pub record IsSame (old new : End) (after : Line) : Type 0 where
+  pub station : new.station ≡ old.station
+  pub counts : new.counts ≡ old.counts
+  pub line : new.line ≡ after
+
+-- the other side stands for the same half
+pub stands_on : (own own' other other' : End) (after : Line) (r : Record) (mine theirs : Half Node SentUnit) → StandsFor other own.line theirs → IsMade own own' other.line after r mine theirs → IsSame other other' after → StandsFor other' own'.line theirs
+stands_on own own' other other' after r mine theirs stands made same = record {
+  station = stands.station ∙ sym same.station;
+  front = stands.front ∙ sym made.same_front;
+  sent = rw same.line made.incoming;
+}
+
+pub reached_by_a : (a a' b b' : End) (after : Line) (made_a made_b : List Record) (r : Record) → (h : HasReached a b made_a made_b) → (m : IsMade a a' b.line after r h.world.a h.world.b) → IsSame b b' after → Run pair start (made_a ++ r ∷ []) made_b (record { a = m.next; b = h.world.b }) → HasReached a' b' (made_a ++ r ∷ []) made_b
+reached_by_a a a' b b' after made_a made_b r h m same run = record {
+  world = record { a = m.next; b = h.world.b };
+  run = run;
+  stands_a = rw same.line m.stands;
+  stands_b = stands_on a a' b b' after r h.world.a h.world.b h.stands_b m same;
+  counts_a = m.counts ∙ ap (λ (s : SideSummary). counted s r) h.counts_a ∙ sym (summary_of-push made_a r);
+  counts_b = same.counts ∙ h.counts_b;
+}
+
+pub reached_by_b : (a a' b b' : End) (after : Line) (made_a made_b : List Record) (r : Record) → (h : HasReached a b made_a made_b) → (m : IsMade b b' a.line after r h.world.b h.world.a) → IsSame a a' after → Run pair start made_a (made_b ++ r ∷ []) (record { a = h.world.a; b = m.next }) → HasReached a' b' made_a (made_b ++ r ∷ [])
+reached_by_b a a' b b' after made_a made_b r h m same run = record {
+  world = record { a = h.world.a; b = m.next };
+  run = run;
+  stands_a = stands_on b b' a a' after r h.world.b h.world.a h.stands_a m same;
+  stands_b = rw same.line m.stands;
+  counts_a = same.counts ∙ h.counts_a;
+  counts_b = m.counts ∙ ap (λ (s : SideSummary). counted s r) h.counts_b ∙ sym (summary_of-push made_b r);
+}
+
+-- the number of the next record
+pub next_place : (s : SideSummary) (made : List Record) → s ≡ summary_of made → s.records ≡ length made
+next_place s made e = ap (λ (x : SideSummary). x.records) e
+
+-- nothing was made
+pub reached_still : (a a' b b' : End) (made_a made_b : List Record) → HasReached a b made_a made_b → IsSame a a' a.line → IsSame b b' b.line → HasReached a' b' made_a made_b
+reached_still a a' b b' made_a made_b h same_a same_b = record {
+  world = h.world;
+  run = h.run;
+  stands_a = record { station = h.stands_a.station ∙ sym same_a.station; front = h.stands_a.front ∙ ap (λ (l : Line). l.gone) (sym same_b.line); sent = rw same_a.line h.stands_a.sent };
+  stands_b = record { station = h.stands_b.station ∙ sym same_b.station; front = h.stands_b.front ∙ ap (λ (l : Line). l.gone) (sym same_a.line); sent = rw same_b.line h.stands_b.sent };
+  counts_a = same_a.counts ∙ h.counts_a;
+  counts_b = same_b.counts ∙ h.counts_b;
+}
+
+-- an end that is the same
+pub same_end : (old new : End) → new ≡ old → IsSame old new old.line
+same_end old new same = record {
+  station = ap (λ (e : End). e.station) same;
+  counts = ap (λ (e : End). e.counts) same;
+  line = ap (λ (e : End). e.line) same;
+}
+
+-- a side that is blocked is held up
+pub held_up : (text : Option (List ℕ)) (old : End) (new : Course) (before after : Line) (come : Option (List ℕ)) (made : List Record) → IsBlocked text old new before after come made → IsHeldUp new after
+held_up text old new before after come made m = record {
+  next = m.next;
+  ahead = m.ahead;
+  waits = λ mine theirs stands shows. m.waits mine theirs (subst (λ (e : End). StandsFor e before mine) m.same_end (subst (λ (l : Line). StandsFor new.end l mine) m.same_line stands)) (subst (λ (l : Line). Shows l theirs.sent) m.same_line shows);
+}
+
+pub may_read_still : (old new : Course) → new.capture ≡ old.capture → new.ahead ≡ old.ahead → MayRead old → MayRead new
+may_read_still old new capture ahead may = rw (capture, ahead) may

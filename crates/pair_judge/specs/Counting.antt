@@ -1,0 +1,43 @@
+-- Which records a summary counts where.
+use Rattle.std.specs.Prelude.{ℕ, ◌+◌, Bool, true, false, List}
+use Rattle.ddcmp_msg.specs.Reading.{ReadingValue, reading, Sound, HeaderBad, DataBad, Malformed}
+use Rattle.capture.specs.declared.record.Record.{Record}
+use Rattle.capture.specs.declared.record.Record.TheVariants.{Sent, Received, User}
+use Rattle.capture.specs.declared.event.Event.{Event}
+use Rattle.capture.specs.declared.event.Event.TheVariants.{Start}
+
+abbrev pub is_received : Record → Bool
+is_received (Sent bytes) = false
+is_received (Received hint kept bytes) = true
+is_received (User event) = false
+
+-- a block check shows damage
+abbrev pub shows_damage : ReadingValue → Bool
+shows_damage (Sound message) = false
+shows_damage HeaderBad = true
+shows_damage DataBad = true
+shows_damage (Malformed departure) = false
+
+abbrev pub is_damaged : Record → Bool
+is_damaged (Sent bytes) = false
+is_damaged (Received hint kept bytes) = shows_damage (reading bytes)
+is_damaged (User event) = false
+
+abbrev pub is_kept : Record → Bool
+is_kept (Sent bytes) = false
+is_kept (Received hint kept bytes) = kept
+is_kept (User event) = false
+
+abbrev pub starts : Event → Bool
+starts Start = true
+starts event = false
+
+abbrev pub is_start : Record → Bool
+is_start (Sent bytes) = false
+is_start (Received hint kept bytes) = false
+is_start (User event) = starts event
+
+-- the count, and one more where the fact holds
+abbrev pub more_if : Bool → ℕ → ℕ
+more_if true n = n + 1
+more_if false n = n

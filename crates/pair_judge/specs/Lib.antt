@@ -1,0 +1,14 @@
+-- What the summary counts, and what the judge keeps of a run for its own contracts
+pub mod Reason
+pub mod Counting
+pub mod Summary
+pub mod Unit
+pub mod Lines
+pub mod Receipts
+
+pub mod Making
+pub mod Course
+pub mod Reached
+pub mod Judged
+pub mod Opened
+pub mod Answer

@@ -1,0 +1,53 @@
+-- One side of the judge beside the half of a run that it stands for, and what became of one record there.
+use Rattle.std.specs.Prelude.{◌≡◌, ℕ}
+use Rattle.two_nodes.specs.Nodes.{Half, Outcome, advance}
+use Rattle.two_nodes.specs.Nodes as any
+use Rattle.capture.specs.declared.record.Record.{Record}
+use Rattle.dna_model.specs.declared.refusal.StepRefusal.{StepRefusal}
+use Rattle.dna_model.specs.Station.{Station, crossed}
+use Rattle.dna_model.specs.Line.{SentUnit}
+use Rattle.dna_model.specs.Node.{Node, step}
+use Rattle.pair_judge.specs.declared.line.Line.{Line}
+use Rattle.pair_judge.specs.declared.end.End.{End}
+use Rattle.pair_judge.specs.declared.making.Made.{Made}
+use Rattle.pair_judge.specs.declared.making.Made.TheVariants.{Done, Waits, Fails}
+use Rattle.pair_judge.specs.Lines.{Shows}
+use Rattle.pair_judge.specs.Summary.{counted}
+
+-- this end of the judge, with the line from the other side, stands for that half of the run
+pub record StandsFor (own : End) (incoming : Line) (half : Half Node SentUnit) : Type 0 where
+  pub station : half.state.station ≡ own.station
+  pub front : half.state.front ≡ incoming.gone
+  pub sent : Shows own.line half.sent
+
+-- the record is made, and the end stands for the half after it
+pub record IsMade (old new : End) (before after : Line) (r : Record) (own other : Half Node SentUnit) : Type 0 where
+  pub next : Half Node SentUnit
+  pub step_is : advance (step crossed) own other r ≡ any.Made next
+  pub stands : StandsFor new after next
+  pub incoming : Shows after other.sent
+  pub same_front : new.line.gone ≡ old.line.gone
+  pub counts : new.counts ≡ counted old.counts r
+
+abbrev pub MadeIs : Made → End → End → Line → Line → Record → Half Node SentUnit → Half Node SentUnit → Type 0
+MadeIs Done old new before after r own other = IsMade old new before after r own other
+-- the unit that the record names is not sent yet
+MadeIs (Waits back) old new before after r own other = advance (step crossed) own other r ≡ any.Waits
+MadeIs (Fails refusal) old new before after r own other = advance (step crossed) own other r ≡ any.Refused refusal
+
+-- a record that waits is handed back, and leaves all as it was
+abbrev pub LeavesWaiting : Made → End → End → Line → Line → Record → Type 0
+LeavesWaiting Done old new before after r = Unit {0}
+LeavesWaiting (Waits back) old new before after r = (back ≡ r) × (new ≡ old) × (after ≡ before)
+LeavesWaiting (Fails refusal) old new before after r = Unit {0}
+
+abbrev pub NeverWaits : Made → Type 0
+NeverWaits Done = Unit {0}
+NeverWaits (Waits back) = ⊥
+NeverWaits (Fails refusal) = Unit {0}
+
+-- a fact of a record that can't be made
+abbrev pub IfFails : Made → Type 0 → Type 0
+IfFails Done P = Unit {0}
+IfFails (Waits back) P = Unit {0}
+IfFails (Fails refusal) P = P

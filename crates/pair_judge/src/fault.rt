@@ -1,0 +1,27 @@
+//! Why there is no verdict.
+
+use capture::CaptureFault;
+use std::fmt;
+use wire_base::Side;
+
+/// What was wrong with the text of one side.
+#[derive(Clone, Copy, Debug, PartialEq, Eq)]
+pub enum TextFault {
+    /// The line departs from the format.
+    Syntax { line: u64 },
+    /// The line is too long, or has too many bytes.
+    TooLong { line: u64 },
+    /// The line comes after as many records as a capture may have.
+    TooMany { line: u64 },
+    /// The reader failed.
+    Read,
+}
+
+/// Why there is no verdict.
+#[derive(Clone, Copy, Debug, PartialEq, Eq)]
+pub enum JudgeFault {
+    /// A text was faulty, or could not be read, as far as it was read by then.
+    Capture { side: Side, fault: TextFault },
+    /// There was no memory for a reader's block, for a record's bytes, or for a unit that may still be received.
+    OutOfMemory,
+}

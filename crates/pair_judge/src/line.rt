@@ -1,0 +1,62 @@
+//! One direction of the line, as far as it still matters.
+
+ghost use Rattle.std.specs.Prelude.{◌≡◌, ℕ, ◌+◌, ◌-◌, ◌^◌, ◌<◌, ◌≤◌, [], ◌∷◌, ◌++◌, length, drop, slice_get, OnOk};
+ghost use Rattle.std.specs.Option.{option_copied};
+
+use crate::held::Held;
+use std::alloc::{AllocError, Global};
+use std::collections::VecDeque;
+
+/// The units of one direction that may still be received. A unit at or below a received hint is let go.
+#[derive(Drop)]
+pub struct Line {
+    /// How many units can't come any more: the first of those that are held has this number.
+    pub gone: u64,
+    /// The units that are held, oldest first.
+    pub units: VecDeque<Held>,
+}
+
+impl Line {
+    /// Nothing was sent yet.
+    pub fn new(alloc: Global) -> Line
+        ensures gone { result.gone ≡ 0 }
+        ensures units { result.units.items ≡ [] }
+    {
+        Line {
+            gone: 0,
+            units: VecDeque::new(alloc),
+        }
+    }
+
+    /// One more unit was sent.
+    pub fn push(&mut self, unit: Held) -> Result<(), AllocError>
+        ensures ok { OnOk result (self.new.units.items ≡ self.old.units.items ++ unit ∷ []) }
+        ensures gone { self.new.gone ≡ self.old.gone }
+    {
+        self.units.push_back(unit)?;
+        Ok(())
+    }
+
+    /// The unit with this number, if it was sent.
+    pub fn unit(&self, number: u64) -> Option<&Held>
+        requires { self.now.gone ≤ number }
+        ensures { option_copied result ≡ slice_get self.now.units.items (number - self.now.gone) }
+    {
+        let place = number - self.gone;
+        self.units.get(place as usize)
+    }
+
+    /// The unit with this number came: it and those before it can't come any more.
+    pub fn release(&mut self, number: u64)
+        requires within { self.old.gone ≤ number }
+        requires sent { number < self.old.gone + length self.old.units.items }
+        requires small { number < 2 ^ 63 }
+        ensures gone { self.new.gone ≡ number + 1 }
+        ensures units { self.new.units.items ≡ drop (number + 1 - self.old.gone) self.old.units.items }
+    {
+        while self.gone <= number {
+            let _ = self.units.pop_front();
+            self.gone += 1;
+        }
+    }
+}
