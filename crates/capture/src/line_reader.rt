@@ -16,7 +16,7 @@ use std::io::Read;
 use std::marker::Model;
 use wire_base::Tally;
 
-// A longest line with its LF, and 128 KiB: a line that lies across the block's end is moved to the
+// A longest line with its LF, and about as much again: a line that lies across the block's end is moved to the
 // front once, and there is room behind it.
 const BLOCK: usize = 262_144;
 

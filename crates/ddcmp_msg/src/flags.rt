@@ -4,7 +4,7 @@
 /// normally carry both. No station of a full-duplex point-to-point line is judged by them.
 #[derive(Clone, Copy, Debug, PartialEq, Eq)]
 pub struct Flags {
-    /// QSYNC, bit 6: the next message may follow without the usual SYN bytes before it.
+    /// QSYNC, bit 6: the next message does not abut this one, and SYN bytes come before it.
     pub quick_sync: bool,
     /// SELECT, bit 7: the sender hands the line over, where stations take turns.
     pub select: bool,

@@ -35,7 +35,7 @@ pub enum Message<'a> {
     Strt {
         flags: Flags,
     },
-    /// Answers a STRT, or a STACK before the startup is complete.
+    /// Answers a STRT: the sender has seen one.
     Stack {
         flags: Flags,
     },

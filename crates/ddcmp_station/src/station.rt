@@ -15,7 +15,7 @@ use std::marker::Model;
 /// [`Station::arrived`], this came.
 ///
 /// ```text
-///            start            STRT comes           ACK with RESP 0, or STACK, comes
+///            start            STRT comes      ACK or data with RESP 0, or STACK, comes
 ///  HALTED ----------> ISTRT -------------> ASTRT ----------------------------------> RUNNING
 ///    ^                  |                                                            ^  |
 ///    |                  +------------------ STACK comes -----------------------------+  |

@@ -117,7 +117,8 @@ arrived_in Running s m from = s
 -- any other case: nothing
 arrived_in state s m from = s
 
--- damage does nothing in these states and to these messages
+-- Damage does nothing. Provisional in RUNNING, where a damaged arrival gives a cause for a NAK: no NAK can be sent yet, so
+-- nothing shows it
 abbrev pub after_arrival : Station → ArrivalValue → Station
 after_arrival s (Sound m tag) = arrived_in s.state s m tag.period
 after_arrival s HeaderBad = s

@@ -43,9 +43,13 @@ pub struct Found {
 /// hint received are held.
 ///
 /// `Accepted`: both texts are texts of captures, all records of both are one run, and the summary is their counts. `Refused`: the
-/// record that is named, with its reason; the public contract claims nothing of it yet. `Capture`: the first fault met, at the side
-/// whose text it is in; `Read` only where that reader failed. `OutOfMemory`: a growth was refused. No verdict stands in place of a
-/// fault. After any answer the readers have given what was read ahead, and nothing is said of the rest.
+/// record that is named, with its reason. `Capture`: the first fault met, at the side whose text it is in; `Read` only where
+/// that reader failed. `OutOfMemory`: a growth was refused. No verdict stands in place of a fault. After any answer the readers have
+/// given what was read ahead, and nothing is said of the rest.
+///
+/// The contract claims what is said of `Accepted` and `Read`, and nothing yet of `Refused`, of the other faults' line and kind, and of the
+/// order of reading. For now a run is one of startups: a sent data, NAK or REP message and a kept receipt are refused, and
+/// link events are not judged, so that one that no link allows is accepted.
 pub fn judge<R: Read, S: Read>(
     alloc: Global,
     a: &mut Tally<R>,

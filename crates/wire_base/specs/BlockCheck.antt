@@ -1,6 +1,6 @@
 -- The block check of DDCMP (CRC-16; DDCMP 4.1, block check fields): which bytes are a field with its right check behind
 -- it, as the standard says it in bits, and the check of a field as a function, with the laws that join the two in
--- `src/block_check_laws.rt`.
+-- `src/check_laws.rt`.
 --
 -- A row of bits is written as a number, its first bit the lowest. A field is sent byte by byte and each byte low bit
 -- first, so the row of some bytes is their little-endian number.

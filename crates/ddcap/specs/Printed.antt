@@ -1,0 +1,94 @@
+-- What `check` prints of an answer of the judge, byte by byte, and with which status it ends.
+use Rattle.std.specs.Prelude.{◌≡◌, ℕ, ◌+◌, ◌⊎◌, List, ◌++◌, Option, Result, Ok, Err, codes}
+use Rattle.std.specs.Fmt.{decimal}
+use Rattle.std.specs.Io.KnownBytes.{Appends}
+use Rattle.wire_base.specs.Side.{side_letter}
+use Rattle.wire_base.specs.Tally.{AppendsBeginning, CountedFault, tally_faults, tally_lent}
+use Rattle.wire_base.specs.declared.side.Side.{Side}
+use Rattle.wire_base.specs.declared.side.Side.TheVariants.{A, B}
+use Rattle.wire_base.specs.declared.tally.Tally.{Tally}
+use Rattle.pair_judge.specs.Judged.{IsAnswer}
+use Rattle.pair_judge.specs.Reason.{reason_name, reason_number}
+use Rattle.pair_judge.specs.declared.summary.SideSummary.{SideSummary}
+use Rattle.pair_judge.specs.declared.verdict.Verdict.{Verdict}
+use Rattle.pair_judge.specs.declared.verdict.Verdict.TheVariants.{Accepted, Refused}
+use Rattle.pair_judge.specs.declared.fault.JudgeFault.{JudgeFault}
+use Rattle.pair_judge.specs.declared.fault.JudgeFault.TheVariants.{Capture, OutOfMemory}
+use Rattle.pair_judge.specs.declared.fault.TextFault.{TextFault}
+use Rattle.pair_judge.specs.declared.fault.TextFault.TheVariants.{Syntax, TooLong, TooMany, Read}
+
+-- `a records 5 sent 3 received 1 damaged 0 kept 0 periods 1 links 0 up 0`
+abbrev pub side_line : Side → SideSummary → List ℕ
+side_line side counts =
+    side_letter side ++ (codes " records " ++ (decimal counts.records ++ (codes " sent " ++ (decimal counts.sent
+    ++ (codes " received " ++ (decimal counts.received ++ (codes " damaged " ++ (decimal counts.damaged
+    ++ (codes " kept " ++ (decimal counts.kept ++ (codes " periods " ++ (decimal counts.periods
+    ++ (codes " links " ++ (decimal counts.links ++ (codes " up " ++ decimal counts.up)))))))))))))))
+
+-- `accepted`, and a line a side; or `refused SIDE RECORD line LINE: NUMBER NAME`, where record i stands on line i + 2
+abbrev pub verdict_text : Verdict → List ℕ
+verdict_text (Accepted summary) = codes "accepted\n" ++ (side_line A summary.a ++ (codes "\n" ++ (side_line B summary.b ++ codes "\n")))
+verdict_text (Refused side place reason) =
+    codes "refused " ++ (side_letter side ++ (codes " " ++ (decimal place ++ (codes " line " ++ (decimal (place + 2)
+    ++ (codes ": " ++ (decimal (reason_number reason) ++ (codes " " ++ (reason_name reason ++ codes "\n")))))))))
+
+-- what was wrong with a text, behind its side
+abbrev pub text_fault : TextFault → List ℕ
+text_fault (Syntax line) = codes "line " ++ (decimal line ++ codes ": syntax")
+text_fault (TooLong line) = codes "line " ++ (decimal line ++ codes ": too long")
+text_fault (TooMany line) = codes "line " ++ (decimal line ++ codes ": too many")
+text_fault Read = codes "read failed"
+
+-- `a: line 3: syntax` and its kin, or `out of memory`
+abbrev pub fault_text : JudgeFault → List ℕ
+fault_text (Capture side fault) = side_letter side ++ (codes ": " ++ (text_fault fault ++ codes "\n"))
+fault_text OutOfMemory = codes "out of memory\n"
+
+-- 0: accepted; 1: refused
+abbrev pub verdict_status : Verdict → ℕ
+verdict_status (Accepted summary) = 0
+verdict_status (Refused side place reason) = 1
+
+-- 2: a faulty text; 3: its reader failed
+abbrev pub text_fault_status : TextFault → ℕ
+text_fault_status (Syntax line) = 2
+text_fault_status (TooLong line) = 2
+text_fault_status (TooMany line) = 2
+text_fault_status Read = 3
+
+abbrev pub fault_status : JudgeFault → ℕ
+fault_status (Capture side fault) = text_fault_status fault
+fault_status OutOfMemory = 3
+
+-- what a stream shows: its bytes, where they are known, and how many of its calls failed
+pub record Stream : Type 0 where
+  pub bytes : Option (List ℕ)
+  pub faults : ℕ
+
+abbrev pub stream_of : {W : Type 0} → (W → Option (List ℕ)) → Tally W → Stream
+stream_of contents tally = record { bytes = contents (tally_lent tally); faults = tally_faults tally }
+
+-- a text is on the stream, no call failed, and the status is the one that was meant;
+-- or a call failed, a beginning of the text that is not all of it is on the stream, and the status is 3
+abbrev pub Writes : (old new : Stream) → List ℕ → (meant status : ℕ) → Type 0
+Writes old new text meant status =
+    (Appends old.bytes new.bytes text × (new.faults ≡ old.faults) × (status ≡ meant))
+    ⊎ (AppendsBeginning old.bytes new.bytes text × CountedFault old.faults new.faults × (status ≡ 3))
+
+-- a verdict is written to standard output and a fault to standard error; the other stream stays as it is
+abbrev pub Prints : (out_old out_new err_old err_new : Stream) → Result Verdict JudgeFault → ℕ → Type 0
+Prints out_old out_new err_old err_new (Ok verdict) status =
+    Writes out_old out_new (verdict_text verdict) (verdict_status verdict) status × (err_new ≡ err_old)
+Prints out_old out_new err_old err_new (Err fault) status =
+    Writes err_old err_new (fault_text fault) (fault_status fault) status × (out_new ≡ out_old)
+
+-- a failed read is answered only where a call of the named side's reader failed
+abbrev pub ReadFailed : (failed_a failed_b : Type 0) → Result Verdict JudgeFault → Type 0
+ReadFailed failed_a failed_b answer = (answer ≡ Err (Capture A Read) → failed_a) × (answer ≡ Err (Capture B Read) → failed_b)
+
+-- One call of `check`: an answer of the judge on what the two readers had left is printed, with its status.
+pub record Checks (text_a text_b : Option (List ℕ)) (failed_a failed_b : Type 0) (out_old out_new err_old err_new : Stream) (status : ℕ) : Type 0 where
+  pub answer : Result Verdict JudgeFault
+  pub judged : IsAnswer text_a text_b answer
+  pub read : ReadFailed failed_a failed_b answer
+  pub printed : Prints out_old out_new err_old err_new answer status

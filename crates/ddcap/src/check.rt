@@ -1,0 +1,63 @@
+//! `check`: two captures, one answer.
+
+ghost use Rattle.wire_base.specs.Tally.{CountedFault, tally_faults, tally_lent};
+ghost use Rattle.pair_judge.specs.declared.fault.JudgeFault.TheVariants.{OutOfMemory};
+ghost use Rattle.ddcap.specs.Printed.{Checks, Writes, fault_text as text_of, stream_of};
+
+use crate::text::{FAILED, fault_status, fault_text, verdict_status, verdict_text};
+use pair_judge::{JudgeFault, judge};
+use std::alloc::Global;
+use std::io::{Read, Write};
+use wire_base::{Tally, write_whole};
+
+/// Judges the captures that two readers give, prints the answer, and answers the status.
+///
+/// A verdict is printed to `out`: `accepted` and a line a side, status 0, or `refused SIDE RECORD line LINE: NUMBER NAME`,
+/// status 1. A fault is printed to `err`: a faulty text's line and kind, status 2; a failed read or want of memory,
+/// status 3. The whole text is put together before the first write, so that no growth comes between two writes; where there
+/// is no memory for it, the answer is `out of memory`. A failed write ends the printing, with status 3.
+pub fn check_to<A: Read, B: Read, O: Write, E: Write>(
+    alloc: Global,
+    a: &mut Tally<A>,
+    b: &mut Tally<B>,
+    out: &mut Tally<O>,
+    err: &mut Tally<E>,
+) -> u8
+    ensures { Checks (A.remaining (tally_lent a.old)) (B.remaining (tally_lent b.old))
+        (CountedFault (tally_faults a.old) (tally_faults a.new))
+        (CountedFault (tally_faults b.old) (tally_faults b.new))
+        (stream_of O.contents out.old) (stream_of O.contents out.new)
+        (stream_of E.contents err.old) (stream_of E.contents err.new) result }
+{
+    match judge(alloc, a, b) {
+        Ok(verdict) => match verdict_text(alloc, verdict) {
+            Ok(text) => print(out, text.as_bytes(), verdict_status(verdict)),
+            Err(_) => print_out_of_memory(err),
+        },
+        Err(fault) => match fault {
+            JudgeFault::Capture { side, fault } => match fault_text(alloc, side, fault) {
+                Ok(text) => print(err, text.as_bytes(), fault_status(fault)),
+                Err(_) => print_out_of_memory(err),
+            },
+            JudgeFault::OutOfMemory => print_out_of_memory(err),
+        },
+    }
+}
+
+/// Writes a text, and answers the status: the given one, or 3 where a write failed.
+pub fn print<W: Write>(stream: &mut Tally<W>, text: &[u8], status: u8) -> u8
+    ensures { Writes (stream_of W.contents stream.old) (stream_of W.contents stream.new) text.now status result }
+{
+    match write_whole(stream, text) {
+        Ok(()) => status,
+        Err(_) => FAILED,
+    }
+}
+
+/// Writes `out of memory` from a constant, so that it needs no memory, and answers the status, 3.
+pub fn print_out_of_memory<W: Write>(stream: &mut Tally<W>) -> u8
+    ensures { Writes (stream_of W.contents stream.old) (stream_of W.contents stream.new)
+        (text_of OutOfMemory) 3 result }
+{
+    print(stream, b"out of memory\n", FAILED)
+}

@@ -1,0 +1,20 @@
+//! `ddcap` judges whether two text captures of one DDCMP line, between two DECnet Phase IV end nodes, are together a run of
+//! the protocols, and prints the verdict. It reads the files that it is given and writes to its two streams alone; it never
+//! touches a line, a clock or another file.
+#![tactic(auto)]
+
+use std::process::ExitCode;
+use wire_base::Tally;
+
+mod check;
+mod run;
+#[cfg(test)]
+mod tests;
+mod text;
+mod words;
+
+fn main(rt: HostRuntime) -> ExitCode {
+    let mut out = Tally::new(rt.stdout());
+    let mut err = Tally::new(rt.stderr());
+    ExitCode::from(run::run(&rt, &mut out, &mut err))
+}

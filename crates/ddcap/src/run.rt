@@ -1,0 +1,83 @@
+//! The program between its words and its status.
+
+use crate::check::{check_to, print, print_out_of_memory};
+use crate::text::FAILED;
+use crate::words::{Task, WordsFault, task_of};
+use std::alloc::Global;
+use std::io::{self, ErrorKind, Write};
+use std::rt::{Env, Files};
+use std::{env, fs};
+use wire_base::{Side, Tally};
+
+/// The status of words that are no task.
+const BAD_WORDS: u8 = 2;
+
+/// Does what the program's words ask for, and answers its status.
+pub fn run<R: Env + Files + AllocGlobal, O: Write, E: Write>(
+    rt: &R,
+    out: &mut Tally<O>,
+    err: &mut Tally<E>,
+) -> u8 {
+    let words: Vec<String> = match words_given(rt) {
+        Ok(words) => words,
+        Err(fault) => return print_words_fault(err, fault),
+    };
+    match task_of(rt.alloc(), words.as_slice()) {
+        Ok(Task::Check { a, b }) => check_files(rt, a, b, out, err),
+        Err(fault) => print_words_fault(err, fault),
+    }
+}
+
+/// The words as text. One that is not UTF-8 makes them bad words.
+fn words_given<R: Env + AllocGlobal>(rt: &R) -> Result<Vec<String>, WordsFault> {
+    match env::args(rt) {
+        Ok(words) => match words.collect(rt.alloc()) {
+            Ok(words) => Ok(words),
+            Err(_) => Err(WordsFault::OutOfMemory),
+        },
+        Err(error) => match error.kind() {
+            ErrorKind::OutOfMemory => Err(WordsFault::OutOfMemory),
+            _ => Err(WordsFault::BadWords),
+        },
+    }
+}
+
+/// Prints `bad words`, or `out of memory`, and answers the status.
+fn print_words_fault<W: Write>(err: &mut Tally<W>, fault: WordsFault) -> u8 {
+    match fault {
+        WordsFault::BadWords => print(err, b"bad words\n", BAD_WORDS),
+        WordsFault::OutOfMemory => print_out_of_memory(err),
+    }
+}
+
+/// Opens the two files, a's first, and checks what they hold. The first that can't be opened ends it.
+fn check_files<R: Files + AllocGlobal, O: Write, E: Write>(
+    rt: &R,
+    path_a: &str,
+    path_b: &str,
+    out: &mut Tally<O>,
+    err: &mut Tally<E>,
+) -> u8 {
+    let file_a = match fs::open(rt, path_a) {
+        Ok(file) => file,
+        Err(error) => return print_not_opened(err, Side::A, &error),
+    };
+    let file_b = match fs::open(rt, path_b) {
+        Ok(file) => file,
+        Err(error) => return print_not_opened(err, Side::B, &error),
+    };
+    let mut a = Tally::new(file_a);
+    let mut b = Tally::new(file_b);
+    check_to(rt.alloc(), &mut a, &mut b, out, err)
+}
+
+/// Prints that a side's file can't be opened, and answers the status.
+fn print_not_opened<W: Write>(err: &mut Tally<W>, side: Side, error: &io::Error) -> u8 {
+    if error.kind() == ErrorKind::OutOfMemory {
+        return print_out_of_memory(err);
+    }
+    match side {
+        Side::A => print(err, b"a: cannot open\n", FAILED),
+        Side::B => print(err, b"b: cannot open\n", FAILED),
+    }
+}

@@ -1,0 +1,8 @@
+//! Tests of what no contract says: the worked rows of the protocols from outside, words, and devices that fail.
+
+mod devices;
+mod pair;
+mod reasons;
+mod rows;
+mod texts;
+mod words;

@@ -1,0 +1,56 @@
+//! The words that the program is given.
+
+use clap::error::ErrorKind;
+use clap::{Arg, Command};
+use std::alloc::{AllocError, Global};
+use std::convert::AsStr;
+
+/// What the program is asked to do.
+#[derive(Clone, Copy, Debug, PartialEq, Eq)]
+pub enum Task<'a> {
+    /// To judge the captures in two files.
+    Check { a: &'a str, b: &'a str },
+}
+
+/// Why the words ask for nothing.
+#[derive(Clone, Copy, Debug, PartialEq, Eq)]
+pub enum WordsFault {
+    /// They are no task; a wish for help or the version is none either.
+    BadWords,
+    /// There was no memory to read them.
+    OutOfMemory,
+}
+
+/// What the words ask for; the first is the program's name.
+pub fn task_of<'a, S: AsStr>(alloc: Global, words: &'a [S]) -> Result<Task<'a>, WordsFault> {
+    let Ok(program) = program(alloc) else {
+        return Err(WordsFault::OutOfMemory);
+    };
+    match program.try_get_matches_from(words) {
+        Ok(matches) => match matches.subcommand() {
+            Some(("check", found)) => match (found.get_str("A"), found.get_str("B")) {
+                (Some(a), Some(b)) => Ok(Task::Check { a, b }),
+                _ => Err(WordsFault::BadWords),
+            },
+            _ => Err(WordsFault::BadWords),
+        },
+        Err(error) => match error.kind() {
+            ErrorKind::OutOfMemory => Err(WordsFault::OutOfMemory),
+            _ => Err(WordsFault::BadWords),
+        },
+    }
+}
+
+fn program<'a>(alloc: Global) -> Result<Command<'a>, AllocError> {
+    Command::new(alloc, "ddcap")
+        .disable_help_subcommand(true)
+        .subcommand_required(true)
+        .subcommand(check(alloc)?)
+}
+
+/// `check A B`
+fn check<'a>(alloc: Global) -> Result<Command<'a>, AllocError> {
+    Command::new(alloc, "check")
+        .arg(Arg::new(alloc, "A").required(true))?
+        .arg(Arg::new(alloc, "B").required(true))
+}
