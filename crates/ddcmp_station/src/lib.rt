@@ -11,3 +11,6 @@ pub use arrival::Arrival;
 pub use dna_model::{State, StationEvent, StationRefusal, Tag};
 pub use sent_as::SentAs;
 pub use station::Station;
+
+#[cfg(test)]
+mod tests;

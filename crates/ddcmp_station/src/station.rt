@@ -42,7 +42,7 @@ impl Model for Station {
 impl Station {
     ghost use Rattle.dna_model.specs.Station.{new_station};
 
-    /// A station that nobody has started.
+    /// A station that nobody has started: in HALTED, in period 0, with no partner (DDCMP 4.1, startup state table).
     pub fn new() -> Self
         ensures { result ≡ new_station }
     {
@@ -53,23 +53,24 @@ impl Station {
         }
     }
 
-    /// Its state.
+    /// Its state: HALTED, ISTRT, ASTRT or RUNNING.
     pub fn state(&self) -> State
         ensures { result ≡ self.now.state }
     {
         self.state
     }
 
-    /// The number of its starts so far, which is the number of the present period.
+    /// How many starts there were so far, which is the number of the present period: 0 before the first.
     pub fn period(&self) -> u64
         ensures { result ≡ self.now.period }
     {
         self.period
     }
 
-    /// Its user starts or halts it.
+    /// Its user starts or halts it (DDCMP 4.1, startup state table). A start leads to ISTRT and begins the next period,
+    /// which has no partner yet; a halt leads to HALTED from every state. There may be at most 2^63 starts.
     ///
-    /// `WrongUserEvent`: a start in a state other than HALTED.
+    /// `WrongUserEvent`: a start in a state other than HALTED. The station stays as it was.
     pub fn user(&mut self, event: StationEvent) -> Result<(), StationRefusal>
         requires { self.old.period < 2 ^ 63 }
         ensures allowed { OnOk result (user_refusal self.old.state event ≡ None) }
@@ -103,10 +104,11 @@ impl Station {
         Ok(())
     }
 
-    /// Its node sent this message. The answer has the tag that the unit goes with.
+    /// Its node sent this message: STRT in ISTRT, STACK in ASTRT, or ACK in RUNNING (DDCMP 4.1, startup state table). The
+    /// answer has the tag that the unit goes with. Sending changes nothing, whether it is refused or not.
     ///
     /// `WrongState`: the message may not be sent in this state. `WrongResponse`: an ACK of a number other than that of
-    /// the last data message received.
+    /// the last data message received, which is 0 while there is none.
     pub fn sent(&self, message: &Message) -> Result<SentAs, StationRefusal>
         ensures allowed { OnOk result (sending_refusal self.now.state (view message.now) ≡ None) }
         ensures ok { IfOk result (λ sent. sent.tag ≡ tag_of self.now) }
@@ -123,10 +125,11 @@ impl Station {
         }
     }
 
-    /// This came, and the node kept its packet or did not.
+    /// This came, and the node kept its packet or did not (DDCMP 4.1, startup state table). What the table does not name in
+    /// this state, and a unit that shows damage, changes nothing.
     ///
     /// `CrossedPeriod`: a message that is acted on belongs to another pair of starts. `WrongKeep`, after it: nothing is
-    /// taken, and `kept` says that something was.
+    /// taken, and `kept` says that something was. After either the station is as it was.
     pub fn arrived(&mut self, arrival: Arrival, kept: bool) -> Result<(), StationRefusal>
         ensures allowed { OnOk result (arrival_refusal crossed self.old (arrival_view arrival.entry) kept ≡ None) }
         ensures ok { OnOk result (self.new ≡ after_arrival self.old (arrival_view arrival.entry)) }

@@ -1,7 +1,7 @@
 -- Worked rows, computed from the definitions: an accepted row is its run, one record after another; a refused row is the
 -- answer to its last record in the world that the earlier ones lead to.
-use Rattle.std.proofs.Common.{◌≡◌, ℕ, Bool, true, false, List, [], ◌∷◌, refl, Option, Some, None}
-use Rattle.two_nodes.specs.Nodes.{World, Half, Run, Done, OfA, OfB, Outcome, Made, Waits, Refused, advance}
+use Rattle.std.proofs.Common.{◌≡◌, ℕ, true, false, List, [], ◌∷◌, refl}
+use Rattle.two_nodes.specs.Nodes.{World, Run, Done, OfA, OfB, Outcome, Waits, Refused, advance}
 use Rattle.wire_base.specs.BlockCheck.{is_good, check_of, after_byte, shift}
 use Rattle.ddcmp_msg.specs.Reading.{reading}
 use Rattle.capture.specs.declared.record.Record.{Record}
@@ -59,12 +59,12 @@ record EndsAt (as' bs : List Record) (of_b : Record) (outcome : Outcome Node Sen
   run : Run pair start as' bs world
   becomes : advance pair.node_b world.b world.a of_b ≡ outcome
 
--- 1
+-- the bytes that are sent are no message
 not_a_message : EndsAt [] [] (Sent (0 ∷ [])) (Refused NotAMessage)
 unfolding reading is_good check_of after_byte shift
 not_a_message = record { world = start; run = Done; becomes = refl }
 
--- 2: the same unit twice
+-- the same unit comes twice
 hint_goes_back : EndsAt (User Start ∷ Sent STRT ∷ []) (User Start ∷ Received 0 false STRT ∷ []) (Received 0 false STRT) (Refused HintOrder)
 unfolding reading is_good check_of after_byte shift
 hint_goes_back = record { world = _; run = OfA refl (OfA refl (OfB refl (OfB refl Done))); becomes = refl }
@@ -73,27 +73,27 @@ hint_goes_back = record { world = _; run = OfA refl (OfA refl (OfB refl (OfB ref
 nobody_can_go_on : EndsAt [] [] (Received 0 false STRT) Waits
 nobody_can_go_on = record { world = start; run = Done; becomes = refl }
 
--- 5: a STACK where an ACK was sent
+-- a STACK comes where an ACK was sent, and no block check shows it
 changed_unit : EndsAt first_start_lost_a (User Start ∷ Received 1 false STRT ∷ Sent STACK ∷ []) (Received 2 false STACK) (Refused Undetected)
 unfolding reading is_good check_of after_byte shift
 changed_unit = record { world = _; run = OfA refl (OfA refl (OfA refl (OfB refl (OfB refl (OfB refl (OfA refl (OfA refl Done))))))); becomes = refl }
 
--- 6: STRT before the start
+-- STRT is sent before the start
 start_unasked : EndsAt [] [] (Sent STRT) (Refused (OfStation WrongState))
 unfolding reading is_good check_of after_byte shift
 start_unasked = record { world = start; run = Done; becomes = refl }
 
--- 8: an ACK of a data message that never came
+-- an ACK of a data message that never came is sent
 acknowledges_what_never_came : EndsAt (User Start ∷ Received 0 false STRT ∷ Sent STACK ∷ []) (User Start ∷ Sent STRT ∷ Received 0 false STACK ∷ []) (Sent ACK1) (Refused (OfStation WrongResponse))
 unfolding reading is_good check_of after_byte shift
 acknowledges_what_never_came = record { world = _; run = OfA refl (OfB refl (OfB refl (OfA refl (OfA refl (OfB refl Done))))); becomes = refl }
 
--- 12: nothing is taken
+-- the receipt claims that a STRT was taken as a packet
 keeps_a_start : EndsAt (User Start ∷ Sent STRT ∷ []) (User Start ∷ []) (Received 0 true STRT) (Refused (OfStation WrongKeep))
 unfolding reading is_good check_of after_byte shift
 keeps_a_start = record { world = _; run = OfA refl (OfA refl (OfB refl Done)); becomes = refl }
 
--- 13: the answer to b's first start comes in its second
+-- the answer to b's first start comes in its second
 abbrev crossed_period_a : List Record
 crossed_period_a = User Start ∷ Received 0 false STRT ∷ Sent STACK ∷ Sent STACK ∷ []
 
@@ -104,6 +104,6 @@ crossed_period : EndsAt crossed_period_a crossed_period_b (Received 1 false STAC
 unfolding reading is_good check_of after_byte shift
 crossed_period = record { world = _; run = OfA refl (OfB refl (OfB refl (OfA refl (OfA refl (OfA refl (OfB refl (OfB refl (OfB refl (OfB refl Done))))))))); becomes = refl }
 
--- 14: a second start
+-- a second start without a halt
 starts_twice : EndsAt [] (User Start ∷ []) (User Start) (Refused (OfStation WrongUserEvent))
 starts_twice = record { world = _; run = OfB refl Done; becomes = refl }

@@ -1,10 +1,8 @@
 -- What a record alone tells of its step: the unit that it names, and whether it sends one.
-use Rattle.std.proofs.Common.{ℕ, Bool, true, false, Option, Some, None, List, refl}
-use Rattle.two_nodes.specs.Nodes.{Goes, Sends, Refuses, Reads}
+use Rattle.std.proofs.Common.{ℕ, true, false, Option, Some, None, List, refl}
 use Rattle.two_nodes.specs.Past.{AgreesWith, Tells, BothTell}
 use Rattle.ddcmp_msg.specs.Message.{MessageValue}
 use Rattle.ddcmp_msg.specs.Reading.{ReadingValue, reading, Sound, HeaderBad, DataBad, Malformed}
-use Rattle.capture.specs.declared.record.Record.{Record}
 use Rattle.capture.specs.declared.record.Record.TheVariants.{Sent, Received, User}
 use Rattle.capture.specs.declared.event.Event.{Event}
 use Rattle.capture.specs.declared.event.Event.TheVariants.{Start, Halt, Open, Accept, Reject, In, Up, Close}

@@ -3,5 +3,4 @@ pub mod Station
 pub mod Line
 pub mod Node
 pub mod Pair
-
 pub mod Verdict

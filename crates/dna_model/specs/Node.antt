@@ -1,9 +1,9 @@
 -- One node: what it makes of one record of its capture. The order of the cases is the order of the checks.
-use Rattle.std.specs.Prelude.{ℕ, ◌+◌, Bool, true, false, Option, Some, None, Result, Ok, Err, List, if◌then◌else◌, nat_lt}
+use Rattle.std.specs.Prelude.{ℕ, ◌+◌, Bool, Option, Some, None, Result, Ok, Err, List, if◌then◌else◌, nat_lt}
 use Rattle.two_nodes.specs.Nodes.{Answer}
 use Rattle.two_nodes.specs.Nodes.Answer.{Refuses, Goes, Sends, Reads}
 use Rattle.ddcmp_msg.specs.Message.{MessageValue}
-use Rattle.ddcmp_msg.specs.Reading.{ReadingValue, reading, Sound, HeaderBad, DataBad, Malformed}
+use Rattle.ddcmp_msg.specs.Reading.{ReadingValue, reading, Sound}
 use Rattle.capture.specs.declared.record.Record.{Record}
 use Rattle.capture.specs.declared.record.Record.TheVariants.{Sent, Received, User}
 use Rattle.capture.specs.declared.event.Event.{Event}
@@ -13,7 +13,6 @@ use Rattle.dna_model.specs.declared.state.StationEvent.TheVariants.{Start, Halt}
 use Rattle.dna_model.specs.declared.refusal.StationRefusal.{StationRefusal}
 use Rattle.dna_model.specs.declared.refusal.StepRefusal.{StepRefusal}
 use Rattle.dna_model.specs.declared.refusal.StepRefusal.TheVariants.{NotAMessage, HintOrder, Undetected, Station as OfStation}
-use Rattle.dna_model.specs.declared.tag.Tag.{Tag}
 use Rattle.dna_model.specs.Station.{Station, new_station, user_refusal, after_event, sending_refusal, tag_of, PeriodRule, ArrivalValue, arrival_refusal, after_arrival}
 use Rattle.dna_model.specs.Line.{SentUnit, coming}
 

@@ -8,9 +8,9 @@ use wire_base::Side;
 pub enum Cause {
     /// The record can't be made though all of its causes can.
     Step(StepRefusal),
-    /// The record names a unit that the other side never sends (3).
+    /// The record names a unit that the other side never sends (reason 3).
     NoSuchUnit,
-    /// Each side's next record names a unit that the other has not sent by then (4).
+    /// Each side's next record names a unit that the other has not sent by then (reason 4).
     NoOrder,
 }
 

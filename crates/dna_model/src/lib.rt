@@ -1,6 +1,6 @@
 //! What a reader must believe of the protocols: one station, one node with its line, the run of two captures and the
-//! verdict on them, as definitions in `specs/`, with the few types that code and definitions share. It decides nothing and
-//! runs nothing: the machines above are proved to follow these definitions.
+//! verdict on them, as definitions in `specs/`, with the few types that code and definitions share. It decides nothing, runs
+//! nothing and touches no file and no memory: the machines above are proved to follow these definitions.
 #![tactic(auto)]
 
 mod finding;

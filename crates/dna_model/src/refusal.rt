@@ -1,29 +1,29 @@
 //! Why a station, or a node, can't make a record.
 
-/// Why a station refuses a step. The numbers that people see are those of the judge's reasons.
+/// Why a station refuses a step. Each has the number of the reason that the judge prints for it.
 #[derive(Clone, Copy, Debug, PartialEq, Eq)]
 pub enum StationRefusal {
-    /// The message may not be sent in this state (6).
+    /// The message may not be sent in this state (reason 6).
     WrongState,
-    /// RESP is not the number of the last data message received (8).
+    /// RESP is not the number of the last data message received, which is 0 while there is none (reason 8).
     WrongResponse,
-    /// The receipt claims to have taken a packet, and takes none (12).
+    /// The receipt claims to have taken a packet, and takes none (reason 12).
     WrongKeep,
-    /// A message that is acted on belongs to another pair of starts (13).
+    /// A message that is acted on belongs to another pair of starts (reason 13).
     CrossedPeriod,
-    /// A start in a state other than HALTED (14).
+    /// A start in a state other than HALTED (reason 14).
     WrongUserEvent,
 }
 
 /// Why a node can't make a record, where no other order of the records would help.
 #[derive(Clone, Copy, Debug, PartialEq, Eq)]
 pub enum StepRefusal {
-    /// The bytes that were sent are no sound message (1).
+    /// The bytes that were sent are no sound message (reason 1).
     NotAMessage,
-    /// The hint is at or below an earlier one (2).
+    /// The hint is at or below an earlier one (reason 2).
     HintOrder,
-    /// The bytes differ from the unit's, and no block check shows it (5).
+    /// The bytes differ from the unit's, and no block check shows it (reason 5).
     Undetected,
-    /// The station refuses.
+    /// The station refuses, for this reason of its own.
     Station(StationRefusal),
 }

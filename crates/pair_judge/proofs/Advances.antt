@@ -1,5 +1,5 @@
 -- What became of a record at one end of the judge is what becomes of it at the half of the run that the end stands for.
-use Rattle.std.proofs.Common.{◌≡◌, ℕ, ◌+◌, ◌≤◌, Bool, List, [], ◌∷◌, ◌++◌, length, drop, Option, Some, None, Result, Ok, Err, refl, sym, ap, ◌∙◌, arith, length-append}
+use Rattle.std.proofs.Common.{◌≡◌, ℕ, Bool, List, [], ◌∷◌, ◌++◌, drop, Some, None, Result, Ok, Err, refl, sym, ap, ◌∙◌, arith, length-append}
 use Rattle.std.specs.List.{slice_get}
 use Rattle.std.proofs.lemmas.List.{drop-append-le}
 use Rattle.two_nodes.specs.Nodes.{Half, Outcome, Made, Waits, Refused, Answer, answered, concluded, stepped, stepped_sending, advance}
@@ -45,8 +45,8 @@ pub sending_made : (old new : End) (incoming : Line) (bytes : List ℕ) (mine th
 sending_made old new incoming bytes mine theirs stands shows sends station units gone counts = record {
   next = stepped_sending mine (node_of old.station incoming) (unit_of bytes (tag_of old.station));
   step_is =
-    ap (λ (n : Node). answered mine theirs (sent_step n bytes (reading bytes))) (state_is old incoming mine stands)
-    ∙ ap (answered mine theirs) (sends incoming.gone);
+      ap (λ (n : Node). answered mine theirs (sent_step n bytes (reading bytes))) (state_is old incoming mine stands)
+      ∙ ap (answered mine theirs) (sends incoming.gone);
   stands = record {
     station = sym station;
     front = refl;
@@ -68,8 +68,8 @@ pub event_made : (old new : End) (incoming : Line) (event : Event) (mine theirs 
 event_made old new incoming event mine theirs stands shows goes line counts = record {
   next = stepped mine (node_of new.station incoming);
   step_is =
-    ap (λ (n : Node). answered mine theirs (user_step n event)) (state_is old incoming mine stands)
-    ∙ ap (answered mine theirs) (goes incoming.gone);
+      ap (λ (n : Node). answered mine theirs (user_step n event)) (state_is old incoming mine stands)
+      ∙ ap (answered mine theirs) (goes incoming.gone);
   stands = record { station = refl; front = refl; sent = same_line old.line new.line mine.sent line stands.sent };
   incoming = shows;
   same_front = ap (λ (l : Line). l.gone) line;

@@ -1,16 +1,15 @@
 -- How what was read of a text grows.
-use Rattle.std.proofs.Common.{◌≡◌, ℕ, ◌+◌, ◌<◌, ◌≤◌, List, [], ◌∷◌, ◌++◌, length, Option, Some, None, refl, sym, ap, subst, ◌∙◌, arith, length-append, append_assoc, append-nil}
+use Rattle.std.proofs.Common.{◌≡◌, ℕ, ◌+◌, ◌<◌, List, [], ◌∷◌, ◌++◌, Option, Some, None, sym, ap, subst, ◌∙◌, arith, length-append, append_assoc, append-nil}
 use Rattle.std.specs.Option.{IfSome}
-use Rattle.std.specs.List.{AllByRecursion, flat_map}
+use Rattle.std.specs.List.{AllByRecursion}
 use Rattle.std.specs.Io.KnownBytes.{Consumes, IsAtEnd}
 use Rattle.capture.specs.declared.limit.TheConstants.{MAX_RECORDS}
 use Rattle.capture.specs.declared.record.Record.{Record}
 use Rattle.capture.specs.Text.{head_line, record_line, record_lines}
 use Rattle.capture.specs.Range.{IsNode, IsRecord}
 use Rattle.capture.specs.Reader.{CaptureState}
-use Rattle.pair_judge.specs.declared.course.Ahead.{Ahead}
 use Rattle.pair_judge.specs.declared.course.Ahead.TheVariants.{Unread, Waits, Ended}
-use Rattle.pair_judge.specs.Course.{IsRead, IsBeginning, waiting}
+use Rattle.pair_judge.specs.Course.{IsRead}
 
 -- ---- lists of records
 
@@ -73,10 +72,10 @@ read_on text before after old new made r h own peer is_record few count consumes
     let same : (made ++ r ∷ []) ++ [] ≡ made ++ r ∷ [] = append-nil (made ++ r ∷ []) in
     let was : made ++ [] ≡ made = append-nil made in
     let read : head_line old.own old.peer ++ record_lines made ++ record_line r ≡ head_line new.own new.peer ++ record_lines (made ++ r ∷ []) =
-        append_assoc (head_line old.own old.peer) (record_lines made) (record_line r)
-        ∙ ap (λ bytes. head_line old.own old.peer ++ bytes) (sym (record_lines-push made r))
-        ∙ ap (λ own. head_line own old.peer ++ record_lines (made ++ r ∷ [])) (sym own)
-        ∙ ap (λ peer. head_line new.own peer ++ record_lines (made ++ r ∷ [])) (sym peer) in
+    append_assoc (head_line old.own old.peer) (record_lines made) (record_line r)
+    ∙ ap (λ bytes. head_line old.own old.peer ++ bytes) (sym (record_lines-push made r))
+    ∙ ap (λ own. head_line own old.peer ++ record_lines (made ++ r ∷ [])) (sym own)
+    ∙ ap (λ peer. head_line new.own peer ++ record_lines (made ++ r ∷ [])) (sym peer) in
     let before_it : Consumes text before (head_line old.own old.peer ++ record_lines made) = rw was at h.beginning in
     record {
       own_fits = subst IsNode (sym own) h.own_fits;

@@ -1,5 +1,5 @@
 -- How the judge ends: its finding is a verdict on all captures that go on behind what was read.
-use Rattle.std.proofs.Common.{◌≡◌, ℕ, List, [], ◌∷◌, ◌++◌, Option, refl, sym, ap, subst, ◌∙◌, append-nil, append_assoc}
+use Rattle.std.proofs.Common.{◌≡◌, ℕ, List, [], ◌∷◌, ◌++◌, Option, sym, subst, ◌∙◌, append-nil, append_assoc}
 use Rattle.capture.specs.declared.record.Record.{Record}
 use Rattle.wire_base.specs.declared.side.Side.{Side}
 use Rattle.dna_model.specs.declared.finding.Cause.{Cause}
@@ -10,7 +10,6 @@ use Rattle.pair_judge.specs.declared.course.Ahead.{Ahead}
 use Rattle.pair_judge.specs.declared.course.Ahead.TheVariants.{Unread, Waits, Ended}
 use Rattle.pair_judge.specs.declared.course.Course.{Course}
 use Rattle.pair_judge.specs.Course.{IsRead, waiting}
-use Rattle.pair_judge.specs.Summary.{summary_of}
 use Rattle.pair_judge.specs.Reached.{HasReached, GoesOn, IsFound}
 
 -- ---- what goes on behind what was read

@@ -19,7 +19,6 @@ held_at line sent hint shows at_least =
     let e : line.gone + (hint - line.gone) ≡ hint = omega arith in
     ap (λ xs. slice_get xs (hint - line.gone)) shows.rest ∙ slice_get-drop line.gone (hint - line.gone) sent ∙ ap (slice_get sent) e
 
-
 -- the line after a unit came
 pub released : (before after : Line) (sent : List SentUnit) (hint : ℕ) → Shows before sent → before.gone ≤ hint → hint < length sent → after.gone ≡ hint + 1 → after.units.items ≡ drop (hint + 1 - before.gone) before.units.items → Shows after sent
 released before after sent hint shows at_least was_sent gone units =

@@ -1,8 +1,8 @@
 -- Two sides whose heads have been read, and what holds of the two between turns.
-use Rattle.std.proofs.Common.{◌≡◌, ℕ, ◌+◌, ◌≤◌, List, [], length, drop, Option, Result, Ok, Err, refl, sym, subst, ◌∙◌, arith}
-use Rattle.two_nodes.specs.Nodes.{Half, Done}
+use Rattle.std.proofs.Common.{◌≡◌, ℕ, ◌+◌, List, [], length, drop, Option, Result, Ok, Err, refl, sym, subst, ◌∙◌, arith}
+use Rattle.two_nodes.specs.Nodes.{Done}
 use Rattle.dna_model.specs.Line.{SentUnit}
-use Rattle.dna_model.specs.Node.{Node, new_node}
+use Rattle.dna_model.specs.Node.{new_node}
 use Rattle.dna_model.specs.Pair.{start}
 use Rattle.capture.specs.declared.record.Record.{Record}
 use Rattle.pair_judge.specs.declared.course.Course.{Course}

@@ -1,5 +1,5 @@
 -- From what was read of two texts to the captures that they are.
-use Rattle.std.proofs.Common.{◌≡◌, ℕ, ◌+◌, ◌≤◌, ◌<◌, ◌^◌, List, [], ◌∷◌, ◌++◌, length, Option, Some, None, refl, sym, ap, subst, ◌∙◌, arith, length-append, append-nil, append_assoc}
+use Rattle.std.proofs.Common.{◌≡◌, ℕ, ◌≤◌, List, [], ◌∷◌, ◌++◌, length, Option, Some, None, refl, sym, ap, subst, ◌∙◌, arith, length-append, append-nil, append_assoc}
 use Rattle.std.specs.Option.{IfSome}
 use Rattle.std.specs.List.{AllByRecursion}
 use Rattle.std.proofs.lemmas.List.Sums.{count_by-le-length}
@@ -20,7 +20,7 @@ use Rattle.pair_judge.specs.Counting.{is_received, is_damaged, is_kept, is_start
 use Rattle.pair_judge.specs.Course.{IsRead, IsBeginning, waiting}
 use Rattle.pair_judge.specs.Summary.{summary_of, HasRoom}
 use Rattle.pair_judge.specs.Reached.{GoesOn, IsFound}
-use Rattle.pair_judge.specs.Judged.{AreARun, IsRunWhere, IsFoundIn}
+use Rattle.pair_judge.specs.Judged.{IsRunWhere, IsFoundIn}
 
 -- ---- counts
 
@@ -56,7 +56,7 @@ goes_behind : (laws : TextLaws) (text : List ℕ) (capture : CaptureState) (come
 goes_behind laws text capture None read all own peer own_fits peer_fits each begins is_text = absurd begins
 goes_behind laws text capture (Some left) read all own peer own_fits peer_fits each begins is_text =
     let same : head_line own peer ++ record_lines all ≡ head_line capture.own capture.peer ++ (record_lines read ++ left) =
-        sym is_text.spelled ∙ begins ∙ append_assoc (head_line capture.own capture.peer) (record_lines read) left in
+    sym is_text.spelled ∙ begins ∙ append_assoc (head_line capture.own capture.peer) (record_lines read) left in
     let after = (laws.heads own peer capture.own capture.peer (record_lines all) (record_lines read ++ left) is_text.fits.own_fits is_text.fits.peer_fits own_fits peer_fits same).2 in
     let more = laws.begun read all left each is_text.fits.each after in
     (more.0, more.1)

@@ -1,18 +1,16 @@
 -- What one record does to the world that both sides of the judge stand for.
-use Rattle.std.proofs.Common.{◌≡◌, ℕ, ◌+◌, Bool, true, false, cond, List, [], ◌∷◌, ◌++◌, length, Option, Some, None, refl, sym, ap, subst, ◌∙◌, arith, length-append, append-nil, append_assoc, count_by}
-use Rattle.std.proofs.lemmas.List.Sums.{sum_by_push, count_by-le-length}
-use Rattle.two_nodes.specs.Nodes.{World, Half, Run, advance}
-use Rattle.two_nodes.specs.Nodes as any
+use Rattle.std.proofs.Common.{◌≡◌, ℕ, ◌+◌, Bool, true, false, cond, List, [], ◌∷◌, ◌++◌, length, Option, refl, sym, ap, subst, ◌∙◌, arith, length-append, count_by}
+use Rattle.std.proofs.lemmas.List.Sums.{sum_by_push}
+use Rattle.two_nodes.specs.Nodes.{Half, Run}
 use Rattle.capture.specs.declared.record.Record.{Record}
 use Rattle.dna_model.specs.Pair.{pair, start, is_sent}
-use Rattle.dna_model.specs.Station.{Station}
 use Rattle.dna_model.specs.Line.{SentUnit}
 use Rattle.dna_model.specs.Node.{Node}
 use Rattle.pair_judge.specs.declared.line.Line.{Line}
 use Rattle.pair_judge.specs.declared.end.End.{End}
 use Rattle.pair_judge.specs.declared.summary.SideSummary.{SideSummary}
 use Rattle.pair_judge.specs.Counting.{is_received, is_damaged, is_kept, is_start, more_if}
-use Rattle.pair_judge.specs.Summary.{summary_of, counted, HasRoom}
+use Rattle.pair_judge.specs.Summary.{summary_of, counted}
 use Rattle.pair_judge.specs.Making.{StandsFor, IsMade}
 use Rattle.pair_judge.specs.Lines.{Shows}
 use Rattle.pair_judge.specs.declared.course.Course.{Course}

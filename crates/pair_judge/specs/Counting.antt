@@ -1,5 +1,5 @@
 -- Which records a summary counts where.
-use Rattle.std.specs.Prelude.{ℕ, ◌+◌, Bool, true, false, List}
+use Rattle.std.specs.Prelude.{ℕ, ◌+◌, Bool, true, false}
 use Rattle.ddcmp_msg.specs.Reading.{ReadingValue, reading, Sound, HeaderBad, DataBad, Malformed}
 use Rattle.capture.specs.declared.record.Record.{Record}
 use Rattle.capture.specs.declared.record.Record.TheVariants.{Sent, Received, User}

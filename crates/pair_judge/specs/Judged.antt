@@ -1,6 +1,6 @@
 -- What an answer of the judge says of the bytes that its two readers had left. Provisional: the public claim is that of an
 -- acceptance; what a refusal says is proved of the inner call (`IsFoundIn`).
-use Rattle.std.specs.Prelude.{◌≡◌, ℕ, List, Option, Some, None, Result, Ok, Err, IfSome}
+use Rattle.std.specs.Prelude.{◌≡◌, ℕ, List, Option, Result, Ok, Err, IfSome}
 use Rattle.capture.specs.declared.record.Record.{Record}
 use Rattle.capture.specs.Range.{IsText}
 use Rattle.dna_model.specs.declared.finding.Finding.{Finding}

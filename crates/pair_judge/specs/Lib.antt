@@ -5,7 +5,6 @@ pub mod Summary
 pub mod Unit
 pub mod Lines
 pub mod Receipts
-
 pub mod Making
 pub mod Course
 pub mod Reached

@@ -1,5 +1,5 @@
 -- A line that has dropped its first units, beside the list of all that were sent.
-use Rattle.std.specs.Prelude.{◌≡◌, ℕ, ◌≤◌, List, length, drop}
+use Rattle.std.specs.Prelude.{◌≡◌, ◌≤◌, List, length, drop}
 use Rattle.dna_model.specs.Line.{SentUnit}
 use Rattle.pair_judge.specs.declared.line.Line.{Line}
 

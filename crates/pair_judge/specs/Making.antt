@@ -1,10 +1,9 @@
 -- One side of the judge beside the half of a run that it stands for, and what became of one record there.
-use Rattle.std.specs.Prelude.{◌≡◌, ℕ}
+use Rattle.std.specs.Prelude.{◌≡◌}
 use Rattle.two_nodes.specs.Nodes.{Half, Outcome, advance}
 use Rattle.two_nodes.specs.Nodes as any
 use Rattle.capture.specs.declared.record.Record.{Record}
-use Rattle.dna_model.specs.declared.refusal.StepRefusal.{StepRefusal}
-use Rattle.dna_model.specs.Station.{Station, crossed}
+use Rattle.dna_model.specs.Station.{crossed}
 use Rattle.dna_model.specs.Line.{SentUnit}
 use Rattle.dna_model.specs.Node.{Node, step}
 use Rattle.pair_judge.specs.declared.line.Line.{Line}

@@ -2,7 +2,6 @@
 use Rattle.std.specs.Prelude.{◌≡◌, ℕ, List, [], Option}
 use Rattle.dna_model.specs.Station.{new_station}
 use Rattle.pair_judge.specs.declared.course.Course.{Course}
-use Rattle.pair_judge.specs.declared.course.Ahead.TheVariants.{Unread}
 use Rattle.pair_judge.specs.Course.{IsRead, MayRead}
 use Rattle.pair_judge.specs.Summary.{summary_of}
 

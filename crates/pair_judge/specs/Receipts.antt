@@ -1,5 +1,5 @@
 -- What became of a receipt, beside all units that the other side sent.
-use Rattle.std.specs.Prelude.{◌≡◌, ℕ, Bool, true, false, Option, Some, None, Result, Ok, Err, List, slice_get}
+use Rattle.std.specs.Prelude.{◌≡◌, ℕ, Bool, true, false, Some, None, Ok, Err, List, slice_get}
 use Rattle.ddcmp_msg.specs.Reading.{reading}
 use Rattle.dna_model.specs.Station.{Station, crossed, ArrivalValue, Sound, HeaderBad, DataBad}
 use Rattle.dna_model.specs.Line.{SentUnit}

@@ -35,37 +35,27 @@ impl TwoNodes for Captures {
 
 /// Each way for the judge to end is a verdict on every pair of captures that begins with the records made so far.
 pub fn endings()
-    ensures a_refused {
-        (w : World Node SentUnit) (done_a rest_a done_b rest_b : List Record) (r : Record) (refusal : StepRefusal)
+    ensures a_refused { (w : World Node SentUnit) (done_a rest_a done_b rest_b : List Record) (r : Record) (refusal : StepRefusal)
         → Run pair start done_a done_b w
         → advance pair.node_a w.a w.b r ≡ any.Refused refusal
-        → IsVerdict (done_a ++ r ∷ rest_a) (done_b ++ rest_b) (findings.Refused Side.A (length done_a) (causes.Step refusal))
-    }
-    ensures b_refused {
-        (w : World Node SentUnit) (done_a rest_a done_b rest_b : List Record) (r : Record) (refusal : StepRefusal)
+        → IsVerdict (done_a ++ r ∷ rest_a) (done_b ++ rest_b) (findings.Refused Side.A (length done_a) (causes.Step refusal)) }
+    ensures b_refused { (w : World Node SentUnit) (done_a rest_a done_b rest_b : List Record) (r : Record) (refusal : StepRefusal)
         → Run pair start done_a done_b w
         → advance pair.node_b w.b w.a r ≡ any.Refused refusal
-        → IsVerdict (done_a ++ rest_a) (done_b ++ r ∷ rest_b) (findings.Refused Side.B (length done_b) (causes.Step refusal))
-    }
-    ensures stuck {
-        (w : World Node SentUnit) (done_a rest_a done_b rest_b : List Record) (r s : Record)
+        → IsVerdict (done_a ++ rest_a) (done_b ++ r ∷ rest_b) (findings.Refused Side.B (length done_b) (causes.Step refusal)) }
+    ensures stuck { (w : World Node SentUnit) (done_a rest_a done_b rest_b : List Record) (r s : Record)
         → Run pair start done_a done_b w
         → advance pair.node_a w.a w.b r ≡ any.Waits
         → advance pair.node_b w.b w.a s ≡ any.Waits
-        → IsVerdict (done_a ++ r ∷ rest_a) (done_b ++ s ∷ rest_b) (findings.Refused Side.A (length done_a) causes.NoOrder)
-    }
-    ensures a_lacks {
-        (w : World Node SentUnit) (done_a rest_a all_b : List Record) (r : Record)
+        → IsVerdict (done_a ++ r ∷ rest_a) (done_b ++ s ∷ rest_b) (findings.Refused Side.A (length done_a) causes.NoOrder) }
+    ensures a_lacks { (w : World Node SentUnit) (done_a rest_a all_b : List Record) (r : Record)
         → Run pair start done_a all_b w
         → advance pair.node_a w.a w.b r ≡ any.Waits
-        → IsVerdict (done_a ++ r ∷ rest_a) all_b (findings.Refused Side.A (length done_a) causes.NoSuchUnit)
-    }
-    ensures b_lacks {
-        (w : World Node SentUnit) (all_a done_b rest_b : List Record) (r : Record)
+        → IsVerdict (done_a ++ r ∷ rest_a) all_b (findings.Refused Side.A (length done_a) causes.NoSuchUnit) }
+    ensures b_lacks { (w : World Node SentUnit) (all_a done_b rest_b : List Record) (r : Record)
         → Run pair start all_a done_b w
         → advance pair.node_b w.b w.a r ≡ any.Waits
-        → IsVerdict all_a (done_b ++ r ∷ rest_b) (findings.Refused Side.B (length done_b) causes.NoSuchUnit)
-    }
+        → IsVerdict all_a (done_b ++ r ∷ rest_b) (findings.Refused Side.B (length done_b) causes.NoSuchUnit) }
 {
     refused_record::<Captures>();
     both_waiting::<Captures>();

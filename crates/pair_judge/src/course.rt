@@ -64,6 +64,9 @@ pub enum CourseFault {
 
 impl Course {
     /// Makes the next record, which is read first where none waits. The line leads to this side from the other one.
+    ///
+    /// `Text`: the next record can't be read. `OutOfMemory`: there is no room for it, or for the unit that it sends. The
+    /// course has no use after either.
     pub fn advance<R: Read>(
         &mut self,
         incoming: &mut Line,

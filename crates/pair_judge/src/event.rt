@@ -11,7 +11,8 @@ use capture::Event;
 use ddcmp_station::{Station, StationEvent};
 use dna_model::StepRefusal;
 
-/// The user does this. A refusal changes nothing.
+/// The user does this. `WrongUserEvent`: a start in a state other than HALTED (DDCMP 4.1, startup state table). A refusal
+/// changes nothing. Provisional: the events of links change nothing.
 pub fn happen(station: &mut Station, event: &Event) -> Result<(), StepRefusal>
     requires { station.old.period < 2 ^ 63 }
     ensures ok { OnOk result ((front : ℕ) →

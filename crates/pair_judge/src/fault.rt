@@ -1,10 +1,8 @@
 //! Why there is no verdict.
 
-use capture::CaptureFault;
-use std::fmt;
 use wire_base::Side;
 
-/// What was wrong with the text of one side.
+/// What was wrong with the text of one side. Its lines are counted from 1 on, and line 1 is its head.
 #[derive(Clone, Copy, Debug, PartialEq, Eq)]
 pub enum TextFault {
     /// The line departs from the format.
@@ -13,7 +11,7 @@ pub enum TextFault {
     TooLong { line: u64 },
     /// The line comes after as many records as a capture may have.
     TooMany { line: u64 },
-    /// The reader failed.
+    /// The reader failed. It counted that.
     Read,
 }
 

@@ -81,7 +81,7 @@ fn verdict(found: Found) -> Verdict
     }
 }
 
-/// Finds whether the two texts are a run, and if not, where and why.
+/// Finds whether the two texts are a run, and if not, where and why. It reads and fails as [`judge`] does.
 pub fn find<R: Read, S: Read>(
     alloc: Global,
     a: &mut Tally<R>,
@@ -116,11 +116,7 @@ pub fn find<R: Read, S: Read>(
 }
 
 // A side whose head was read.
-fn open<R: Read>(
-    alloc: Global,
-    side: Side,
-    reader: &mut Tally<R>,
-) -> Result<Course, JudgeFault>
+fn open<R: Read>(alloc: Global, side: Side, reader: &mut Tally<R>) -> Result<Course, JudgeFault>
     ensures opens { IfOk result (λ course. OpensAt (R.remaining (tally_lent reader.old)) course
         (to_come course.capture.unread (R.remaining (tally_lent reader.new)))) }
     ensures read { (of : Side) → result ≡ Err (JudgeFault.Capture of TextFault.Read) →

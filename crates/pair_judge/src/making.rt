@@ -31,7 +31,8 @@ pub enum Made {
     Fails(StepRefusal),
 }
 
-/// Makes one record of a side, to which this line leads from the other side.
+/// Makes one record of a side, to which this line leads from the other side. An error: there is no room for the unit that
+/// the record sends.
 pub fn make(own: &mut End, incoming: &mut Line, entry: Record) -> Result<Made, AllocError>
     requires room { HasRoom own.old.counts }
     requires numbers { NumbersFit entry }
@@ -43,7 +44,9 @@ pub fn make(own: &mut End, incoming: &mut Line, entry: Record) -> Result<Made, A
 {
     match entry {
         Record::Sent(bytes) => make_sent(own, bytes),
-        Record::Received { hint, kept, bytes } => Ok(make_received(own, incoming, hint, kept, bytes)),
+        Record::Received { hint, kept, bytes } => Ok(make_received(
+            own, incoming, hint, kept, bytes,
+        )),
         Record::User(event) => Ok(make_event(own, event)),
     }
 }

@@ -27,7 +27,11 @@ pub enum Receipt {
     Fails(StepRefusal),
 }
 
-/// Receives these bytes for the unit with this number of the other side, whose line this is.
+/// Receives these bytes for the unit with this number of the other side, whose line this is, and lets go of that unit and of
+/// those before it.
+///
+/// It fails in this order: `HintOrder` where the unit or a later one came before; it waits where the unit is not sent yet;
+/// `Undetected` where the bytes are not the unit's and show no damage; and as the station refuses the arrival.
 pub fn receive(
     station: &mut Station,
     line: &mut Line,

@@ -25,7 +25,10 @@ pub enum SendFault {
     OutOfMemory,
 }
 
-/// The node sends these bytes on its line.
+/// The node sends these bytes on its line. They are held with the station's tag until they can't come any more.
+///
+/// `Refused`: they are no sound message, or the station may not send it now. `OutOfMemory`: there is no room on the line.
+/// The station never changes.
 pub fn send(station: &Station, line: &mut Line, bytes: Bytes) -> Result<(), SendFault>
     ensures ok { OnOk result ((front : ℕ) → sent_step (node_at station.now front) bytes (reading bytes)
         ≡ Sends (node_at station.now front) (unit_of bytes (tag_of station.now))) }

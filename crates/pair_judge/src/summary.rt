@@ -71,8 +71,12 @@ impl SideSummary {
     /// With one receipt more.
     pub fn with_receipt(self, damaged: bool, kept: bool) -> SideSummary
         requires { HasRoom self }
-        ensures { result ≡ record self { records = self.records + 1; received = self.received + 1;
-            damaged = more_if damaged self.damaged; kept = more_if kept self.kept } }
+        ensures { result ≡ record self {
+          records = self.records + 1;
+          received = self.received + 1;
+          damaged = more_if damaged self.damaged;
+          kept = more_if kept self.kept;
+        } }
     {
         SideSummary {
             records: self.records + 1,

@@ -19,7 +19,9 @@ use std::io::Read;
 use two_nodes::reading_on;
 use wire_base::{Side, Tally};
 
-/// Makes one record, or finds that the judge is at its end.
+/// Makes one record, or finds that the judge is at its end: `None` where it is not yet.
+///
+/// `Capture`: the next record of that side can't be read. `OutOfMemory`: there is no room for a record or a unit.
 pub fn turn<R: Read, S: Read>(
     a: &mut Course,
     b: &mut Course,

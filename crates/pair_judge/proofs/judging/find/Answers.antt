@@ -43,15 +43,18 @@ pub loop-preserved : goal.loop-preserved
 loop-preserved g c =
     let h = c.loop.invariant.0 in
     let turned = rw c.in-Ok-None.field-0-is at c.in-Ok-None.ensures.turn in
-    let gone_on = turned (g.R.Read.remaining c.args.a.now.lent) (g.S.Read.remaining c.args.b.now.lent) h.made_a h.made_b h.under_way in
-    (record {
-      made_a = gone_on.made_a;
-      made_b = gone_on.made_b;
-      under_way = gone_on.under_way;
-      count = omega (arith, gone_on.one_more, h.count);
-      may_read_a = c.in-Ok-None.ensures.may_read.0;
-      may_read_b = c.in-Ok-None.ensures.may_read.1;
-    }, c.in-Ok-None.ensures.faults_a ∙ c.loop.invariant.1, c.in-Ok-None.ensures.faults_b ∙ c.loop.invariant.2)
+    let gone_on = turned (g.R.Read.remaining c.args.a.now.lent) (g.S.Read.remaining c.args.b.now.lent) h.made_a h.made_b h.under_way in (
+      record {
+        made_a = gone_on.made_a;
+        made_b = gone_on.made_b;
+        under_way = gone_on.under_way;
+        count = omega (arith, gone_on.one_more, h.count);
+        may_read_a = c.in-Ok-None.ensures.may_read.0;
+        may_read_b = c.in-Ok-None.ensures.may_read.1;
+      },
+      c.in-Ok-None.ensures.faults_a ∙ c.loop.invariant.1,
+      c.in-Ok-None.ensures.faults_b ∙ c.loop.invariant.2,
+    )
 
 pub unreachable-requires : goal.unreachable-requires
 unreachable-requires g c =

@@ -12,9 +12,9 @@ returns-in-Done-clause-made c = λ mine theirs stands shows.
     let old = c.args.own.now.counts in
     let came = c.in-Done.ensures.receipt theirs.sent shows in
     let damaged : c.in-Done.damaged ≡ shows_damage (reading c.args.bytes) =
-        came.1 ∙ ap (λ bytes. shows_damage (reading bytes)) c.as_slice.ensures.value in
+    came.1 ∙ ap (λ bytes. shows_damage (reading bytes)) c.as_slice.ensures.value in
     let counts : c.with_receipt-own.result ≡ counted old (Received c.args.hint c.args.kept c.args.bytes) =
-        c.with_receipt-own.ensures ∙ ap (λ d. record old { records = old.records + 1; received = old.received + 1; damaged = more_if d old.damaged; kept = more_if c.args.kept old.kept }) damaged in
+    c.with_receipt-own.ensures ∙ ap (λ d. record old { records = old.records + 1; received = old.received + 1; damaged = more_if d old.damaged; kept = more_if c.args.kept old.kept }) damaged in
     receipt_made c.args.own.now _ c.args.incoming.now c.receive.new.line c.args.hint c.args.kept c.args.bytes mine theirs stands
     (subst (λ (bytes : List ℕ). IsReceived c.args.own.now.station c.receive.new.station c.args.incoming.now c.receive.new.line c.args.hint c.args.kept bytes theirs.sent) c.as_slice.ensures.value came.0)
     refl counts

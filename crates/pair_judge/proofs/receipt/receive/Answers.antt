@@ -1,4 +1,4 @@
-use Rattle.std.proofs.Common.{◌≡◌, ◌+◌, ◌-◌, ◌<◌, Some, None, Ok, refl, sym, ap, ◌∙◌, arith}
+use Rattle.std.proofs.Common.{◌≡◌, ◌+◌, ◌-◌, Some, None, Ok, sym, ap, ◌∙◌, arith}
 use Rattle.std.specs.List.{slice_get}
 use Rattle.std.specs.Option.{option_copied, option_map}
 use Rattle.std.proofs.lemmas.Option.{slice_get_within}
@@ -42,13 +42,15 @@ returns-in-Ok-clause-receipt c = λ sent shows.
     let comes : Some arrival ≡ coming unit c.args.bytes.now = ap (option_map arrival_view) (sym c.in-Some-coming.is) ∙ c.coming.ensures.coming in
     let after : Node = node_of c.arrived.new.self c.release.new.self in
     let stepped : record { station = after_arrival n.station arrival; front = c.args.hint + 1 } ≡ after = cc (sym c.in-Ok.ensures.ok, sym c.release.ensures.gone) in
-    let damaged : c.is_damaged-damaged.result ≡ shows_damage (reading c.args.bytes.now) = c.is_damaged-damaged.ensures ∙ c.in-Some-coming.ensures.damage in
-    (record {
-      unit = unit;
-      was_sent = was_sent;
-      step = receives_at n c.args.hint c.args.kept c.args.bytes.now unit (Some arrival) c.if-hint-line.false comes ∙ comes_met n c.args.hint c.args.kept arrival c.in-Ok.ensures.allowed ∙ ap Ok stepped;
-      shows = released c.args.line.now c.release.new.self sent c.args.hint shows c.if-hint-line.false (slice_get_within sent c.args.hint unit was_sent) c.release.ensures.gone c.release.ensures.units;
-    }, damaged)
+    let damaged : c.is_damaged-damaged.result ≡ shows_damage (reading c.args.bytes.now) = c.is_damaged-damaged.ensures ∙ c.in-Some-coming.ensures.damage in (
+      record {
+        unit = unit;
+        was_sent = was_sent;
+        step = receives_at n c.args.hint c.args.kept c.args.bytes.now unit (Some arrival) c.if-hint-line.false comes ∙ comes_met n c.args.hint c.args.kept arrival c.in-Ok.ensures.allowed ∙ ap Ok stepped;
+        shows = released c.args.line.now c.release.new.self sent c.args.hint shows c.if-hint-line.false (slice_get_within sent c.args.hint unit was_sent) c.release.ensures.gone c.release.ensures.units;
+      },
+      damaged,
+    )
 
 pub returns-in-Err-clause-receipt : goal.returns-in-Err-clause-receipt
 returns-in-Err-clause-receipt c = λ sent shows.

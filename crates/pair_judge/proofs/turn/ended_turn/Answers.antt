@@ -1,4 +1,4 @@
-use Rattle.std.proofs.Common.{◌≡◌, [], ◌∷◌, ◌++◌, length, refl, sym, ap, ◌∙◌, arith, length-append}
+use Rattle.std.proofs.Common.{◌≡◌, [], ◌∷◌, ◌++◌, length, refl, ◌∙◌, arith, length-append}
 use Rattle.wire_base.specs.declared.side.Side.TheVariants.{B}
 use Rattle.dna_model.specs.declared.finding.Cause.TheVariants.{Step, NoSuchUnit}
 use Rattle.dna_model.specs.Pair.{start}
@@ -31,7 +31,7 @@ returns-in-Ok-Fails-clause-turn g c = λ text_a text_b come_a made_a made_b unde
     let h = under.reached in
     let refused = f.3 h.world.b h.world.a h.stands_b h.stands_a.sent in
     let place : c.advance.new.self.end.counts.records ≡ length made_b =
-        next_place c.advance.new.self.end.counts made_b (f.2 ∙ h.counts_b) in
+    next_place c.advance.new.self.end.counts made_b (f.2 ∙ h.counts_b) in
     rw c.refused.ensures (rw place (b_fails text_a text_b _ _ come_a _ made_a made_b B (length made_b) (Step c.in-Ok-Fails.refusal) f.0 under.read_a f.1 (λ rest_a rest_b. c.endings.ensures.b_refused h.world made_a rest_a made_b rest_b f.0 c.in-Ok-Fails.refusal h.run refused)))
 
 pub returns-in-Ok-Blocked-clause-turn : goal.returns-in-Ok-Blocked-clause-turn
@@ -41,7 +41,7 @@ returns-in-Ok-Blocked-clause-turn g c = λ text_a text_b come_a made_a made_b un
     let h = under.reached in
     let waits_b = m.waits h.world.b h.world.a h.stands_b h.stands_a.sent in
     let place : c.advance.new.self.end.counts.records ≡ length made_b =
-        next_place c.advance.new.self.end.counts made_b ((same_end _ _ m.same_end).counts ∙ h.counts_b) in
+    next_place c.advance.new.self.end.counts made_b ((same_end _ _ m.same_end).counts ∙ h.counts_b) in
     rw c.refused-in-Ok-Blocked.ensures (rw place (b_waits text_a text_b _ _ come_a _ made_a made_b B (length made_b) NoSuchUnit m.next under.read_a m.read at_end m.ahead (λ rest_b. c.endings.ensures.b_lacks h.world made_a made_b rest_b m.next h.run waits_b)))
 
 pub returns-in-Ok-Ended-clause-turn : goal.returns-in-Ok-Ended-clause-turn

@@ -1,4 +1,4 @@
-use Rattle.std.proofs.Common.{◌≡◌, ◌+◌, [], ◌∷◌, ◌++◌, Option, length, refl, sym, ap, subst, ◌∙◌, arith, length-append}
+use Rattle.std.proofs.Common.{◌≡◌, ◌+◌, [], ◌∷◌, ◌++◌, length, refl, sym, subst, ◌∙◌, arith, length-append}
 use Rattle.std.proofs.lemmas.Result.{IfOk-weaker}
 use Rattle.wire_base.specs.Tally.{tally_lent}
 use Rattle.wire_base.specs.declared.side.Side.TheVariants.{A}
@@ -7,7 +7,7 @@ use Rattle.capture.specs.Reader.{CaptureState}
 use Rattle.dna_model.specs.declared.finding.Cause.TheVariants.{Step}
 use Rattle.dna_model.specs.Pair.{start}
 use Rattle.pair_judge.specs.Reached.{TurnIs}
-use Rattle.pair_judge.proofs.Turns.{reached_by_a, reached_still, same_end, next_place, held_up, may_read_still}
+use Rattle.pair_judge.proofs.Turns.{reached_by_a, reached_still, same_end, next_place, held_up}
 use Rattle.pair_judge.proofs.Found.{a_fails}
 use Rattle.pair_judge.proofs.turn.turn.Goals as goal
 
@@ -36,7 +36,7 @@ returns-in-Ok-Fails-clause-turn g c = λ text_a text_b made_a made_b under.
     let h = under.reached in
     let refused = f.3 h.world.a h.world.b h.stands_a h.stands_b.sent in
     let place : c.advance.new.self.end.counts.records ≡ length made_a =
-        next_place c.advance.new.self.end.counts made_a (f.2 ∙ h.counts_a) in
+    next_place c.advance.new.self.end.counts made_a (f.2 ∙ h.counts_a) in
     rw c.refused.ensures (rw place (a_fails text_a text_b _ _ _ _ made_a made_b A (length made_a) (Step c.in-Ok-Fails.refusal) f.0 f.1 under.read_b (λ rest_a rest_b. c.endings.ensures.a_refused h.world made_a rest_a made_b rest_b f.0 c.in-Ok-Fails.refusal h.run refused)))
 
 pub returns-in-Ok-Blocked-clause-turn : goal.returns-in-Ok-Blocked-clause-turn

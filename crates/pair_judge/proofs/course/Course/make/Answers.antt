@@ -20,7 +20,7 @@ returns-in-Ok-Waits-clause-advance c = λ text come made read.
     let left = rw c.in-Ok-Waits.field-0-is at c.in-Ok-Waits.ensures.waits in
     let capture = c.args.self.now.capture in
     let unread : IsRead text capture Unread come (made ++ c.args.next ∷ []) =
-        subst (λ (ahead : Ahead). IsRead text capture ahead come (made ++ c.args.next ∷ [])) c.requires.unread read in
+    subst (λ (ahead : Ahead). IsRead text capture ahead come (made ++ c.args.next ∷ [])) c.requires.unread read in
     record {
       next = c.args.next;
       read = subst (λ (r : Record). IsRead text capture (Waits r) come made) (sym left.0) (put_back text come capture made c.args.next unread);
