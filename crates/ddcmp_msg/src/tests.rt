@@ -22,155 +22,144 @@ fn written(rt: &impl Abort, alloc: Global, message: &Message<'_>) -> Result<Vec<
     write_unit(alloc, message)
 }
 
-#[test]
-fn each_sound_unit_reads_as_its_message_and_is_written_back(rt: HostRuntime) -> Result<(), Fail> {
-    let rows: [(&str, &[u8], Message<'_>); 13] = [
-        (
-            "STRT",
-            b"\x05\x06\xc0\0\0\x01\x75\x95",
-            Message::Strt { flags: BOTH },
-        ),
-        (
-            "STACK",
-            b"\x05\x07\xc0\0\0\x01\x48\x55",
-            Message::Stack { flags: BOTH },
-        ),
-        (
-            "ACK 0",
-            b"\x05\x01\0\0\0\x01\xfc\x55",
-            Message::Ack {
-                flags: NONE,
-                resp: 0,
-            },
-        ),
-        (
-            "REP 0",
-            b"\x05\x03\0\0\0\x01\x85\x95",
-            Message::Rep {
-                flags: NONE,
-                num: 0,
-            },
-        ),
-        (
-            "REP 1",
-            b"\x05\x03\0\0\x01\x01\x84\x05",
-            Message::Rep {
-                flags: NONE,
-                num: 1,
-            },
-        ),
-        (
-            "NAK for a header check",
-            b"\x05\x02\x01\0\0\x01\xb9\xa9",
-            Message::Nak {
-                flags: NONE,
-                reason: NakReason::HeaderCheck,
-                resp: 0,
-            },
-        ),
-        (
-            "NAK for a data check",
-            b"\x05\x02\x02\0\0\x01\xb9\xed",
-            Message::Nak {
-                flags: NONE,
-                reason: NakReason::DataCheck,
-                resp: 0,
-            },
-        ),
-        (
-            "NAK for a data check, RESP 1",
-            b"\x05\x02\x02\x01\0\x01\xe8\x2d",
-            Message::Nak {
-                flags: NONE,
-                reason: NakReason::DataCheck,
-                resp: 1,
-            },
-        ),
-        (
-            "NAK for want of a buffer",
-            b"\x05\x02\x08\0\0\x01\xba\x35",
-            Message::Nak {
-                flags: NONE,
-                reason: NakReason::NoBuffer,
-                resp: 0,
-            },
-        ),
-        (
-            "data 1",
-            FIRST_DATA,
-            Message::Data {
-                flags: NONE,
-                resp: 0,
-                num: 1,
-                body: b"\x05",
-            },
-        ),
-        (
-            "data 2",
-            b"\x81\x01\0\0\x02\x01\xe3\x71\x05\xc0\x03",
-            Message::Data {
-                flags: NONE,
-                resp: 0,
-                num: 2,
-                body: b"\x05",
-            },
-        ),
-        (
-            "data 1 with a connect initiate",
-            b"\x81\x0f\0\0\x01\x01\x8a\x40\x02\x02\x04\x01\x04\0\x18\0\0\x01\0\x01\x02\0\x02\xed\x98",
-            Message::Data {
-                flags: NONE,
-                resp: 0,
-                num: 1,
-                body: b"\x02\x02\x04\x01\x04\0\x18\0\0\x01\0\x01\x02\0\x02",
-            },
-        ),
-        (
-            "data 1 with a connect acknowledgement, RESP 1",
-            b"\x81\x09\0\x01\x01\x01\x53\x80\x02\x01\x04\x02\x04\0\x24\x01\0\x2c\xd5",
-            Message::Data {
-                flags: NONE,
-                resp: 1,
-                num: 1,
-                body: b"\x02\x01\x04\x02\x04\0\x24\x01\0",
-            },
-        ),
-    ];
+// Each unit reads as its message, and the message is written as the unit.
+fn expect_sound(
+    rt: &impl Abort,
+    alloc: Global,
+    rows: &[(&str, &[u8], Message<'_>)],
+) -> Result<(), AllocError> {
     for (name, unit, message) in rows {
-        assert_eq!(rt; read_unit(unit), Reading::Sound(message), "{name}");
-        assert_eq!(rt;
-            written(&rt, rt.alloc(), &message)?.as_slice(),
-            unit,
-            "{name}"
-        );
+        assert_eq!(rt; read_unit(unit), Reading::Sound(*message), "{name}");
+        assert_eq!(rt; written(rt, alloc, message)?.as_slice(), *unit, "{name}");
     }
     Ok(())
 }
 
+fn ack(resp: u8) -> Message<'static> {
+    let flags = NONE;
+    Message::Ack { flags, resp }
+}
+
+fn nak(reason: NakReason, resp: u8) -> Message<'static> {
+    let flags = NONE;
+    Message::Nak {
+        flags,
+        reason,
+        resp,
+    }
+}
+
+fn rep(num: u8) -> Message<'static> {
+    let flags = NONE;
+    Message::Rep { flags, num }
+}
+
+fn data(resp: u8, num: u8, body: &[u8]) -> Message<'_> {
+    let flags = NONE;
+    Message::Data {
+        flags,
+        resp,
+        num,
+        body,
+    }
+}
+
 #[test]
-fn each_other_unit_reads_as_its_first_fault(rt: HostRuntime) {
-    let rows: [(&str, &[u8], Reading<'_>); 14] = [
-        ("no bytes", b"", Reading::HeaderBad),
+fn a_message_of_a_start_is_read_and_written_back(rt: HostRuntime) -> Result<(), Fail> {
+    let strt = Message::Strt { flags: BOTH };
+    let stack = Message::Stack { flags: BOTH };
+    let rows: [(&str, &[u8], Message<'_>); 5] = [
+        ("STRT", b"\x05\x06\xc0\0\0\x01\x75\x95", strt),
+        ("STACK", b"\x05\x07\xc0\0\0\x01\x48\x55", stack),
+        ("ACK 0", b"\x05\x01\0\0\0\x01\xfc\x55", ack(0)),
+        ("REP 0", b"\x05\x03\0\0\0\x01\x85\x95", rep(0)),
+        ("REP 1", b"\x05\x03\0\0\x01\x01\x84\x05", rep(1)),
+    ];
+    Ok(expect_sound(&rt, rt.alloc(), &rows)?)
+}
+
+#[test]
+fn a_nak_is_read_and_written_back(rt: HostRuntime) -> Result<(), Fail> {
+    let rows: [(&str, &[u8], Message<'_>); 4] = [
         (
-            "a header cut short",
-            b"\x05\x06\xc0\0\0\x01\x75",
+            "for a header check",
+            b"\x05\x02\x01\0\0\x01\xb9\xa9",
+            nak(NakReason::HeaderCheck, 0),
+        ),
+        (
+            "for a data check",
+            b"\x05\x02\x02\0\0\x01\xb9\xed",
+            nak(NakReason::DataCheck, 0),
+        ),
+        (
+            "for a data check, RESP 1",
+            b"\x05\x02\x02\x01\0\x01\xe8\x2d",
+            nak(NakReason::DataCheck, 1),
+        ),
+        (
+            "for want of a buffer",
+            b"\x05\x02\x08\0\0\x01\xba\x35",
+            nak(NakReason::NoBuffer, 0),
+        ),
+    ];
+    Ok(expect_sound(&rt, rt.alloc(), &rows)?)
+}
+
+#[test]
+fn a_data_message_is_read_and_written_back(rt: HostRuntime) -> Result<(), Fail> {
+    let rows: [(&str, &[u8], Message<'_>); 4] = [
+        ("data 1", FIRST_DATA, data(0, 1, b"\x05")),
+        (
+            "data 2",
+            b"\x81\x01\0\0\x02\x01\xe3\x71\x05\xc0\x03",
+            data(0, 2, b"\x05"),
+        ),
+        (
+            "data 1 with a connect initiate",
+            b"\x81\x0f\0\0\x01\x01\x8a\x40\x02\x02\x04\x01\x04\0\x18\0\0\x01\0\x01\x02\0\x02\xed\x98",
+            data(0, 1, b"\x02\x02\x04\x01\x04\0\x18\0\0\x01\0\x01\x02\0\x02"),
+        ),
+        (
+            "data 1 with a connect acknowledgement, RESP 1",
+            b"\x81\x09\0\x01\x01\x01\x53\x80\x02\x01\x04\x02\x04\0\x24\x01\0\x2c\xd5",
+            data(1, 1, b"\x02\x01\x04\x02\x04\0\x24\x01\0"),
+        ),
+    ];
+    Ok(expect_sound(&rt, rt.alloc(), &rows)?)
+}
+
+#[test]
+fn a_faulty_control_message_reads_as_its_first_fault(rt: HostRuntime) {
+    let length = Reading::Malformed(Departure::WrongLength);
+    let maintenance = Reading::Malformed(Departure::Maintenance);
+    let start = Reading::Malformed(Departure::UnknownStart);
+    let kind = Reading::Malformed(Departure::UnknownType);
+    let field = Reading::Malformed(Departure::WrongField);
+    let rows: [(&str, &[u8], Reading<'_>); 9] = [
+        ("no bytes", b"", Reading::HeaderBad),
+        ("cut", b"\x05\x06\xc0\0\0\x01\x75", Reading::HeaderBad),
+        (
+            "damaged",
+            b"\x04\x06\xc0\0\0\x01\x75\x95",
             Reading::HeaderBad,
         ),
-        (
-            "STRT with one more byte",
-            b"\x05\x06\xc0\0\0\x01\x75\x95\0",
-            Reading::Malformed(Departure::WrongLength),
-        ),
-        (
-            "a maintenance message",
-            b"\x90\0\0\0\0\x01\xdc\x90",
-            Reading::Malformed(Departure::Maintenance),
-        ),
-        (
-            "COUNT 0",
-            b"\x81\0\0\0\x01\x01\xde\x41",
-            Reading::Malformed(Departure::WrongLength),
-        ),
+        ("one more byte", b"\x05\x06\xc0\0\0\x01\x75\x95\0", length),
+        ("maintenance", b"\x90\0\0\0\0\x01\xdc\x90", maintenance),
+        ("eight bytes 0", b"\0\0\0\0\0\0\0\0", start),
+        ("TYPE 4", b"\x05\x04\0\0\0\x01\x30\x55", kind),
+        ("NAK for reason 4", b"\x05\x02\x04\0\0\x01\xb9\x65", kind),
+        ("to address 2", b"\x05\x01\0\0\0\x02\xbc\x54", field),
+    ];
+    for (name, unit, reading) in rows {
+        assert_eq!(rt; read_unit(unit), reading, "{name}");
+    }
+}
+
+#[test]
+fn a_faulty_data_message_reads_as_its_first_fault(rt: HostRuntime) {
+    let length = Reading::Malformed(Departure::WrongLength);
+    let rows: [(&str, &[u8], Reading<'_>); 5] = [
+        ("COUNT 0", b"\x81\0\0\0\x01\x01\xde\x41", length),
         (
             "data cut short",
             b"\x81\x01\0\0\x01\x01\xe3\x81\x05\xc0",
@@ -179,7 +168,7 @@ fn each_other_unit_reads_as_its_first_fault(rt: HostRuntime) {
         (
             "data with one more byte",
             b"\x81\x01\0\0\x01\x01\xe3\x81\x05\xc0\x03\0",
-            Reading::Malformed(Departure::WrongLength),
+            length,
         ),
         (
             "data that are damaged",
@@ -190,31 +179,6 @@ fn each_other_unit_reads_as_its_first_fault(rt: HostRuntime) {
             "COUNT 16,383 and no data",
             b"\x81\xff\x3f\0\x01\x01\xc6\x41",
             Reading::DataBad,
-        ),
-        (
-            "eight bytes 0",
-            b"\0\0\0\0\0\0\0\0",
-            Reading::Malformed(Departure::UnknownStart),
-        ),
-        (
-            "TYPE 4",
-            b"\x05\x04\0\0\0\x01\x30\x55",
-            Reading::Malformed(Departure::UnknownType),
-        ),
-        (
-            "NAK for reason 4",
-            b"\x05\x02\x04\0\0\x01\xb9\x65",
-            Reading::Malformed(Departure::UnknownType),
-        ),
-        (
-            "ACK to address 2",
-            b"\x05\x01\0\0\0\x02\xbc\x54",
-            Reading::Malformed(Departure::WrongField),
-        ),
-        (
-            "a header damaged",
-            b"\x04\x06\xc0\0\0\x01\x75\x95",
-            Reading::HeaderBad,
         ),
     ];
     for (name, unit, reading) in rows {
