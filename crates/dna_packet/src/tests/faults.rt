@@ -1,105 +1,87 @@
 use crate::tests::nsp::written_again;
 use crate::{Nsp, NspFault, read_nsp};
+use std::process::Abort;
 use std::test::Fail;
 
+/// A name, bytes that are no message, and their fault with its number.
+type Row<'a> = (&'a str, &'a [u8], NspFault, u8);
+
+fn expect_fault(rt: &impl Abort, rows: &[Row<'_>]) {
+    for (name, bytes, want, number) in rows {
+        assert_eq!(rt; read_nsp(bytes), Err(*want), "{name}");
+        assert_eq!(rt; want.number(), *number, "{name}");
+    }
+}
+
 #[test]
-fn names_the_first_field_that_is_missing_or_wrong(rt: HostRuntime) {
-    for (name, bytes, want, number) in [
-        ("an empty message", [].as_slice(), NspFault::MissingField, 2),
-        (
-            "a cut DSTADDR",
-            [0x24, 2].as_slice(),
-            NspFault::MissingField,
-            2,
-        ),
-        (
-            "no acknowledgement word",
-            [0x04, 2, 0, 1, 0].as_slice(),
-            NspFault::MissingField,
-            2,
-        ),
-        (
-            "no SRCADDR",
-            [0x18, 0, 0].as_slice(),
-            NspFault::MissingField,
-            2,
-        ),
+fn names_the_first_field_that_is_missing(rt: HostRuntime) {
+    let missing = NspFault::MissingField;
+    let rows: [Row<'_>; 5] = [
+        ("an empty message", &[], missing, 2),
+        ("a cut DSTADDR", &[0x24, 2], missing, 2),
+        ("no acknowledgement word", &[0x04, 2, 0, 1, 0], missing, 2),
+        ("no SRCADDR", &[0x18, 0, 0], missing, 2),
         (
             "a cut second word",
-            [0x04, 2, 0, 1, 0, 0, 0x80, 1].as_slice(),
-            NspFault::MissingField,
+            &[0x04, 2, 0, 1, 0, 0, 0x80, 1],
+            missing,
             2,
         ),
+    ];
+    expect_fault(&rt, &rows);
+}
+
+#[test]
+fn names_the_first_field_that_is_wrong(rt: HostRuntime) {
+    let (word, segnum) = (NspFault::BadAckWord, NspFault::BadSegnum);
+    let address = NspFault::NonzeroDstaddr;
+    let rows: [Row<'_>; 8] = [
         (
             "a flag byte of no message",
-            [0xff].as_slice(),
+            &[0xff],
             NspFault::UnknownFlag,
             1,
         ),
         (
             "bit 15 clear in a data ack",
-            [0x04, 2, 0, 1, 0, 0, 0].as_slice(),
-            NspFault::BadAckWord,
+            &[0x04, 2, 0, 1, 0, 0, 0],
+            word,
             3,
         ),
-        (
-            "qualifier 4",
-            [0x04, 2, 0, 1, 0, 0, 0xc0].as_slice(),
-            NspFault::BadAckWord,
-            3,
-        ),
+        ("qualifier 4", &[0x04, 2, 0, 1, 0, 0, 0xc0], word, 3),
         (
             "a wrong first word before a cut second",
-            [0x04, 2, 0, 1, 0, 0, 0xc0, 1].as_slice(),
-            NspFault::BadAckWord,
+            &[0x04, 2, 0, 1, 0, 0, 0xc0, 1],
+            word,
             3,
         ),
-        (
-            "bit 13 of SEGNUM",
-            [0x60, 2, 0, 1, 0, 0, 0x30].as_slice(),
-            NspFault::BadSegnum,
-            4,
-        ),
+        ("bit 13 of SEGNUM", &[0x60, 2, 0, 1, 0, 0, 0x30], segnum, 4),
         (
             "a third word",
-            [0x60, 2, 0, 1, 0, 0, 0x80, 0, 0x80, 0, 0x80].as_slice(),
-            NspFault::BadSegnum,
+            &[0x60, 2, 0, 1, 0, 0, 0x80, 0, 0x80, 0, 0x80],
+            segnum,
             4,
         ),
+        ("DSTADDR 1 of a CI", &[0x18, 1, 0], address, 6),
+        ("DSTADDR 256 of a CI sent again", &[0x68, 0, 1], address, 6),
+    ];
+    expect_fault(&rt, &rows);
+}
+
+#[test]
+fn names_bytes_behind_the_end(rt: HostRuntime) {
+    let behind = NspFault::TrailingBytes;
+    let rows: [Row<'_>; 3] = [
+        ("a connect ack", &[0x24, 2, 0, 0], behind, 5),
+        ("a DC", &[0x48, 2, 0, 1, 0, 41, 0, 0], behind, 5),
         (
-            "a byte after a connect ack",
-            [0x24, 2, 0, 0].as_slice(),
-            NspFault::TrailingBytes,
+            "a data ack of two words",
+            &[0x04, 2, 0, 1, 0, 0, 0x80, 0, 0x80, 0],
+            behind,
             5,
         ),
-        (
-            "a byte after a DC",
-            [0x48, 2, 0, 1, 0, 41, 0, 0].as_slice(),
-            NspFault::TrailingBytes,
-            5,
-        ),
-        (
-            "a byte after two words",
-            [0x04, 2, 0, 1, 0, 0, 0x80, 0, 0x80, 0].as_slice(),
-            NspFault::TrailingBytes,
-            5,
-        ),
-        (
-            "DSTADDR 1 of a CI",
-            [0x18, 1, 0].as_slice(),
-            NspFault::NonzeroDstaddr,
-            6,
-        ),
-        (
-            "DSTADDR 256 of a CI sent again",
-            [0x68, 0, 1].as_slice(),
-            NspFault::NonzeroDstaddr,
-            6,
-        ),
-    ] {
-        assert_eq!(rt; read_nsp(bytes), Err(want), "{name}");
-        assert_eq!(rt; want.number(), number, "{name}");
-    }
+    ];
+    expect_fault(&rt, &rows);
 }
 
 #[test]
