@@ -6,3 +6,4 @@ pub mod Turns
 pub mod Found
 pub mod Texts
 pub mod Starts
+pub mod Faults

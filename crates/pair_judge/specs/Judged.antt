@@ -1,5 +1,5 @@
 -- What an answer of the judge says of the bytes that its two readers had left. Provisional: the public claim is that of an
--- acceptance; what a refusal says is proved of the inner call (`IsFoundIn`).
+-- acceptance and of a fault; what a refusal says is proved of the inner call (`IsFoundIn`).
 use Rattle.std.specs.Prelude.{◌≡◌, ℕ, List, Option, Result, Ok, Err, IfSome}
 use Rattle.capture.specs.declared.record.Record.{Record}
 use Rattle.capture.specs.Range.{IsText}
@@ -11,6 +11,7 @@ use Rattle.pair_judge.specs.declared.summary.Summary.{Summary}
 use Rattle.pair_judge.specs.declared.verdict.Verdict.{Verdict}
 use Rattle.pair_judge.specs.declared.verdict.Verdict.TheVariants.{Accepted, Refused}
 use Rattle.pair_judge.specs.declared.fault.JudgeFault.{JudgeFault}
+use Rattle.pair_judge.specs.Faulty.{IsJudgeFault}
 use Rattle.pair_judge.specs.Summary.{summary_of}
 
 -- The bytes are the texts of two captures, all of whose records are one run of the two specified stations, and the summary counts them.
@@ -31,7 +32,7 @@ pub record AreARun (text_a text_b : List ℕ) (summary : Summary) : Type 0 where
 abbrev pub IsAnswer : Option (List ℕ) → Option (List ℕ) → Result Verdict JudgeFault → Type 0
 IsAnswer text_a text_b (Ok (Accepted summary)) = IfSome text_a (λ bytes_a. IfSome text_b (λ bytes_b. AreARun bytes_a bytes_b summary))
 IsAnswer text_a text_b (Ok (Refused side place reason)) = Unit {0}
-IsAnswer text_a text_b (Err fault) = Unit {0}
+IsAnswer text_a text_b (Err fault) = IsJudgeFault text_a text_b fault
 
 -- ---- the inner call, both ways
 

@@ -8,6 +8,7 @@ pub mod Receipts
 pub mod Making
 pub mod Course
 pub mod Reached
+pub mod Faulty
 pub mod Judged
 pub mod Opened
 pub mod Answer

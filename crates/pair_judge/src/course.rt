@@ -9,6 +9,7 @@ ghost use Rattle.capture.specs.declared.fault.CaptureFault.TheVariants as Captur
 ghost use Rattle.wire_base.specs.Tally.{CountedFault, tally_faults, tally_lent};
 ghost use Rattle.pair_judge.specs.Summary.{HasRoom};
 ghost use Rattle.pair_judge.specs.Course.{MayRead, IsRead, IsReadyFor, NextIs, AdvanceIs};
+ghost use Rattle.pair_judge.specs.Faulty.{IsCourseFault, course_fault_of};
 
 use crate::end::End;
 use crate::fault::TextFault;
@@ -79,6 +80,9 @@ impl Course {
             AdvanceIs advance text self.old.end self.new incoming.old incoming.new
             (to_come self.new.capture.unread (R.remaining (tally_lent reader.new))) made) }
         ensures may_read { IfOk result (λ _. MayRead self.new) }
+        ensures fault { IfErr result (λ fault. (text : Option (List ℕ)) (made : List Record) →
+            IsRead text self.old.capture self.old.ahead (to_come self.old.capture.unread (R.remaining (tally_lent reader.old))) made →
+            IsCourseFault text fault) }
         ensures read { result ≡ Err (CourseFault.Text TextFault.Read) →
             CountedFault (tally_faults reader.old) (tally_faults reader.new) }
         ensures faults { OnOk result (tally_faults reader.new ≡ tally_faults reader.old) }
@@ -97,6 +101,9 @@ impl Course {
             IsRead text self.old.capture self.old.ahead (to_come self.old.capture.unread (R.remaining (tally_lent reader.old))) made →
             NextIs next text self.new (to_come self.new.capture.unread (R.remaining (tally_lent reader.new))) made) }
         ensures ahead { IfOk result (IsReadyFor self.new) }
+        ensures fault { IfErr result (λ fault. (text : Option (List ℕ)) (made : List Record) →
+            IsRead text self.old.capture self.old.ahead (to_come self.old.capture.unread (R.remaining (tally_lent reader.old))) made →
+            IsCourseFault text fault) }
         ensures end { self.new.end ≡ self.old.end }
         ensures read { result ≡ Err (CourseFault.Text TextFault.Read) →
             CountedFault (tally_faults reader.old) (tally_faults reader.new) }
@@ -147,7 +154,8 @@ impl Course {
 // The fault of a text that has not failed before.
 pub fn course_fault(fault: CaptureFault) -> CourseFault
     requires { fault ≢ CaptureFault.Failed }
-    ensures { (result ≡ CourseFault.Text TextFault.Read) → (fault ≡ CaptureFault.Read) }
+    ensures value { result ≡ course_fault_of fault }
+    ensures read { (result ≡ CourseFault.Text TextFault.Read) → (fault ≡ CaptureFault.Read) }
 {
     match fault {
         CaptureFault::Syntax { line } => CourseFault::Text(TextFault::Syntax { line }),

@@ -1,11 +1,12 @@
 //! The judge: both texts in turns, in one pass.
 
-ghost use Rattle.std.specs.Prelude.{◌≡◌, IfOk, IfSome, OnOk, Err};
+ghost use Rattle.std.specs.Prelude.{◌≡◌, IfOk, IfErr, IfSome, OnOk, List, Option, ℕ, Err};
 ghost use Rattle.wire_base.specs.Tally.{CountedFault, tally_faults, tally_lent};
 ghost use Rattle.wire_base.specs.declared.side.Side.{Side};
 ghost use Rattle.capture.specs.Lines.{to_come};
 ghost use Rattle.pair_judge.specs.declared.fault.TextFault.TheVariants as TextFault;
 ghost use Rattle.pair_judge.specs.Judged.{IsAnswer, IsFoundIn};
+ghost use Rattle.pair_judge.specs.Faulty.{IsJudgeFault, text_of};
 ghost use Rattle.pair_judge.specs.Opened.{OpensAt};
 ghost use Rattle.pair_judge.specs.Answer.{verdict_of};
 
@@ -43,13 +44,13 @@ pub struct Found {
 /// hint received are held.
 ///
 /// `Accepted`: both texts are texts of captures, all records of both are one run, and the summary is their counts. `Refused`: the
-/// record that is named, with its reason. `Capture`: the first fault met, at the side whose text it is in; `Read` only where
-/// that reader failed. `OutOfMemory`: a growth was refused. No verdict stands in place of a fault. After any answer the readers have
-/// given what was read ahead, and nothing is said of the rest.
+/// record that is named, with its reason. `Capture`: the first fault met, at the side whose text it is in: the first line there
+/// that departs from the format, and how; `Read` only where that reader failed. `OutOfMemory`: a growth was refused. No verdict
+/// stands in place of a fault. After any answer the readers have given what was read ahead, and nothing is said of the rest.
 ///
-/// The contract claims what is said of `Accepted` and `Read`, and nothing yet of `Refused`, of the other faults' line and kind, and of the
-/// order of reading. For now a run is one of startups: a sent data, NAK or REP message and a kept receipt are refused, and
-/// link events are not judged, so that one that no link allows is accepted.
+/// The contract claims what is said of `Accepted`, of a text's faults and of `Read`, and nothing yet of `Refused` and of the order
+/// of reading. For now a run is one of startups: a sent data, NAK or REP message and a kept receipt are refused, and link events
+/// are not judged, so that one that no link allows is accepted.
 pub fn judge<R: Read, S: Read>(
     alloc: Global,
     a: &mut Tally<R>,
@@ -89,6 +90,7 @@ pub fn find<R: Read, S: Read>(
 ) -> Result<Found, JudgeFault>
     ensures found { IfOk result (λ found. IfSome (R.remaining (tally_lent a.old)) (λ text_a.
         IfSome (S.remaining (tally_lent b.old)) (λ text_b. IsFoundIn found.finding found.summary text_a text_b))) }
+    ensures fault { IfErr result (IsJudgeFault (R.remaining (tally_lent a.old)) (S.remaining (tally_lent b.old))) }
     ensures read_a { result ≡ Err (JudgeFault.Capture Side.A TextFault.Read) →
         CountedFault (tally_faults a.old) (tally_faults a.new) }
     ensures read_b { result ≡ Err (JudgeFault.Capture Side.B TextFault.Read) →
@@ -119,6 +121,8 @@ pub fn find<R: Read, S: Read>(
 fn open<R: Read>(alloc: Global, side: Side, reader: &mut Tally<R>) -> Result<Course, JudgeFault>
     ensures opens { IfOk result (λ course. OpensAt (R.remaining (tally_lent reader.old)) course
         (to_come course.capture.unread (R.remaining (tally_lent reader.new)))) }
+    ensures fault { IfErr result (λ fault. (text_a text_b : Option (List ℕ)) →
+        text_of side text_a text_b ≡ R.remaining (tally_lent reader.old) → IsJudgeFault text_a text_b fault) }
     ensures read { (of : Side) → result ≡ Err (JudgeFault.Capture of TextFault.Read) →
         (of ≡ side) × CountedFault (tally_faults reader.old) (tally_faults reader.new) }
     ensures faults { OnOk result (tally_faults reader.new ≡ tally_faults reader.old) }

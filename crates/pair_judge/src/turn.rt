@@ -1,13 +1,14 @@
 //! Whose turn it is: one record of side a, as long as a is neither blocked nor at its end, and otherwise one of side b.
 
-ghost use Rattle.std.specs.Prelude.{◌≡◌, ◌+◌, IfOk, OnOk, List, Option, ℕ, length, Err};
+ghost use Rattle.std.specs.Prelude.{◌≡◌, ◌+◌, IfOk, IfErr, OnOk, List, Option, ℕ, length, Err};
 ghost use Rattle.wire_base.specs.Tally.{CountedFault, tally_faults, tally_lent};
 ghost use Rattle.wire_base.specs.declared.side.Side.{Side};
 ghost use Rattle.capture.specs.declared.record.Record.{Record};
 ghost use Rattle.capture.specs.Lines.{to_come};
 ghost use Rattle.pair_judge.specs.declared.fault.TextFault.TheVariants as TextFault;
 ghost use Rattle.pair_judge.specs.Reached.{IsHeldUp};
-ghost use Rattle.pair_judge.specs.Course.{MayRead};
+ghost use Rattle.pair_judge.specs.Course.{MayRead, IsRead};
+ghost use Rattle.pair_judge.specs.Faulty.{IsJudgeFault, side_fault_of};
 ghost use Rattle.pair_judge.specs.Summary.{HasRoom};
 ghost use Rattle.pair_judge.specs.Reached.{IsUnderWay, TurnIs};
 
@@ -40,6 +41,11 @@ pub fn turn<R: Read, S: Read>(
         (to_come a.new.capture.unread (R.remaining (tally_lent reader_a.new)))
         (to_come b.new.capture.unread (S.remaining (tally_lent reader_b.new))) (length made_a + length made_b)) }
     ensures may_read { IfOk result (λ _. MayRead a.new × MayRead b.new) }
+    ensures fault { IfErr result (λ fault. (text_a text_b : Option (List ℕ)) (made_a made_b : List Record) →
+        IsUnderWay text_a text_b a.old b.old
+        (to_come a.old.capture.unread (R.remaining (tally_lent reader_a.old)))
+        (to_come b.old.capture.unread (S.remaining (tally_lent reader_b.old))) made_a made_b →
+        IsJudgeFault text_a text_b fault) }
     ensures read_a { result ≡ Err (JudgeFault.Capture Side.A TextFault.Read) →
         CountedFault (tally_faults reader_a.old) (tally_faults reader_a.new) }
     ensures read_b { result ≡ Err (JudgeFault.Capture Side.B TextFault.Read) →
@@ -74,6 +80,9 @@ fn blocked_turn<S: Read>(
         (to_come b.new.capture.unread (S.remaining (tally_lent reader_b.new))) (length made_a + length made_b)) }
     ensures same { (a.new.capture ≡ a.old.capture) × (a.new.ahead ≡ a.old.ahead) }
     ensures may_read { IfOk result (λ _. MayRead b.new) }
+    ensures fault { IfErr result (λ fault. (text_a text_b : Option (List ℕ)) (made_b : List Record) →
+        IsRead text_b b.old.capture b.old.ahead (to_come b.old.capture.unread (S.remaining (tally_lent reader_b.old))) made_b →
+        IsJudgeFault text_a text_b fault) }
     ensures read { result ≡ Err (JudgeFault.Capture Side.B TextFault.Read) →
         CountedFault (tally_faults reader_b.old) (tally_faults reader_b.new) }
     ensures other { result ≡ Err (JudgeFault.Capture Side.A TextFault.Read) → ⊥ }
@@ -106,6 +115,9 @@ fn ended_turn<S: Read>(
         (to_come b.new.capture.unread (S.remaining (tally_lent reader_b.new))) (length made_a + length made_b)) }
     ensures same { (a.new.capture ≡ a.old.capture) × (a.new.ahead ≡ a.old.ahead) }
     ensures may_read { IfOk result (λ _. MayRead b.new) }
+    ensures fault { IfErr result (λ fault. (text_a text_b : Option (List ℕ)) (made_b : List Record) →
+        IsRead text_b b.old.capture b.old.ahead (to_come b.old.capture.unread (S.remaining (tally_lent reader_b.old))) made_b →
+        IsJudgeFault text_a text_b fault) }
     ensures read { result ≡ Err (JudgeFault.Capture Side.B TextFault.Read) →
         CountedFault (tally_faults reader_b.old) (tally_faults reader_b.new) }
     ensures other { result ≡ Err (JudgeFault.Capture Side.A TextFault.Read) → ⊥ }
@@ -135,7 +147,8 @@ fn refused(side: Side, course: &Course, cause: Cause) -> Finding
 
 // The fault of one side's course.
 pub fn side_fault(side: Side, fault: CourseFault) -> JudgeFault
-    ensures { (of : Side) → result ≡ JudgeFault.Capture of TextFault.Read → (of ≡ side) × (fault ≡ CourseFault.Text TextFault.Read) }
+    ensures value { result ≡ side_fault_of side fault }
+    ensures read { (of : Side) → result ≡ JudgeFault.Capture of TextFault.Read → (of ≡ side) × (fault ≡ CourseFault.Text TextFault.Read) }
 {
     match fault {
         CourseFault::Text(fault) => JudgeFault::Capture { side, fault },

@@ -1,4 +1,6 @@
 use Rattle.std.proofs.Common.{Err, refl, sym, ap, ◌∙◌, arith}
+use Rattle.std.proofs.lemmas.Result.{err_from_is_err_and}
+use Rattle.wire_base.specs.Tally.{tally_lent}
 use Rattle.pair_judge.proofs.Texts.{TextLaws, has_room, few_made, found_where}
 use Rattle.pair_judge.proofs.Starts.{started, same_fault}
 use Rattle.pair_judge.proofs.judging.find.Goals as goal
@@ -30,6 +32,16 @@ returns-in-Ok-Some-clause-found g c =
     let turned = rw c.in-Ok-Some.field-0-is at c.in-Ok-Some.ensures.turn in
     let found = turned (g.R.Read.remaining c.args.a.now.lent) (g.S.Read.remaining c.args.b.now.lent) h.made_a h.made_b h.under_way in
     found_where laws _ _ c.turn.new.a c.turn.new.b _ _ _ _ found refl refl
+
+pub returns-in_err-course_a-clause-fault : goal.returns-in_err-course_a-clause-fault
+returns-in_err-course_a-clause-fault g c =
+    let p = err_from_is_err_and c.from_residual.result c.from_residual.ensures.1 in
+    rw (p.1, p.2) (c.in_err-course_a.ensures.fault (g.R.Read.remaining (tally_lent c.args.a.now)) (g.S.Read.remaining (tally_lent c.args.b.now)) refl)
+
+pub returns-in_err-course_b-clause-fault : goal.returns-in_err-course_b-clause-fault
+returns-in_err-course_b-clause-fault g c =
+    let p = err_from_is_err_and c.from_residual-in_err-course_b.result c.from_residual-in_err-course_b.ensures.1 in
+    rw (p.1, p.2) (c.in_err-course_b.ensures.fault (g.R.Read.remaining (tally_lent c.args.a.now)) (g.S.Read.remaining (tally_lent c.args.b.now)) refl)
 
 pub returns-in-Err-clause-read_a : goal.returns-in-Err-clause-read_a
 returns-in-Err-clause-read_a g c = λ e.
