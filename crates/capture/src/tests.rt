@@ -1,6 +1,8 @@
 //! Tests of what no contract says: the rows of the format from outside, and devices that fail.
 
+mod limits;
 mod reading;
+mod rows;
 mod stepped;
 mod words;
 mod writing;

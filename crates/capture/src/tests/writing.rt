@@ -3,6 +3,14 @@ use crate::{Bytes, Record, WriteFault, write_head, write_record};
 use std::test::Fail;
 use wire_base::Tally;
 
+/// What a writer answers and counts that takes this many bytes of a line.
+fn answer_of(taken: usize, line: &[u8]) -> (Result<(), WriteFault>, u64) {
+    if taken == line.len() {
+        return (Ok(()), 0);
+    }
+    (Err(WriteFault::Write), 1)
+}
+
 #[test]
 fn the_writer_has_the_line_or_a_beginning_of_it(rt: HostRuntime) -> Result<(), Fail> {
     let line = b"k 12 00ff\n";
@@ -16,21 +24,27 @@ fn the_writer_has_the_line_or_a_beginning_of_it(rt: HostRuntime) -> Result<(), F
         assert!(rt; record.in_range());
         let mut writer = Tally::new(Narrow::new(rt.alloc(), fails_at));
         let answer = write_record(rt.alloc(), &record, &mut writer);
-        let wanted = if fails_at == line.len() {
-            Ok(())
-        } else {
-            Err(WriteFault::Write)
-        };
-        assert_eq!(rt; answer, wanted, "the writer takes {fails_at} bytes");
-        assert_eq!(rt; writer.faults(), u64::from(answer.is_err()));
+        assert_eq!(rt;
+            (answer, writer.faults()),
+            answer_of(fails_at, line),
+            "the writer takes {fails_at} bytes"
+        );
         assert!(rt; writer.into_inner().taken.as_slice() == &line[..fails_at]);
     }
     Ok(())
 }
 
 #[test]
-fn a_head_is_written_with_both_addresses(rt: HostRuntime) {
-    let mut writer = Tally::new(Narrow::new(rt.alloc(), usize::MAX));
-    assert_eq!(rt; write_head(rt.alloc(), 1025, 65_535, &mut writer), Ok(()));
-    assert!(rt; writer.into_inner().taken.as_slice() == b"ddcap 1 1.1 63.1023\n".as_slice());
+fn the_writer_has_the_head_or_a_beginning_of_it(rt: HostRuntime) {
+    let line = b"ddcap 1 1.1 63.1023\n";
+    for fails_at in 0..=line.len() {
+        let mut writer = Tally::new(Narrow::new(rt.alloc(), fails_at));
+        let answer = write_head(rt.alloc(), 1025, 65_535, &mut writer);
+        assert_eq!(rt;
+            (answer, writer.faults()),
+            answer_of(fails_at, line),
+            "the writer takes {fails_at} bytes"
+        );
+        assert!(rt; writer.into_inner().taken.as_slice() == &line[..fails_at]);
+    }
 }
