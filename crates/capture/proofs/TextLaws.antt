@@ -10,13 +10,13 @@ use Rattle.capture.specs.declared.hint.HintForm.TheVariants.{Number}
 use Rattle.capture.specs.declared.record.Record.{Record}
 use Rattle.capture.specs.Text.{record_text, record_line, record_lines, head_text, head_line, ended}
 use Rattle.capture.specs.Range.{IsRecord, IsNode, IsText}
-use Rattle.capture.specs.Departing.{first_line, has_lf, IsWhole, LineDeparts, WordsDepart, RecordDeparts}
+use Rattle.capture.specs.Departing.{first_line, has_lf, IsWhole, LineDeparts, WordsDepart, RecordDeparts, HeadWordsDepart, HeadDeparts}
 use Rattle.capture.specs.Reading.{record_at, head_at}
 use Rattle.capture.proofs.PartLaws.{HasNo}
 use Rattle.capture.proofs.LineLaws.{line-ended}
 use Rattle.capture.proofs.RecordLaws.{record_read, record_too_long}
 use Rattle.capture.proofs.HeadLaws.{head_again}
-use Rattle.capture.proofs.LackLaws.{record_lacks, head_lacks, record_short}
+use Rattle.capture.proofs.LackLaws.{record_lacks, head_lacks, record_short, head_short}
 
 -- a text without LF, ended, and what follows
 ended-append : (text rest : List ℕ) → ended text ++ rest ≡ text ++ 10 ∷ rest
@@ -135,3 +135,40 @@ departs_once records bytes a b (inl p) (inl q) = line_once MAX_RECORDS records b
 departs_once records bytes a b (inr p) (inr q) = words_once (first_line bytes) a b p.2 q.2
 departs_once records bytes a b (inl p) (inr q) = absurd (whole_or_not MAX_RECORDS records bytes a p q.0 q.1)
 departs_once records bytes a b (inr p) (inl q) = absurd (whole_or_not MAX_RECORDS records bytes b q p.0 p.1)
+
+pub no_end_departure : (records : ℕ) (kind : Departure) → RecordDeparts records kind [] → ⊥
+no_end_departure records Syntax (inl d) = d.1 refl
+no_end_departure records TooLong (inl d) = let long = d.1 in omega arith
+no_end_departure records TooMany (inl d) = d.1 refl
+no_end_departure records kind (inr d) = let ended_line = d.1.ended in cc
+
+-- ---- departures of a head
+
+head_words_fit : (own peer : ℕ) → IsNode own → IsNode peer → HeadWordsDepart Syntax (head_text own peer) → ⊥
+head_words_fit own peer p q d = d own peer p q refl
+
+-- where a head's line comes first, nothing departs
+pub no_head_departure : (kind : Departure) (own peer : ℕ) (rest : List ℕ) → IsNode own → IsNode peer → HeadDeparts kind (head_line own peer ++ rest) → ⊥
+no_head_departure TooMany own peer rest p q d = d
+no_head_departure TooLong own peer rest p q d =
+    let first = ended_first (head_text own peer) rest (head_lacks own peer p q) in
+    let short = head_short own peer p q in
+    omega (arith, ap length first.0)
+no_head_departure Syntax own peer rest p q (inl d) =
+    let first = ended_first (head_text own peer) rest (head_lacks own peer p q) in
+    let open_line = d.1 in
+    let ended_line = first.1 in
+    cc
+no_head_departure Syntax own peer rest p q (inr d) =
+    let first = ended_first (head_text own peer) rest (head_lacks own peer p q) in
+    head_words_fit own peer p q (subst (HeadWordsDepart Syntax) first.0 d.1)
+
+pub head_departs_once : (bytes : List ℕ) (a b : Departure) → HeadDeparts a bytes → HeadDeparts b bytes → a ≡ b
+head_departs_once bytes Syntax Syntax p q = refl
+head_departs_once bytes TooLong TooLong p q = refl
+head_departs_once bytes TooMany b p q = absurd p
+head_departs_once bytes a TooMany p q = absurd q
+head_departs_once bytes Syntax TooLong (inl p) q = let short = p.0 in absurd (omega arith)
+head_departs_once bytes Syntax TooLong (inr p) q = let short = p.0.short in absurd (omega arith)
+head_departs_once bytes TooLong Syntax p (inl q) = let short = q.0 in absurd (omega arith)
+head_departs_once bytes TooLong Syntax p (inr q) = let short = q.0.short in absurd (omega arith)

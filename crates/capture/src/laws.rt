@@ -1,6 +1,6 @@
 //! Laws of the text, as functions that do nothing: a text is read in one way alone.
 
-ghost use Rattle.std.specs.Prelude.{◌≡◌, ℕ, ◌<◌, ◌++◌, List, Ok};
+ghost use Rattle.std.specs.Prelude.{◌≡◌, ℕ, ◌<◌, [], ◌++◌, List, Ok};
 ghost use Rattle.std.specs.List.{AllByRecursion};
 ghost use Rattle.capture.specs.declared.limit.TheConstants.{MAX_RECORDS};
 ghost use Rattle.capture.specs.declared.fault.Departure.{Departure as Kind};
@@ -8,7 +8,7 @@ ghost use Rattle.capture.specs.declared.record.Record.{Record as Line};
 ghost use Rattle.capture.specs.declared.hint.HintForm.{HintForm as Form};
 ghost use Rattle.capture.specs.Text.{head_line, record_line, record_lines, record_text};
 ghost use Rattle.capture.specs.Range.{IsNode, IsRecord, IsText};
-ghost use Rattle.capture.specs.Departing.{RecordDeparts};
+ghost use Rattle.capture.specs.Departing.{HeadDeparts, RecordDeparts};
 ghost use Rattle.capture.specs.Reading.{record_at};
 
 /// A text has one head and one list of records.
@@ -53,4 +53,20 @@ pub fn written_is_read()
 pub fn one_departure()
     ensures { (records : ℕ) (bytes : List ℕ) (a b : Kind) →
         RecordDeparts records a bytes → RecordDeparts records b bytes → a ≡ b }
+{}
+
+/// Where nothing is to come, nothing departs.
+pub fn no_end_departs()
+    ensures { (records : ℕ) (kind : Kind) → RecordDeparts records kind [] → ⊥ }
+{}
+
+/// Where a head's line comes first, no head departs.
+pub fn no_head_departs()
+    ensures { (kind : Kind) (own peer : ℕ) (rest : List ℕ) → IsNode own → IsNode peer →
+        HeadDeparts kind (head_line own peer ++ rest) → ⊥ }
+{}
+
+/// The first line of a text departs from a head in one way at most.
+pub fn one_head_departure()
+    ensures { (bytes : List ℕ) (a b : Kind) → HeadDeparts a bytes → HeadDeparts b bytes → a ≡ b }
 {}

@@ -32,8 +32,8 @@ pub use event_words::event_of;
 pub use fault::{CaptureFault, Departure, LineFault, PartFault, WriteFault};
 pub use hint::HintForm;
 pub use laws::{
-    begun_list, no_head_begins_another, no_line_begins_another, no_line_departs, one_departure,
-    one_head_and_list, written_is_read,
+    begun_list, no_end_departs, no_head_begins_another, no_head_departs, no_line_begins_another,
+    no_line_departs, one_departure, one_head_and_list, one_head_departure, written_is_read,
 };
 pub use limit::{MAX_HINT, MAX_LINE, MAX_LINK, MAX_MESSAGE, MAX_RECORDS, MAX_UNIT};
 pub use line_reader::LineReader;
