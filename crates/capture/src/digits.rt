@@ -9,11 +9,16 @@ use crate::fault::{Departure, PartFault};
 use hex::FromHexError;
 use std::alloc::Global;
 
-// hex takes capitals too, so that they are refused here.
+// hex takes capitals too, so that they are refused here. The test goes on behind a capital: with no way out
+// of the loop, many digits are tested at once.
 fn has_no_capital(text: &[u8]) -> bool
     ensures { result ≡ list_all is_lower text.now }
 {
-    text.iter().all(|digit| *digit < b'A' || *digit > b'F')
+    let mut lower = true;
+    for digit in text {
+        lower &= *digit < b'A' || *digit > b'F';
+    }
+    lower
 }
 
 /// The bytes that the text spells, at most `most`: `-` for none, else two digits 0 to 9 and a to f
