@@ -1,1 +1,4 @@
 pub mod Printed
+pub mod Block
+pub mod Shown
+pub mod Showing

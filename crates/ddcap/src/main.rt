@@ -1,5 +1,5 @@
 //! `ddcap` judges whether two text captures of one DDCMP line, between two DECnet Phase IV end nodes, are together a run of
-//! the protocols, and prints the verdict. It reads the files that it is given and writes to its two streams alone; it never
+//! the protocols, and prints the verdict, or shows what one capture says. It reads the files that it is given and writes to its two streams alone; it never
 //! touches a line, a clock or another file.
 #![tactic(auto)]
 
@@ -7,7 +7,10 @@ use std::process::ExitCode;
 use wire_base::Tally;
 
 mod check;
+mod page;
 mod run;
+mod show;
+mod shown_line;
 #[cfg(test)]
 mod tests;
 mod text;

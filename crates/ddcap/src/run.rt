@@ -1,6 +1,7 @@
 //! The program between its words and its status.
 
 use crate::check::{check_to, print, print_out_of_memory};
+use crate::show::show_to;
 use crate::text::FAILED;
 use crate::words::{Task, WordsFault, task_of};
 use std::alloc::Global;
@@ -24,6 +25,7 @@ pub fn run<R: Env + Files + AllocGlobal, O: Write, E: Write>(
     };
     match task_of(rt.alloc(), words.as_slice()) {
         Ok(Task::Check { a, b }) => check_files(rt, a, b, out, err),
+        Ok(Task::Show { a }) => show_file(rt, a, out, err),
         Err(fault) => print_words_fault(err, fault),
     }
 }
@@ -69,6 +71,21 @@ fn check_files<R: Files + AllocGlobal, O: Write, E: Write>(
     let mut a = Tally::new(file_a);
     let mut b = Tally::new(file_b);
     check_to(rt.alloc(), &mut a, &mut b, out, err)
+}
+
+/// Opens the file, and shows what it holds.
+fn show_file<R: Files + AllocGlobal, O: Write, E: Write>(
+    rt: &R,
+    path: &str,
+    out: &mut Tally<O>,
+    err: &mut Tally<E>,
+) -> u8 {
+    let file = match fs::open(rt, path) {
+        Ok(file) => file,
+        Err(error) => return print_not_opened(err, Side::A, &error),
+    };
+    let mut a = Tally::new(file);
+    show_to(rt.alloc(), &mut a, out, err)
 }
 
 /// Prints that a side's file can't be opened, and answers the status.

@@ -4,5 +4,6 @@ mod devices;
 mod pair;
 mod reasons;
 mod rows;
+mod show;
 mod texts;
 mod words;

@@ -10,6 +10,8 @@ use std::convert::AsStr;
 pub enum Task<'a> {
     /// To judge the captures in two files.
     Check { a: &'a str, b: &'a str },
+    /// To show the records of the capture in a file.
+    Show { a: &'a str },
 }
 
 /// Why the words ask for nothing.
@@ -32,6 +34,10 @@ pub fn task_of<'a, S: AsStr>(alloc: Global, words: &'a [S]) -> Result<Task<'a>, 
                 (Some(a), Some(b)) => Ok(Task::Check { a, b }),
                 _ => Err(WordsFault::BadWords),
             },
+            Some(("show", found)) => match found.get_str("A") {
+                Some(a) => Ok(Task::Show { a }),
+                None => Err(WordsFault::BadWords),
+            },
             _ => Err(WordsFault::BadWords),
         },
         Err(error) => match error.kind() {
@@ -45,7 +51,8 @@ fn program<'a>(alloc: Global) -> Result<Command<'a>, AllocError> {
     Command::new(alloc, "ddcap")
         .disable_help_subcommand(true)
         .subcommand_required(true)
-        .subcommand(check(alloc)?)
+        .subcommand(check(alloc)?)?
+        .subcommand(show(alloc)?)
 }
 
 /// `check A B`
@@ -53,4 +60,9 @@ fn check<'a>(alloc: Global) -> Result<Command<'a>, AllocError> {
     Command::new(alloc, "check")
         .arg(Arg::new(alloc, "A").required(true))?
         .arg(Arg::new(alloc, "B").required(true))
+}
+
+/// `show A`
+fn show<'a>(alloc: Global) -> Result<Command<'a>, AllocError> {
+    Command::new(alloc, "show").arg(Arg::new(alloc, "A").required(true))
 }

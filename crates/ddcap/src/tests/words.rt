@@ -28,8 +28,21 @@ fn a_check_has_two_words(rt: HostRuntime) {
 }
 
 #[test]
+fn a_show_has_one_word(rt: HostRuntime) {
+    let rows: [(&[&str], Task<'_>); 4] = [
+        (&["ddcap", "show", "x"], Task::Show { a: "x" }),
+        (&["ddcap", "show", "--", "-x"], Task::Show { a: "-x" }),
+        (&["ddcap", "show", "check"], Task::Show { a: "check" }),
+        (&["ddcap", "show", ""], Task::Show { a: "" }),
+    ];
+    for (words, task) in rows {
+        assert_eq!(rt; task_of(rt.alloc(), words), Ok(task));
+    }
+}
+
+#[test]
 fn other_words_are_bad_words(rt: HostRuntime) {
-    let rows: [&[&str]; 15] = [
+    let rows: [&[&str]; 20] = [
         &[],
         &["ddcap"],
         &["ddcap", "check"],
@@ -38,6 +51,11 @@ fn other_words_are_bad_words(rt: HostRuntime) {
         &["ddcap", "check", "-x", "y"],
         &["ddcap", "check", "--help"],
         &["ddcap", "check", "x", "y", "-h"],
+        &["ddcap", "show"],
+        &["ddcap", "show", "x", "y"],
+        &["ddcap", "show", "-x"],
+        &["ddcap", "show", "--help"],
+        &["ddcap", "shows", "x"],
         &["ddcap", "--help"],
         &["ddcap", "-V"],
         &["ddcap", "--version"],

@@ -1,0 +1,56 @@
+-- What `show` prints of a record, byte by byte.
+use Rattle.std.specs.Prelude.{ℕ, ◌+◌, true, false, List, [], ◌∷◌, ◌++◌, length, codes}
+use Rattle.std.specs.Fmt.{decimal}
+use Rattle.hex.specs.Hex.{encode_lower}
+use Rattle.capture.specs.Text.{event_text, spaced}
+use Rattle.capture.specs.declared.record.Record.{Record}
+use Rattle.capture.specs.declared.record.Record.TheVariants.{Sent, Received, User}
+use Rattle.ddcmp_msg.specs.declared.flags.Flags.{Flags}
+use Rattle.ddcmp_msg.specs.Message.{MessageValue, Data, Ack, Nak, Rep, Strt, Stack, flags_byte, reason_number}
+use Rattle.ddcmp_msg.specs.Reading.{ReadingValue, Sound, HeaderBad, DataBad, Malformed, departure_number, reading}
+
+-- two hexadecimal digits: QSYNC is 40 and SELECT is 80
+abbrev pub flags_digits : Flags → List ℕ
+flags_digits flags = encode_lower (flags_byte flags ∷ [])
+
+-- the words of a data message, but for its body
+abbrev pub data_words : Flags → (resp num count : ℕ) → List ℕ
+data_words flags resp num count =
+    codes "data flags " ++ (flags_digits flags ++ (codes " resp " ++ (decimal resp ++ (codes " num " ++ (decimal num ++ (codes " count " ++ decimal count))))))
+
+-- the words of each message
+abbrev pub message_words : MessageValue → List ℕ
+message_words (Data flags resp num body) = data_words flags resp num (length body)
+message_words (Ack flags resp) = codes "ack flags " ++ (flags_digits flags ++ (codes " resp " ++ decimal resp))
+message_words (Nak flags reason resp) =
+    codes "nak flags " ++ (flags_digits flags ++ (codes " reason " ++ (decimal (reason_number reason) ++ (codes " resp " ++ decimal resp))))
+message_words (Rep flags num) = codes "rep flags " ++ (flags_digits flags ++ (codes " num " ++ decimal num))
+message_words (Strt flags) = codes "strt flags " ++ flags_digits flags
+message_words (Stack flags) = codes "stack flags " ++ flags_digits flags
+
+-- the words of what a unit says
+abbrev pub reading_words : ReadingValue → List ℕ
+reading_words (Sound message) = message_words message
+reading_words HeaderBad = codes "header bad"
+reading_words DataBad = codes "data bad"
+reading_words (Malformed departure) = codes "malformed " ++ decimal (departure_number departure)
+
+-- what the bytes of a unit say
+abbrev pub unit_words : List ℕ → List ℕ
+unit_words bytes = reading_words (reading bytes)
+
+-- the words of each record: a receipt's with its hint, and an event's as they stand in its line
+abbrev pub record_words : Record → List ℕ
+record_words (Sent bytes) = codes "sent " ++ unit_words bytes
+record_words (Received hint false bytes) = codes "received " ++ spaced (decimal hint) (unit_words bytes)
+record_words (Received hint true bytes) = codes "kept " ++ spaced (decimal hint) (unit_words bytes)
+record_words (User event) = codes "user " ++ event_text event
+
+-- a record's line: its number, its words and an LF
+abbrev pub shown_line : ℕ → Record → List ℕ
+shown_line number r = decimal number ++ 32 ∷ (record_words r ++ 10 ∷ [])
+
+-- the lines of records, the first of which has this number
+abbrev pub shown_lines : ℕ → List Record → List ℕ
+shown_lines number [] = []
+shown_lines number (r ∷ rest) = shown_line number r ++ shown_lines (number + 1) rest

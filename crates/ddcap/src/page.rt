@@ -1,0 +1,97 @@
+//! Printed bytes that wait to be written together.
+
+ghost use Rattle.std.specs.Prelude.{◌≡◌, ◌+◌, ◌*◌, ◌≤◌, [], ◌++◌, length, IfOk};
+ghost use Rattle.std.specs.Fmt.{decimal};
+ghost use Rattle.hex.specs.Hex.{encode_lower};
+ghost use Rattle.ddcap.specs.declared.page.TheConstants.{SIZE};
+
+use itoa::Buffer;
+use std::alloc::{AllocError, Global};
+use std::marker::Model;
+
+/// How many bytes a page holds: a longest line, and about as much again.
+pub const SIZE: usize = 262_144;
+
+/// Bytes that wait to be written together. It takes memory only when it is made. A contract sees the bytes.
+#[derive(Drop)]
+pub struct Page {
+    block: Vec<u8>,
+}
+
+impl Model for Page {
+    ghost use Rattle.std.specs.Prelude.{List, ℕ};
+    ghost use Rattle.ddcap.specs.Block.{HasRoom};
+
+    ghost Value = { List ℕ };
+
+    ghost view = { λ page. page.block.items };
+
+    ghost invariant = { HasRoom };
+}
+
+impl Page {
+    /// An empty page. `AllocError` where there is no memory for it.
+    pub fn new(alloc: Global) -> Result<Page, AllocError>
+        ensures { IfOk result (λ page. page ≡ []) }
+    {
+        let block = Vec::with_capacity(alloc, SIZE)?;
+        Ok(Page { block })
+    }
+
+    /// The bytes.
+    pub fn as_slice(&self) -> &[u8]
+        ensures { result.now ≡ self.now }
+    {
+        self.block.as_slice()
+    }
+
+    /// How many bytes there are.
+    pub fn len(&self) -> usize
+        ensures { result ≡ length self.now }
+    {
+        self.block.len()
+    }
+
+    /// Empties the page.
+    pub fn clear(&mut self)
+        ensures { self.new ≡ [] }
+    {
+        self.block.clear();
+    }
+
+    /// Appends bytes for which there is room.
+    pub fn put(&mut self, bytes: &[u8])
+        requires { length self.old + length bytes.now ≤ SIZE }
+        ensures bytes { self.new ≡ self.old ++ bytes.now }
+        ensures len { length self.new ≡ length self.old + length bytes.now }
+    {
+        let Ok(()) = self.block.extend_from_slice(bytes) else {
+            unreachable!()
+        };
+    }
+
+    /// Appends a decimal number, which takes no more than 40 bytes.
+    pub fn put_number(&mut self, number: u64)
+        requires { length self.old + 40 ≤ SIZE }
+        ensures bytes { self.new ≡ self.old ++ decimal number }
+        ensures len { length self.new ≤ length self.old + 40 }
+    {
+        let mut buffer = Buffer::new();
+        self.put(buffer.format(number).as_bytes());
+    }
+
+    /// Appends two digits for each byte, 0 to 9 and a to f.
+    pub fn put_digits(&mut self, bytes: &[u8])
+        requires { length self.old + 2 * length bytes.now ≤ SIZE }
+        ensures bytes { self.new ≡ self.old ++ encode_lower bytes.now }
+        ensures len { length self.new ≡ length self.old + 2 * length bytes.now }
+    {
+        let start = self.block.len();
+        let Ok(()) = self.block.resize(start + 2 * bytes.len(), 0) else {
+            unreachable!()
+        };
+        let Ok(()) = hex::encode_to_slice(bytes, &mut self.block[start..]) else {
+            unreachable!()
+        };
+    }
+}

@@ -1,0 +1,223 @@
+//! The line that `show` prints of one record.
+
+ghost use Rattle.std.specs.Prelude.{◌≡◌, ◌+◌, ◌*◌, ◌≤◌, ◌++◌, length, codes};
+ghost use Rattle.std.specs.Fmt.{decimal};
+ghost use Rattle.capture.specs.Range.{IsEvent, IsRecord};
+ghost use Rattle.capture.specs.Text.{bytes_text, event_text, spaced};
+ghost use Rattle.capture.specs.declared.limit.TheConstants.{MAX_MESSAGE};
+ghost use Rattle.ddcmp_msg.specs.Message.{view};
+ghost use Rattle.ddcmp_msg.specs.Reading.{reading, reading_view};
+ghost use Rattle.ddcap.specs.declared.page.TheConstants.{SIZE};
+ghost use Rattle.ddcap.specs.declared.shown_line.TheConstants.{LINE};
+ghost use Rattle.ddcap.specs.Shown.{flags_digits, data_words, message_words, reading_words, unit_words, record_words, shown_line};
+
+use crate::page::Page;
+use capture::{Event, Record};
+use ddcmp_msg::{Flags, Message, Reading, read_unit};
+
+/// More bytes than a line has: two digits for each byte of a longest message, and some words and numbers.
+pub const LINE: usize = 132_000;
+
+/// Appends the line of a record, with its LF: its number, and what it says.
+pub fn put_line(page: &mut Page, number: u64, record: &Record)
+    requires record { IsRecord «record».now }
+    requires room { length page.old + LINE ≤ SIZE }
+    ensures { page.new ≡ page.old ++ shown_line number «record».now }
+{
+    page.put_number(number);
+    page.put(b" ");
+    put_record(page, record);
+    page.put(b"\n");
+}
+
+// What a record says.
+fn put_record(page: &mut Page, record: &Record)
+    requires record { IsRecord «record».now }
+    requires room { length page.old + 131_800 ≤ SIZE }
+    ensures bytes { page.new ≡ page.old ++ record_words «record».now }
+    ensures len { length page.new ≤ length page.old + 131_800 }
+{
+    match record {
+        Record::Sent(bytes) => {
+            page.put(b"sent ");
+            put_unit(page, bytes.as_slice());
+        }
+        Record::Received {
+            hint,
+            kept: false,
+            bytes,
+        } => {
+            page.put(b"received ");
+            put_receipt(page, *hint, bytes.as_slice());
+        }
+        Record::Received {
+            hint,
+            kept: true,
+            bytes,
+        } => {
+            page.put(b"kept ");
+            put_receipt(page, *hint, bytes.as_slice());
+        }
+        Record::User(event) => {
+            page.put(b"user ");
+            put_event(page, event);
+        }
+    }
+}
+
+// The hint of a receipt, and what came.
+fn put_receipt(page: &mut Page, hint: u64, bytes: &[u8])
+    requires room { length page.old + 300 ≤ SIZE }
+    ensures bytes { page.new ≡ page.old ++ spaced (decimal hint) (unit_words bytes.now) }
+    ensures len { length page.new ≤ length page.old + 300 }
+{
+    page.put_number(hint);
+    page.put(b" ");
+    put_unit(page, bytes);
+}
+
+// What the bytes of a unit say.
+fn put_unit(page: &mut Page, bytes: &[u8])
+    requires room { length page.old + 250 ≤ SIZE }
+    ensures bytes { page.new ≡ page.old ++ unit_words bytes.now }
+    ensures len { length page.new ≤ length page.old + 250 }
+{
+    put_reading(page, read_unit(bytes));
+}
+
+fn put_reading(page: &mut Page, reading: Reading<'_>)
+    requires room { length page.old + 250 ≤ SIZE }
+    ensures bytes { page.new ≡ page.old ++ reading_words (reading_view reading.entry) }
+    ensures len { length page.new ≤ length page.old + 250 }
+{
+    match reading {
+        Reading::Sound(message) => put_message(page, message),
+        Reading::HeaderBad => page.put(b"header bad"),
+        Reading::DataBad => page.put(b"data bad"),
+        Reading::Malformed(departure) => {
+            page.put(b"malformed ");
+            page.put_number(u64::from(departure.number()));
+        }
+    }
+}
+
+fn put_message(page: &mut Page, message: Message<'_>)
+    requires room { length page.old + 250 ≤ SIZE }
+    ensures bytes { page.new ≡ page.old ++ message_words (view message.entry) }
+    ensures len { length page.new ≤ length page.old + 250 }
+{
+    match message {
+        Message::Data {
+            flags,
+            resp,
+            num,
+            body,
+        } => put_data(page, flags, resp, num, body.len()),
+        Message::Ack { flags, resp } => {
+            put_flags(page, b"ack", flags);
+            put_field(page, b" resp ", u64::from(resp));
+        }
+        Message::Nak {
+            flags,
+            reason,
+            resp,
+        } => {
+            put_flags(page, b"nak", flags);
+            put_field(page, b" reason ", u64::from(reason.number()));
+            put_field(page, b" resp ", u64::from(resp));
+        }
+        Message::Rep { flags, num } => {
+            put_flags(page, b"rep", flags);
+            put_field(page, b" num ", u64::from(num));
+        }
+        Message::Strt { flags } => put_flags(page, b"strt", flags),
+        Message::Stack { flags } => put_flags(page, b"stack", flags),
+    }
+}
+
+// What a data message says, but for its body.
+fn put_data(page: &mut Page, flags: Flags, resp: u8, num: u8, count: usize)
+    requires room { length page.old + 250 ≤ SIZE }
+    ensures bytes { page.new ≡ page.old ++ data_words flags resp num count }
+    ensures len { length page.new ≤ length page.old + 250 }
+{
+    put_flags(page, b"data", flags);
+    put_field(page, b" resp ", u64::from(resp));
+    put_num_and_count(page, num, count);
+}
+
+fn put_num_and_count(page: &mut Page, num: u8, count: usize)
+    requires room { length page.old + 92 ≤ SIZE }
+    ensures bytes { page.new ≡ page.old ++ (codes " num " ++ (decimal num ++ (codes " count " ++ decimal count))) }
+    ensures len { length page.new ≤ length page.old + 92 }
+{
+    put_field(page, b" num ", u64::from(num));
+    put_field(page, b" count ", count as u64);
+}
+
+// The name of a message, and its flags.
+fn put_flags(page: &mut Page, name: &[u8], flags: Flags)
+    requires room { length page.old + length name.now + 9 ≤ SIZE }
+    ensures bytes { page.new ≡ page.old ++ (name.now ++ (codes " flags " ++ flags_digits flags)) }
+    ensures len { length page.new ≡ length page.old + length name.now + 9 }
+{
+    page.put(name);
+    page.put(b" flags ");
+    page.put_digits(&[flags.byte()]);
+}
+
+// A field behind its name.
+fn put_field(page: &mut Page, name: &[u8], number: u64)
+    requires room { length page.old + length name.now + 40 ≤ SIZE }
+    ensures bytes { page.new ≡ page.old ++ (name.now ++ decimal number) }
+    ensures len { length page.new ≤ length page.old + length name.now + 40 }
+{
+    page.put(name);
+    page.put_number(number);
+}
+
+// The words of an event, as they stand in its line.
+fn put_event(page: &mut Page, event: &Event)
+    requires event { IsEvent event.now }
+    requires room { length page.old + 131_600 ≤ SIZE }
+    ensures bytes { page.new ≡ page.old ++ event_text event.now }
+    ensures len { length page.new ≤ length page.old + 131_600 }
+{
+    match event {
+        Event::Start => page.put(b"start"),
+        Event::Halt => page.put(b"halt"),
+        Event::Open { link } => put_field(page, b"open ", u64::from(*link)),
+        Event::Accept { partner, link } => {
+            put_field(page, b"accept ", u64::from(*partner));
+            put_field(page, b" ", u64::from(*link));
+        }
+        Event::Reject { partner, link } => {
+            put_field(page, b"reject ", u64::from(*partner));
+            put_field(page, b" ", u64::from(*link));
+        }
+        Event::In { link, bytes } => {
+            put_field(page, b"in ", u64::from(*link));
+            put_message_bytes(page, bytes.as_slice());
+        }
+        Event::Up { link, bytes } => {
+            put_field(page, b"up ", u64::from(*link));
+            put_message_bytes(page, bytes.as_slice());
+        }
+        Event::Close { link } => put_field(page, b"close ", u64::from(*link)),
+    }
+}
+
+// A space and BYTES: `-` for no bytes, else two digits for each.
+fn put_message_bytes(page: &mut Page, bytes: &[u8])
+    requires short { length bytes.now ≤ MAX_MESSAGE }
+    requires room { length page.old + 131_071 ≤ SIZE }
+    ensures bytes { page.new ≡ page.old ++ (codes " " ++ bytes_text bytes.now) }
+    ensures len { length page.new ≤ length page.old + 131_071 }
+{
+    page.put(b" ");
+    if bytes.is_empty() {
+        page.put(b"-");
+        return;
+    }
+    page.put_digits(bytes);
+}
