@@ -1,5 +1,5 @@
 -- The lines of a capture's records, as they grow from one record to the next.
-use Rattle.std.proofs.Common.{◌≡◌, ℕ, ◌+◌, ◌<◌, ◌⊎◌, inl, inr, List, [], ◌∷◌, ◌++◌, length, take, Option, Some, None, Result, Ok, Err, refl, sym, ap, subst, ◌∙◌, arith, length-append, append-nil, append_assoc}
+use Rattle.std.proofs.Common.{◌≡◌, ℕ, ◌+◌, ◌<◌, ◌⊎◌, inl, inr, List, [], ◌∷◌, ◌++◌, length, take, Option, Some, None, Ok, refl, sym, ap, subst, ◌∙◌, arith, length-append, append-nil, append_assoc}
 use Rattle.std.specs.Option.{IfSome}
 use Rattle.std.specs.List.{AllByRecursion}
 use Rattle.std.specs.Io.KnownBytes.{Appends, Consumes, IsAtEnd}
@@ -7,7 +7,7 @@ use Rattle.std.proofs.KnownBytes.{Appends-nil, Appends-trans, Consumes-trans}
 use Rattle.std.proofs.Math.Seq.{take-append-add}
 use Rattle.wire_base.specs.Tally.{AppendsBeginning, CountedFault}
 use Rattle.capture.specs.declared.fault.CaptureFault.{CaptureFault}
-use Rattle.capture.specs.declared.fault.CaptureFault.TheVariants.{Read, Failed}
+use Rattle.capture.specs.declared.fault.CaptureFault.TheVariants.{Read, OutOfMemory}
 use Rattle.capture.specs.declared.limit.TheConstants.{MAX_RECORDS}
 use Rattle.capture.specs.declared.phase.Phase.TheVariants.{Reading}
 use Rattle.capture.specs.declared.record.Record.{Record}
@@ -16,11 +16,10 @@ use Rattle.capture.specs.Range.{IsRecord}
 use Rattle.capture.specs.Departing.{HeadDeparts, RecordDeparts}
 use Rattle.capture.specs.Lines.{to_come}
 use Rattle.capture.specs.Reader.{CaptureState, FaultShows, Opens, NextGives}
-use Rattle.ddcap.specs.declared.show.Ending.{Ending}
 use Rattle.ddcap.specs.declared.show.Ending.TheVariants.{Whole, Faulty, Cut}
 use Rattle.ddcap.specs.Printed.{Stream}
 use Rattle.ddcap.specs.Shown.{shown_line, shown_lines}
-use Rattle.ddcap.specs.Showing.{Begins, IsTextOf, FaultsBehind, WritesAll, WritesSome, Lists}
+use Rattle.ddcap.specs.Showing.{Begins, IsTextOf, WritesAll, WritesSome, Lists}
 
 -- ---- lists of records
 
@@ -194,6 +193,13 @@ faulty_head text failed out fault shows reads = record {
   lines = (Appends-nil out.bytes, refl);
 }
 
+-- there is no memory before anything is read
+no_read_memory : OutOfMemory ≡ Read → ⊥
+no_read_memory e = cc
+
+pub without_memory : (text : Option (List ℕ)) (failed : Type 0) (out : Stream) → Lists text failed out out (Faulty OutOfMemory)
+without_memory text failed out = faulty_head text failed out OutOfMemory tt (λ e. absurd (no_read_memory e))
+
 pub cut : (text before : Option (List ℕ)) (failed : Type 0) (old : CaptureState) (number : ℕ) (out_old out out' : Stream) (page : List ℕ) → HasListed text old before number out_old out page → WritesSome out out' page → Lists text failed out_old out' Cut
 cut text before failed old number out_old out out' page h some = record {
   records = h.records;
@@ -201,12 +207,3 @@ cut text before failed old number out_old out out' page h some = record {
   failed_read = λ e. absurd (no_read_cut e);
   lines = subst (WritesSome out_old out') (sym h.lines) (some_on out_old out out' h.written page h.on_out some);
 }
-
--- ---- the fault of a reader that failed before
-
-pub not_failed : (text : Option (List ℕ)) (records : List Record) (fault : CaptureFault) → FaultsBehind text records fault → fault ≡ Failed → ⊥
-not_failed text records fault behind is = by_case (subst (FaultsBehind text records) is behind)
-  where
-    by_case : FaultsBehind text records Failed → ⊥
-    by_case (inl head) = head.1
-    by_case (inr line) = line.2

@@ -86,7 +86,7 @@ impl Page {
         ensures bytes { self.new ≡ self.old ++ encode_lower bytes.now }
         ensures len { length self.new ≡ length self.old + 2 * length bytes.now }
     {
-        let start = self.block.len();
+        let start = self.len();
         let Ok(()) = self.block.resize(start + 2 * bytes.len(), 0) else {
             unreachable!()
         };

@@ -5,5 +5,6 @@ mod pair;
 mod reasons;
 mod rows;
 mod show;
+mod show_devices;
 mod texts;
 mod words;

@@ -1,4 +1,4 @@
-use Rattle.std.proofs.Common.{ℕ, Err, sym, ap, subst, ◌∙◌, arith}
+use Rattle.std.proofs.Common.{ℕ, Err, ap, subst, ◌∙◌, arith}
 use Rattle.wire_base.specs.Tally.{CountedFault, tally_faults}
 use Rattle.ddcap.proofs.Listing.{opened, listed_on, whole, faulty, faulty_head, cut}
 use Rattle.ddcap.proofs.show.list_records.Goals as goal
@@ -40,9 +40,10 @@ returns-in-Err-write_page-2 g c =
 pub loop-number-preserved : goal.loop-number-preserved
 loop-number-preserved g c =
     let h = c.loop-number.invariant.0 in
-    let gives = rw c.in-Ok-Some.field-0-is at c.in-Ok-Some.ensures.gives h.reading in
-    (listed_on _ _ _ c.loop-number.capture c.next.new.self c.loop-number.number _ _ _ c.loop-number.page c.make_room.new.page c.put_line.new.page c.in-Ok-Some.record h gives c.in-Ok-make_room.ensures.ok c.put_line.ensures,
-    c.in-Ok-Some.ensures.faults ∙ c.loop-number.invariant.1)
+    let gives = rw c.in-Ok-Some.field-0-is at c.in-Ok-Some.ensures.gives h.reading in (
+      listed_on _ _ _ c.loop-number.capture c.next.new.self c.loop-number.number _ _ _ c.loop-number.page c.make_room.new.page c.put_line.new.page c.in-Ok-Some.record h gives c.in-Ok-make_room.ensures.ok c.put_line.ensures,
+      c.in-Ok-Some.ensures.faults ∙ c.loop-number.invariant.1,
+    )
 
 pub unreachable-requires : goal.unreachable-requires
 unreachable-requires g c =
