@@ -1,32 +1,38 @@
 -- What `show` prints of a record, byte by byte.
-use Rattle.std.specs.Prelude.{ℕ, ◌+◌, true, false, List, [], ◌∷◌, ◌++◌, length, codes}
+use Rattle.std.specs.Prelude.{ℕ, ◌+◌, Bool, true, false, List, [], ◌∷◌, ◌++◌, length, codes}
 use Rattle.std.specs.Fmt.{decimal}
-use Rattle.hex.specs.Hex.{encode_lower}
 use Rattle.capture.specs.Text.{event_text, spaced}
 use Rattle.capture.specs.declared.record.Record.{Record}
 use Rattle.capture.specs.declared.record.Record.TheVariants.{Sent, Received, User}
 use Rattle.ddcmp_msg.specs.declared.flags.Flags.{Flags}
-use Rattle.ddcmp_msg.specs.Message.{MessageValue, Data, Ack, Nak, Rep, Strt, Stack, flags_byte, reason_number}
+use Rattle.ddcmp_msg.specs.Message.{MessageValue, Data, Ack, Nak, Rep, Strt, Stack, reason_number}
 use Rattle.ddcmp_msg.specs.Reading.{ReadingValue, Sound, HeaderBad, DataBad, Malformed, departure_number, reading}
 
--- two hexadecimal digits: QSYNC is 40 and SELECT is 80
-abbrev pub flags_digits : Flags → List ℕ
-flags_digits flags = encode_lower (flags_byte flags ∷ [])
+-- the byte of the flags in two hexadecimal digits: QSYNC is 40, and SELECT is 80
+abbrev pub flags_digits : (quick_sync select : Bool) → List ℕ
+flags_digits false false = codes "00"
+flags_digits true false = codes "40"
+flags_digits false true = codes "80"
+flags_digits true true = codes "c0"
+
+-- the flags of a message
+abbrev pub flags_text : Flags → List ℕ
+flags_text flags = flags_digits flags.quick_sync flags.select
 
 -- the words of a data message, but for its body
 abbrev pub data_words : Flags → (resp num count : ℕ) → List ℕ
 data_words flags resp num count =
-    codes "data flags " ++ (flags_digits flags ++ (codes " resp " ++ (decimal resp ++ (codes " num " ++ (decimal num ++ (codes " count " ++ decimal count))))))
+    codes "data flags " ++ (flags_text flags ++ (codes " resp " ++ (decimal resp ++ (codes " num " ++ (decimal num ++ (codes " count " ++ decimal count))))))
 
 -- the words of each message
 abbrev pub message_words : MessageValue → List ℕ
 message_words (Data flags resp num body) = data_words flags resp num (length body)
-message_words (Ack flags resp) = codes "ack flags " ++ (flags_digits flags ++ (codes " resp " ++ decimal resp))
+message_words (Ack flags resp) = codes "ack flags " ++ (flags_text flags ++ (codes " resp " ++ decimal resp))
 message_words (Nak flags reason resp) =
-    codes "nak flags " ++ (flags_digits flags ++ (codes " reason " ++ (decimal (reason_number reason) ++ (codes " resp " ++ decimal resp))))
-message_words (Rep flags num) = codes "rep flags " ++ (flags_digits flags ++ (codes " num " ++ decimal num))
-message_words (Strt flags) = codes "strt flags " ++ flags_digits flags
-message_words (Stack flags) = codes "stack flags " ++ flags_digits flags
+    codes "nak flags " ++ (flags_text flags ++ (codes " reason " ++ (decimal (reason_number reason) ++ (codes " resp " ++ decimal resp))))
+message_words (Rep flags num) = codes "rep flags " ++ (flags_text flags ++ (codes " num " ++ decimal num))
+message_words (Strt flags) = codes "strt flags " ++ flags_text flags
+message_words (Stack flags) = codes "stack flags " ++ flags_text flags
 
 -- the words of what a unit says
 abbrev pub reading_words : ReadingValue → List ℕ

@@ -1,6 +1,6 @@
 //! The line that `show` prints of one record.
 
-ghost use Rattle.std.specs.Prelude.{◌≡◌, ◌+◌, ◌*◌, ◌≤◌, ◌++◌, length, codes};
+ghost use Rattle.std.specs.Prelude.{◌≡◌, ◌+◌, ◌*◌, ◌≤◌, ◌∷◌, ◌++◌, length, codes};
 ghost use Rattle.std.specs.Fmt.{decimal};
 ghost use Rattle.capture.specs.Range.{IsEvent, IsRecord};
 ghost use Rattle.capture.specs.Text.{bytes_text, event_text, spaced};
@@ -25,21 +25,20 @@ pub fn put_line(page: &mut Page, number: u64, record: &Record)
     ensures { page.new ≡ page.old ++ shown_line number «record».now }
 {
     page.put_number(number);
-    page.put(b" ");
     put_record(page, record);
     page.put(b"\n");
 }
 
-// What a record says.
+// A space, and what a record says.
 fn put_record(page: &mut Page, record: &Record)
     requires record { IsRecord «record».now }
     requires room { length page.old + 131_800 ≤ SIZE }
-    ensures bytes { page.new ≡ page.old ++ record_words «record».now }
+    ensures bytes { page.new ≡ page.old ++ 32 ∷ record_words «record».now }
     ensures len { length page.new ≤ length page.old + 131_800 }
 {
     match record {
         Record::Sent(bytes) => {
-            page.put(b"sent ");
+            page.put(b" sent ");
             put_unit(page, bytes.as_slice());
         }
         Record::Received {
@@ -47,7 +46,7 @@ fn put_record(page: &mut Page, record: &Record)
             kept: false,
             bytes,
         } => {
-            page.put(b"received ");
+            page.put(b" received ");
             put_receipt(page, *hint, bytes.as_slice());
         }
         Record::Received {
@@ -55,11 +54,11 @@ fn put_record(page: &mut Page, record: &Record)
             kept: true,
             bytes,
         } => {
-            page.put(b"kept ");
+            page.put(b" kept ");
             put_receipt(page, *hint, bytes.as_slice());
         }
         Record::User(event) => {
-            page.put(b"user ");
+            page.put(b" user ");
             put_event(page, event);
         }
     }
@@ -114,7 +113,7 @@ fn put_message(page: &mut Page, message: Message<'_>)
             body,
         } => put_data(page, flags, resp, num, body.len()),
         Message::Ack { flags, resp } => {
-            put_flags(page, b"ack", flags);
+            put_flags(page, b"ack flags ", flags);
             put_field(page, b" resp ", u64::from(resp));
         }
         Message::Nak {
@@ -122,16 +121,16 @@ fn put_message(page: &mut Page, message: Message<'_>)
             reason,
             resp,
         } => {
-            put_flags(page, b"nak", flags);
+            put_flags(page, b"nak flags ", flags);
             put_field(page, b" reason ", u64::from(reason.number()));
             put_field(page, b" resp ", u64::from(resp));
         }
         Message::Rep { flags, num } => {
-            put_flags(page, b"rep", flags);
+            put_flags(page, b"rep flags ", flags);
             put_field(page, b" num ", u64::from(num));
         }
-        Message::Strt { flags } => put_flags(page, b"strt", flags),
-        Message::Stack { flags } => put_flags(page, b"stack", flags),
+        Message::Strt { flags } => put_flags(page, b"strt flags ", flags),
+        Message::Stack { flags } => put_flags(page, b"stack flags ", flags),
     }
 }
 
@@ -141,7 +140,7 @@ fn put_data(page: &mut Page, flags: Flags, resp: u8, num: u8, count: usize)
     ensures bytes { page.new ≡ page.old ++ data_words flags resp num count }
     ensures len { length page.new ≤ length page.old + 250 }
 {
-    put_flags(page, b"data", flags);
+    put_flags(page, b"data flags ", flags);
     put_field(page, b" resp ", u64::from(resp));
     put_num_and_count(page, num, count);
 }
@@ -157,13 +156,17 @@ fn put_num_and_count(page: &mut Page, num: u8, count: usize)
 
 // The name of a message, and its flags.
 fn put_flags(page: &mut Page, name: &[u8], flags: Flags)
-    requires room { length page.old + length name.now + 9 ≤ SIZE }
-    ensures bytes { page.new ≡ page.old ++ (name.now ++ (codes " flags " ++ flags_digits flags)) }
-    ensures len { length page.new ≡ length page.old + length name.now + 9 }
+    requires room { length page.old + length name.now + 2 ≤ SIZE }
+    ensures bytes { page.new ≡ page.old ++ (name.now ++ flags_digits flags.quick_sync flags.select) }
+    ensures len { length page.new ≡ length page.old + length name.now + 2 }
 {
     page.put(name);
-    page.put(b" flags ");
-    page.put_digits(&[flags.byte()]);
+    match (flags.quick_sync, flags.select) {
+        (false, false) => page.put(b"00"),
+        (true, false) => page.put(b"40"),
+        (false, true) => page.put(b"80"),
+        (true, true) => page.put(b"c0"),
+    }
 }
 
 // A field behind its name.
