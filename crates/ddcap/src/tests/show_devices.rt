@@ -26,7 +26,7 @@ fn a_failed_read_stands_behind_the_lines_before_it(rt: HostRuntime) -> Result<()
     assert!(rt; text.len() < calls && calls < MANY, "the calls");
     for call in 0..calls {
         // Of one byte a call, this many were read.
-        let out = if call < text.len() - "u halt\n".len() {
+        let out = if call.saturating_add("u halt\n".len()) < text.len() {
             ""
         } else if call < text.len() {
             "0 user start\n"
