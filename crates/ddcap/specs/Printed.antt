@@ -1,4 +1,5 @@
--- What `check` prints of an answer of the judge, byte by byte, and with which status it ends.
+-- What `check` prints of an answer of the judge, byte by byte, and with which status it ends; and what is printed where nothing
+-- can be checked or shown.
 use Rattle.std.specs.Prelude.{◌≡◌, ℕ, ◌+◌, ◌⊎◌, List, ◌++◌, Option, Result, Ok, Err, codes}
 use Rattle.std.specs.Fmt.{decimal}
 use Rattle.std.specs.Io.KnownBytes.{Appends}
@@ -16,6 +17,8 @@ use Rattle.pair_judge.specs.declared.fault.JudgeFault.{JudgeFault}
 use Rattle.pair_judge.specs.declared.fault.JudgeFault.TheVariants.{Capture, OutOfMemory}
 use Rattle.pair_judge.specs.declared.fault.TextFault.{TextFault}
 use Rattle.pair_judge.specs.declared.fault.TextFault.TheVariants.{Syntax, TooLong, TooMany, Read}
+use Rattle.ddcap.specs.declared.words.WordsFault.{WordsFault}
+use Rattle.ddcap.specs.declared.words.WordsFault.TheVariants as words
 
 -- `a records 5 sent 3 received 1 damaged 0 kept 0 periods 1 links 0 up 0`
 abbrev pub side_line : Side → SideSummary → List ℕ
@@ -59,6 +62,20 @@ text_fault_status Read = 3
 abbrev pub fault_status : JudgeFault → ℕ
 fault_status (Capture side fault) = text_fault_status fault
 fault_status OutOfMemory = 3
+
+-- where the words are no task
+abbrev pub words_fault_text : WordsFault → List ℕ
+words_fault_text words.BadWords = codes "bad words\n"
+words_fault_text words.OutOfMemory = codes "out of memory\n"
+
+abbrev pub words_fault_status : WordsFault → ℕ
+words_fault_status words.BadWords = 2
+words_fault_status words.OutOfMemory = 3
+
+-- where a side's file can't be opened
+abbrev pub not_opened_text : Side → List ℕ
+not_opened_text A = codes "a: cannot open\n"
+not_opened_text B = codes "b: cannot open\n"
 
 -- what a stream shows: its bytes, where they are known, and how many of its calls failed
 pub record Stream : Type 0 where

@@ -1,5 +1,9 @@
 //! The program between its words and its status.
 
+ghost use Rattle.std.specs.Prelude.{◌⊎◌};
+ghost use Rattle.pair_judge.specs.declared.fault.JudgeFault.TheVariants.{OutOfMemory};
+ghost use Rattle.ddcap.specs.Printed.{Writes, fault_text, not_opened_text, stream_of, words_fault_status, words_fault_text};
+
 use crate::check::{check_to, print, print_out_of_memory};
 use crate::show::show_to;
 use crate::text::FAILED;
@@ -45,7 +49,10 @@ fn words_given<R: Env + AllocGlobal>(rt: &R) -> Result<Vec<String>, WordsFault> 
 }
 
 /// Prints `bad words`, or `out of memory`, and answers the status.
-fn print_words_fault<W: Write>(err: &mut Tally<W>, fault: WordsFault) -> u8 {
+fn print_words_fault<W: Write>(err: &mut Tally<W>, fault: WordsFault) -> u8
+    ensures { Writes (stream_of W.contents err.old) (stream_of W.contents err.new)
+        (words_fault_text fault) (words_fault_status fault) result }
+{
     match fault {
         WordsFault::BadWords => print(err, b"bad words\n", BAD_WORDS),
         WordsFault::OutOfMemory => print_out_of_memory(err),
@@ -88,8 +95,11 @@ fn show_file<R: Files + AllocGlobal, O: Write, E: Write>(
     show_to(rt.alloc(), &mut a, out, err)
 }
 
-/// Prints that a side's file can't be opened, and answers the status.
-fn print_not_opened<W: Write>(err: &mut Tally<W>, side: Side, error: &io::Error) -> u8 {
+/// Prints that a side's file can't be opened, or that memory was wanting for it, and answers the status.
+fn print_not_opened<W: Write>(err: &mut Tally<W>, side: Side, error: &io::Error) -> u8
+    ensures { Writes (stream_of W.contents err.old) (stream_of W.contents err.new) (not_opened_text side) 3 result
+        ⊎ Writes (stream_of W.contents err.old) (stream_of W.contents err.new) (fault_text OutOfMemory) 3 result }
+{
     if error.kind() == ErrorKind::OutOfMemory {
         return print_out_of_memory(err);
     }
