@@ -8,3 +8,4 @@ pub mod Before
 pub mod Breaking
 pub mod Ends
 pub mod Lasting
+pub mod Simulated
