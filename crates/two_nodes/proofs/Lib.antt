@@ -9,3 +9,4 @@ pub mod Breaking
 pub mod Ends
 pub mod Lasting
 pub mod Simulated
+pub mod Counts

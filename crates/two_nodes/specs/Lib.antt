@@ -6,3 +6,4 @@ pub mod Kept
 pub mod Cutting
 pub mod Idle
 pub mod Example
+pub mod Keeping
