@@ -1,2 +1,4 @@
+mod RowUnits
 mod Rows
+mod TransferRows
 pub mod Tells

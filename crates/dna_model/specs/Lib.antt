@@ -1,5 +1,10 @@
 -- What a reader must believe of the protocols, lowest first
+pub mod Causes
 pub mod Station
+pub mod Periods
+pub mod Sending
+pub mod Truth
+pub mod Arriving
 pub mod Line
 pub mod Node
 pub mod Pair

@@ -1,0 +1,62 @@
+-- Worked rows of data transfer, computed from the definitions like those of startup.
+use Rattle.std.proofs.Common.{true, false, List, [], ◌∷◌, ◌++◌, refl}
+use Rattle.two_nodes.specs.Nodes.{Done, OfA, OfB, Refused}
+use Rattle.wire_base.specs.BlockCheck.{is_good, check_of, after_byte, shift}
+use Rattle.ddcmp_msg.specs.Reading.{reading}
+use Rattle.capture.specs.declared.record.Record.{Record}
+use Rattle.capture.specs.declared.record.Record.TheVariants.{Sent, Received, User}
+use Rattle.capture.specs.declared.event.Event.TheVariants.{Start, Halt}
+use Rattle.dna_model.specs.declared.refusal.StationRefusal.TheVariants.{WrongState, WrongNumber, WrongResponse, WindowFull, Changed, NoCause, WrongKeep, WrongUserEvent}
+use Rattle.dna_model.specs.declared.refusal.StepRefusal.TheVariants.{Station as OfStation}
+use Rattle.dna_model.specs.Pair.{IsRun}
+use Rattle.dna_model.proofs.RowUnits.{STRT, STACK, ACK0, ACK1, D1, D2, damaged_D1, other_D1, NAK_DATA0, NAK_DATA1, REP0, REP1, EndsAt, EndsAtA}
+
+-- a starts, b answers; nothing of a is sent yet
+abbrev started_a : List Record
+started_a = User Start ∷ Sent STRT ∷ Received 0 false STACK ∷ Sent ACK0 ∷ []
+
+abbrev started_b : List Record
+started_b = User Start ∷ Received 0 false STRT ∷ Sent STACK ∷ []
+
+-- one packet is kept
+one_packet_kept : IsRun (started_a ++ Sent D1 ∷ []) (started_b ++ Received 1 false ACK0 ∷ Received 2 true D1 ∷ [])
+unfolding reading is_good check_of after_byte shift
+one_packet_kept = (_, OfA refl (OfA refl (OfB refl (OfB refl (OfB refl (OfA refl (OfA refl (OfB refl (OfA refl (OfB refl Done))))))))))
+
+-- the second packet comes first: it ends b's startup and is not taken
+abbrev second_first_a : List Record
+second_first_a = started_a ++ Sent D1 ∷ Sent D2 ∷ []
+
+second_packet_first : IsRun second_first_a (started_b ++ Received 3 false D2 ∷ [])
+unfolding reading is_good check_of after_byte shift
+second_packet_first = (_, OfA refl (OfA refl (OfB refl (OfB refl (OfB refl (OfA refl (OfA refl (OfA refl (OfA refl (OfB refl Done))))))))))
+
+second_packet_kept : EndsAt second_first_a started_b (Received 3 true D2) (Refused (OfStation WrongKeep))
+unfolding reading is_good check_of after_byte shift
+second_packet_kept = record { world = _; run = OfA refl (OfA refl (OfB refl (OfB refl (OfB refl (OfA refl (OfA refl (OfA refl (OfA refl Done)))))))); becomes = refl }
+
+-- the packet comes damaged, is asked for by a NAK and repeated
+abbrev repeated_a : List Record
+repeated_a = started_a ++ Sent D1 ∷ Received 1 false NAK_DATA0 ∷ Sent D1 ∷ []
+
+abbrev repeated_b : List Record
+repeated_b = started_b ++ Received 1 false ACK0 ∷ Received 2 false damaged_D1 ∷ Sent NAK_DATA0 ∷ Received 3 true D1 ∷ []
+
+damaged_and_repeated : IsRun repeated_a repeated_b
+unfolding reading is_good check_of after_byte shift
+damaged_and_repeated = (_, OfA refl (OfA refl (OfB refl (OfB refl (OfB refl (OfA refl (OfA refl (OfB refl (OfA refl (OfB refl (OfB refl (OfA refl (OfA refl (OfB refl Done))))))))))))))
+
+-- the cause of the NAK is used up
+second_nak : EndsAt repeated_a repeated_b (Sent NAK_DATA1) (Refused (OfStation NoCause))
+unfolding reading is_good check_of after_byte shift
+second_nak = record { world = _; run = OfA refl (OfA refl (OfB refl (OfB refl (OfB refl (OfA refl (OfA refl (OfB refl (OfA refl (OfB refl (OfB refl (OfA refl (OfA refl (OfB refl Done))))))))))))); becomes = refl }
+
+-- the packet is repeated with other data
+changed_packet : EndsAtA (started_a ++ Sent D1 ∷ Received 1 false NAK_DATA0 ∷ []) (started_b ++ Received 1 false ACK0 ∷ Received 2 false damaged_D1 ∷ Sent NAK_DATA0 ∷ []) (Sent other_D1) (Refused (OfStation Changed))
+unfolding reading is_good check_of after_byte shift
+changed_packet = record { world = _; run = OfA refl (OfA refl (OfB refl (OfB refl (OfB refl (OfA refl (OfA refl (OfB refl (OfA refl (OfB refl (OfB refl (OfA refl Done))))))))))); becomes = refl }
+
+-- a start in RUNNING
+starts_while_running : EndsAtA started_a started_b (User Start) (Refused (OfStation WrongUserEvent))
+unfolding reading is_good check_of after_byte shift
+starts_while_running = record { world = _; run = OfA refl (OfA refl (OfB refl (OfB refl (OfB refl (OfA refl (OfA refl Done)))))); becomes = refl }
