@@ -1,4 +1,5 @@
 mod RowUnits
 mod Rows
 mod TransferRows
+mod StationRows
 pub mod Tells

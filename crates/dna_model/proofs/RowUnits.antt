@@ -48,6 +48,24 @@ REP0 = 0x05 ∷ 3 ∷ 0 ∷ 0 ∷ 0 ∷ 1 ∷ 0x85 ∷ 0x95 ∷ []
 abbrev pub REP1 : List ℕ
 REP1 = 0x05 ∷ 3 ∷ 0 ∷ 0 ∷ 1 ∷ 1 ∷ 0x84 ∷ 0x05 ∷ []
 
+-- D1 with RESP 1
+abbrev pub D1_RESP1 : List ℕ
+D1_RESP1 = 0x81 ∷ 1 ∷ 0 ∷ 1 ∷ 1 ∷ 1 ∷ 0xb2 ∷ 0x41 ∷ 0x05 ∷ 0xc0 ∷ 0x03 ∷ []
+
+-- a NAK in answer to a REP: RESP 0 and RESP 1
+abbrev pub NAK_REP0 : List ℕ
+NAK_REP0 = 0x05 ∷ 2 ∷ 3 ∷ 0 ∷ 0 ∷ 1 ∷ 0xb8 ∷ 0x11 ∷ []
+
+abbrev pub NAK_REP1 : List ℕ
+NAK_REP1 = 0x05 ∷ 2 ∷ 3 ∷ 1 ∷ 0 ∷ 1 ∷ 0xe9 ∷ 0xd1 ∷ []
+
+-- a NAK for want of a buffer, and for an overrun with RESP 1
+abbrev pub NAK_BUFFER0 : List ℕ
+NAK_BUFFER0 = 0x05 ∷ 2 ∷ 8 ∷ 0 ∷ 0 ∷ 1 ∷ 0xba ∷ 0x35 ∷ []
+
+abbrev pub NAK_OVERRUN1 : List ℕ
+NAK_OVERRUN1 = 0x05 ∷ 2 ∷ 9 ∷ 1 ∷ 0 ∷ 1 ∷ 0xea ∷ 0x09 ∷ []
+
 -- no flag is set
 abbrev pub plain : Flags
 plain = record { quick_sync = false; select = false }

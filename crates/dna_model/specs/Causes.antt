@@ -1,7 +1,7 @@
 -- What a station may answer with a NAK: the open causes of each reason (DDCMP 4.1, NAK message).
 use Rattle.std.specs.Prelude.{ℕ, ◌+◌, ◌-◌, Bool, true, nat_lt}
 use Rattle.ddcmp_msg.specs.declared.nak_reason.NakReason.{NakReason}
-use Rattle.ddcmp_msg.specs.declared.nak_reason.NakReason.TheVariants.{HeaderCheck, DataCheck, RepResponse, NoBuffer, Overrun, MessageTooLong, HeaderFormat}
+use Rattle.ddcmp_msg.specs.declared.nak_reason.NakReason.TheVariants.{HeaderCheck, DataCheck, RepResponse, NoBuffer}
 
 pub record Causes : Type 0 where
   -- units that came with a bad header, with bad data

@@ -23,11 +23,11 @@ pub record Station : Type 0 where
   pub period : ℕ
   -- the other side's period that the present one goes with, once it is known
   pub partner : Option ℕ
-  -- the last number received in order
+  -- R: the last number received in order
   pub received : ℕ
-  -- the highest number acknowledged by the other side
+  -- A: the highest number acknowledged by the other side
   pub acknowledged : ℕ
-  -- the number of the next data message to send
+  -- T: the number of the next data message to send
   pub next_to_send : ℕ
   -- all packets given in the period, the first of which has number 1
   pub packets : List (List ℕ)
@@ -37,7 +37,7 @@ pub record Station : Type 0 where
   pub taken : List (List ℕ)
   pub earlier : List PastPeriod
 
--- the highest number given
+-- N: the highest number given
 abbrev pub given : Station → ℕ
 given s = length s.packets
 

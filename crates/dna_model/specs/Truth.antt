@@ -1,6 +1,6 @@
 -- What is true of a unit when it is sent, and what its bytes do not tell.
 use Rattle.std.specs.Prelude.{ℕ, ◌+◌, ◌-◌, length}
-use Rattle.ddcmp_msg.specs.Message.{MessageValue, Data, Ack, Nak, Rep, Strt, Stack}
+use Rattle.ddcmp_msg.specs.Message.{MessageValue, Data, Ack, Nak, Rep}
 use Rattle.dna_model.specs.declared.tag.Tag.{Tag}
 use Rattle.dna_model.specs.Station.{Station, given, packets_of}
 use Rattle.dna_model.specs.Sending.{after_sending}
