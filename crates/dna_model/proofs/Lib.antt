@@ -3,3 +3,5 @@ mod Rows
 mod TransferRows
 mod StationRows
 pub mod Tells
+mod Modulo
+mod CutSending

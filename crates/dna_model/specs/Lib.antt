@@ -5,6 +5,8 @@ pub mod Periods
 pub mod Sending
 pub mod Truth
 pub mod Arriving
+pub mod WireStation
+pub mod Cut
 pub mod Line
 pub mod Node
 pub mod Pair
