@@ -1,16 +1,16 @@
 -- Cutting a station to what a node keeps commutes with what it may send and with what sending changes.
-use Rattle.std.proofs.Common.{◌≡◌, ℕ, zero, suc, ◌+◌, ◌-◌, ◌<◌, ◌≤◌, Bool, true, false, not, eqb, ltb, cond, Option, Some, None, List, [], ◌∷◌, ◌++◌, map, length, drop, refl, sym, ap, ap₂, ◌∙◌, arith, length-append, length-drop, zero-add, option_map}
-use Rattle.std.specs.Prelude.{slice_get, bytes_eq}
+use Rattle.std.proofs.Common.{◌≡◌, ℕ, zero, suc, ◌+◌, ◌-◌, ◌≤◌, Bool, true, false, not, eqb, ltb, Option, Some, None, List, [], ◌∷◌, ◌++◌, map, length, drop, refl, sym, ap, ap₂, ◌∙◌, arith, length-drop, zero-add, option_map}
+use Rattle.std.specs.Prelude.{slice_get}
 use Rattle.std.proofs.lemmas.List.{length-map, map-append, drop-append-le}
 use Rattle.std.proofs.lemmas.Option.{slice_get-map}
 use Rattle.ddcmp_msg.specs.Message.{MessageValue, Data, Ack, Nak, Rep, Strt, Stack}
 use Rattle.dna_model.specs.declared.state.State.{State}
-use Rattle.dna_model.specs.declared.state.State.TheVariants.{Halted, Istrt, Astrt, Running}
+use Rattle.dna_model.specs.declared.state.State.TheVariants.{Running}
 use Rattle.dna_model.specs.declared.refusal.StationRefusal.{StationRefusal}
 use Rattle.dna_model.specs.declared.refusal.StationRefusal.TheVariants.{WrongState, WrongNumber, WrongResponse, WindowFull, Changed}
 use Rattle.dna_model.specs.Station.{Station, given, wire}
 use Rattle.dna_model.specs.Sending.{WINDOW, check, is_new, is_packet, data_refusal, sending_refusal, sending_refusal_in, after_sending, with_packet}
-use Rattle.dna_model.specs.WireStation.{HeldPacket, Kept, WireStation, wire_is_new, is_held_packet, wire_data_refusal, wire_refusal_in, wire_sending_refusal, wire_after_sending, with_new}
+use Rattle.dna_model.specs.WireStation.{HeldPacket, wire_is_new, is_held_packet, wire_data_refusal, wire_refusal_in, wire_sending_refusal, wire_after_sending, with_new}
 use Rattle.dna_model.specs.Cut.{IsOrdered, AreLabelled, cut, all_after}
 use Rattle.dna_model.proofs.Modulo.{wire-add, wire-next, same_test}
 
@@ -31,6 +31,20 @@ module _ {L : Type 0} where
 
   pub all_length : (all : List (HeldPacket L)) (s : Station) → AreLabelled all s → length all ≡ given s
   all_length all s labelled = sym (length-map all body_at) ∙ ap length labelled
+
+  module _ (all : List (HeldPacket L)) (s : Station) (labelled : AreLabelled all s) where
+    new_labelled : (new : Bool) (body : List ℕ) → map body_at (with_new new all body) ≡ with_packet new s.packets body
+    new_labelled true body = map-append body_at all (record { body = body; label = None } ∷ []) ∙ ap (λ (ps : List (List ℕ)). ps ++ body ∷ []) labelled
+    new_labelled false body = labelled
+
+    -- the packets with their labels are those of the station after the sending
+    pub sending_labelled : (m : MessageValue) → AreLabelled (all_after all s m) (after_sending s m)
+    sending_labelled (Data flags resp num body) = new_labelled (is_new s) body
+    sending_labelled (Ack flags resp) = labelled
+    sending_labelled (Nak flags reason resp) = labelled
+    sending_labelled (Rep flags num) = labelled
+    sending_labelled (Strt flags) = labelled
+    sending_labelled (Stack flags) = labelled
 
   module _ (all : List (HeldPacket L)) (s : Station) (labelled : AreLabelled all s) (ordered : IsOrdered s) where
     -- as many are held as are outstanding
@@ -85,19 +99,6 @@ module _ {L : Type 0} where
         let l = ordered.above in let m = ordered.below in let e = all_length all s labelled in
         drop-append-le s.acknowledged all (record { body = body; label = None } ∷ []) (omega arith)
     new_held false body = refl
-
-    new_labelled : (new : Bool) (body : List ℕ) → map body_at (with_new new all body) ≡ with_packet new s.packets body
-    new_labelled true body = map-append body_at all (record { body = body; label = None } ∷ []) ∙ ap (λ (ps : List (List ℕ)). ps ++ body ∷ []) labelled
-    new_labelled false body = labelled
-
-    -- the packets with their labels are those of the station after the sending
-    pub sending_labelled : (m : MessageValue) → AreLabelled (all_after all s m) (after_sending s m)
-    sending_labelled (Data flags resp num body) = new_labelled (is_new s) body
-    sending_labelled (Ack flags resp) = labelled
-    sending_labelled (Nak flags reason resp) = labelled
-    sending_labelled (Rep flags num) = labelled
-    sending_labelled (Strt flags) = labelled
-    sending_labelled (Stack flags) = labelled
 
     -- and what is sent changes what is kept in the same way
     pub sending_same : (m : MessageValue) → cut (all_after all s m) (after_sending s m) ≡ wire_after_sending (cut all s) m

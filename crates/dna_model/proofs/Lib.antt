@@ -5,3 +5,6 @@ mod StationRows
 pub mod Tells
 mod Modulo
 mod CutSending
+mod CutArriving
+mod CutLabel
+mod Ordered

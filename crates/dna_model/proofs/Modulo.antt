@@ -1,5 +1,5 @@
 -- Numbers and their wire values, where they are near each other.
-use Rattle.std.proofs.Common.{◌≡◌, ℕ, ◌+◌, ◌-◌, ◌<◌, ◌≤◌, true, false, eqb, cond, refl, sym, arith, eqb-true, eq-eqb, ne_eqb, ◌⊎◌, inl, inr}
+use Rattle.std.proofs.Common.{◌≡◌, ℕ, ◌+◌, ◌-◌, ◌<◌, ◌≤◌, eqb, arith, eq-eqb, ne_eqb, ◌⊎◌, inl, inr}
 use Rattle.std.proofs.lemmas.Bool.{cases_eq}
 use Rattle.wire_base.specs.Seq.{wire_distance}
 use Rattle.dna_model.specs.Station.{wire}

@@ -1,8 +1,10 @@
 -- A station on true numbers, cut to what a node keeps.
-use Rattle.std.specs.Prelude.{◌≡◌, ℕ, ◌+◌, ◌-◌, ◌<◌, ◌≤◌, Bool, true, false, ◌==◌, List, map, length, drop}
+use Rattle.std.specs.Prelude.{◌≡◌, ℕ, ◌+◌, ◌-◌, ◌<◌, ◌≤◌, Bool, true, false, ◌==◌, List, [], map, drop}
 use Rattle.ddcmp_msg.specs.Message.{MessageValue, Data, Ack, Nak, Rep}
 use Rattle.dna_model.specs.declared.state.State.{State}
 use Rattle.dna_model.specs.declared.state.State.TheVariants.{Astrt, Running}
+use Rattle.dna_model.specs.declared.state.StationEvent.{StationEvent}
+use Rattle.dna_model.specs.declared.state.StationEvent.TheVariants.{Start, Halt}
 use Rattle.dna_model.specs.Station.{Station, given, wire}
 use Rattle.dna_model.specs.Sending.{WINDOW, is_new}
 use Rattle.dna_model.specs.Truth.{Truth}
@@ -38,6 +40,11 @@ module _ {L : Type 0} where
   abbrev pub all_after : List (HeldPacket L) → Station → MessageValue → List (HeldPacket L)
   all_after all s (Data flags resp num body) = with_new (is_new s) all body
   all_after all s m = all
+
+  -- all packets with their labels after the user does this: a start drops them
+  abbrev pub all_after_event : List (HeldPacket L) → StationEvent → List (HeldPacket L)
+  all_after_event all Start = []
+  all_after_event all Halt = all
 
 -- ---- the bounds
 

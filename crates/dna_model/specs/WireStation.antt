@@ -114,13 +114,16 @@ module _ {L : Type 0} where
   label_again w (Data flags resp num body) = option_and_then (λ (packet : HeldPacket L). packet.label) (slice_get w.kept.held w.kept.ahead)
   label_again w m = None
 
-  -- this label is put beside the newest number
+  -- This label is put beside the newest number: beside this packet, if there is one
   abbrev pub labelled : List (HeldPacket L) → Option (HeldPacket L) → L → List (HeldPacket L)
   labelled held None label = held
   labelled held (Some newest) label = slice_set held (length held - 1) (record newest { label = Some label })
 
+  abbrev pub with_label : List (HeldPacket L) → L → List (HeldPacket L)
+  with_label held label = labelled held (slice_get held (length held - 1)) label
+
   abbrev pub wire_after_label : WireStation L → L → WireStation L
-  wire_after_label w label = record w { kept = record w.kept { held = labelled w.kept.held (slice_get w.kept.held (length w.kept.held - 1)) label } }
+  wire_after_label w label = record w { kept = record w.kept { held = with_label w.kept.held label } }
 
   -- ---- what refuses an arrival
 

@@ -4,11 +4,13 @@
 #![tactic(auto)]
 
 mod finding;
+pub mod laws;
 mod refusal;
 mod state;
 mod tag;
 
 pub use finding::{Cause, Finding};
+pub use laws::{cut_arrival, cut_event, cut_label, cut_sending, numbers_in_order};
 pub use refusal::{StationRefusal, StepRefusal};
 pub use state::{State, StationEvent};
 pub use tag::Tag;

@@ -1,0 +1,69 @@
+//! What holds of the definitions in `specs/`, whatever the code does, for the proofs of callers to cite. `L` is the type of the
+//! labels that a node puts beside packets.
+
+ghost use Rattle.std.specs.Prelude.{◌≡◌, ◌<◌, Bool, false, None, List};
+ghost use Rattle.ddcmp_msg.specs.Message.{MessageValue};
+ghost use Rattle.dna_model.specs.declared.state.StationEvent.{StationEvent};
+ghost use Rattle.dna_model.specs.Station.{Station, new_station, given, after_event};
+ghost use Rattle.dna_model.specs.Periods.{PeriodRule};
+ghost use Rattle.dna_model.specs.Sending.{sending_refusal, after_sending};
+ghost use Rattle.dna_model.specs.Truth.{Truth};
+ghost use Rattle.dna_model.specs.Arriving.{ArrivalValue, standing, arrival_refusal, after_arrival};
+ghost use Rattle.dna_model.specs.Arriving as arriving;
+ghost use Rattle.dna_model.specs.WireStation.{HeldPacket, with_label, wire_after_event, wire_after_label, wire_sending_refusal, wire_after_sending, wire_arrival_refusal, wire_after_arrival};
+ghost use Rattle.dna_model.specs.Cut.{IsOrdered, AreLabelled, IsWithin, cut, all_after, all_after_event};
+
+/// A station's own numbers are in order before any record, and stay so.
+pub fn numbers_in_order()
+    ensures start { IsOrdered new_station }
+    ensures event { (s : Station) (event : StationEvent) → IsOrdered s → IsOrdered (after_event s event) }
+    ensures sending { (s : Station) (m : MessageValue)
+        → IsOrdered s → sending_refusal s m ≡ None → IsOrdered (after_sending s m) }
+    ensures arrival { (s : Station) (arrival : ArrivalValue Truth) (kept : Bool)
+        → IsOrdered s → IsOrdered (after_arrival s arrival kept) }
+{}
+
+/// What the user does changes what is kept as it changes the station.
+pub fn cut_event<L>()
+    ensures step { (all : List (HeldPacket L)) (s : Station) (event : StationEvent)
+        → cut (all_after_event all event) (after_event s event) ≡ wire_after_event (cut all s) event }
+    ensures labelled { (all : List (HeldPacket L)) (s : Station) (event : StationEvent)
+        → AreLabelled all s → AreLabelled (all_after_event all event) (after_event s event) }
+{}
+
+/// From what is kept the same messages are refused for the same reasons, and sending changes it as it changes the station.
+pub fn cut_sending<L>()
+    ensures refusal { (all : List (HeldPacket L)) (s : Station) (m : MessageValue)
+        → AreLabelled all s → IsOrdered s → sending_refusal s m ≡ wire_sending_refusal (cut all s) m }
+    ensures step { (all : List (HeldPacket L)) (s : Station) (m : MessageValue)
+        → AreLabelled all s → IsOrdered s
+        → cut (all_after all s m) (after_sending s m) ≡ wire_after_sending (cut all s) m }
+    ensures labelled { (all : List (HeldPacket L)) (s : Station) (m : MessageValue)
+        → AreLabelled all s → AreLabelled (all_after all s m) (after_sending s m) }
+{}
+
+/// A label beside the newest packet, while a number is outstanding.
+pub fn cut_label<L>()
+    ensures step { (all : List (HeldPacket L)) (s : Station) (label : L)
+        → AreLabelled all s → s.acknowledged < given s
+        → cut (with_label all label) s ≡ wire_after_label (cut all s) label }
+    ensures labelled { (all : List (HeldPacket L)) (s : Station) (label : L)
+        → AreLabelled all s → AreLabelled (with_label all label) s }
+{}
+
+/// From what is kept, a sound message that comes within the bounds is refused for the same reasons, and changes it as it
+/// changes the station; and so does damage.
+pub fn cut_arrival<L>()
+    ensures refusal { (all : List (HeldPacket L)) (s : Station) (rule : PeriodRule) (m : MessageValue) (u : Truth) (kept : Bool)
+        → AreLabelled all s → IsOrdered s → (rule (standing s) m u.tag ≡ false → IsWithin s m u)
+        → arrival_refusal rule s (arriving.Sound m u) kept
+        ≡ wire_arrival_refusal rule (cut all s) (arriving.Sound m u.tag) kept }
+    ensures step { (all : List (HeldPacket L)) (s : Station) (m : MessageValue) (u : Truth) (kept : Bool)
+        → AreLabelled all s → IsOrdered s → IsWithin s m u
+        → cut all (after_arrival s (arriving.Sound m u) kept)
+        ≡ wire_after_arrival (cut all s) (arriving.Sound m u.tag) kept }
+    ensures header_bad { (all : List (HeldPacket L)) (s : Station) (kept : Bool)
+        → cut all (after_arrival s arriving.HeaderBad kept) ≡ wire_after_arrival (cut all s) arriving.HeaderBad kept }
+    ensures data_bad { (all : List (HeldPacket L)) (s : Station) (kept : Bool)
+        → cut all (after_arrival s arriving.DataBad kept) ≡ wire_after_arrival (cut all s) arriving.DataBad kept }
+{}
