@@ -71,7 +71,11 @@ asked_b = after_arrival b255 (Sound (Rep plain 0) (truth_of a256 (Rep plain 0)))
 rep_of_256 : (sending_refusal a256 (Rep plain 0) ≡ None) × (sending_refusal asked_b (Nak plain RepResponse 0xff) ≡ None)
 rep_of_256 = (refl, refl)
 
--- and one NAK uses it up
+-- but none once it has received 256
+rep_of_256_received : after_arrival (record running { received = 256 }) (Sound (Rep plain 0) (truth_of a256 (Rep plain 0))) false ≡ record running { received = 256 }
+rep_of_256_received = refl
+
+-- one NAK uses the cause up
 second_nak : sending_refusal (after_sending asked_b (Nak plain RepResponse 0xff)) (Nak plain RepResponse 0xff) ≡ Some NoCause
 second_nak = refl
 
