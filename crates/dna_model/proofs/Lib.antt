@@ -6,5 +6,7 @@ pub mod Tells
 mod Modulo
 mod CutSending
 mod CutArriving
+mod Numbered
+mod NumberedSteps
 mod CutLabel
 mod Ordered
