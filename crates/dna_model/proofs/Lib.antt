@@ -8,5 +8,8 @@ mod CutSending
 mod CutArriving
 mod Numbered
 mod NumberedSteps
+mod Happens
+mod StationNumbers
+mod StationBounds
 mod CutLabel
 mod Ordered
