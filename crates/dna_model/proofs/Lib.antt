@@ -11,5 +11,6 @@ mod NumberedSteps
 mod Happens
 mod StationNumbers
 mod StationBounds
+mod ReceiptBounds
 mod CutLabel
 mod Ordered
