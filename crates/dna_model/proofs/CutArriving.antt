@@ -12,7 +12,8 @@ use Rattle.dna_model.specs.Periods.{PeriodRule}
 use Rattle.dna_model.specs.Truth.{Truth}
 use Rattle.dna_model.specs.Arriving.{Sound, HeaderBad, DataBad, standing, is_next, takes_in, keep_refusal, arrival_refusal, acknowledged_by, responded, set_back, with_data, data_arrived, asked, arrived_in, damaged_in, after_arrival}
 use Rattle.dna_model.specs.WireStation.{HeldPacket, WireStation, wire_is_next, wire_takes_in, wire_arrival_refusal, acknowledges, wire_acknowledged_by, wire_responded, wire_set_back, wire_with_data, wire_data_arrived, wire_asked, wire_arrived_in, wire_damaged_in, wire_after_arrival}
-use Rattle.dna_model.specs.Cut.{IsOrdered, AreLabelled, cut, HasWireNumbers, ResponseIsNear, NumberIsNear, NumbersAreNear, reads_numbers, IsWithin}
+use Rattle.dna_model.specs.Bounds.{IsOrdered, HasWireNumbers, ResponseIsNear, NumberIsNear, NumbersAreNear, reads_numbers, IsWithin}
+use Rattle.dna_model.specs.Cut.{AreLabelled, cut}
 use Rattle.dna_model.proofs.Modulo.{wire-one, distance_near, next_near, rep_near}
 use Rattle.dna_model.proofs.CutSending.{outstanding}
 

@@ -11,7 +11,8 @@ use Rattle.dna_model.specs.declared.refusal.StationRefusal.TheVariants.{WrongSta
 use Rattle.dna_model.specs.Station.{Station, given, wire}
 use Rattle.dna_model.specs.Sending.{WINDOW, check, is_new, is_packet, data_refusal, sending_refusal, sending_refusal_in, after_sending, with_packet}
 use Rattle.dna_model.specs.WireStation.{HeldPacket, wire_is_new, is_held_packet, wire_data_refusal, wire_refusal_in, wire_sending_refusal, wire_after_sending, with_new}
-use Rattle.dna_model.specs.Cut.{IsOrdered, AreLabelled, cut, all_after}
+use Rattle.dna_model.specs.Bounds.{IsOrdered}
+use Rattle.dna_model.specs.Cut.{AreLabelled, cut, all_after}
 use Rattle.dna_model.proofs.Modulo.{wire-add, wire-next, same_test}
 
 -- an item behind the first n

@@ -1,7 +1,6 @@
 -- What a record that is made does, whatever the record is: one of four things.
-use Rattle.std.proofs.Common.{◌≡◌, ℕ, ◌+◌, ◌≤◌, Bool, true, false, cond, nat_lt, ltb-false, Option, Some, None, Result, Ok, Err, List, refl, sym, subst}
+use Rattle.std.proofs.Common.{◌≡◌, ℕ, ◌+◌, ◌≤◌, Bool, true, false, cond, nat_lt, ltb-false, Option, Some, None, Err, List, refl, subst}
 use Rattle.std.specs.Prelude.{slice_get, bytes_eq}
-use Rattle.std.proofs.lemmas.Bool.{cond_both}
 use Rattle.two_nodes.specs.Nodes.{Half, Outcome, answered, concluded, read, stepped, stepped_sending, advance}
 use Rattle.two_nodes.specs.Nodes.Outcome.{Made}
 use Rattle.two_nodes.proofs.Order.{one_half}
@@ -17,7 +16,7 @@ use Rattle.dna_model.specs.declared.state.StationEvent.TheVariants.{Start, Halt}
 use Rattle.dna_model.specs.declared.refusal.StationRefusal.{StationRefusal}
 use Rattle.dna_model.specs.declared.refusal.StepRefusal.{StepRefusal}
 use Rattle.dna_model.specs.declared.refusal.StepRefusal.TheVariants.{HintOrder}
-use Rattle.dna_model.specs.Station.{Station, user_refusal, after_event}
+use Rattle.dna_model.specs.Station.{user_refusal, after_event}
 use Rattle.dna_model.specs.Periods.{PeriodRule}
 use Rattle.dna_model.specs.Sending.{sending_refusal, after_sending}
 use Rattle.dna_model.specs.Truth.{Truth, truth_of}

@@ -12,5 +12,6 @@ mod Happens
 mod StationNumbers
 mod StationBounds
 mod ReceiptBounds
+mod RunBounds
 mod CutLabel
 mod Ordered

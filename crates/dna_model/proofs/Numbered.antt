@@ -1,11 +1,9 @@
 -- Numbers that one side gives and the other takes and acknowledges, over lines that keep their order: what holds of all messages and of
 -- both sides at any time, and that a message on the line is near the numbers of its receiver. It speaks of no protocol: a side goes
 -- by a name (its period, or its link), and `view` says what it sees of a message.
-use Rattle.std.proofs.Common.{◌≡◌, ℕ, zero, suc, ◌+◌, ◌<◌, ◌≤◌, max, ◌⊎◌, inl, inr, Option, Some, None, List, [], ◌∷◌, ◌++◌, length, refl, sym, ap, ◌∙◌, subst, arith, length-append}
+use Rattle.std.proofs.Common.{◌≡◌, ℕ, ◌+◌, ◌<◌, ◌≤◌, max, ◌⊎◌, inl, inr, Option, Some, None, List, [], ◌∷◌, length, sym, ◌∙◌, arith}
 use Rattle.std.specs.Prelude.{slice_get}
-use Rattle.std.proofs.lemmas.Option.{slice_get_within, same_Some}
-use Rattle.std.proofs.lemmas.Bool.{cases_order}
-use Rattle.two_nodes.proofs.Order.{slice_get-append}
+use Rattle.std.proofs.lemmas.Option.{same_Some}
 
 -- How many numbers may be outstanding; how far below the highest given one a number may lie; and how far below the last
 -- acknowledgement sent an acknowledgement may

@@ -15,7 +15,7 @@ use Rattle.dna_model.specs.Station.{Station, new_station, given, wire, after_eve
 use Rattle.dna_model.specs.Sending.{WINDOW, check, is_new, has_room, data_refusal, sending_refusal, sending_refusal_in, after_sending, with_packet}
 use Rattle.dna_model.specs.Truth.{Truth}
 use Rattle.dna_model.specs.Arriving.{ArrivalValue, Sound, HeaderBad, DataBad, is_next, acknowledged_by, responded, set_back, with_data, asked, arrived_in, damaged_in, after_arrival}
-use Rattle.dna_model.specs.Cut.{IsOrdered}
+use Rattle.dna_model.specs.Bounds.{IsOrdered}
 
 -- a check that refuses nothing is passed
 pub passed : (ok : Bool) (refusal : StationRefusal) (next : Option StationRefusal) → check ok refusal next ≡ None → (ok ≡ true) × (next ≡ None)

@@ -1,7 +1,7 @@
 -- The bounds of DDCMP are kept by a receipt; and a message that is acted on comes within them.
-use Rattle.std.proofs.Common.{◌≡◌, ℕ, ◌+◌, ◌-◌, ◌<◌, ◌≤◌, max, Bool, true, false, ◌&&◌, not, eqb, ltb, leb, cond, Option, Some, None, List, [], ◌∷◌, ◌++◌, length, refl, sym, ap, ◌∙◌, subst, arith, eqb-true, ltb-true, leb-true}
+use Rattle.std.proofs.Common.{◌≡◌, ℕ, ◌+◌, ◌≤◌, Bool, true, false, ◌&&◌, not, eqb, ltb, leb, cond, Option, Some, None, List, length, refl, sym, ap, ◌∙◌, subst, arith, eqb-true, ltb-true}
 use Rattle.std.specs.Prelude.{slice_get}
-use Rattle.std.proofs.lemmas.Bool.{and_parts, and_from, cond_both, not-false}
+use Rattle.std.proofs.lemmas.Bool.{and_parts, cond_both, not-false}
 use Rattle.std.proofs.lemmas.Option.{slice_get_within}
 use Rattle.ddcmp_msg.specs.Message.{MessageValue, Data, Ack, Nak, Rep, Strt, Stack}
 use Rattle.ddcmp_msg.specs.declared.nak_reason.NakReason.{NakReason}
@@ -9,18 +9,17 @@ use Rattle.ddcmp_msg.specs.declared.nak_reason.NakReason.TheVariants.{HeaderChec
 use Rattle.dna_model.specs.declared.state.State.{State}
 use Rattle.dna_model.specs.declared.state.State.TheVariants.{Halted, Istrt, Astrt, Running}
 use Rattle.dna_model.specs.declared.tag.Tag.{Tag}
-use Rattle.dna_model.specs.declared.refusal.StationRefusal.{StationRefusal}
 use Rattle.dna_model.specs.declared.refusal.StationRefusal.TheVariants.{CrossedPeriod}
 use Rattle.dna_model.specs.Station.{Station, given}
-use Rattle.dna_model.specs.Periods.{Standing, is_period, is_fresh, is_of_pair, crossed_in, crossed}
+use Rattle.dna_model.specs.Periods.{is_period, is_fresh, is_of_pair, crossed_in, crossed}
 use Rattle.dna_model.specs.Truth.{Truth}
 use Rattle.dna_model.specs.Arriving.{ArrivalValue, Sound, HeaderBad, DataBad, standing, is_next, acknowledged_by, responded, set_back, with_data, data_arrived, asked, arrived_in, damaged_in, arrival_refusal, keep_refusal, takes_in, after_arrival}
-use Rattle.dna_model.specs.Cut.{IsOrdered, ResponseIsNear, NumberIsNear, RepIsNear, NumbersAreNear, reads_numbers, IsWithin}
+use Rattle.dna_model.specs.Bounds.{NumbersAreNear, reads_numbers, IsWithin}
 use Rattle.dna_model.specs.Line.{SentUnit}
 use Rattle.dna_model.specs.Node.{Node}
 use Rattle.dna_model.proofs.Ordered.{arrival_ordered}
 use Rattle.dna_model.proofs.Happens.{ComesOf, Itself, BadHeader, BadData}
-use Rattle.dna_model.proofs.Numbered.{Numbers, Numbered, IsLawful, IsNear, IsUpTo, AreNumbered, IsPresent, AcksFrom, IsGiven, NumberNear, near}
+use Rattle.dna_model.proofs.Numbered.{Numbers, IsNear, AreNumbered, IsPresent, AcksFrom, IsGiven, NumberNear, near}
 use Rattle.dna_model.proofs.NumberedSteps.{present_further, present_received, present_acknowledged, present_new}
 use Rattle.dna_model.proofs.StationNumbers.{limits, numbers_of, view, AsksForHighest, data_number, responses}
 use Rattle.dna_model.proofs.StationBounds.{is_starting, HasNone, IsTold, IsSound}

@@ -1,27 +1,19 @@
 -- The bounds of DDCMP hold at any time: what holds of each node beside the other is kept by every record.
-use Rattle.std.proofs.Common.{◌≡◌, ℕ, ◌+◌, ◌-◌, ◌<◌, ◌≤◌, max, Bool, true, false, ◌&&◌, not, eqb, ltb, leb, cond, Option, Some, None, List, [], ◌∷◌, ◌++◌, length, refl, sym, ap, ◌∙◌, subst, arith, eqb-true, ltb-true, leb-true, length-append, inl, inr, ◌⊎◌}
+use Rattle.std.proofs.Common.{◌≡◌, ℕ, ◌≤◌, Bool, true, false, Some, None, List, [], ◌∷◌, ◌++◌, length, refl, sym, ap, ◌∙◌, subst, arith, length-append, inl, inr, ◌⊎◌}
 use Rattle.std.specs.Prelude.{slice_get}
-use Rattle.std.proofs.lemmas.Bool.{and_parts, cond_both}
-use Rattle.std.proofs.lemmas.Option.{slice_get_within}
 use Rattle.ddcmp_msg.specs.Message.{MessageValue, Data, Ack, Nak, Rep, Strt, Stack}
-use Rattle.ddcmp_msg.specs.declared.nak_reason.NakReason.{NakReason}
-use Rattle.ddcmp_msg.specs.declared.nak_reason.NakReason.TheVariants.{HeaderCheck, DataCheck}
 use Rattle.dna_model.specs.declared.state.State.{State}
-use Rattle.dna_model.specs.declared.state.State.TheVariants.{Halted, Istrt, Astrt, Running}
+use Rattle.dna_model.specs.declared.state.State.TheVariants.{Istrt, Astrt}
 use Rattle.dna_model.specs.declared.state.StationEvent.{StationEvent}
 use Rattle.dna_model.specs.declared.state.StationEvent.TheVariants.{Start, Halt}
-use Rattle.dna_model.specs.declared.tag.Tag.{Tag}
 use Rattle.dna_model.specs.Station.{Station, given, after_event}
-use Rattle.dna_model.specs.Periods.{is_period, is_fresh, is_of_pair, crossed_in, crossed}
-use Rattle.dna_model.specs.Truth.{Truth}
 use Rattle.dna_model.specs.Sending.{sending_refusal, after_sending}
-use Rattle.dna_model.specs.Arriving.{ArrivalValue, Sound, HeaderBad, DataBad, standing, is_next, acknowledged_by, responded, set_back, with_data, data_arrived, asked, arrived_in, damaged_in, after_arrival}
-use Rattle.dna_model.specs.Cut.{IsOrdered, HasWireNumbers, ResponseIsNear, NumberIsNear, RepIsNear, NumbersAreNear, reads_numbers, IsWithin}
+use Rattle.dna_model.specs.Bounds.{IsOrdered, HasWireNumbers}
 use Rattle.dna_model.specs.Line.{SentUnit}
 use Rattle.dna_model.specs.Node.{Node}
-use Rattle.dna_model.proofs.Ordered.{event_ordered, sending_ordered, arrival_ordered}
-use Rattle.dna_model.proofs.Numbered.{Numbers, Numbered, IsLawful, IsNear, IsUpTo, AreNumbered, IsPresent, near}
-use Rattle.dna_model.proofs.NumberedSteps.{at_pushed, numbered_beside, present_beside, numbered_sending, present_sending, present_further, present_received, present_acknowledged, present_new}
+use Rattle.dna_model.proofs.Ordered.{event_ordered, sending_ordered}
+use Rattle.dna_model.proofs.Numbered.{Numbers, AreNumbered, IsPresent}
+use Rattle.dna_model.proofs.NumberedSteps.{at_pushed, numbered_beside, present_beside, numbered_sending, present_sending, present_new}
 use Rattle.dna_model.proofs.StationNumbers.{limits, numbers_of, view, AsksForHighest, unit_of, sent_spelled, sent_asks, sending_is}
 
 -- before RUNNING

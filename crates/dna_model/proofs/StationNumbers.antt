@@ -1,17 +1,16 @@
 -- The numbers of DDCMP as numbered messages: a side goes by its period, at most 255 are outstanding, and each RESP is the last number
 -- received.
-use Rattle.std.proofs.Common.{◌≡◌, ℕ, ◌+◌, ◌-◌, ◌<◌, ◌≤◌, Bool, true, false, eqb, ltb, Option, Some, None, List, [], ◌∷◌, ◌++◌, length, refl, sym, ap, ◌∙◌, arith, eqb-true, length-append}
+use Rattle.std.proofs.Common.{◌≡◌, ℕ, ◌+◌, ◌≤◌, Bool, true, false, Option, Some, None, List, [], ◌∷◌, length, refl, arith, eqb-true, length-append}
 use Rattle.ddcmp_msg.specs.Message.{MessageValue, Data, Ack, Nak, Rep, Strt, Stack}
 use Rattle.dna_model.specs.declared.state.State.{State}
 use Rattle.dna_model.specs.declared.state.State.TheVariants.{Halted, Istrt, Astrt, Running}
 use Rattle.dna_model.specs.Station.{Station, given, wire}
-use Rattle.dna_model.specs.Sending.{check, is_new, data_refusal, sending_refusal, sending_refusal_in, after_sending, with_packet}
+use Rattle.dna_model.specs.Sending.{is_new, sending_refusal, sending_refusal_in, after_sending, with_packet}
 use Rattle.dna_model.specs.Truth.{Truth, truth_of}
-use Rattle.dna_model.specs.Cut.{IsOrdered, HasWireNumbers}
+use Rattle.dna_model.specs.Bounds.{IsOrdered, HasWireNumbers}
 use Rattle.dna_model.specs.Line.{SentUnit}
-use Rattle.dna_model.proofs.Modulo.{same_test}
 use Rattle.dna_model.proofs.Ordered.{passed, data_passed, sending_ordered}
-use Rattle.dna_model.proofs.Numbered.{Limits, Numbers, Numbered, IsLawful}
+use Rattle.dna_model.proofs.Numbered.{Limits, Numbers, Numbered}
 use Rattle.dna_model.proofs.NumberedSteps.{IsSending}
 
 abbrev pub limits : Limits

@@ -5,9 +5,10 @@ pub mod Periods
 pub mod Sending
 pub mod Truth
 pub mod Arriving
-pub mod WireStation
-pub mod Cut
 pub mod Line
 pub mod Node
+pub mod Bounds
+pub mod WireStation
+pub mod Cut
 pub mod Pair
 pub mod Verdict

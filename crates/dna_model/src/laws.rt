@@ -2,7 +2,9 @@
 //! labels that a node puts beside packets.
 
 ghost use Rattle.std.specs.Prelude.{◌≡◌, ◌<◌, Bool, false, None, List};
+ghost use Rattle.two_nodes.specs.Nodes.{World, Run};
 ghost use Rattle.ddcmp_msg.specs.Message.{MessageValue};
+ghost use Rattle.capture.specs.declared.record.Record.{Record};
 ghost use Rattle.dna_model.specs.declared.state.StationEvent.{StationEvent};
 ghost use Rattle.dna_model.specs.Station.{Station, new_station, given, after_event};
 ghost use Rattle.dna_model.specs.Periods.{PeriodRule};
@@ -11,7 +13,22 @@ ghost use Rattle.dna_model.specs.Truth.{Truth};
 ghost use Rattle.dna_model.specs.Arriving.{ArrivalValue, standing, arrival_refusal, after_arrival};
 ghost use Rattle.dna_model.specs.Arriving as arriving;
 ghost use Rattle.dna_model.specs.WireStation.{HeldPacket, with_label, wire_after_event, wire_after_label, wire_sending_refusal, wire_after_sending, wire_arrival_refusal, wire_after_arrival};
-ghost use Rattle.dna_model.specs.Cut.{IsOrdered, AreLabelled, IsWithin, cut, all_after, all_after_event};
+ghost use Rattle.dna_model.specs.Bounds.{IsBounded, IsOrdered, IsWithin};
+ghost use Rattle.dna_model.specs.Line.{SentUnit};
+ghost use Rattle.dna_model.specs.Node.{Node};
+ghost use Rattle.dna_model.specs.Pair.{pair, start};
+ghost use Rattle.dna_model.specs.Cut.{AreLabelled, cut, all_after, all_after_event};
+
+use std::marker::Brand;
+use two_nodes::always;
+
+/// In every run, the numbers of each station are in order, and what it may still meet is within the bounds.
+pub fn numbers_within_bounds()
+    ensures of_a { (w : World Node SentUnit) (of_a of_b : List Record) → Run pair start of_a of_b w → IsBounded w.a w.b }
+    ensures of_b { (w : World Node SentUnit) (of_a of_b : List Record) → Run pair start of_a of_b w → IsBounded w.b w.a }
+{
+    always::<Brand>();
+}
 
 /// A station's own numbers are in order before any record, and stay so.
 pub fn numbers_in_order()

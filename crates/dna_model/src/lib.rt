@@ -10,7 +10,9 @@ mod state;
 mod tag;
 
 pub use finding::{Cause, Finding};
-pub use laws::{cut_arrival, cut_event, cut_label, cut_sending, numbers_in_order};
+pub use laws::{
+    cut_arrival, cut_event, cut_label, cut_sending, numbers_in_order, numbers_within_bounds,
+};
 pub use refusal::{StationRefusal, StepRefusal};
 pub use state::{State, StationEvent};
 pub use tag::Tag;
