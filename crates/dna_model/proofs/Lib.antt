@@ -13,5 +13,6 @@ mod StationNumbers
 mod StationBounds
 mod ReceiptBounds
 mod RunBounds
+mod CutNode
 mod CutLabel
 mod Ordered

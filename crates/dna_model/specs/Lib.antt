@@ -11,4 +11,5 @@ pub mod Bounds
 pub mod WireStation
 pub mod Cut
 pub mod Pair
+pub mod WireNode
 pub mod Verdict

@@ -2,12 +2,12 @@
 //! labels that a node puts beside packets.
 
 ghost use Rattle.std.specs.Prelude.{◌≡◌, ◌<◌, Bool, false, None, List};
-ghost use Rattle.two_nodes.specs.Nodes.{World, Run};
+ghost use Rattle.two_nodes.specs.Nodes.{Half, World, Run, advance};
 ghost use Rattle.ddcmp_msg.specs.Message.{MessageValue};
 ghost use Rattle.capture.specs.declared.record.Record.{Record};
 ghost use Rattle.dna_model.specs.declared.state.StationEvent.{StationEvent};
 ghost use Rattle.dna_model.specs.Station.{Station, new_station, given, after_event};
-ghost use Rattle.dna_model.specs.Periods.{PeriodRule};
+ghost use Rattle.dna_model.specs.Periods.{PeriodRule, crossed};
 ghost use Rattle.dna_model.specs.Sending.{sending_refusal, after_sending};
 ghost use Rattle.dna_model.specs.Truth.{Truth};
 ghost use Rattle.dna_model.specs.Arriving.{ArrivalValue, standing, arrival_refusal, after_arrival};
@@ -15,8 +15,9 @@ ghost use Rattle.dna_model.specs.Arriving as arriving;
 ghost use Rattle.dna_model.specs.WireStation.{HeldPacket, with_label, wire_after_event, wire_after_label, wire_sending_refusal, wire_after_sending, wire_arrival_refusal, wire_after_arrival};
 ghost use Rattle.dna_model.specs.Bounds.{IsBounded, IsOrdered, IsWithin};
 ghost use Rattle.dna_model.specs.Line.{SentUnit};
-ghost use Rattle.dna_model.specs.Node.{Node};
+ghost use Rattle.dna_model.specs.Node.{Node, new_node, step};
 ghost use Rattle.dna_model.specs.Pair.{pair, start};
+ghost use Rattle.dna_model.specs.WireNode.{new_wire_node, wire_step, cut_node, cut_half, cut_outcome};
 ghost use Rattle.dna_model.specs.Cut.{AreLabelled, cut, all_after, all_after_event};
 
 use std::marker::Brand;
@@ -83,4 +84,12 @@ pub fn cut_arrival<L>()
         → cut all (after_arrival s arriving.HeaderBad kept) ≡ wire_after_arrival (cut all s) arriving.HeaderBad kept }
     ensures data_bad { (all : List (HeldPacket L)) (s : Station) (kept : Bool)
         → cut all (after_arrival s arriving.DataBad kept) ≡ wire_after_arrival (cut all s) arriving.DataBad kept }
+{}
+
+/// In a world within the bounds the same becomes of a record at a node that runs as at the node on true numbers, seen as the
+/// former sees it. No packet has a label.
+pub fn cut_record<L>()
+    ensures start { new_wire_node {L = L} ≡ cut_node new_node }
+    ensures outcome { (own other : Half Node SentUnit) (r : Record) → IsBounded own other
+        → advance (wire_step crossed) (cut_half {L = L} own) (cut_half other) r ≡ cut_outcome (advance (step crossed) own other r) }
 {}
