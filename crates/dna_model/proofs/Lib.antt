@@ -14,5 +14,8 @@ mod StationBounds
 mod ReceiptBounds
 mod RunBounds
 mod CutNode
+mod Delivered
+mod DeliveredSteps
+mod DeliveredRuns
 mod CutLabel
 mod Ordered

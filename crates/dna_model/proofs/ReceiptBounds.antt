@@ -45,7 +45,7 @@ behind_test true b e f = not-false b f
 behind_test false b e f = absurd cc
 
 -- whether a message's RESP or NUM is looked at
-abbrev is_numbered : MessageValue → Bool
+abbrev pub is_numbered : MessageValue → Bool
 is_numbered (Strt flags) = false
 is_numbered (Stack flags) = false
 is_numbered m = true

@@ -1,6 +1,7 @@
 -- What a reader must believe of the protocols, lowest first
 pub mod Causes
 pub mod Station
+pub mod Delivery
 pub mod Periods
 pub mod Sending
 pub mod Truth

@@ -7,6 +7,7 @@ ghost use Rattle.ddcmp_msg.specs.Message.{MessageValue};
 ghost use Rattle.capture.specs.declared.record.Record.{Record};
 ghost use Rattle.dna_model.specs.declared.state.StationEvent.{StationEvent};
 ghost use Rattle.dna_model.specs.Station.{Station, new_station, given, after_event};
+ghost use Rattle.dna_model.specs.Delivery.{DeliversFrom};
 ghost use Rattle.dna_model.specs.Periods.{PeriodRule, crossed};
 ghost use Rattle.dna_model.specs.Sending.{sending_refusal, after_sending};
 ghost use Rattle.dna_model.specs.Truth.{Truth};
@@ -27,6 +28,17 @@ use two_nodes::always;
 pub fn numbers_within_bounds()
     ensures of_a { (w : World Node SentUnit) (of_a of_b : List Record) → Run pair start of_a of_b w → IsBounded w.a w.b }
     ensures of_b { (w : World Node SentUnit) (of_a of_b : List Record) → Run pair start of_a of_b w → IsBounded w.b w.a }
+{
+    always::<Brand>();
+}
+
+/// In every run, what a station took in a period is a beginning of what the other gave in the period that it goes with; where it
+/// goes with none, it is nothing.
+pub fn delivered_in_order()
+    ensures of_a { (w : World Node SentUnit) (of_a of_b : List Record)
+        → Run pair start of_a of_b w → DeliversFrom w.a.state.station w.b.state.station }
+    ensures of_b { (w : World Node SentUnit) (of_a of_b : List Record)
+        → Run pair start of_a of_b w → DeliversFrom w.b.state.station w.a.state.station }
 {
     always::<Brand>();
 }
