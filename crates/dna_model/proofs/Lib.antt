@@ -14,6 +14,7 @@ mod StationBounds
 mod ReceiptBounds
 mod RunBounds
 mod CutNode
+mod Loads
 mod Delivered
 mod DeliveredSteps
 mod DeliveredRuns

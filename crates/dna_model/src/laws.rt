@@ -1,11 +1,12 @@
 //! What holds of the definitions in `specs/`, whatever the code does, for the proofs of callers to cite. `L` is the type of the
 //! labels that a node puts beside packets.
 
-ghost use Rattle.std.specs.Prelude.{◌≡◌, ◌<◌, Bool, false, None, List};
+ghost use Rattle.std.specs.Prelude.{◌≡◌, ◌+◌, ◌<◌, ◌≤◌, Bool, false, None, List};
 ghost use Rattle.two_nodes.specs.Nodes.{Half, World, Run, advance};
 ghost use Rattle.ddcmp_msg.specs.Message.{MessageValue};
 ghost use Rattle.capture.specs.declared.record.Record.{Record};
 ghost use Rattle.dna_model.specs.declared.state.StationEvent.{StationEvent};
+ghost use Rattle.dna_model.specs.declared.tag.Tag.{Tag};
 ghost use Rattle.dna_model.specs.Station.{Station, new_station, given, after_event};
 ghost use Rattle.dna_model.specs.Delivery.{DeliversFrom};
 ghost use Rattle.dna_model.specs.Periods.{PeriodRule, crossed};
@@ -13,7 +14,7 @@ ghost use Rattle.dna_model.specs.Sending.{sending_refusal, after_sending};
 ghost use Rattle.dna_model.specs.Truth.{Truth};
 ghost use Rattle.dna_model.specs.Arriving.{ArrivalValue, standing, arrival_refusal, after_arrival};
 ghost use Rattle.dna_model.specs.Arriving as arriving;
-ghost use Rattle.dna_model.specs.WireStation.{HeldPacket, with_label, wire_after_event, wire_after_label, wire_sending_refusal, wire_after_sending, wire_arrival_refusal, wire_after_arrival};
+ghost use Rattle.dna_model.specs.WireStation.{HeldPacket, WireStation, load, with_label, wire_after_event, wire_after_label, wire_sending_refusal, wire_after_sending, wire_arrival_refusal, wire_after_arrival};
 ghost use Rattle.dna_model.specs.Bounds.{IsBounded, IsOrdered, IsWithin};
 ghost use Rattle.dna_model.specs.Line.{SentUnit};
 ghost use Rattle.dna_model.specs.Node.{Node, new_node, step};
@@ -96,6 +97,15 @@ pub fn cut_arrival<L>()
         → cut all (after_arrival s arriving.HeaderBad kept) ≡ wire_after_arrival (cut all s) arriving.HeaderBad kept }
     ensures data_bad { (all : List (HeldPacket L)) (s : Station) (kept : Bool)
         → cut all (after_arrival s arriving.DataBad kept) ≡ wire_after_arrival (cut all s) arriving.DataBad kept }
+{}
+
+/// A record adds at most one to the counts that a station keeps.
+pub fn counts_rise_by_one<L>()
+    ensures event { (w : WireStation L) (event : StationEvent) → load (wire_after_event w event) ≤ load w + 1 }
+    ensures sending { (w : WireStation L) (m : MessageValue) → load (wire_after_sending w m) ≤ load w }
+    ensures label { (w : WireStation L) (label : L) → load (wire_after_label w label) ≡ load w }
+    ensures arrival { (w : WireStation L) (arrival : ArrivalValue Tag) (kept : Bool)
+        → load (wire_after_arrival w arrival kept) ≤ load w + 1 }
 {}
 
 /// In a world within the bounds the same becomes of a record at a node that runs as at the node on true numbers, seen as the

@@ -11,8 +11,8 @@ mod tag;
 
 pub use finding::{Cause, Finding};
 pub use laws::{
-    cut_arrival, cut_event, cut_label, cut_record, cut_sending, delivered_in_order,
-    numbers_in_order, numbers_within_bounds,
+    counts_rise_by_one, cut_arrival, cut_event, cut_label, cut_record, cut_sending,
+    delivered_in_order, numbers_in_order, numbers_within_bounds,
 };
 pub use refusal::{StationRefusal, StepRefusal};
 pub use state::{State, StationEvent};
