@@ -94,20 +94,20 @@ record Left (own left other : Half Node SentUnit) : Type 0 where
 
 module _ (own other : Half Node SentUnit) (h : IsSound own.state own.sent other.sent) (theirs : IsSound other.state other.sent own.sent)
     (o : Offers own.state.station own.sent) (p : Offers other.state.station other.sent) (d : Delivers own.state.station (periods other.state.station)) where
-  left_by : (left : Half Node SentUnit) → Happens crossed own other left → Left own left other
-  left_by left Nothing = record { offers = o; delivers = d; grows = grow_present own.state.station own.state.station refl (begins_same own.state.station.packets) }
-  left_by left (UserEvent event allowed) = record {
+  left_by : (r : Record) (left : Half Node SentUnit) → Happens crossed own other r left → Left own left other
+  left_by r left (Nothing event none) = record { offers = o; delivers = d; grows = grow_present own.state.station own.state.station refl (begins_same own.state.station.packets) }
+  left_by r left (UserEvent event allowed) = record {
     offers = event_offers own.state.station own.sent event o;
     delivers = event_delivers own.state.station (periods other.state.station) event d;
     grows = event_grows own.state.station event;
   }
-  left_by left (Sending bytes m allowed) = record {
+  left_by r left (Sending bytes m read allowed) = record {
     offers = sending_offers own.state.station own.sent bytes m h.ordered allowed o;
     delivers = sending_delivers own.state.station (periods other.state.station) m d;
     grows = sending_grows own.state.station m;
   }
-  left_by left (Receipt hint kept unit arrival there ahead of_unit allowed) =
-      let took = arrival_took own.state.station unit arrival kept of_unit h.none allowed in
+  left_by r left (Receipt hint kept bytes unit arrival there ahead of_unit allowed) =
+      let took = arrival_took own.state.station unit bytes arrival kept of_unit h.none allowed in
       let later = (theirs.told hint unit there).no_later in
       let count = length_push other.state.station.earlier (past other.state.station) in
       let same = p.count in
@@ -123,7 +123,7 @@ delivery_property w of_a of_b = BothDeliver w
 pub delivery_kept : IsKept pair delivery_property
 delivery_kept = record {
   by_a = λ w made_a made_b r h both made.
-      let left = left_by w.a w.b both.sound.of_a both.sound.of_b both.a_offers both.b_offers both.a_delivers h (happens crossed w.a w.b h r made) in
+      let left = left_by w.a w.b both.sound.of_a both.sound.of_b both.a_offers both.b_offers both.a_delivers r h (happens crossed w.a w.b h r made) in
       record {
         sound = sound_kept.by_a w made_a made_b r h both.sound made;
         a_offers = left.offers;
@@ -132,7 +132,7 @@ delivery_kept = record {
         b_delivers = delivers_beside w.b.state.station (periods w.a.state.station) (periods h.state.station) left.grows both.b_delivers;
       };
   by_b = λ w made_a made_b r h both made.
-      let left = left_by w.b w.a both.sound.of_b both.sound.of_a both.b_offers both.a_offers both.b_delivers h (happens crossed w.b w.a h r made) in
+      let left = left_by w.b w.a both.sound.of_b both.sound.of_a both.b_offers both.a_offers both.b_delivers r h (happens crossed w.b w.a h r made) in
       record {
         sound = sound_kept.by_b w made_a made_b r h both.sound made;
         a_offers = both.a_offers;

@@ -262,9 +262,9 @@ damaged_stays s Halted reason = (stays_same s, took_nothing s)
 damaged_stays s Istrt reason = (stays_same s, took_nothing s)
 damaged_stays s Astrt reason = (stays_same s, took_nothing s)
 
-pub arrival_took : (s : Station) (unit : SentUnit) (arrival : ArrivalValue Truth) (kept : Bool) → ComesOf unit arrival → (is_starting s.state ≡ true → HasNone s) → arrival_refusal crossed s arrival kept ≡ None → Took s (after_arrival s arrival kept) unit.message unit.known
-arrival_took s unit (Sound m u) kept Itself none allowed =
+pub arrival_took : (s : Station) (unit : SentUnit) (bytes : List ℕ) (arrival : ArrivalValue Truth) (kept : Bool) → ComesOf unit bytes arrival → (is_starting s.state ≡ true → HasNone s) → arrival_refusal crossed s arrival kept ≡ None → Took s (after_arrival s arrival kept) unit.message unit.known
+arrival_took s unit bytes (Sound m u) kept (Itself same) none allowed =
     took_in s unit.known s.state unit.message kept none
     (λ reads numbered. acts_of_pair s unit.message unit.known.tag reads numbered (not_crossed s unit.message unit.known kept allowed))
-arrival_took s unit HeaderBad kept BadHeader none allowed = nothing_took s unit.known _ unit.message (damaged_stays s s.state HeaderCheck)
-arrival_took s unit DataBad kept BadData none allowed = nothing_took s unit.known _ unit.message (damaged_stays s s.state DataCheck)
+arrival_took s unit bytes HeaderBad kept BadHeader none allowed = nothing_took s unit.known _ unit.message (damaged_stays s s.state HeaderCheck)
+arrival_took s unit bytes DataBad kept BadData none allowed = nothing_took s unit.known _ unit.message (damaged_stays s s.state DataCheck)

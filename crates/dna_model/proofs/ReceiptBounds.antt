@@ -234,23 +234,23 @@ module _ (n : Node) (own other : List SentUnit) (h : IsSound n own other) (their
   damaged_met Istrt reason is = unchanged
   damaged_met Astrt reason is = unchanged
 
-  arrival_met : (arrival : ArrivalValue Truth) (kept : Bool) → ComesOf unit arrival → arrival_refusal crossed n.station arrival kept ≡ None → IsMet (after_arrival n.station arrival kept)
-  arrival_met (Sound m u) kept Itself allowed =
+  arrival_met : (bytes : List ℕ) (arrival : ArrivalValue Truth) (kept : Bool) → ComesOf unit bytes arrival → arrival_refusal crossed n.station arrival kept ≡ None → IsMet (after_arrival n.station arrival kept)
+  arrival_met bytes (Sound m u) kept (Itself same) allowed =
       let lawful = theirs.lawful k unit there in
       met_in n.station.state unit.message kept refl
       (λ reads numbered. acts_of_pair n.station unit.message unit.known.tag reads numbered (not_crossed n.station unit.message unit.known kept allowed))
       lawful.number lawful.acks
-  arrival_met HeaderBad kept BadHeader allowed = damaged_met n.station.state HeaderCheck refl
-  arrival_met DataBad kept BadData allowed = damaged_met n.station.state DataCheck refl
+  arrival_met bytes HeaderBad kept BadHeader allowed = damaged_met n.station.state HeaderCheck refl
+  arrival_met bytes DataBad kept BadData allowed = damaged_met n.station.state DataCheck refl
 
-  pub sound_receipt : (arrival : ArrivalValue Truth) (kept : Bool) → ComesOf unit arrival → arrival_refusal crossed n.station arrival kept ≡ None → IsSound (record { station = after_arrival n.station arrival kept; front = k + 1 }) own other
-  sound_receipt arrival kept of_unit allowed =
-      let m = arrival_met arrival kept of_unit allowed in
+  pub sound_receipt : (bytes : List ℕ) (arrival : ArrivalValue Truth) (kept : Bool) → ComesOf unit bytes arrival → arrival_refusal crossed n.station arrival kept ≡ None → IsSound (record { station = after_arrival n.station arrival kept; front = k + 1 }) own other
+  sound_receipt bytes arrival kept of_unit allowed =
+      let m = arrival_met bytes arrival kept of_unit allowed in
       record {
         ordered = arrival_ordered n.station arrival kept h.ordered;
         none = m.none;
         met = let w = slice_get_within other k unit there in omega arith;
-        told = λ i u at. let t = h.told i u at in let e = m.period in record { spelled = t.spelled; asks = t.asks; no_later = let l = t.no_later in omega arith };
+        told = λ i u at. let t = h.told i u at in let e = m.period in record { reads = t.reads; spelled = t.spelled; asks = t.asks; no_later = let l = t.no_later in omega arith };
         messages = h.messages;
         present = m.present;
       }

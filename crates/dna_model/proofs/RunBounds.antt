@@ -21,17 +21,17 @@ pub record BothSound (w : World Node SentUnit) : Type 0 where
   pub of_b : IsSound w.b.state w.b.sent w.a.sent
 
 module _ (own other : Half Node SentUnit) (h : IsSound own.state own.sent other.sent) (theirs : IsSound other.state other.sent own.sent) where
-  sound_own : (left : Half Node SentUnit) → Happens crossed own other left → IsSound left.state left.sent other.sent
-  sound_own left Nothing = h
-  sound_own left (UserEvent event allowed) = sound_event own.state own.sent other.sent event h
-  sound_own left (Sending bytes m allowed) = sound_sending own.state own.sent other.sent bytes m h allowed
-  sound_own left (Receipt hint kept unit arrival there ahead of_unit allowed) = sound_receipt own.state own.sent other.sent h theirs.messages hint unit there ahead arrival kept of_unit allowed
+  sound_own : (r : Record) (left : Half Node SentUnit) → Happens crossed own other r left → IsSound left.state left.sent other.sent
+  sound_own r left (Nothing event none) = h
+  sound_own r left (UserEvent event allowed) = sound_event own.state own.sent other.sent event h
+  sound_own r left (Sending bytes m read allowed) = sound_sending own.state own.sent other.sent bytes m h read allowed
+  sound_own r left (Receipt hint kept bytes unit arrival there ahead of_unit allowed) = sound_receipt own.state own.sent other.sent h theirs.messages hint unit there ahead bytes arrival kept of_unit allowed
 
-  sound_other : (left : Half Node SentUnit) → Happens crossed own other left → IsSound other.state other.sent left.sent
-  sound_other left Nothing = theirs
-  sound_other left (UserEvent event allowed) = theirs
-  sound_other left (Sending bytes m allowed) = sound_beside other.state other.sent own.sent (unit_of own.state.station bytes m) theirs
-  sound_other left (Receipt hint kept unit arrival there ahead of_unit allowed) = theirs
+  sound_other : (r : Record) (left : Half Node SentUnit) → Happens crossed own other r left → IsSound other.state other.sent left.sent
+  sound_other r left (Nothing event none) = theirs
+  sound_other r left (UserEvent event allowed) = theirs
+  sound_other r left (Sending bytes m read allowed) = sound_beside other.state other.sent own.sent (unit_of own.state.station bytes m) theirs
+  sound_other r left (Receipt hint kept bytes unit arrival there ahead of_unit allowed) = theirs
 
 new_sound : IsSound new_node [] []
 new_sound = record {
@@ -53,10 +53,10 @@ pub sound_kept : IsKept pair sound_property
 sound_kept = record {
   by_a = λ w made_a made_b r h sound made.
       let what = happens crossed w.a w.b h r made in
-      record { of_a = sound_own w.a w.b sound.of_a sound.of_b h what; of_b = sound_other w.a w.b sound.of_a sound.of_b h what };
+      record { of_a = sound_own w.a w.b sound.of_a sound.of_b r h what; of_b = sound_other w.a w.b sound.of_a sound.of_b r h what };
   by_b = λ w made_a made_b r h sound made.
       let what = happens crossed w.b w.a h r made in
-      record { of_a = sound_other w.b w.a sound.of_b sound.of_a h what; of_b = sound_own w.b w.a sound.of_b sound.of_a h what };
+      record { of_a = sound_other w.b w.a sound.of_b sound.of_a r h what; of_b = sound_own w.b w.a sound.of_b sound.of_a r h what };
 }
 
 -- a sound node is bounded

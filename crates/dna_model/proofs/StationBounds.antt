@@ -2,6 +2,7 @@
 use Rattle.std.proofs.Common.{◌≡◌, ℕ, ◌≤◌, Bool, true, false, Some, None, List, [], ◌∷◌, ◌++◌, length, refl, sym, ap, ◌∙◌, subst, arith, length-append, inl, inr, ◌⊎◌}
 use Rattle.std.specs.Prelude.{slice_get}
 use Rattle.ddcmp_msg.specs.Message.{MessageValue, Data, Ack, Nak, Rep, Strt, Stack}
+use Rattle.ddcmp_msg.specs.Reading.{reading, Sound}
 use Rattle.dna_model.specs.declared.state.State.{State}
 use Rattle.dna_model.specs.declared.state.State.TheVariants.{Istrt, Astrt}
 use Rattle.dna_model.specs.declared.state.StationEvent.{StationEvent}
@@ -29,6 +30,7 @@ pub record HasNone (s : Station) : Type 0 where
 
 -- of a unit that was sent
 pub record IsTold (period : ℕ) (u : SentUnit) : Type 0 where
+  pub reads : reading u.bytes ≡ Sound u.message
   pub spelled : HasWireNumbers u.message u.known
   pub asks : AsksForHighest u.message u.known
   pub no_later : u.known.tag.period ≤ period
@@ -61,7 +63,7 @@ starting_new n own other h = record {
   ordered = event_ordered n.station Start h.ordered;
   none = λ e. record { received = refl; acknowledged = refl };
   met = h.met;
-  told = λ i u at. let t = h.told i u at in record { spelled = t.spelled; asks = t.asks; no_later = let l = t.no_later in omega arith };
+  told = λ i u at. let t = h.told i u at in record { reads = t.reads; spelled = t.spelled; asks = t.asks; no_later = let l = t.no_later in omega arith };
   messages = h.messages;
   present = present_new view limits own other n.front (numbers_of (after_event n.station Start)) refl refl (omega arith)
       (λ i u at same. let l = (h.told i u at).no_later in absurd (omega arith));
@@ -107,7 +109,7 @@ sending_numbers s (Rep flags num) = refl
 sending_numbers s (Strt flags) = refl
 sending_numbers s (Stack flags) = refl
 
-module _ (n : Node) (own other : List SentUnit) (bytes : List ℕ) (m : MessageValue) (h : IsSound n own other) (allowed : sending_refusal n.station m ≡ None) where
+module _ (n : Node) (own other : List SentUnit) (bytes : List ℕ) (m : MessageValue) (h : IsSound n own other) (read : reading bytes ≡ Sound m) (allowed : sending_refusal n.station m ≡ None) where
   sending_told : (i : ℕ) (u : SentUnit) → slice_get (own ++ unit_of n.station bytes m ∷ []) i ≡ Some u → IsTold (after_sending n.station m).period u
   sending_told i u at = go (at_pushed own (unit_of n.station bytes m) u i at)
     where
@@ -115,8 +117,8 @@ module _ (n : Node) (own other : List SentUnit) (bytes : List ℕ) (m : MessageV
       stays = sending_stays n.station m
 
       go : (slice_get own i ≡ Some u) ⊎ ((i ≡ length own) × (unit_of n.station bytes m ≡ u)) → IsTold (after_sending n.station m).period u
-      go (inl p) = let t = h.told i u p in let e = stays.period in record { spelled = t.spelled; asks = t.asks; no_later = let l = t.no_later in omega arith }
-      go (inr p) = let e = stays.period in subst (λ (x : SentUnit). IsTold (after_sending n.station m).period x) p.1 (record { spelled = sent_spelled n.station h.ordered bytes m allowed; asks = sent_asks n.station h.ordered bytes m; no_later = omega arith })
+      go (inl p) = let t = h.told i u p in let e = stays.period in record { reads = t.reads; spelled = t.spelled; asks = t.asks; no_later = let l = t.no_later in omega arith }
+      go (inr p) = let e = stays.period in subst (λ (x : SentUnit). IsTold (after_sending n.station m).period x) p.1 (record { reads = read; spelled = sent_spelled n.station h.ordered bytes m allowed; asks = sent_asks n.station h.ordered bytes m; no_later = omega arith })
 
   pub sound_sending : IsSound (record n { station = after_sending n.station m }) (own ++ unit_of n.station bytes m ∷ []) other
   sound_sending =
