@@ -1,5 +1,5 @@
 -- In every run, what each period took is a beginning of what its partner period gave.
-use Rattle.std.proofs.Common.{◌≡◌, ℕ, zero, suc, ◌+◌, ◌-◌, ◌<◌, ◌⊎◌, inl, inr, Option, Some, List, [], ◌∷◌, length, refl, sym, ap, ◌∙◌, subst, arith}
+use Rattle.std.proofs.Common.{◌≡◌, ℕ, Bool, zero, suc, ◌+◌, ◌-◌, ◌<◌, ◌⊎◌, inl, inr, Option, Some, List, [], ◌∷◌, length, refl, sym, ap, ◌∙◌, subst, arith}
 use Rattle.std.specs.Prelude.{slice_get}
 use Rattle.std.proofs.lemmas.List.{length_push, nil_from_length}
 use Rattle.std.proofs.lemmas.Option.{same_Some}
@@ -20,7 +20,7 @@ use Rattle.dna_model.proofs.NumberedSteps.{at_pushed}
 use Rattle.dna_model.proofs.StationBounds.{IsSound}
 use Rattle.dna_model.proofs.RunBounds.{BothSound, sound_kept, start_sound}
 use Rattle.dna_model.proofs.Delivered.{GrowTo, begins_same, grow_present, IsOffered, offered_grown, begins_next}
-use Rattle.dna_model.proofs.DeliveredSteps.{Offers, Delivers, Stays, TookNothing, TookPartner, TookPacket, Took, delivers_beside, event_grows, event_offers, event_delivers, sending_grows, sending_offers, sending_delivers, arrival_took}
+use Rattle.dna_model.proofs.DeliveredSteps.{Offers, Delivers, Stays, TookPacket, TookBy, Took, delivers_beside, event_grows, event_offers, event_delivers, sending_grows, sending_offers, sending_delivers, arrival_took}
 
 item_within : {X : Type 0} (xs : List X) (i : ℕ) → i < length xs → (x : X) × (slice_get xs i ≡ Some x)
 item_within [] i within = absurd (omega arith)
@@ -29,17 +29,17 @@ item_within (x ∷ xs) (suc i) within = item_within xs i (omega arith)
 
 -- ---- a receipt
 
-module _ (s t : Station) (m : MessageValue) (u : Truth) (took : Took s t m u) where
+module _ (s t : Station) (m : MessageValue) (u : Truth) (kept : Bool) (took : Took s t m u kept) where
   stays : Stays s t
   stays = took.0
 
   receipt_grows : GrowTo (periods s) (periods t)
   receipt_grows = grow_present s t stays.earlier (subst (λ (ps : List (List ℕ)). BeginsWith ps s.packets) (sym stays.packets) (begins_same s.packets))
 
-  taken_counted : length s.taken ≡ s.received → TookNothing s t ⊎ (TookPartner s t u.tag.period ⊎ TookPacket s t m u) → length t.taken ≡ t.received
-  taken_counted c (inl n) = ap length n.taken ∙ c ∙ sym n.received
-  taken_counted c (inr (inl p)) = ap length p.taken ∙ c ∙ sym p.received
-  taken_counted c (inr (inr p)) = ap length p.taken ∙ length_push s.taken p.body ∙ ap (λ n. n + 1) c ∙ sym p.received
+  taken_counted : length s.taken ≡ s.received → TookBy s t m u kept → length t.taken ≡ t.received
+  taken_counted c (inl (n, none)) = ap length n.taken ∙ c ∙ sym n.received
+  taken_counted c (inr (inl (p, none))) = ap length p.taken ∙ c ∙ sym p.received
+  taken_counted c (inr (inr (p, was))) = ap length p.taken ∙ length_push s.taken p.body ∙ ap (λ n. n + 1) c ∙ sym p.received
 
   pub receipt_offers : (own : List SentUnit) → Offers s own → Offers t own
   receipt_offers own o = record {
@@ -60,15 +60,15 @@ module _ (s t : Station) (m : MessageValue) (u : Truth) (took : Took s t m u) wh
         let at : slice_get was.0.given (length s.taken) ≡ Some p.body = ap (slice_get was.0.given) place ∙ ap (λ (x : PastPeriod). slice_get x.given (u.number - 1)) (sym same) ∙ gave.3 in
         (was.0, was.1, subst (λ (l : List (List ℕ)). BeginsWith was.0.given l) (sym p.taken) (begins_next was.0.given s.taken p.body was.2 at))
 
-    present_delivered : TookNothing s t ⊎ (TookPartner s t u.tag.period ⊎ TookPacket s t m u) → IsDelivered t.partner t.taken ps
-    present_delivered (inl n) =
+    present_delivered : TookBy s t m u kept → IsDelivered t.partner t.taken ps
+    present_delivered (inl (n, none)) =
         subst (λ (l : List (List ℕ)). IsDelivered t.partner l ps) (sym n.taken) (subst (λ (x : Option ℕ). IsDelivered x s.taken ps) (sym n.partner) d.present)
-    present_delivered (inr (inl p)) =
+    present_delivered (inr (inl (p, nothing))) =
         let none : t.taken ≡ [] = p.taken ∙ nil_from_length s.taken (taken_count ∙ p.none) in
         let y = item_within ps u.tag.period there in
         subst (λ (x : Option ℕ). IsDelivered x t.taken ps) (sym p.partner)
         (y.0, y.1, subst (λ (l : List (List ℕ)). BeginsWith y.0.given l) (sym none) (record { rest = y.0.given; whole = refl }))
-    present_delivered (inr (inr p)) = subst (λ (x : Option ℕ). IsDelivered x t.taken ps) (sym (p.partner ∙ p.from)) (packet_delivered p)
+    present_delivered (inr (inr (p, was))) = subst (λ (x : Option ℕ). IsDelivered x t.taken ps) (sym (p.partner ∙ p.from)) (packet_delivered p)
 
     pub receipt_delivers : Delivers t ps
     receipt_delivers = record {
@@ -112,9 +112,9 @@ module _ (own other : Half Node SentUnit) (h : IsSound own.state own.sent other.
       let count = length_push other.state.station.earlier (past other.state.station) in
       let same = p.count in
       record {
-        offers = receipt_offers own.state.station (after_arrival own.state.station arrival kept) unit.message unit.known took own.sent o;
-        delivers = receipt_delivers own.state.station (after_arrival own.state.station arrival kept) unit.message unit.known took (periods other.state.station) o.taken_count (omega arith) (p.offered hint unit there) d;
-        grows = receipt_grows own.state.station (after_arrival own.state.station arrival kept) unit.message unit.known took;
+        offers = receipt_offers own.state.station (after_arrival own.state.station arrival kept) unit.message unit.known kept took own.sent o;
+        delivers = receipt_delivers own.state.station (after_arrival own.state.station arrival kept) unit.message unit.known kept took (periods other.state.station) o.taken_count (omega arith) (p.offered hint unit there) d;
+        grows = receipt_grows own.state.station (after_arrival own.state.station arrival kept) unit.message unit.known kept took;
       }
 
 abbrev pub delivery_property : World Node SentUnit → List Record → List Record → Type 0

@@ -1,7 +1,7 @@
 -- What a period took stays a beginning of what its partner period gave, whatever a record does.
-use Rattle.std.proofs.Common.{◌≡◌, ℕ, ◌+◌, ◌-◌, Bool, true, false, ◌&&◌, eqb, ltb, leb, ◌⊎◌, inl, inr, Option, Some, None, List, [], ◌∷◌, ◌++◌, length, refl, sym, ap, ◌∙◌, subst, arith, eqb-true}
+use Rattle.std.proofs.Common.{◌≡◌, cond, ℕ, ◌+◌, ◌-◌, Bool, true, false, ◌&&◌, eqb, ltb, leb, ◌⊎◌, inl, inr, Option, Some, None, List, [], ◌∷◌, ◌++◌, length, refl, sym, ap, ◌∙◌, subst, arith, eqb-true}
 use Rattle.std.specs.Prelude.{slice_get}
-use Rattle.std.proofs.lemmas.Bool.{cond_both}
+use Rattle.std.proofs.lemmas.Bool.{cond_both, and_left, and_parts}
 use Rattle.std.proofs.lemmas.List.{length_push}
 use Rattle.two_nodes.proofs.Listed.{next_at}
 use Rattle.std.proofs.lemmas.Slice.Eq.{bytes_eq-Decides}
@@ -13,13 +13,13 @@ use Rattle.dna_model.specs.declared.state.State.{State}
 use Rattle.dna_model.specs.declared.state.State.TheVariants.{Halted, Istrt, Astrt, Running}
 use Rattle.dna_model.specs.declared.state.StationEvent.{StationEvent}
 use Rattle.dna_model.specs.declared.state.StationEvent.TheVariants.{Start, Halt}
-use Rattle.dna_model.specs.declared.refusal.StationRefusal.TheVariants.{Changed}
+use Rattle.dna_model.specs.declared.refusal.StationRefusal.TheVariants.{Changed, CrossedPeriod}
 use Rattle.dna_model.specs.Station.{Station, PastPeriod, past, given, after_event}
 use Rattle.dna_model.specs.Delivery.{periods, BeginsWith, IsDelivered}
 use Rattle.dna_model.specs.Periods.{crossed}
 use Rattle.dna_model.specs.Sending.{is_new, is_packet, as_first_given, data_refusal, sending_refusal, sending_refusal_in, after_sending, with_packet}
 use Rattle.dna_model.specs.Truth.{Truth, truth_of}
-use Rattle.dna_model.specs.Arriving.{ArrivalValue, Sound, HeaderBad, DataBad, is_next, acknowledged_by, responded, with_data, data_arrived, asked, arrived_in, damaged_in, arrival_refusal, after_arrival}
+use Rattle.dna_model.specs.Arriving.{ArrivalValue, Sound, HeaderBad, DataBad, is_next, acknowledged_by, responded, with_data, data_arrived, asked, arrived_in, damaged_in, set_back, arrival_refusal, after_arrival, standing, takes_in, keep_refusal}
 use Rattle.dna_model.specs.Bounds.{IsOrdered, reads_numbers}
 use Rattle.dna_model.specs.Line.{SentUnit}
 use Rattle.dna_model.proofs.Ordered.{passed, data_passed}
@@ -183,8 +183,16 @@ pub record TookPacket (s t : Station) (m : MessageValue) (u : Truth) : Type 0 wh
   pub taken : t.taken ≡ s.taken ++ body ∷ []
   pub received : t.received ≡ s.received + 1
 
-abbrev pub Took : Station → Station → MessageValue → Truth → Type 0
-Took s t m u = Stays s t × (TookNothing s t ⊎ (TookPartner s t u.tag.period ⊎ TookPacket s t m u))
+-- and the receipt says whether a packet was kept
+abbrev pub TookBy : Station → Station → MessageValue → Truth → Bool → Type 0
+TookBy s t m u kept = (TookNothing s t × (kept ≡ false)) ⊎ ((TookPartner s t u.tag.period × (kept ≡ false)) ⊎ (TookPacket s t m u × (kept ≡ true)))
+
+abbrev pub Took : Station → Station → MessageValue → Truth → Bool → Type 0
+Took s t m u kept = Stays s t × TookBy s t m u kept
+
+pub unkept : (kept : Bool) → (kept ≡ true → false ≡ true) → kept ≡ false
+unkept true claims = sym (claims refl)
+unkept false claims = refl
 
 stays_same : (s : Station) → Stays s s
 stays_same s = record { earlier = refl; period = refl; packets = refl }
@@ -200,61 +208,75 @@ responded_stays : (s : Station) (r : ℕ) → Stays s (responded s r) × TookNot
 responded_stays s r = acknowledged_stays s (ltb s.acknowledged r && leb r (given s)) r
 
 module _ (s : Station) (u : Truth) where
-  data_took : (t : Station) → Stays s t × TookNothing s t → (flags : Flags) (resp num : ℕ) (body : List ℕ) → s.partner ≡ Some u.tag.period → (next kept : Bool) → (next ≡ true → u.number ≡ s.received + 1) → Took s (with_data next kept t body) (Data flags resp num body) u
-  data_took t k flags resp num body from true true fits =
+  data_took : (t : Station) → Stays s t × TookNothing s t → (flags : Flags) (resp num : ℕ) (body : List ℕ) → s.partner ≡ Some u.tag.period → (next kept : Bool) → (next ≡ true → u.number ≡ s.received + 1) → (kept ≡ true → next ≡ true) →
+      Took s (with_data next kept t body) (Data flags resp num body) u kept
+  data_took t k flags resp num body from true true fits claims =
       let stays = k.0 in let nothing = k.1 in (
         record { earlier = stays.earlier; period = stays.period; packets = stays.packets },
-        inr (inr (record {
-          flags = flags;
-          resp = resp;
-          num = num;
-          body = body;
-          message = refl;
-          from = from;
-          next = fits refl;
-          partner = nothing.partner;
-          taken = ap (λ (l : List (List ℕ)). l ++ body ∷ []) nothing.taken;
-          received = ap (λ n. n + 1) nothing.received;
-        })),
+        inr (inr (
+          record {
+            flags = flags;
+            resp = resp;
+            num = num;
+            body = body;
+            message = refl;
+            from = from;
+            next = fits refl;
+            partner = nothing.partner;
+            taken = ap (λ (l : List (List ℕ)). l ++ body ∷ []) nothing.taken;
+            received = ap (λ n. n + 1) nothing.received;
+          },
+          refl,
+        )),
       )
-  data_took t k flags resp num body from true false fits =
+  data_took t k flags resp num body from true false fits claims =
       let stays = k.0 in let nothing = k.1 in
-      (record { earlier = stays.earlier; period = stays.period; packets = stays.packets }, inl (record { partner = nothing.partner; taken = nothing.taken; received = nothing.received }))
-  data_took t k flags resp num body from false kept fits = (k.0, inl k.1)
+      (record { earlier = stays.earlier; period = stays.period; packets = stays.packets }, inl (record { partner = nothing.partner; taken = nothing.taken; received = nothing.received }, refl))
+  data_took t k flags resp num body from false kept fits claims = (k.0, inl (k.1, unkept kept claims))
 
-  asked_took : (b : Bool) (m : MessageValue) → Took s (asked b s) m u
-  asked_took true m = (stays_same s, inl (took_nothing s))
-  asked_took false m = (record { earlier = refl; period = refl; packets = refl }, inl (record { partner = refl; taken = refl; received = refl }))
+  module _ (kept : Bool) where
+    asked_took : (b : Bool) (m : MessageValue) → kept ≡ false → Took s (asked b s) m u kept
+    asked_took true m none = (stays_same s, inl (took_nothing s, none))
+    asked_took false m none = (record { earlier = refl; period = refl; packets = refl }, inl (record { partner = refl; taken = refl; received = refl }, none))
 
-  nothing_took : (t : Station) (m : MessageValue) → Stays s t × TookNothing s t → Took s t m u
-  nothing_took t m k = (k.0, inl k.1)
+    nothing_took : (t : Station) (m : MessageValue) → Stays s t × TookNothing s t → kept ≡ false → Took s t m u kept
+    nothing_took t m k none = (k.0, inl (k.1, none))
 
-  took_in : (state : State) (m : MessageValue) (kept : Bool) → (is_starting state ≡ true → HasNone s) → (reads_numbers state m ≡ true → is_numbered m ≡ true → IsOfPair s u.tag) → Took s (arrived_in state s m u kept) m u
-  took_in Istrt (Strt flags) kept none pair = (record { earlier = refl; period = refl; packets = refl }, inr (inl (record { partner = refl; taken = refl; received = refl; none = (none refl).received })))
-  took_in Istrt (Stack flags) kept none pair = (record { earlier = refl; period = refl; packets = refl }, inr (inl (record { partner = refl; taken = refl; received = refl; none = (none refl).received })))
-  took_in Astrt (Strt flags) kept none pair = (record { earlier = refl; period = refl; packets = refl }, inr (inl (record { partner = refl; taken = refl; received = refl; none = (none refl).received })))
-  took_in Astrt (Stack flags) kept none pair = (record { earlier = refl; period = refl; packets = refl }, inr (inl (record { partner = refl; taken = refl; received = refl; none = (none refl).received })))
-  took_in Astrt (Ack flags resp) kept none pair =
-      cond_both (eqb resp 0) _ s (λ (t : Station). Took s t (Ack flags resp) u) (λ e. (record { earlier = refl; period = refl; packets = refl }, inl (record { partner = refl; taken = refl; received = refl })))
-      (λ e. nothing_took s (Ack flags resp) (stays_same s, took_nothing s))
-  took_in Astrt (Data flags resp num body) kept none pair =
-      cond_both (eqb resp 0) _ s (λ (t : Station). Took s t (Data flags resp num body) u) (λ e. begun (pair e refl)) (λ e. nothing_took s (Data flags resp num body) (stays_same s, took_nothing s))
-    where
-      begun : IsOfPair s u.tag → Took s (data_arrived (record s { state = Running }) u body kept) (Data flags resp num body) u
-      begun p =
-          let k = responded_stays (record s { state = Running }) u.response in
-          let stays = k.0 in let nothing = k.1 in
-          data_took (responded (record s { state = Running }) u.response) (record { earlier = stays.earlier; period = stays.period; packets = stays.packets }, record { partner = nothing.partner; taken = nothing.taken; received = nothing.received })
-          flags resp num body p.from (is_next (record s { state = Running }) u) kept (λ f. eqb-true u.number (s.received + 1) f)
-  took_in Running (Strt flags) kept none pair = (record { earlier = refl; period = refl; packets = refl }, inl (record { partner = refl; taken = refl; received = refl }))
-  took_in Running (Ack flags resp) kept none pair = nothing_took _ (Ack flags resp) (responded_stays s u.response)
-  took_in Running (Nak flags reason resp) kept none pair =
-      let k = responded_stays s u.response in let stays = k.0 in let nothing = k.1 in
-      (record { earlier = stays.earlier; period = stays.period; packets = stays.packets }, inl (record { partner = nothing.partner; taken = nothing.taken; received = nothing.received }))
-  took_in Running (Rep flags num) kept none pair = asked_took (eqb u.number s.received) (Rep flags num)
-  took_in Running (Data flags resp num body) kept none pair =
-      data_took (responded s u.response) (responded_stays s u.response) flags resp num body (pair refl refl).from (is_next s u) kept (λ f. eqb-true u.number (s.received + 1) f)
-  took_in state m kept none pair = nothing_took s m (stays_same s, took_nothing s)
+    -- a state, or a partner, and no more
+    only_state : (t : Station) (m : MessageValue) → t.earlier ≡ s.earlier → t.period ≡ s.period → t.packets ≡ s.packets → t.partner ≡ s.partner → t.taken ≡ s.taken → t.received ≡ s.received → kept ≡ false → Took s t m u kept
+    only_state t m earlier period packets partner taken received none = (record { earlier = earlier; period = period; packets = packets }, inl (record { partner = partner; taken = taken; received = received }, none))
+
+    only_partner : (t : Station) (m : MessageValue) → HasNone s → t.earlier ≡ s.earlier → t.period ≡ s.period → t.packets ≡ s.packets → t.partner ≡ Some u.tag.period → t.taken ≡ s.taken → t.received ≡ s.received → kept ≡ false → Took s t m u kept
+    only_partner t m h earlier period packets partner taken received none =
+        (record { earlier = earlier; period = period; packets = packets }, inr (inl (record { partner = partner; taken = taken; received = received; none = h.received }, none)))
+
+    took_in : (state : State) (m : MessageValue) → (is_starting state ≡ true → HasNone s) → (reads_numbers state m ≡ true → is_numbered m ≡ true → IsOfPair s u.tag) → (kept ≡ true → takes_in state s m u ≡ true) → Took s (arrived_in state s m u kept) m u kept
+    took_in Istrt (Strt flags) none pair claims = only_partner _ (Strt flags) (none refl) refl refl refl refl refl refl (unkept kept claims)
+    took_in Istrt (Stack flags) none pair claims = only_partner _ (Stack flags) (none refl) refl refl refl refl refl refl (unkept kept claims)
+    took_in Astrt (Strt flags) none pair claims = only_partner _ (Strt flags) (none refl) refl refl refl refl refl refl (unkept kept claims)
+    took_in Astrt (Stack flags) none pair claims = only_partner _ (Stack flags) (none refl) refl refl refl refl refl refl (unkept kept claims)
+    took_in Astrt (Ack flags resp) none pair claims =
+        cond_both (eqb resp 0) _ s (λ (t : Station). Took s t (Ack flags resp) u kept) (λ e. only_state _ (Ack flags resp) refl refl refl refl refl refl (unkept kept claims))
+        (λ e. nothing_took s (Ack flags resp) (stays_same s, took_nothing s) (unkept kept claims))
+    took_in Astrt (Data flags resp num body) none pair claims =
+        cond_both (eqb resp 0) _ s (λ (t : Station). Took s t (Data flags resp num body) u kept) (λ e. begun (pair e refl))
+        (λ e. nothing_took s (Data flags resp num body) (stays_same s, took_nothing s) (unkept kept (λ k. sym (and_left (eqb resp 0) (is_next s u) e) ∙ claims k)))
+      where
+        begun : IsOfPair s u.tag → Took s (data_arrived (record s { state = Running }) u body kept) (Data flags resp num body) u kept
+        begun p =
+            let k = responded_stays (record s { state = Running }) u.response in
+            let stays = k.0 in let nothing = k.1 in
+            data_took (responded (record s { state = Running }) u.response) (record { earlier = stays.earlier; period = stays.period; packets = stays.packets }, record { partner = nothing.partner; taken = nothing.taken; received = nothing.received })
+            flags resp num body p.from (is_next (record s { state = Running }) u) kept (λ f. eqb-true u.number (s.received + 1) f) (λ f. (and_parts (eqb resp 0) (is_next s u) (claims f)).1)
+    took_in Running (Strt flags) none pair claims = only_state _ (Strt flags) refl refl refl refl refl refl (unkept kept claims)
+    took_in Running (Ack flags resp) none pair claims = nothing_took _ (Ack flags resp) (responded_stays s u.response) (unkept kept claims)
+    took_in Running (Nak flags reason resp) none pair claims =
+        let k = responded_stays s u.response in let stays = k.0 in let nothing = k.1 in
+        only_state (set_back (responded s u.response)) (Nak flags reason resp) stays.earlier stays.period stays.packets nothing.partner nothing.taken nothing.received (unkept kept claims)
+    took_in Running (Rep flags num) none pair claims = asked_took (eqb u.number s.received) (Rep flags num) (unkept kept claims)
+    took_in Running (Data flags resp num body) none pair claims =
+        data_took (responded s u.response) (responded_stays s u.response) flags resp num body (pair refl refl).from (is_next s u) kept (λ f. eqb-true u.number (s.received + 1) f) claims
+    took_in state m none pair claims = nothing_took s m (stays_same s, took_nothing s) (unkept kept claims)
 
 damaged_stays : (s : Station) (state : State) (reason : NakReason) → Stays s (damaged_in state reason s) × TookNothing s (damaged_in state reason s)
 damaged_stays s Running reason = (record { earlier = refl; period = refl; packets = refl }, record { partner = refl; taken = refl; received = refl })
@@ -262,9 +284,23 @@ damaged_stays s Halted reason = (stays_same s, took_nothing s)
 damaged_stays s Istrt reason = (stays_same s, took_nothing s)
 damaged_stays s Astrt reason = (stays_same s, took_nothing s)
 
-pub arrival_took : (s : Station) (unit : SentUnit) (bytes : List ℕ) (arrival : ArrivalValue Truth) (kept : Bool) → ComesOf unit bytes arrival → (is_starting s.state ≡ true → HasNone s) → arrival_refusal crossed s arrival kept ≡ None → Took s (after_arrival s arrival kept) unit.message unit.known
+-- what is claimed to be kept can be taken
+pub claim_allowed : (takes kept : Bool) → keep_refusal takes kept ≡ None → kept ≡ true → takes ≡ true
+claim_allowed true kept e claims = refl
+claim_allowed false true e claims = absurd cc
+claim_allowed false false e claims = claims
+
+sound_claim : (s : Station) (m : MessageValue) (u : Truth) (kept : Bool) → arrival_refusal crossed s (Sound m u) kept ≡ None → kept ≡ true → takes_in s.state s m u ≡ true
+sound_claim s m u kept = go (crossed (standing s) m u.tag)
+  where
+    go : (b : Bool) → cond b (Some CrossedPeriod) (keep_refusal (takes_in s.state s m u) kept) ≡ None → kept ≡ true → takes_in s.state s m u ≡ true
+    go true allowed = absurd cc
+    go false allowed = claim_allowed (takes_in s.state s m u) kept allowed
+
+pub arrival_took : (s : Station) (unit : SentUnit) (bytes : List ℕ) (arrival : ArrivalValue Truth) (kept : Bool) → ComesOf unit bytes arrival → (is_starting s.state ≡ true → HasNone s) → arrival_refusal crossed s arrival kept ≡ None → Took s (after_arrival s arrival kept) unit.message unit.known kept
 arrival_took s unit bytes (Sound m u) kept (Itself same) none allowed =
-    took_in s unit.known s.state unit.message kept none
+    took_in s unit.known kept s.state unit.message none
     (λ reads numbered. acts_of_pair s unit.message unit.known.tag reads numbered (not_crossed s unit.message unit.known kept allowed))
-arrival_took s unit bytes HeaderBad kept BadHeader none allowed = nothing_took s unit.known _ unit.message (damaged_stays s s.state HeaderCheck)
-arrival_took s unit bytes DataBad kept BadData none allowed = nothing_took s unit.known _ unit.message (damaged_stays s s.state DataCheck)
+    (sound_claim s unit.message unit.known kept allowed)
+arrival_took s unit bytes HeaderBad kept BadHeader none allowed = nothing_took s unit.known kept _ unit.message (damaged_stays s s.state HeaderCheck) (unkept kept (claim_allowed false kept allowed))
+arrival_took s unit bytes DataBad kept BadData none allowed = nothing_took s unit.known kept _ unit.message (damaged_stays s s.state DataCheck) (unkept kept (claim_allowed false kept allowed))

@@ -18,5 +18,6 @@ mod Loads
 mod Delivered
 mod DeliveredSteps
 mod DeliveredRuns
+mod DeliveredCaptures
 mod CutLabel
 mod Ordered

@@ -1,5 +1,5 @@
 -- What each period of a station took, beside what its partner period gave.
-use Rattle.std.specs.Prelude.{◌≡◌, ℕ, Bool, true, false, Option, Some, None, List, [], ◌∷◌, ◌++◌, slice_get, fold}
+use Rattle.std.specs.Prelude.{◌≡◌, ℕ, Bool, true, false, Option, Some, None, List, [], ◌∷◌, ◌++◌, slice_get, map, fold}
 use Rattle.ddcmp_msg.specs.Message.{Data}
 use Rattle.ddcmp_msg.specs.Reading.{ReadingValue, reading, Sound}
 use Rattle.capture.specs.declared.record.Record.{Record}
@@ -25,6 +25,10 @@ IsDelivered (Some partner) taken of_other = (there : PastPeriod) × (slice_get o
 -- in every period of this station
 abbrev pub DeliversFrom : Station → Station → Type 0
 DeliversFrom own other = (q : ℕ) (period : PastPeriod) → slice_get (periods own) q ≡ Some period → IsDelivered period.partner period.taken (periods other)
+
+-- what each period took
+abbrev pub taken_by_period : Station → List (List (List ℕ))
+taken_by_period s = map (λ (period : PastPeriod). period.taken) (periods s)
 
 -- ---- off a capture
 

@@ -8,7 +8,7 @@ ghost use Rattle.capture.specs.declared.record.Record.{Record};
 ghost use Rattle.dna_model.specs.declared.state.StationEvent.{StationEvent};
 ghost use Rattle.dna_model.specs.declared.tag.Tag.{Tag};
 ghost use Rattle.dna_model.specs.Station.{Station, new_station, given, after_event};
-ghost use Rattle.dna_model.specs.Delivery.{DeliversFrom};
+ghost use Rattle.dna_model.specs.Delivery.{DeliversFrom, delivered, taken_by_period};
 ghost use Rattle.dna_model.specs.Periods.{PeriodRule, crossed};
 ghost use Rattle.dna_model.specs.Sending.{sending_refusal, after_sending};
 ghost use Rattle.dna_model.specs.Truth.{Truth};
@@ -40,6 +40,12 @@ pub fn delivered_in_order()
         → Run pair start of_a of_b w → DeliversFrom w.a.state.station w.b.state.station }
     ensures of_b { (w : World Node SentUnit) (of_a of_b : List Record)
         → Run pair start of_a of_b w → DeliversFrom w.b.state.station w.a.state.station }
+
+    // What it took is the data of the kept receipts of its capture.
+    ensures a_captured { (w : World Node SentUnit) (of_a of_b : List Record)
+        → Run pair start of_a of_b w → delivered of_a ≡ taken_by_period w.a.state.station }
+    ensures b_captured { (w : World Node SentUnit) (of_a of_b : List Record)
+        → Run pair start of_a of_b w → delivered of_b ≡ taken_by_period w.b.state.station }
 {
     always::<Brand>();
 }
