@@ -64,7 +64,7 @@ module _ (s t : Station) (m : MessageValue) (u : Truth) (kept : Bool) (took : To
     present_delivered (inl (n, none)) =
         subst (λ (l : List (List ℕ)). IsDelivered t.partner l ps) (sym n.taken) (subst (λ (x : Option ℕ). IsDelivered x s.taken ps) (sym n.partner) d.present)
     present_delivered (inr (inl (p, nothing))) =
-        let none : t.taken ≡ [] = p.taken ∙ nil_from_length s.taken (taken_count ∙ p.none) in
+        let none : t.taken ≡ [] = p.taken ∙ nil_from_length s.taken (taken_count ∙ p.none.received) in
         let y = item_within ps u.tag.period there in
         subst (λ (x : Option ℕ). IsDelivered x t.taken ps) (sym p.partner)
         (y.0, y.1, subst (λ (l : List (List ℕ)). BeginsWith y.0.given l) (sym none) (record { rest = y.0.given; whole = refl }))

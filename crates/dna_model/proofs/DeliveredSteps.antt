@@ -169,7 +169,7 @@ pub record TookPartner (s t : Station) (from : ℕ) : Type 0 where
   pub partner : t.partner ≡ Some from
   pub taken : t.taken ≡ s.taken
   pub received : t.received ≡ s.received
-  pub none : s.received ≡ 0
+  pub none : HasNone s
 
 pub record TookPacket (s t : Station) (m : MessageValue) (u : Truth) : Type 0 where
   pub flags : Flags
@@ -178,6 +178,7 @@ pub record TookPacket (s t : Station) (m : MessageValue) (u : Truth) : Type 0 wh
   pub body : List ℕ
   pub message : m ≡ Data flags resp num body
   pub from : s.partner ≡ Some u.tag.period
+  pub to : u.tag.partner ≡ Some s.period
   pub next : u.number ≡ s.received + 1
   pub partner : t.partner ≡ s.partner
   pub taken : t.taken ≡ s.taken ++ body ∷ []
@@ -208,9 +209,9 @@ responded_stays : (s : Station) (r : ℕ) → Stays s (responded s r) × TookNot
 responded_stays s r = acknowledged_stays s (ltb s.acknowledged r && leb r (given s)) r
 
 module _ (s : Station) (u : Truth) where
-  data_took : (t : Station) → Stays s t × TookNothing s t → (flags : Flags) (resp num : ℕ) (body : List ℕ) → s.partner ≡ Some u.tag.period → (next kept : Bool) → (next ≡ true → u.number ≡ s.received + 1) → (kept ≡ true → next ≡ true) →
+  data_took : (t : Station) → Stays s t × TookNothing s t → (flags : Flags) (resp num : ℕ) (body : List ℕ) → IsOfPair s u.tag → (next kept : Bool) → (next ≡ true → u.number ≡ s.received + 1) → (kept ≡ true → next ≡ true) →
       Took s (with_data next kept t body) (Data flags resp num body) u kept
-  data_took t k flags resp num body from true true fits claims =
+  data_took t k flags resp num body of_pair true true fits claims =
       let stays = k.0 in let nothing = k.1 in (
         record { earlier = stays.earlier; period = stays.period; packets = stays.packets },
         inr (inr (
@@ -220,7 +221,8 @@ module _ (s : Station) (u : Truth) where
             num = num;
             body = body;
             message = refl;
-            from = from;
+            from = of_pair.from;
+            to = of_pair.to;
             next = fits refl;
             partner = nothing.partner;
             taken = ap (λ (l : List (List ℕ)). l ++ body ∷ []) nothing.taken;
@@ -229,10 +231,10 @@ module _ (s : Station) (u : Truth) where
           refl,
         )),
       )
-  data_took t k flags resp num body from true false fits claims =
+  data_took t k flags resp num body of_pair true false fits claims =
       let stays = k.0 in let nothing = k.1 in
       (record { earlier = stays.earlier; period = stays.period; packets = stays.packets }, inl (record { partner = nothing.partner; taken = nothing.taken; received = nothing.received }, refl))
-  data_took t k flags resp num body from false kept fits claims = (k.0, inl (k.1, unkept kept claims))
+  data_took t k flags resp num body of_pair false kept fits claims = (k.0, inl (k.1, unkept kept claims))
 
   module _ (kept : Bool) where
     asked_took : (b : Bool) (m : MessageValue) → kept ≡ false → Took s (asked b s) m u kept
@@ -248,7 +250,7 @@ module _ (s : Station) (u : Truth) where
 
     only_partner : (t : Station) (m : MessageValue) → HasNone s → t.earlier ≡ s.earlier → t.period ≡ s.period → t.packets ≡ s.packets → t.partner ≡ Some u.tag.period → t.taken ≡ s.taken → t.received ≡ s.received → kept ≡ false → Took s t m u kept
     only_partner t m h earlier period packets partner taken received none =
-        (record { earlier = earlier; period = period; packets = packets }, inr (inl (record { partner = partner; taken = taken; received = received; none = h.received }, none)))
+        (record { earlier = earlier; period = period; packets = packets }, inr (inl (record { partner = partner; taken = taken; received = received; none = h }, none)))
 
     took_in : (state : State) (m : MessageValue) → (is_starting state ≡ true → HasNone s) → (reads_numbers state m ≡ true → is_numbered m ≡ true → IsOfPair s u.tag) → (kept ≡ true → takes_in state s m u ≡ true) → Took s (arrived_in state s m u kept) m u kept
     took_in Istrt (Strt flags) none pair claims = only_partner _ (Strt flags) (none refl) refl refl refl refl refl refl (unkept kept claims)
@@ -267,7 +269,7 @@ module _ (s : Station) (u : Truth) where
             let k = responded_stays (record s { state = Running }) u.response in
             let stays = k.0 in let nothing = k.1 in
             data_took (responded (record s { state = Running }) u.response) (record { earlier = stays.earlier; period = stays.period; packets = stays.packets }, record { partner = nothing.partner; taken = nothing.taken; received = nothing.received })
-            flags resp num body p.from (is_next (record s { state = Running }) u) kept (λ f. eqb-true u.number (s.received + 1) f) (λ f. (and_parts (eqb resp 0) (is_next s u) (claims f)).1)
+            flags resp num body p (is_next (record s { state = Running }) u) kept (λ f. eqb-true u.number (s.received + 1) f) (λ f. (and_parts (eqb resp 0) (is_next s u) (claims f)).1)
     took_in Running (Strt flags) none pair claims = only_state _ (Strt flags) refl refl refl refl refl refl (unkept kept claims)
     took_in Running (Ack flags resp) none pair claims = nothing_took _ (Ack flags resp) (responded_stays s u.response) (unkept kept claims)
     took_in Running (Nak flags reason resp) none pair claims =
@@ -275,7 +277,7 @@ module _ (s : Station) (u : Truth) where
         only_state (set_back (responded s u.response)) (Nak flags reason resp) stays.earlier stays.period stays.packets nothing.partner nothing.taken nothing.received (unkept kept claims)
     took_in Running (Rep flags num) none pair claims = asked_took (eqb u.number s.received) (Rep flags num) (unkept kept claims)
     took_in Running (Data flags resp num body) none pair claims =
-        data_took (responded s u.response) (responded_stays s u.response) flags resp num body (pair refl refl).from (is_next s u) kept (λ f. eqb-true u.number (s.received + 1) f) claims
+        data_took (responded s u.response) (responded_stays s u.response) flags resp num body (pair refl refl) (is_next s u) kept (λ f. eqb-true u.number (s.received + 1) f) claims
     took_in state m none pair claims = nothing_took s m (stays_same s, took_nothing s) (unkept kept claims)
 
 damaged_stays : (s : Station) (state : State) (reason : NakReason) → Stays s (damaged_in state reason s) × TookNothing s (damaged_in state reason s)

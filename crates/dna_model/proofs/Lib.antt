@@ -19,5 +19,9 @@ mod Delivered
 mod DeliveredSteps
 mod DeliveredRuns
 mod DeliveredCaptures
+mod Partnered
+mod InOrder
+mod Among
+mod InOrderRuns
 mod CutLabel
 mod Ordered

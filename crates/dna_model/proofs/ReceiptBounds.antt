@@ -140,7 +140,7 @@ module _ (n : Node) (own other : List SentUnit) (h : IsSound n own other) (their
       let few = h.present.few in
       record {
         period = period;
-        none = λ e. record { received = received ∙ none.received; acknowledged = acknowledged ∙ none.acknowledged };
+        none = λ e. record { received = received ∙ none.received; acknowledged = acknowledged ∙ none.acknowledged; packets = packets ∙ none.packets };
         present = present_new view limits own other (k + 1) (numbers_of t) (received ∙ none.received) (acknowledged ∙ none.acknowledged) (omega arith)
             (λ i m at same.
             let q = h.present.up_to i m at (same ∙ period) in let g = q.given in let r = q.received in let l = q.last in

@@ -4,11 +4,11 @@ use Rattle.std.specs.Prelude.{slice_get}
 use Rattle.ddcmp_msg.specs.Message.{MessageValue, Data, Ack, Nak, Rep, Strt, Stack}
 use Rattle.ddcmp_msg.specs.Reading.{reading, Sound}
 use Rattle.dna_model.specs.declared.state.State.{State}
-use Rattle.dna_model.specs.declared.state.State.TheVariants.{Istrt, Astrt}
+use Rattle.dna_model.specs.declared.state.State.TheVariants.{Halted, Istrt, Astrt, Running}
 use Rattle.dna_model.specs.declared.state.StationEvent.{StationEvent}
 use Rattle.dna_model.specs.declared.state.StationEvent.TheVariants.{Start, Halt}
 use Rattle.dna_model.specs.Station.{Station, given, after_event}
-use Rattle.dna_model.specs.Sending.{sending_refusal, after_sending}
+use Rattle.dna_model.specs.Sending.{sending_refusal, sending_refusal_in, after_sending}
 use Rattle.dna_model.specs.Bounds.{IsOrdered, HasWireNumbers}
 use Rattle.dna_model.specs.Line.{SentUnit}
 use Rattle.dna_model.specs.Node.{Node}
@@ -23,10 +23,11 @@ is_starting Istrt = true
 is_starting Astrt = true
 is_starting state = false
 
--- nothing is received or acknowledged
+-- nothing is received, acknowledged or given
 pub record HasNone (s : Station) : Type 0 where
   pub received : s.received ≡ 0
   pub acknowledged : s.acknowledged ≡ 0
+  pub packets : s.packets ≡ []
 
 -- of a unit that was sent
 pub record IsTold (period : ℕ) (u : SentUnit) : Type 0 where
@@ -61,7 +62,7 @@ sound_beside n own other x h = record {
 starting_new : (n : Node) (own other : List SentUnit) → IsSound n own other → IsSound (record n { station = after_event n.station Start }) own other
 starting_new n own other h = record {
   ordered = event_ordered n.station Start h.ordered;
-  none = λ e. record { received = refl; acknowledged = refl };
+  none = λ e. record { received = refl; acknowledged = refl; packets = refl };
   met = h.met;
   told = λ i u at. let t = h.told i u at in record { reads = t.reads; spelled = t.spelled; asks = t.asks; no_later = let l = t.no_later in omega arith };
   messages = h.messages;
@@ -93,13 +94,25 @@ pub record StaysAs (s t : Station) : Type 0 where
   pub received : t.received ≡ s.received
   pub acknowledged : t.acknowledged ≡ s.acknowledged
 
-sending_stays : (s : Station) (m : MessageValue) → StaysAs s (after_sending s m)
+pub sending_stays : (s : Station) (m : MessageValue) → StaysAs s (after_sending s m)
 sending_stays s (Data flags resp num body) = record { state = refl; period = refl; partner = refl; received = refl; acknowledged = refl }
 sending_stays s (Ack flags resp) = record { state = refl; period = refl; partner = refl; received = refl; acknowledged = refl }
 sending_stays s (Nak flags reason resp) = record { state = refl; period = refl; partner = refl; received = refl; acknowledged = refl }
 sending_stays s (Rep flags num) = record { state = refl; period = refl; partner = refl; received = refl; acknowledged = refl }
 sending_stays s (Strt flags) = record { state = refl; period = refl; partner = refl; received = refl; acknowledged = refl }
 sending_stays s (Stack flags) = record { state = refl; period = refl; partner = refl; received = refl; acknowledged = refl }
+
+-- before RUNNING no packet is given
+nothing_given : (s : Station) (state : State) (m : MessageValue) → sending_refusal_in state s m ≡ None → is_starting state ≡ true → (after_sending s m).packets ≡ s.packets
+nothing_given s Istrt (Data flags resp num body) e starting = absurd cc
+nothing_given s Astrt (Data flags resp num body) e starting = absurd cc
+nothing_given s Halted (Data flags resp num body) e starting = absurd cc
+nothing_given s Running (Data flags resp num body) e starting = absurd cc
+nothing_given s state (Ack flags resp) e starting = refl
+nothing_given s state (Nak flags reason resp) e starting = refl
+nothing_given s state (Rep flags num) e starting = refl
+nothing_given s state (Strt flags) e starting = refl
+nothing_given s state (Stack flags) e starting = refl
 
 sending_numbers : (s : Station) (m : MessageValue) → record (numbers_of s) { given = given (after_sending s m); last = s.received } ≡ numbers_of (after_sending s m)
 sending_numbers s (Data flags resp num body) = refl
@@ -127,7 +140,7 @@ module _ (n : Node) (own other : List SentUnit) (bytes : List ℕ) (m : MessageV
         ordered = sending_ordered n.station h.ordered m allowed;
         none = λ e.
             let k = h.none (ap is_starting (sym stays.state) ∙ e) in
-            record { received = stays.received ∙ k.received; acknowledged = stays.acknowledged ∙ k.acknowledged };
+            record { received = stays.received ∙ k.received; acknowledged = stays.acknowledged ∙ k.acknowledged; packets = nothing_given n.station n.station.state m allowed (ap is_starting (sym stays.state) ∙ e) ∙ k.packets };
         met = h.met;
         told = sending_told;
         messages = numbered_sending view limits own other n.front (numbers_of n.station) (given (after_sending n.station m)) n.station.received (unit_of n.station bytes m) h.messages h.present h.met (sending_is n.station h.ordered bytes m allowed);

@@ -1,5 +1,5 @@
 -- What each period of a station took, beside what its partner period gave.
-use Rattle.std.specs.Prelude.{◌≡◌, ℕ, Bool, true, false, Option, Some, None, List, [], ◌∷◌, ◌++◌, slice_get, map, fold}
+use Rattle.std.specs.Prelude.{◌≡◌, ℕ, Bool, true, false, Option, Some, None, List, [], ◌∷◌, ◌++◌, slice_get, map, flat_map, fold}
 use Rattle.ddcmp_msg.specs.Message.{Data}
 use Rattle.ddcmp_msg.specs.Reading.{ReadingValue, reading, Sound}
 use Rattle.capture.specs.declared.record.Record.{Record}
@@ -61,3 +61,15 @@ delivered_by periods (Sent bytes) = periods
 -- the data of the kept receipts of each period, in order, period 0 first
 abbrev pub delivered : List Record → List (List (List ℕ))
 delivered records = fold delivered_by ([] ∷ []) records
+
+-- ---- over all periods
+
+-- the first packets stand among the second ones, in order
+pub data AreAmong : List (List ℕ) → List (List ℕ) → Type 0 where
+  NoMore : {ys : List (List ℕ)} → AreAmong [] ys
+  Next : {y : List ℕ} {xs ys : List (List ℕ)} → AreAmong xs ys → AreAmong (y ∷ xs) (y ∷ ys)
+  Skipped : {y : List ℕ} {xs ys : List (List ℕ)} → AreAmong xs ys → AreAmong xs (y ∷ ys)
+
+-- all packets that a station ever took, in order
+abbrev pub all_taken : Station → List (List ℕ)
+all_taken s = flat_map (λ (period : PastPeriod). period.taken) (periods s)

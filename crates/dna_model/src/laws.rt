@@ -7,8 +7,8 @@ ghost use Rattle.ddcmp_msg.specs.Message.{MessageValue};
 ghost use Rattle.capture.specs.declared.record.Record.{Record};
 ghost use Rattle.dna_model.specs.declared.state.StationEvent.{StationEvent};
 ghost use Rattle.dna_model.specs.declared.tag.Tag.{Tag};
-ghost use Rattle.dna_model.specs.Station.{Station, new_station, given, after_event};
-ghost use Rattle.dna_model.specs.Delivery.{DeliversFrom, delivered, taken_by_period};
+ghost use Rattle.dna_model.specs.Station.{Station, new_station, given, offered, after_event};
+ghost use Rattle.dna_model.specs.Delivery.{AreAmong, DeliversFrom, all_taken, delivered, taken_by_period};
 ghost use Rattle.dna_model.specs.Periods.{PeriodRule, crossed};
 ghost use Rattle.dna_model.specs.Sending.{sending_refusal, after_sending};
 ghost use Rattle.dna_model.specs.Truth.{Truth};
@@ -46,6 +46,12 @@ pub fn delivered_in_order()
         → Run pair start of_a of_b w → delivered of_a ≡ taken_by_period w.a.state.station }
     ensures b_captured { (w : World Node SentUnit) (of_a of_b : List Record)
         → Run pair start of_a of_b w → delivered of_b ≡ taken_by_period w.b.state.station }
+
+    // Over all periods it stands in order among all that the other gave.
+    ensures a_among { (w : World Node SentUnit) (of_a of_b : List Record)
+        → Run pair start of_a of_b w → AreAmong (all_taken w.a.state.station) (offered w.b.state.station) }
+    ensures b_among { (w : World Node SentUnit) (of_a of_b : List Record)
+        → Run pair start of_a of_b w → AreAmong (all_taken w.b.state.station) (offered w.a.state.station) }
 {
     always::<Brand>();
 }
