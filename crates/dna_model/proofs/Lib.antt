@@ -1,2 +1,27 @@
+mod RowUnits
 mod Rows
+mod TransferRows
+mod StationRows
 pub mod Tells
+mod Modulo
+mod CutSending
+mod CutArriving
+mod Numbered
+mod NumberedSteps
+mod Happens
+mod StationNumbers
+mod StationBounds
+mod ReceiptBounds
+mod RunBounds
+mod CutNode
+mod Loads
+mod Delivered
+mod DeliveredSteps
+mod DeliveredRuns
+mod DeliveredCaptures
+mod Partnered
+mod InOrder
+mod Among
+mod InOrderRuns
+mod CutLabel
+mod Ordered

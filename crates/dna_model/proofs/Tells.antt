@@ -9,7 +9,9 @@ use Rattle.capture.specs.declared.event.Event.TheVariants.{Start, Halt, Open, Ac
 use Rattle.dna_model.specs.declared.state.StationEvent.{StationEvent}
 use Rattle.dna_model.specs.declared.state.StationEvent.TheVariants as station
 use Rattle.dna_model.specs.declared.refusal.StationRefusal.{StationRefusal}
-use Rattle.dna_model.specs.Station.{PeriodRule, user_refusal, sending_refusal}
+use Rattle.dna_model.specs.Station.{user_refusal}
+use Rattle.dna_model.specs.Periods.{PeriodRule, crossed}
+use Rattle.dna_model.specs.Sending.{sending_refusal}
 use Rattle.dna_model.specs.Node.{Node, does, user_step, sends, sent_step, step}
 use Rattle.dna_model.specs.Pair.{named_unit, is_sent, pair}
 
@@ -32,7 +34,7 @@ sends_tells n bytes m None = (refl, refl)
 sends_tells n bytes m (Some refusal) = refl
 
 sent_tells : (n : Node) (bytes : List ℕ) (read : ReadingValue) → AgreesWith (sent_step n bytes read) None true
-sent_tells n bytes (Sound m) = sends_tells n bytes m (sending_refusal n.station.state m)
+sent_tells n bytes (Sound m) = sends_tells n bytes m (sending_refusal n.station m)
 sent_tells n bytes HeaderBad = refl
 sent_tells n bytes DataBad = refl
 sent_tells n bytes (Malformed departure) = refl
@@ -43,4 +45,4 @@ step_tells rule n (Received hint kept bytes) = (refl, refl)
 step_tells rule n (User event) = event_tells n event
 
 pub pair_tells : BothTell pair
-pair_tells = record { of_a = step_tells _; of_b = step_tells _ }
+pair_tells = record { of_a = step_tells crossed; of_b = step_tells crossed }

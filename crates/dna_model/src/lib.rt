@@ -4,11 +4,16 @@
 #![tactic(auto)]
 
 mod finding;
+pub mod laws;
 mod refusal;
 mod state;
 mod tag;
 
 pub use finding::{Cause, Finding};
+pub use laws::{
+    counts_rise_by_one, cut_arrival, cut_event, cut_label, cut_record, cut_sending,
+    delivered_in_order, numbers_in_order, numbers_within_bounds,
+};
 pub use refusal::{StationRefusal, StepRefusal};
 pub use state::{State, StationEvent};
 pub use tag::Tag;
