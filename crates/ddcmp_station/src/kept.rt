@@ -1,7 +1,8 @@
 //! What any node keeps of its station.
 
-ghost use Rattle.std.specs.Prelude.{◌≡◌, ◌+◌, ◌<◌, ◌≤◌, ◌==◌, ◌&&◌, ◌++◌, ◌∷◌, [], true, nat_lt, nat_le, length, slice_get, option_and_then, None, IfOk, OnOk, OnErr};
+ghost use Rattle.std.specs.Prelude.{◌≡◌, ◌+◌, ◌<◌, ◌≤◌, ◌==◌, ◌&&◌, ◌++◌, ◌∷◌, [], true, not, nat_lt, nat_le, length, slice_get, option_and_then, None, IfOk, OnOk, OnErr};
 ghost use Rattle.dna_model.specs.Station.{wire};
+ghost use Rattle.dna_model.specs.Sending.{WINDOW};
 ghost use Rattle.dna_model.specs.WireStation.{HeldPacket, none_kept, with_label, with_new, is_held_packet, wire_is_next, wire_is_new, acknowledges, wire_acknowledged_by};
 
 use crate::Held;
@@ -11,7 +12,7 @@ use std::marker::{Model, PhantomData};
 use wire_base::{PushFault, Seq, Window};
 
 /// How many packets may be unacknowledged.
-const WINDOW: u16 = 255;
+const MOST: u16 = 255;
 
 /// The state of a station, its numbers modulo 256, and the packets that are not acknowledged.
 #[derive(Drop)]
@@ -53,7 +54,7 @@ impl<T: Copy, W: Window<Held<T>, 256>> Kept<T, W> {
             state,
             received: Seq::of(0),
             ahead: 0,
-            held: W::make(alloc, WINDOW, 0)?,
+            held: W::make(alloc, MOST, 0)?,
             label: PhantomData,
         })
     }
@@ -99,12 +100,18 @@ impl<T: Copy, W: Window<Held<T>, 256>> Kept<T, W> {
 
     // ---- packets
 
-    /// How many packets are not acknowledged.
-    pub fn outstanding(&self) -> usize
-        ensures count { result ≡ length self.now.held }
-        ensures within { result ≤ 255 }
+    /// Whether a packet is not acknowledged.
+    pub fn is_outstanding(&self) -> bool
+        ensures { result ≡ not (length self.now.held == 0) }
     {
-        self.held.len()
+        self.held.len() != 0
+    }
+
+    /// Whether fewer packets are outstanding than may be.
+    pub fn has_room(&self) -> bool
+        ensures { result ≡ nat_lt (length self.now.held) WINDOW }
+    {
+        self.held.len() < usize::from(MOST)
     }
 
     /// Whether the next packet to send is new: all held packets are sent in this go.
