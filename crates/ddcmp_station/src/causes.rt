@@ -1,6 +1,6 @@
 //! What a station may answer with a NAK.
 
-ghost use Rattle.std.specs.Prelude.{◌≡◌, ◌^◌, ◌<◌, true};
+ghost use Rattle.std.specs.Prelude.{◌≡◌, ◌+◌, ◌^◌, ◌<◌, ◌≤◌, true};
 ghost use Rattle.dna_model.specs.Causes.{no_causes, with_cause, has_cause, without_cause};
 ghost use Rattle.ddcmp_station.specs.Counts.{open_causes};
 
@@ -59,7 +59,8 @@ impl Causes {
     /// One more of this reason.
     pub fn add(&mut self, reason: NakReason)
         requires { open_causes self.old < 2 ^ 63 }
-        ensures { self.new ≡ with_cause reason self.old }
+        ensures more { self.new ≡ with_cause reason self.old }
+        ensures count { open_causes self.new ≤ open_causes self.old + 1 }
     {
         match reason {
             NakReason::HeaderCheck => self.header_check += 1,
@@ -73,7 +74,8 @@ impl Causes {
     /// A NAK of this reason is sent: it uses one up.
     pub fn use_up(&mut self, reason: NakReason)
         requires { has_cause reason self.old ≡ true }
-        ensures { self.new ≡ without_cause reason self.old }
+        ensures fewer { self.new ≡ without_cause reason self.old }
+        ensures count { open_causes self.new ≤ open_causes self.old }
     {
         match reason {
             NakReason::HeaderCheck => self.header_check -= 1,

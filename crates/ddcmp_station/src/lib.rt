@@ -17,3 +17,6 @@ pub use fault::StationFault;
 pub use held::Held;
 pub use sent_as::SentAs;
 pub use station::Station;
+
+#[cfg(test)]
+mod tests;

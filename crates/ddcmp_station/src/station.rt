@@ -1,6 +1,6 @@
 //! The station, and what its user does.
 
-ghost use Rattle.std.specs.Prelude.{◌≡◌, ◌^◌, ◌<◌, length, IfOk, OnOk, OnErr, IfErr};
+ghost use Rattle.std.specs.Prelude.{◌≡◌, ◌+◌, ◌^◌, ◌<◌, ◌≤◌, length, IfOk, OnOk, OnErr, IfErr};
 ghost use Rattle.dna_model.specs.Station.{user_refusal};
 ghost use Rattle.dna_model.specs.WireStation.{new_wire_station, wire_after_event, wire_after_label, load};
 ghost use Rattle.ddcmp_station.specs.Fault.{IsRefused};
@@ -93,6 +93,7 @@ impl<T: Copy, W: Window<Held<T>, 256>> Station<T, W> {
         ensures refused { IfErr result (λ fault. IsRefused (user_refusal self.old.kept.state event) fault) }
         ensures alone { IfErr result (λ fault. fault ≡ StationFault.Refused StationRefusal.WrongUserEvent) }
         ensures err { OnErr result (self.new ≡ self.old) }
+        ensures load { load self.new ≤ load self.old + 1 }
     {
         match event {
             StationEvent::Start => self.start(),
@@ -111,6 +112,7 @@ impl<T: Copy, W: Window<Held<T>, 256>> Station<T, W> {
         ensures refused { IfErr result (λ fault. IsRefused (user_refusal self.old.kept.state StationEvent.Start) fault) }
         ensures alone { IfErr result (λ fault. fault ≡ StationFault.Refused StationRefusal.WrongUserEvent) }
         ensures err { OnErr result (self.new ≡ self.old) }
+        ensures load { load self.new ≤ load self.old + 1 }
     {
         let State::Halted = self.kept.state() else {
             return Err(StationFault::Refused(StationRefusal::WrongUserEvent));

@@ -1,6 +1,6 @@
 //! What an arrival does to a station.
 
-ghost use Rattle.std.specs.Prelude.{◌≡◌, ◌^◌, ◌<◌, ◌==◌, ◌&&◌, ◌⊎◌, false, not, None, IfOk, OnOk, OnErr, IfErr};
+ghost use Rattle.std.specs.Prelude.{◌≡◌, ◌+◌, ◌^◌, ◌<◌, ◌≤◌, ◌==◌, ◌&&◌, ◌⊎◌, false, not, None, IfOk, OnOk, OnErr, IfErr};
 ghost use Rattle.std.specs.Option.{option_copied};
 ghost use Rattle.ddcmp_msg.specs.Message.{view};
 ghost use Rattle.dna_model.specs.Arriving.{keep_refusal};
@@ -43,6 +43,7 @@ impl<T: Copy, W: Window<Held<T>, 256>> Station<T, W> {
         ensures alone { IfErr result (λ fault. (fault ≡ StationFault.Refused StationRefusal.CrossedPeriod)
             ⊎ (fault ≡ StationFault.Refused StationRefusal.WrongKeep)) }
         ensures err { OnErr result (self.new ≡ self.old) }
+        ensures load { load self.new ≤ load self.old + 1 }
     {
         match arrival {
             Arrival::Sound(message, tag) => self.meet(message, tag, kept),
@@ -67,6 +68,7 @@ impl<T: Copy, W: Window<Held<T>, 256>> Station<T, W> {
         ensures alone { IfErr result (λ fault. (fault ≡ StationFault.Refused StationRefusal.CrossedPeriod)
             ⊎ (fault ≡ StationFault.Refused StationRefusal.WrongKeep)) }
         ensures err { OnErr result (self.new ≡ self.old) }
+        ensures load { load self.new ≤ load self.old + 1 }
     {
         if self.crosses(&message, tag) {
             return Err(StationFault::Refused(StationRefusal::CrossedPeriod));
@@ -115,7 +117,8 @@ impl<T: Copy, W: Window<Held<T>, 256>> Station<T, W> {
     // The step of a sound message that was sent in this period of the other side.
     fn take_step(&mut self, message: &Message, from: u64, kept: bool)
         requires { load self.old < 2 ^ 63 }
-        ensures { self.new ≡ wire_arrived_in self.old.kept.state self.old (view message.now) from kept }
+        ensures load { load self.new ≤ load self.old + 1 }
+        ensures step { self.new ≡ wire_arrived_in self.old.kept.state self.old (view message.now) from kept }
     {
         match self.kept.state() {
             State::Halted => {}
@@ -164,7 +167,8 @@ impl<T: Copy, W: Window<Held<T>, 256>> Station<T, W> {
     // Data in RUNNING: the next packet is taken, or there was no buffer for it; any other is ignored after its RESP.
     fn receive_data(&mut self, resp: u8, num: u8, kept: bool)
         requires { load self.old < 2 ^ 63 }
-        ensures { self.new ≡ wire_data_arrived self.old resp num kept }
+        ensures load { load self.new ≤ load self.old + 1 }
+        ensures step { self.new ≡ wire_data_arrived self.old resp num kept }
     {
         let next = self.kept.is_next(num);
         self.kept.respond(resp);
@@ -191,6 +195,7 @@ impl<T: Copy, W: Window<Held<T>, 256>> Station<T, W> {
         ensures refused { IfErr result (λ fault. IsRefused (keep_refusal false kept) fault) }
         ensures alone { IfErr result (λ fault. fault ≡ StationFault.Refused StationRefusal.WrongKeep) }
         ensures err { OnErr result (self.new ≡ self.old) }
+        ensures load { load self.new ≤ load self.old + 1 }
     {
         if kept {
             return Err(StationFault::Refused(StationRefusal::WrongKeep));

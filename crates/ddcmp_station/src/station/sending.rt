@@ -1,12 +1,12 @@
 //! What a station's node may send, and what sending changes.
 
-ghost use Rattle.std.specs.Prelude.{◌≡◌, ◌<◌, ◌==◌, ◌+◌, true, None, length, not, nat_lt, IfOk, OnOk, OnErr, IfErr};
+ghost use Rattle.std.specs.Prelude.{◌≡◌, ◌<◌, ◌≤◌, ◌==◌, ◌+◌, IsTrue, true, false, None, length, not, nat_lt, IfOk, OnOk, OnErr, IfErr};
 ghost use Rattle.ddcmp_msg.specs.Message.{view};
 ghost use Rattle.dna_model.specs.Causes.{has_cause};
 ghost use Rattle.dna_model.specs.Station.{wire};
 ghost use Rattle.dna_model.specs.Sending.{WINDOW, check};
-ghost use Rattle.dna_model.specs.WireStation.{wire_refusal_in, wire_data_refusal, wire_is_new, wire_sending_refusal, wire_after_sending, gives_new, with_new};
-ghost use Rattle.ddcmp_station.specs.Fault.{IsFault};
+ghost use Rattle.dna_model.specs.WireStation.{wire_refusal_in, wire_data_refusal, wire_is_new, wire_sending_refusal, wire_after_sending, load, gives_new, with_new};
+ghost use Rattle.ddcmp_station.specs.Fault.{IsFault, is_of_repeats};
 ghost use Rattle.ddcmp_station.specs.Sent.{sent_as};
 
 use super::Station;
@@ -18,8 +18,8 @@ use wire_base::Window;
 
 impl<T: Copy, W: Window<Held<T>, 256>> Station<T, W> {
     /// Its node sent this message (DDCMP 4.1, startup state table, data transfer). The answer has the tag that the unit goes
-    /// with; whether the message gave a new number; and of a packet that is sent again, its label. A new number takes memory,
-    /// for a copy of the packet, and nothing else does.
+    /// with; whether the message gave a new number, beside which a label may now be put; and of a packet that is sent again its
+    /// label, if it has one. A new number takes memory for a copy of its packet, and no other message takes any.
     ///
     /// `Refused`, the first that fits:
     ///
@@ -37,9 +37,12 @@ impl<T: Copy, W: Window<Held<T>, 256>> Station<T, W> {
         ensures allowed { OnOk result (wire_sending_refusal self.old (view message.now) ≡ None) }
         ensures ok { OnOk result (self.new ≡ wire_after_sending self.old (view message.now)) }
         ensures answer { IfOk result (λ sent. sent ≡ sent_as self.old (view message.now)) }
+        ensures outstanding { IfOk result (λ sent. sent.first ≡ true → 0 < length self.new.kept.held) }
         ensures refused { IfErr result (λ fault. IsFault (wire_sending_refusal self.old (view message.now))
             (gives_new self.old (view message.now)) fault) }
+        ensures again { gives_new self.old (view message.now) ≡ false → IfErr result (λ fault. IsTrue (is_of_repeats fault)) }
         ensures err { OnErr result (self.new ≡ self.old) }
+        ensures load { load self.new ≤ load self.old }
     {
         if let Some(refusal) = self.refusal_to_send(message) {
             return Err(StationFault::Refused(refusal));
