@@ -22,28 +22,28 @@ impl<T: Copy> Model for Held<T> {
 
 impl<T: Copy> Held<T> {
     /// A packet of these bytes, in the memory that they have, with no label yet. Takes no memory.
-    pub fn new(body: Vec<u8>) -> Held<T>
+    pub(crate) fn new(body: Vec<u8>) -> Held<T>
         ensures { result ≡ record { body = body.items; label = None } }
     {
         Held { body, label: None }
     }
 
     /// Its bytes.
-    pub fn body(&self) -> &[u8]
+    pub(crate) fn body(&self) -> &[u8]
         ensures { result.now ≡ self.now.body }
     {
         self.body.as_slice()
     }
 
     /// The label beside it, if there is one.
-    pub fn label(&self) -> Option<T>
+    pub(crate) fn label(&self) -> Option<T>
         ensures { result ≡ self.now.label }
     {
         self.label
     }
 
     /// The same packet with this label beside it.
-    pub fn labelled(self, label: T) -> Held<T>
+    pub(crate) fn labelled(self, label: T) -> Held<T>
         ensures { result ≡ record self { label = Some label } }
     {
         let Held { body, label: _ } = self;

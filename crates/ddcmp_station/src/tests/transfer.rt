@@ -4,7 +4,11 @@ use Step::{Comes, Labels, Sends};
 use ddcmp_msg::NakReason;
 use std::test::Fail;
 
-// The packet with this number, and the wire value of the last number received.
+const BODY: &[u8] = b"\x05";
+
+const OTHER: &[u8] = b"\x05\x06";
+
+// A message with the wire values of these numbers.
 fn data<'a>(num: u64, resp: u64, body: &'a [u8]) -> Message<'a> {
     Message::Data {
         flags: NONE,
@@ -36,29 +40,12 @@ fn rep(num: u64) -> Message<'static> {
     }
 }
 
-const BODY: &[u8] = b"\x05";
-
-// A packet that is sent for the first time.
-const FIRST: Answer<'static> = Ok(Given::Sent(SentAs {
-    tag: PAIRED,
-    first: true,
-    label: None,
-}));
-
-const AGAIN: Answer<'static> = Ok(Given::Sent(SentAs {
-    tag: PAIRED,
-    first: false,
-    label: None,
-}));
-
-// The packet that was taken.
-const TAKEN: Answer<'static> = Ok(Given::Packet(BODY));
-
-fn with_label(label: u32) -> Answer<'static> {
+// It gives a new number, or none, and of a packet that is sent again it has this label.
+fn sent_as(first: bool, label: Option<u32>) -> Answer<'static> {
     Ok(Given::Sent(SentAs {
         tag: PAIRED,
-        first: false,
-        label: Some(label),
+        first,
+        label,
     }))
 }
 
@@ -76,81 +63,95 @@ fn running<W: Window<Held<u32>, 256> + Drop>(
     alloc: Global,
 ) -> Result<Bench<u32, W>, AllocError> {
     let mut bench = Bench::<u32, W>::new(alloc)?;
-    assert_eq!(rt; bench.makes(rt, START), DONE);
-    assert_eq!(rt; bench.makes(rt, paired(STACK)), DONE);
-    assert_eq!(rt; bench.station.state(), State::Running);
+    let rows = [("starts", START, DONE), ("STACK", paired(STACK), DONE)];
+    follows(rt, &mut bench, &rows);
     Ok(bench)
 }
 
-// The packets with these numbers are sent with RESP 0, and each answer is this.
-fn send_all<W: Window<Held<u32>, 256>>(
+// It makes these steps, one after another, with these answers.
+fn follows<W: Window<Held<u32>, 256>>(
     rt: &impl Abort,
     bench: &mut Bench<u32, W>,
-    from: u64,
-    to: u64,
-    want: Answer<'static>,
+    rows: &[(&'static str, Step<'static>, Answer<'static>)],
 ) {
-    for number in from..to {
-        assert_eq!(rt;
-            bench.makes(rt, Sends(data(number, 0, BODY))),
-            want,
-            "{number}"
-        );
+    for (name, step, want) in rows {
+        assert_eq!(rt; bench.makes(rt, *step), *want, "{name}");
     }
 }
 
-// The packets with these numbers come with RESP 0 and are taken.
-fn take_all<W: Window<Held<u32>, 256>>(
+// It sends the packets with the numbers from the first through the last.
+fn sends_all<W: Window<Held<u32>, 256>>(
     rt: &impl Abort,
     bench: &mut Bench<u32, W>,
-    from: u64,
-    to: u64,
+    numbers: (u64, u64),
+    first: bool,
 ) {
-    for number in from..to {
+    for number in numbers.0..=numbers.1 {
+        let step = Sends(data(number, 0, BODY));
+        assert_eq!(rt; bench.makes(rt, step), sent_as(first, None), "{number}");
+    }
+}
+
+// They come to it, and it takes them.
+fn takes_all<W: Window<Held<u32>, 256>>(
+    rt: &impl Abort,
+    bench: &mut Bench<u32, W>,
+    numbers: (u64, u64),
+) {
+    for number in numbers.0..=numbers.1 {
         let step = takes(data(number, 0, BODY), PAIRED);
-        assert_eq!(rt; bench.makes(rt, step), TAKEN, "{number}");
+        assert_eq!(rt; bench.makes(rt, step), Ok(Given::Packet(BODY)), "{number}");
     }
 }
 
-// They come, and none is taken.
-fn pass_all<W: Window<Held<u32>, 256>>(
+// They come to it, and it takes none.
+fn passes_all<W: Window<Held<u32>, 256>>(
     rt: &impl Abort,
     bench: &mut Bench<u32, W>,
-    from: u64,
-    to: u64,
+    numbers: (u64, u64),
 ) {
-    for number in from..to {
+    for number in numbers.0..=numbers.1 {
         let step = paired(data(number, 0, BODY));
         assert_eq!(rt; bench.makes(rt, step), DONE, "{number}");
     }
 }
 
+// The sender of 255 packets, of which 10 are acknowledged, asks for the answer to the next one.
 fn asks_across_the_wrap<W: Window<Held<u32>, 256> + Drop>(
     rt: &impl Abort,
     alloc: Global,
 ) -> Result<(), AllocError> {
-    let mut a = running::<W>(rt, alloc)?;
-    let mut b = running::<W>(rt, alloc)?;
-    send_all(rt, &mut a, 1, 256, FIRST);
-    take_all(rt, &mut b, 1, 256);
-    assert_eq!(rt; a.makes(rt, paired(ack(10))), DONE);
-    assert_eq!(rt; a.makes(rt, Sends(rep(255))), AGAIN);
-    assert_eq!(rt; b.makes(rt, paired(rep(255))), DONE);
-    let no_cause = refused(StationRefusal::NoCause);
-    assert_eq!(rt;
-        b.makes(rt, Sends(nak(NakReason::RepResponse, 255))),
-        no_cause
-    );
-    assert_eq!(rt; a.makes(rt, Sends(data(256, 0, BODY))), FIRST);
-    let wrong_number = refused(StationRefusal::WrongNumber);
-    assert_eq!(rt; a.makes(rt, Sends(rep(255))), wrong_number);
-    assert_eq!(rt; a.makes(rt, Sends(rep(256))), AGAIN);
-    assert_eq!(rt; b.makes(rt, paired(rep(256))), DONE);
-    assert_eq!(rt; b.makes(rt, Sends(nak(NakReason::RepResponse, 255))), AGAIN);
-    assert_eq!(rt;
-        b.makes(rt, Sends(nak(NakReason::RepResponse, 255))),
-        no_cause
-    );
+    let mut bench = running::<W>(rt, alloc)?;
+    sends_all(rt, &mut bench, (1, 255), true);
+    let wrong = refused(StationRefusal::WrongNumber);
+    let rows = [
+        ("ACK 10", paired(ack(10)), DONE),
+        ("REP 255", Sends(rep(255)), sent(PAIRED)),
+        ("packet 256", Sends(data(256, 0, BODY)), sent_as(true, None)),
+        ("REP 255 again", Sends(rep(255)), wrong),
+        ("REP 256", Sends(rep(256)), sent(PAIRED)),
+    ];
+    follows(rt, &mut bench, &rows);
+    Ok(())
+}
+
+// The receiver of 255 packets is asked for the answer to the last of them, and to the next one.
+fn is_asked_across_the_wrap<W: Window<Held<u32>, 256> + Drop>(
+    rt: &impl Abort,
+    alloc: Global,
+) -> Result<(), AllocError> {
+    let mut bench = running::<W>(rt, alloc)?;
+    takes_all(rt, &mut bench, (1, 255));
+    let none = refused(StationRefusal::NoCause);
+    let answer = Sends(nak(NakReason::RepResponse, 255));
+    let rows = [
+        ("REP 255", paired(rep(255)), DONE),
+        ("NAK 3 to it", answer, none),
+        ("REP 256", paired(rep(256)), DONE),
+        ("NAK 3", answer, sent(PAIRED)),
+        ("a second NAK 3", answer, none),
+    ];
+    follows(rt, &mut bench, &rows);
     Ok(())
 }
 
@@ -158,16 +159,21 @@ fn labels_and_sends_again<W: Window<Held<u32>, 256> + Drop>(
     rt: &impl Abort,
     alloc: Global,
 ) -> Result<(), AllocError> {
-    let mut a = running::<W>(rt, alloc)?;
-    assert_eq!(rt; a.makes(rt, Labels(data(1, 0, BODY), 7)), FIRST);
-    assert_eq!(rt; a.makes(rt, Sends(data(2, 0, BODY))), FIRST);
-    assert_eq!(rt; a.makes(rt, Labels(data(3, 0, BODY), 9)), FIRST);
-    assert_eq!(rt; a.makes(rt, paired(nak(NakReason::DataCheck, 0))), DONE);
-    assert_eq!(rt; a.makes(rt, Labels(data(1, 0, BODY), 8)), with_label(7));
-    assert_eq!(rt; a.makes(rt, Sends(data(2, 0, BODY))), AGAIN);
-    assert_eq!(rt; a.makes(rt, paired(nak(NakReason::DataCheck, 2))), DONE);
-    assert_eq!(rt; a.makes(rt, Sends(data(3, 0, BODY))), with_label(9));
-    assert_eq!(rt; a.makes(rt, Sends(data(4, 0, BODY))), FIRST);
+    let mut bench = running::<W>(rt, alloc)?;
+    let new = sent_as(true, None);
+    let damaged = NakReason::DataCheck;
+    let rows = [
+        ("packet 1, label 7", Labels(data(1, 0, BODY), 7), new),
+        ("packet 2", Sends(data(2, 0, BODY)), new),
+        ("packet 3, label 9", Labels(data(3, 0, BODY), 9), new),
+        ("NAK 0", paired(nak(damaged, 0)), DONE),
+        ("1 again", Sends(data(1, 0, BODY)), sent_as(false, Some(7))),
+        ("2 again", Sends(data(2, 0, BODY)), sent_as(false, None)),
+        ("NAK 2", paired(nak(damaged, 2)), DONE),
+        ("3 again", Sends(data(3, 0, BODY)), sent_as(false, Some(9))),
+        ("packet 4", Sends(data(4, 0, BODY)), new),
+    ];
+    follows(rt, &mut bench, &rows);
     Ok(())
 }
 
@@ -175,16 +181,20 @@ fn sends_other_data<W: Window<Held<u32>, 256> + Drop>(
     rt: &impl Abort,
     alloc: Global,
 ) -> Result<(), AllocError> {
-    let mut a = running::<W>(rt, alloc)?;
+    let mut bench = running::<W>(rt, alloc)?;
     let changed = refused(StationRefusal::Changed);
-    assert_eq!(rt; a.makes(rt, Sends(data(1, 0, BODY))), FIRST);
-    assert_eq!(rt; a.makes(rt, Sends(data(2, 0, b"\x05\x06"))), FIRST);
-    assert_eq!(rt; a.makes(rt, paired(nak(NakReason::NoBuffer, 0))), DONE);
-    assert_eq!(rt; a.makes(rt, Sends(data(1, 0, b"\x05\x06"))), changed);
-    assert_eq!(rt; a.makes(rt, Sends(data(1, 0, BODY))), AGAIN);
-    assert_eq!(rt; a.makes(rt, Sends(data(2, 0, BODY))), changed);
-    assert_eq!(rt; a.makes(rt, Sends(data(2, 0, b"\x05\x06"))), AGAIN);
-    assert_eq!(rt; a.makes(rt, START), refused(StationRefusal::WrongUserEvent));
+    let event = refused(StationRefusal::WrongUserEvent);
+    let rows = [
+        ("packet 1", Sends(data(1, 0, BODY)), sent_as(true, None)),
+        ("packet 2", Sends(data(2, 0, OTHER)), sent_as(true, None)),
+        ("NAK 0", paired(nak(NakReason::NoBuffer, 0)), DONE),
+        ("1 with a byte more", Sends(data(1, 0, OTHER)), changed),
+        ("1 again", Sends(data(1, 0, BODY)), sent(PAIRED)),
+        ("2 with a byte less", Sends(data(2, 0, BODY)), changed),
+        ("2 again", Sends(data(2, 0, OTHER)), sent(PAIRED)),
+        ("starts", START, event),
+    ];
+    follows(rt, &mut bench, &rows);
     Ok(())
 }
 
@@ -192,80 +202,106 @@ fn fills_the_window<W: Window<Held<u32>, 256> + Drop>(
     rt: &impl Abort,
     alloc: Global,
 ) -> Result<(), AllocError> {
-    let mut a = running::<W>(rt, alloc)?;
-    send_all(rt, &mut a, 1, 256, FIRST);
+    let mut bench = running::<W>(rt, alloc)?;
+    sends_all(rt, &mut bench, (1, 255), true);
     let full = refused(StationRefusal::WindowFull);
-    assert_eq!(rt; a.makes(rt, Sends(data(256, 0, BODY))), full);
-    assert_eq!(rt;
-        a.makes(rt, Sends(data(256, 1, BODY))),
-        refused(StationRefusal::WrongResponse)
-    );
-    assert_eq!(rt; a.makes(rt, paired(ack(1))), DONE);
-    assert_eq!(rt; a.makes(rt, Sends(data(256, 0, BODY))), FIRST);
-    assert_eq!(rt; a.makes(rt, Sends(data(257, 0, BODY))), full);
+    let response = refused(StationRefusal::WrongResponse);
+    let rows = [
+        ("packet 256", Sends(data(256, 0, BODY)), full),
+        ("RESP 1 is first", Sends(data(256, 1, BODY)), response),
+        ("ACK 1", paired(ack(1)), DONE),
+        ("256 again", Sends(data(256, 0, BODY)), sent_as(true, None)),
+        ("packet 257", Sends(data(257, 0, BODY)), full),
+    ];
+    follows(rt, &mut bench, &rows);
     Ok(())
 }
 
+// Each way to get a cause, and the NAK that answers it.
 fn answers_each_cause<W: Window<Held<u32>, 256> + Drop>(
     rt: &impl Abort,
     alloc: Global,
 ) -> Result<(), AllocError> {
-    let mut b = running::<W>(rt, alloc)?;
-    let no_cause = refused(StationRefusal::NoCause);
-    for (arrival, reason) in [
-        (Arrival::HeaderBad, NakReason::HeaderCheck),
-        (Arrival::DataBad, NakReason::DataCheck),
+    let mut bench = running::<W>(rt, alloc)?;
+    let none = refused(StationRefusal::NoCause);
+    let response = refused(StationRefusal::WrongResponse);
+    let causes = [
+        (NakReason::HeaderCheck, Comes(Arrival::HeaderBad)),
+        (NakReason::DataCheck, Comes(Arrival::DataBad)),
+        (NakReason::NoBuffer, paired(data(1, 0, BODY))),
+        (NakReason::RepResponse, paired(rep(1))),
+    ];
+    for (reason, cause) in causes {
+        let rows = [
+            ("before it", Sends(nak(reason, 0)), none),
+            ("the cause", cause, DONE),
+            ("RESP 1 is first", Sends(nak(reason, 1)), response),
+            ("its answer", Sends(nak(reason, 0)), sent(PAIRED)),
+            ("a second one", Sends(nak(reason, 0)), none),
+        ];
+        follows(rt, &mut bench, &rows);
+    }
+    let rows = [
+        ("overrun", Sends(nak(NakReason::Overrun, 0)), sent(PAIRED)),
         (
-            Arrival::Sound(data(1, 0, BODY), PAIRED),
-            NakReason::NoBuffer,
+            "too long",
+            Sends(nak(NakReason::MessageTooLong, 0)),
+            sent(PAIRED),
         ),
-        (Arrival::Sound(rep(1), PAIRED), NakReason::RepResponse),
-    ] {
-        assert_eq!(rt; b.makes(rt, Sends(nak(reason, 0))), no_cause, "{reason:?}");
-        assert_eq!(rt; b.makes(rt, Comes(arrival)), DONE, "{reason:?}");
-        assert_eq!(rt;
-            b.makes(rt, Sends(nak(reason, 1))),
-            refused(StationRefusal::WrongResponse)
-        );
-        assert_eq!(rt; b.makes(rt, Sends(nak(reason, 0))), AGAIN, "{reason:?}");
-        assert_eq!(rt; b.makes(rt, Sends(nak(reason, 0))), no_cause, "{reason:?}");
-    }
-    for reason in [
-        NakReason::Overrun,
-        NakReason::MessageTooLong,
-        NakReason::HeaderFormat,
-    ] {
-        assert_eq!(rt; b.makes(rt, Sends(nak(reason, 0))), AGAIN, "{reason:?}");
-    }
+        (
+            "header format",
+            Sends(nak(NakReason::HeaderFormat, 0)),
+            sent(PAIRED),
+        ),
+    ];
+    follows(rt, &mut bench, &rows);
     Ok(())
 }
 
-fn loses_one_of_three_hundred<W: Window<Held<u32>, 256> + Drop>(
+// The sender of 300 packets, of which the 255th is lost.
+fn sends_three_hundred<W: Window<Held<u32>, 256> + Drop>(
     rt: &impl Abort,
     alloc: Global,
 ) -> Result<(), AllocError> {
-    let mut a = running::<W>(rt, alloc)?;
-    let mut b = running::<W>(rt, alloc)?;
-    send_all(rt, &mut a, 1, 251, FIRST);
-    take_all(rt, &mut b, 1, 251);
-    assert_eq!(rt; b.makes(rt, Sends(ack(250))), AGAIN);
-    assert_eq!(rt; a.makes(rt, paired(ack(250))), DONE);
-    send_all(rt, &mut a, 251, 301, FIRST);
-    take_all(rt, &mut b, 251, 255);
-    pass_all(rt, &mut b, 256, 301);
-    assert_eq!(rt; a.makes(rt, Sends(rep(300))), AGAIN);
-    assert_eq!(rt; b.makes(rt, paired(rep(300))), DONE);
-    assert_eq!(rt; b.makes(rt, Sends(nak(NakReason::RepResponse, 254))), AGAIN);
-    assert_eq!(rt; a.makes(rt, paired(nak(NakReason::RepResponse, 254))), DONE);
-    send_all(rt, &mut a, 255, 301, AGAIN);
-    take_all(rt, &mut b, 255, 301);
-    assert_eq!(rt; b.makes(rt, Sends(ack(300))), AGAIN);
-    assert_eq!(rt; a.makes(rt, paired(ack(300))), DONE);
-    assert_eq!(rt;
-        a.makes(rt, Sends(rep(300))),
-        refused(StationRefusal::WrongState)
-    );
-    assert_eq!(rt; a.makes(rt, Sends(data(301, 0, BODY))), FIRST);
+    let mut bench = running::<W>(rt, alloc)?;
+    let asks = Sends(rep(300));
+    let lost = nak(NakReason::RepResponse, 254);
+    sends_all(rt, &mut bench, (1, 250), true);
+    follows(rt, &mut bench, &[("ACK 250", paired(ack(250)), DONE)]);
+    sends_all(rt, &mut bench, (251, 300), true);
+    let rows = [
+        ("REP 300", asks, sent(PAIRED)),
+        ("NAK 254", paired(lost), DONE),
+    ];
+    follows(rt, &mut bench, &rows);
+    sends_all(rt, &mut bench, (255, 300), false);
+    let state = refused(StationRefusal::WrongState);
+    let rows = [
+        ("ACK 300", paired(ack(300)), DONE),
+        ("REP 300 again", asks, state),
+    ];
+    follows(rt, &mut bench, &rows);
+    sends_all(rt, &mut bench, (301, 301), true);
+    Ok(())
+}
+
+// Their receiver.
+fn takes_three_hundred<W: Window<Held<u32>, 256> + Drop>(
+    rt: &impl Abort,
+    alloc: Global,
+) -> Result<(), AllocError> {
+    let mut bench = running::<W>(rt, alloc)?;
+    let lost = nak(NakReason::RepResponse, 254);
+    takes_all(rt, &mut bench, (1, 254));
+    passes_all(rt, &mut bench, (256, 300));
+    let rows = [
+        ("REP 300", paired(rep(300)), DONE),
+        ("NAK 254", Sends(lost), sent(PAIRED)),
+    ];
+    follows(rt, &mut bench, &rows);
+    takes_all(rt, &mut bench, (255, 300));
+    let rows = [("ACK 300", Sends(ack(300)), sent(PAIRED))];
+    follows(rt, &mut bench, &rows);
     Ok(())
 }
 
@@ -273,6 +309,8 @@ fn loses_one_of_three_hundred<W: Window<Held<u32>, 256> + Drop>(
 fn a_rep_is_told_by_its_number_across_the_wrap(rt: HostRuntime) -> Result<(), Fail> {
     asks_across_the_wrap::<PlainWindow<Held<u32>, 256>>(&rt, rt.alloc())?;
     asks_across_the_wrap::<RingWindow<Held<u32>, 256>>(&rt, rt.alloc())?;
+    is_asked_across_the_wrap::<PlainWindow<Held<u32>, 256>>(&rt, rt.alloc())?;
+    is_asked_across_the_wrap::<RingWindow<Held<u32>, 256>>(&rt, rt.alloc())?;
     Ok(())
 }
 
@@ -306,7 +344,9 @@ fn each_cause_is_answered_once(rt: HostRuntime) -> Result<(), Fail> {
 
 #[test]
 fn three_hundred_packets_survive_a_loss(rt: HostRuntime) -> Result<(), Fail> {
-    loses_one_of_three_hundred::<PlainWindow<Held<u32>, 256>>(&rt, rt.alloc())?;
-    loses_one_of_three_hundred::<RingWindow<Held<u32>, 256>>(&rt, rt.alloc())?;
+    sends_three_hundred::<PlainWindow<Held<u32>, 256>>(&rt, rt.alloc())?;
+    sends_three_hundred::<RingWindow<Held<u32>, 256>>(&rt, rt.alloc())?;
+    takes_three_hundred::<PlainWindow<Held<u32>, 256>>(&rt, rt.alloc())?;
+    takes_three_hundred::<RingWindow<Held<u32>, 256>>(&rt, rt.alloc())?;
     Ok(())
 }
