@@ -1,6 +1,14 @@
-use crate::{Arrival, State, Station, StationEvent, StationRefusal, Tag};
+ghost use Rattle.std.specs.Prelude.{◌≡◌, ◌+◌, ◌^◌, ◌<◌, ◌≤◌, true, length, IfOk};
+ghost use Rattle.dna_model.specs.WireStation.{load};
+
+mod startup;
+mod transfer;
+
+use crate::{Arrival, Held, SentAs, State, Station, StationEvent, StationFault, Tag};
 use ddcmp_msg::{Flags, Message};
+use std::alloc::{AllocError, Global};
 use std::process::Abort;
+use wire_base::{PlainWindow, RingWindow, Window};
 
 const NONE: Flags = Flags {
     quick_sync: false,
@@ -21,23 +29,6 @@ const ACK: Message<'static> = Message::Ack {
     resp: 0,
 };
 
-const ACK_1: Message<'static> = Message::Ack {
-    flags: NONE,
-    resp: 1,
-};
-
-const DATA: Message<'static> = Message::Data {
-    flags: NONE,
-    resp: 0,
-    num: 1,
-    body: b"\x05",
-};
-
-const REP: Message<'static> = Message::Rep {
-    flags: NONE,
-    num: 0,
-};
-
 // Units of the other side's first start: before it knew ours, and after.
 const ALONE: Tag = Tag {
     period: 1,
@@ -51,212 +42,140 @@ const PAIRED: Tag = Tag {
 
 // What happens to a station.
 #[derive(Clone, Copy)]
-enum Step {
+enum Step<'a> {
     Does(StationEvent),
-    Sends(Message<'static>),
-    Comes(Arrival<'static>),
+    Sends(Message<'a>),
+    // The same, and the node puts this label beside a new packet.
+    Labels(Message<'a>, u32),
+    Comes(Arrival<'a>),
     // The same, and the node claims that it took a packet.
-    Takes(Arrival<'static>),
+    Takes(Arrival<'a>),
 }
 
-use Step::{Comes, Does, Sends, Takes};
+// What a step gives.
+#[derive(Clone, Copy, Debug, PartialEq, Eq)]
+enum Given<'a> {
+    Nothing,
+    Sent(SentAs<u32>),
+    Packet(&'a [u8]),
+}
 
-// The tag of what is sent, nothing of another step, or why the step is refused.
-type Answer = Result<Option<Tag>, StationRefusal>;
+// What a step gives, or why it is refused.
+type Answer<'a> = Result<Given<'a>, StationFault>;
+
+const DONE: Answer<'static> = Ok(Given::Nothing);
+
+const START: Step<'static> = Step::Does(StationEvent::Start);
+
+const HALT: Step<'static> = Step::Does(StationEvent::Halt);
+
+fn comes<'a>(message: Message<'a>, tag: Tag) -> Step<'a> {
+    Step::Comes(Arrival::Sound(message, tag))
+}
+
+fn takes<'a>(message: Message<'a>, tag: Tag) -> Step<'a> {
+    Step::Takes(Arrival::Sound(message, tag))
+}
+
+// It is sent with this tag, and gives no new number.
+fn sent(tag: Tag) -> Answer<'static> {
+    Ok(Given::Sent(SentAs {
+        tag,
+        first: false,
+        label: None,
+    }))
+}
+
+// A station whose steps are counted, so that its own counts are known to be small.
+#[derive(Drop)]
+struct Bench<T: Copy, W: Window<Held<T>, 256>> {
+    station: Station<T, W>,
+    steps: u64,
+    ghost light: { load station ≤ steps },
+}
+
+impl<T: Copy, W: Window<Held<T>, 256>> Bench<T, W> {
+    fn new(alloc: Global) -> Result<Self, AllocError> {
+        Ok(Bench {
+            station: Station::new(alloc)?,
+            steps: 0,
+        })
+    }
+}
+
+impl<W: Window<Held<u32>, 256>> Bench<u32, W> {
+    fn makes<'a>(&mut self, rt: &impl Abort, step: Step<'a>) -> Answer<'a> {
+        assert!(rt; self.steps < 1_000_000);
+        self.steps += 1;
+        match step {
+            Step::Does(event) => {
+                self.station.user(event)?;
+                Ok(Given::Nothing)
+            }
+            Step::Sends(message) => Ok(Given::Sent(sends(&mut self.station, &message)?)),
+            Step::Labels(message, label) => {
+                let sent = sends(&mut self.station, &message)?;
+                if sent.first {
+                    self.station.label(label);
+                }
+                Ok(Given::Sent(sent))
+            }
+            Step::Comes(arrival) => receives(&mut self.station, arrival, false),
+            Step::Takes(arrival) => receives(&mut self.station, arrival, true),
+        }
+    }
+}
+
+// Sends the message; once more where memory is refused, since that changes nothing.
+fn sends<W: Window<Held<u32>, 256>>(
+    station: &mut Station<u32, W>,
+    message: &Message,
+) -> Result<SentAs<u32>, StationFault>
+    ensures load { load station.new ≤ load station.old }
+    ensures outstanding { IfOk result (λ sent. sent.first ≡ true → 0 < length station.new.kept.held) }
+{
+    match station.sent(message) {
+        Ok(sent) => Ok(sent),
+        Err(StationFault::OutOfMemory) => station.sent(message),
+        Err(fault) => Err(fault),
+    }
+}
+
+fn receives<'a, W: Window<Held<u32>, 256>>(
+    station: &mut Station<u32, W>,
+    arrival: Arrival<'a>,
+    kept: bool,
+) -> Answer<'a>
+    requires { load station.old < 2 ^ 63 }
+    ensures { load station.new ≤ load station.old + 1 }
+{
+    match station.arrived(arrival, kept) {
+        Ok(Some(packet)) => Ok(Given::Packet(packet)),
+        Ok(None) => Ok(Given::Nothing),
+        Err(fault) => Err(fault),
+    }
+}
 
 // The row's name, its step, the answer to it, and the state and the period that it leaves.
-type Row = (&'static str, Step, Answer, State, u64);
-
-const DONE: Answer = Ok(None);
-
-const START: Step = Does(StationEvent::Start);
-
-const HALT: Step = Does(StationEvent::Halt);
-
-fn comes(message: Message<'static>, tag: Tag) -> Step {
-    Comes(Arrival::Sound(message, tag))
-}
-
-fn takes(message: Message<'static>, tag: Tag) -> Step {
-    Takes(Arrival::Sound(message, tag))
-}
-
-fn sent(tag: Tag) -> Answer {
-    Ok(Some(tag))
-}
-
-fn answer(rt: &impl Abort, station: &mut Station, step: Step) -> Answer {
-    match step {
-        Does(event) => {
-            assert!(rt; station.period() < 1_000);
-            station.user(event)?;
-        }
-        Sends(message) => return Ok(Some(station.sent(&message)?.tag)),
-        Comes(arrival) => station.arrived(arrival, false)?,
-        Takes(arrival) => station.arrived(arrival, true)?,
-    }
-    Ok(None)
-}
+type Row = (&'static str, Step<'static>, Answer<'static>, State, u64);
 
 // Makes the steps of a table, one after another, from a new station on.
-fn plays(rt: &impl Abort, rows: &[Row]) {
-    let mut station = Station::new();
+fn plays<W: Window<Held<u32>, 256> + Drop>(
+    rt: &impl Abort,
+    alloc: Global,
+    rows: &[Row],
+) -> Result<(), AllocError> {
+    let mut bench = Bench::<u32, W>::new(alloc)?;
     for (name, step, want, state, period) in rows {
-        assert_eq!(rt; answer(rt, &mut station, *step), *want, "{name}");
-        assert_eq!(rt; station.state(), *state, "{name}");
-        assert_eq!(rt; station.period(), *period, "{name}");
+        assert_eq!(rt; bench.makes(rt, *step), *want, "{name}");
+        assert_eq!(rt; bench.station.state(), *state, "{name}");
+        assert_eq!(rt; bench.station.period(), *period, "{name}");
     }
+    Ok(())
 }
 
-#[test]
-fn a_new_station_is_halted_and_was_never_started(rt: HostRuntime) {
-    let station = Station::new();
-    assert_eq!(rt; station.state(), State::Halted);
-    assert_eq!(rt; station.period(), 0);
-}
-
-#[test]
-fn a_start_whose_first_strt_is_lost_ends_in_running(rt: HostRuntime) {
-    use State::{Astrt, Halted, Istrt, Running};
-    plays(
-        &rt,
-        &[
-            ("starts", START, DONE, Istrt, 1),
-            ("STRT, which is lost", Sends(STRT), sent(ALONE), Istrt, 1),
-            ("STRT again", Sends(STRT), sent(ALONE), Istrt, 1),
-            ("STACK comes", comes(STACK, PAIRED), DONE, Running, 1),
-            ("ACK 0", Sends(ACK), sent(PAIRED), Running, 1),
-            ("halts", HALT, DONE, Halted, 1),
-            ("starts again", START, DONE, Istrt, 2),
-        ],
-    );
-    plays(
-        &rt,
-        &[
-            ("starts", START, DONE, Istrt, 1),
-            ("STRT comes", comes(STRT, ALONE), DONE, Astrt, 1),
-            ("STACK", Sends(STACK), sent(PAIRED), Astrt, 1),
-            ("ACK 0 comes", comes(ACK, PAIRED), DONE, Running, 1),
-        ],
-    );
-}
-
-#[test]
-fn both_sides_may_start_at_once(rt: HostRuntime) {
-    use State::{Astrt, Istrt, Running};
-    plays(
-        &rt,
-        &[
-            ("starts", START, DONE, Istrt, 1),
-            ("STRT", Sends(STRT), sent(ALONE), Istrt, 1),
-            ("STRT comes", comes(STRT, ALONE), DONE, Astrt, 1),
-            ("STACK", Sends(STACK), sent(PAIRED), Astrt, 1),
-            ("STACK comes", comes(STACK, PAIRED), DONE, Running, 1),
-            ("ACK 0", Sends(ACK), sent(PAIRED), Running, 1),
-            ("ACK 0 comes", comes(ACK, PAIRED), DONE, Running, 1),
-        ],
-    );
-}
-
-#[test]
-fn what_is_not_acted_on_changes_nothing(rt: HostRuntime) {
-    use State::{Astrt, Halted, Istrt, Running};
-    plays(
-        &rt,
-        &[
-            ("STRT in HALTED", comes(STRT, ALONE), DONE, Halted, 0),
-            ("STACK in HALTED", comes(STACK, PAIRED), DONE, Halted, 0),
-            ("halts in HALTED", HALT, DONE, Halted, 0),
-            ("starts", START, DONE, Istrt, 1),
-            (
-                "a bad header comes",
-                Comes(Arrival::HeaderBad),
-                DONE,
-                Istrt,
-                1,
-            ),
-            ("ACK 0 in ISTRT", comes(ACK, PAIRED), DONE, Istrt, 1),
-            ("STRT comes", comes(STRT, ALONE), DONE, Astrt, 1),
-            ("ACK 1 in ASTRT", comes(ACK_1, PAIRED), DONE, Astrt, 1),
-            ("bad data come", Comes(Arrival::DataBad), DONE, Astrt, 1),
-            ("data come", comes(DATA, PAIRED), DONE, Running, 1),
-            ("REP in RUNNING", comes(REP, PAIRED), DONE, Running, 1),
-            ("STRT in RUNNING", comes(STRT, ALONE), DONE, Halted, 1),
-        ],
-    );
-}
-
-#[test]
-fn each_refusal_has_its_name_and_changes_nothing(rt: HostRuntime) {
-    use State::{Astrt, Halted, Istrt, Running};
-    let state: Answer = Err(StationRefusal::WrongState);
-    let response: Answer = Err(StationRefusal::WrongResponse);
-    let keep: Answer = Err(StationRefusal::WrongKeep);
-    let crossed: Answer = Err(StationRefusal::CrossedPeriod);
-    let event: Answer = Err(StationRefusal::WrongUserEvent);
-    plays(
-        &rt,
-        &[
-            ("STRT in HALTED", Sends(STRT), state, Halted, 0),
-            (
-                "a bad header taken",
-                Takes(Arrival::HeaderBad),
-                keep,
-                Halted,
-                0,
-            ),
-            ("starts", START, DONE, Istrt, 1),
-            ("starts in ISTRT", START, event, Istrt, 1),
-            ("STACK in ISTRT", Sends(STACK), state, Istrt, 1),
-            ("STACK to no start", comes(STACK, ALONE), crossed, Istrt, 1),
-            ("STRT taken", takes(STRT, ALONE), keep, Istrt, 1),
-            ("STRT comes", comes(STRT, ALONE), DONE, Astrt, 1),
-            ("STRT in ASTRT", Sends(STRT), state, Astrt, 1),
-            ("ACK 0 to no start", comes(ACK, ALONE), crossed, Astrt, 1),
-            ("both at once", takes(ACK, ALONE), crossed, Astrt, 1),
-            ("ACK 0 comes", comes(ACK, PAIRED), DONE, Running, 1),
-            ("ACK 1", Sends(ACK_1), response, Running, 1),
-            ("data", Sends(DATA), state, Running, 1),
-            ("REP", Sends(REP), state, Running, 1),
-            ("starts in RUNNING", START, event, Running, 1),
-        ],
-    );
-}
-
-#[test]
-fn an_answer_to_an_earlier_start_is_refused(rt: HostRuntime) {
-    use State::{Astrt, Halted, Istrt, Running};
-    let crossed: Answer = Err(StationRefusal::CrossedPeriod);
-    let now = Tag {
-        period: 2,
-        partner: Some(2),
-    };
-    let restarted = Tag {
-        period: 2,
-        partner: None,
-    };
-    let earlier = Tag {
-        period: 1,
-        partner: Some(2),
-    };
-    plays(
-        &rt,
-        &[
-            ("starts", START, DONE, Istrt, 1),
-            ("halts", HALT, DONE, Halted, 1),
-            ("starts again", START, DONE, Istrt, 2),
-            (
-                "STACK to the first",
-                comes(STACK, PAIRED),
-                crossed,
-                Istrt,
-                2,
-            ),
-            ("STRT comes", comes(STRT, restarted), DONE, Astrt, 2),
-            ("ACK 0 to the first", comes(ACK, PAIRED), crossed, Astrt, 2),
-            ("ACK 0 of the first", comes(ACK, earlier), crossed, Astrt, 2),
-            ("ACK 0 of now", comes(ACK, now), DONE, Running, 2),
-            ("and in RUNNING", comes(ACK, PAIRED), crossed, Running, 2),
-        ],
-    );
+// The same over both windows.
+fn plays_over_both(rt: &impl Abort, alloc: Global, rows: &[Row]) -> Result<(), AllocError> {
+    plays::<PlainWindow<Held<u32>, 256>>(rt, alloc, rows)?;
+    plays::<RingWindow<Held<u32>, 256>>(rt, alloc, rows)
 }
