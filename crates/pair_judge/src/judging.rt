@@ -11,7 +11,7 @@ ghost use Rattle.pair_judge.specs.Opened.{OpensAt};
 ghost use Rattle.pair_judge.specs.Answer.{verdict_of};
 
 use crate::course::{Ahead, Course, course_fault};
-use crate::end::End;
+use crate::end::{End, Station};
 use crate::fault::JudgeFault;
 use crate::line::Line;
 use crate::reason::Reason;
@@ -19,7 +19,6 @@ use crate::summary::{SideSummary, Summary};
 use crate::turn::{side_fault, turn};
 use crate::verdict::Verdict;
 use capture::{CaptureReader, MAX_RECORDS, begun_list, no_head_begins_another, one_head_and_list};
-use ddcmp_station::Station;
 use dna_model::Finding;
 use std::alloc::Global;
 use std::io::Read;
@@ -127,16 +126,21 @@ fn open<R: Read>(alloc: Global, side: Side, reader: &mut Tally<R>) -> Result<Cou
         (of ≡ side) × CountedFault (tally_faults reader.old) (tally_faults reader.new) }
     ensures faults { OnOk result (tally_faults reader.new ≡ tally_faults reader.old) }
 {
-    match CaptureReader::open(alloc, reader) {
-        Ok(capture) => Ok(Course {
-            capture,
-            end: End {
-                station: Station::new(),
-                line: Line::new(alloc),
-                counts: SideSummary::new(),
-            },
-            ahead: Ahead::Unread,
-        }),
-        Err(fault) => Err(side_fault(side, course_fault(fault))),
-    }
+    let capture = match CaptureReader::open(alloc, reader) {
+        Ok(capture) => capture,
+        Err(fault) => return Err(side_fault(side, course_fault(fault))),
+    };
+    let Ok(station) = Station::new(alloc) else {
+        return Err(JudgeFault::OutOfMemory);
+    };
+    let end = End {
+        station,
+        line: Line::new(alloc),
+        counts: SideSummary::new(),
+    };
+    Ok(Course {
+        capture,
+        end,
+        ahead: Ahead::Unread,
+    })
 }
