@@ -19,7 +19,7 @@ use crate::summary::{SideSummary, Summary};
 use crate::turn::{side_fault, turn};
 use crate::verdict::Verdict;
 use capture::{CaptureReader, MAX_RECORDS, begun_list, no_head_begins_another, one_head_and_list};
-use dna_model::Finding;
+use dna_model::{Finding, delivered_in_order};
 use std::alloc::Global;
 use std::io::Read;
 use wire_base::{Side, Tally};
@@ -98,6 +98,7 @@ pub fn find<R: Read, S: Read>(
     begun_list();
     no_head_begins_another();
     one_head_and_list();
+    delivered_in_order();
     let mut course_a = open(alloc, Side::A, a)?;
     let mut course_b = open(alloc, Side::B, b)?;
     for _ in 0..MOST_TURNS {
