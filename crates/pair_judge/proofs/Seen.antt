@@ -1,5 +1,5 @@
 -- What the nodes that run make is what they see of a run of the nodes on true numbers.
-use Rattle.std.proofs.Common.{◌≡◌, List, [], ◌∷◌, ◌++◌, refl, sym, ap, subst, ◌∙◌}
+use Rattle.std.proofs.Common.{◌≡◌, List, [], ◌∷◌, ◌++◌, refl, ap, subst, ◌∙◌}
 use Rattle.two_nodes.specs.Nodes.{Half, Outcome, Run, World, advance}
 use Rattle.two_nodes.specs.Nodes.Outcome.{Made, Waits, Refused}
 use Rattle.two_nodes.specs.Cutting.{Commutes, ComesOf, cut_world}
@@ -13,7 +13,7 @@ use Rattle.dna_model.specs.Pair.{pair, start}
 use Rattle.dna_model.specs.Periods.{crossed}
 use Rattle.dna_model.specs.WireNode.{WireUnit, new_wire_node, cut_node, cut_half, cut_outcome, wire_step}
 use Rattle.pair_judge.specs.Seen.{IsSeen}
-use Rattle.pair_judge.specs.Wire.{IsReachedBy, RunHalf, RunNode, RunWorld, run_pair, run_start, seen}
+use Rattle.pair_judge.specs.Wire.{IsReachedBy, RunNode, RunWorld, run_pair, run_start, seen}
 
 -- what is needed of the laws below
 pub record Laws : Type 0 where

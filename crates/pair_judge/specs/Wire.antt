@@ -1,5 +1,5 @@
 -- The nodes that the judge runs: those of `dna_model` as they run, with no label beside a packet.
-use Rattle.std.specs.Prelude.{◌≡◌, List}
+use Rattle.std.specs.Prelude.{List}
 use Rattle.two_nodes.specs.Nodes.{Half, Nodes, World}
 use Rattle.two_nodes.specs.Nodes as any
 use Rattle.two_nodes.specs.Cutting.{Cut}

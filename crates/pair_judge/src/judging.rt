@@ -42,14 +42,15 @@ pub struct Found {
 /// yet sent. So a fault that stands behind the record of a refusal is not met. Of each direction only the units above the last
 /// hint received are held.
 ///
-/// `Accepted`: both texts are texts of captures, all records of both are one run, and the summary is their counts. `Refused`: the
-/// record that is named, with its reason. `Capture`: the first fault met, at the side whose text it is in: the first line there
-/// that departs from the format, and how; `Read` only where that reader failed. `OutOfMemory`: a growth was refused. No verdict
-/// stands in place of a fault. After any answer the readers have given what was read ahead, and nothing is said of the rest.
+/// `Accepted`: both texts are texts of captures, all records of both are one run of two stations whose numbers have no bound, what
+/// each station took was sent, in order, and the summary is the counts of the records. `Refused`: the record that is named, with
+/// its reason. `Capture`: the first fault met, at the side whose text it is in: the first line there that departs from the format,
+/// and how; `Read` only where that reader failed. `OutOfMemory`: a growth was refused. No verdict stands in place of a fault. After
+/// any answer the readers have given what was read ahead, and nothing is said of the rest.
 ///
 /// The contract claims what is said of `Accepted`, of a text's faults and of `Read`, and nothing yet of `Refused` and of the order
-/// of reading. For now a run is one of startups: a sent data, NAK or REP message and a kept receipt are refused, and link events
-/// are not judged, so that one that no link allows is accepted.
+/// of reading. For now packets are carried unread, and link events are not judged: a pair whose packets or link events no node
+/// allows is accepted.
 pub fn judge<R: Read, S: Read>(
     alloc: Global,
     a: &mut Tally<R>,

@@ -1,4 +1,3 @@
-use Rattle.std.proofs.Common.{refl}
 use Rattle.pair_judge.proofs.Advances.{sending_made, sending_refused}
 use Rattle.pair_judge.proofs.making.make_sent.Goals as goal
 
