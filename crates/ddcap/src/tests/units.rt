@@ -12,14 +12,13 @@ const NONE: Flags = Flags {
 
 /// The digits of the unit with this name; digits stand for themselves. `D2` is data number 2 with the packet 05, `OTHER1`
 /// number 1 with the packet 07, `NAK3` a NAK for reason 3, `REP1` a REP for number 1. A RESP that is not 0 stands behind an
-/// R; in an ACK it is the number.
+/// R; in an ACK it is the number. Numbers are those of the line, modulo 256.
 pub fn digits_of(unit: &str) -> &str {
     match unit {
         "STRT" => "0506c00000017595",
         "STACK" => "0507c00000014855",
         "ACK0" => "050100000001fc55",
         "ACK1" => "050100010001ad95",
-        "ACK3" => "0501000300010c55",
         "ACK44" => "0501002c00013d9c",
         "ACK250" => "050100fa0001dc64",
         "NAK1" => "050201000001b9a9",
@@ -34,7 +33,7 @@ pub fn digits_of(unit: &str) -> &str {
         "NAK3R254" => "050203fe0001d9e1",
         "REP1" => "0503000001018405",
         "REP2" => "05030000020184f5",
-        "REP300" => "050300002c019955",
+        "REP44" => "050300002c019955",
         "D1" => "810100000101e38105c003",
         "D2" => "810100000201e37105c003",
         "D3" => "810100000301e2e105c003",

@@ -61,8 +61,8 @@ fn three_hundred(rt: &impl Abort, alloc: Global) -> Result<(String, String), All
     add_sent(rt, alloc, &mut a, 251..=300)?;
     add_received(rt, alloc, &mut b, "k", 1, 251..=254)?;
     add_received(rt, alloc, &mut b, "r", 1, 256..=300)?;
-    add_records(&mut a, "s REP300; r 2 NAK3R254")?;
-    add_records(&mut b, "r 302 REP300; s NAK3R254")?;
+    add_records(&mut a, "s REP44; r 2 NAK3R254")?;
+    add_records(&mut b, "r 302 REP44; s NAK3R254")?;
     Ok((a, b))
 }
 
@@ -85,7 +85,7 @@ b records 352 sent 3 received 348 damaged 0 kept 300 periods 1 links 0 up 0
         expect_verdict_of(&rt, rt.alloc(), a.as_str(), again.as_str(), printed);
     }
     add_records(&mut b, "s ACK44")?;
-    add_records(&mut a, "r 3 ACK44; s REP300")?;
+    add_records(&mut a, "r 3 ACK44; s REP44")?;
     let printed = "refused a 354 line 356: 6 WrongState\n";
     expect_verdict_of(&rt, rt.alloc(), a.as_str(), b.as_str(), printed);
     Ok(())
