@@ -1,5 +1,5 @@
 -- What holds of a station that lets its node send a message, by the kind of the message.
-use Rattle.std.proofs.Common.{◌≡◌, ℕ, zero, suc, ◌+◌, ◌<◌, Bool, true, false, Option, Some, None, List, [], ◌∷◌, length, eqb, ltb, refl, arith}
+use Rattle.std.proofs.Common.{◌≡◌, ℕ, zero, suc, ◌+◌, ◌<◌, Bool, true, false, Option, None, List, [], ◌∷◌, length, eqb, ltb, refl, arith}
 use borrow.Author.Tests.{ltb-true}
 use Rattle.std.specs.Prelude.{slice_get}
 use Rattle.ddcmp_msg.specs.declared.flags.Flags.{Flags}
@@ -66,3 +66,6 @@ module _ {L : Type 0} where
     -- another one is held
     pub data_is_held : (flags : Flags) (resp num : ℕ) (body : List ℕ) → wire_sending_refusal w (Data flags resp num body) ≡ None → wire_is_new w.kept ≡ false → w.kept.ahead < length w.kept.held
     data_is_held flags resp num body e = again (wire_is_new w.kept) w.kept body (data_passed w.kept.state flags resp num body e)
+
+-- what a message that may be sent tells of the station
+pub ruleset sendable = (nak_has_cause, data_has_room, data_is_held)

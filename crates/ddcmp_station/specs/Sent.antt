@@ -1,5 +1,4 @@
 -- What a station says of a message that it let its node send.
-use Rattle.std.specs.Prelude.{Option}
 use Rattle.ddcmp_msg.specs.Message.{MessageValue}
 use Rattle.dna_model.specs.declared.tag.Tag.{Tag}
 use Rattle.dna_model.specs.WireStation.{WireStation, gives_new, label_again}

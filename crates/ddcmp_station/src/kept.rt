@@ -86,16 +86,22 @@ impl<T: Copy, W: Window<Held<T>, 256>> Kept<T, W> {
     pub fn is_to_send(&self, num: u8) -> bool
         ensures { result ≡ (num == wire (self.now.acknowledged + 1 + self.now.ahead)) }
     {
-        u16::from(num)
-            == Seq::<256>::of(u64::from(self.held.first().value()) + 1 + self.ahead as u64).value()
+        u16::from(num) == self.above_acknowledged(1 + self.ahead).value()
     }
 
     /// Whether this is the highest number given.
     pub fn is_highest(&self, num: u8) -> bool
         ensures { result ≡ (num == wire (self.now.acknowledged + length self.now.held)) }
     {
-        u16::from(num)
-            == Seq::<256>::of(u64::from(self.held.first().value()) + self.held.len() as u64).value()
+        u16::from(num) == self.above_acknowledged(self.held.len()).value()
+    }
+
+    // The number that lies this far above the highest acknowledged.
+    fn above_acknowledged(&self, count: usize) -> Seq<256>
+        requires { count ≤ 256 }
+        ensures { result ≡ wire (self.now.acknowledged + count) }
+    {
+        Seq::of(u64::from(self.held.first().value()) + count as u64)
     }
 
     // ---- packets

@@ -20,8 +20,21 @@ use wire_base::Window;
 
 impl<T: Copy, W: Window<Held<T>, 256>> Station<T, W> {
     /// This came, and the node kept its packet or did not (DDCMP 4.1, startup state table, data transfer). The answer is the
-    /// packet that was taken, if one was. What the tables do not name in this state changes nothing. The counts that the station
-    /// keeps are together below 2^63. Takes no memory.
+    /// packet that was taken, if one was. The counts that the station keeps are together below 2^63. Takes no memory.
+    ///
+    /// What it does; where nothing stands, and in HALTED, nothing:
+    ///
+    /// ```text
+    ///          ISTRT         ASTRT                       RUNNING
+    ///  STRT    to ASTRT      another partner             to HALTED
+    ///  STACK   to RUNNING    to RUNNING
+    ///  ACK                   with RESP 0: to RUNNING     RESP acknowledges
+    ///  NAK                                               RESP acknowledges; all behind it is sent again
+    ///  REP                                               NUM is not the last received: a cause
+    ///  data                  with RESP 0: to RUNNING,    RESP acknowledges; the next packet is taken,
+    ///                        and then as there           or gives a cause where no buffer is left
+    ///  damage                                            a cause
+    /// ```
     ///
     /// `Refused`, and nothing else, with:
     ///

@@ -21,6 +21,18 @@ impl<T: Copy, W: Window<Held<T>, 256>> Station<T, W> {
     /// with; whether the message gave a new number, beside which a label may now be put; and of a packet that is sent again its
     /// label, if it has one. A new number takes memory for a copy of its packet, and no other message takes any.
     ///
+    /// What is tested, in this order; where nothing stands, and in HALTED, the message may not be sent:
+    ///
+    /// ```text
+    ///          ISTRT      ASTRT      RUNNING
+    ///  STRT    may go
+    ///  STACK              may go
+    ///  ACK                           RESP
+    ///  NAK                           RESP; an open cause of its reason
+    ///  REP                           that a packet is not acknowledged; NUM
+    ///  data                          NUM; RESP; of a new packet room in the window, of another one its bytes
+    /// ```
+    ///
     /// `Refused`, the first that fits:
     ///
     /// - `WrongState`: the message may not be sent in this state; or it is a REP while every packet is acknowledged.
@@ -32,7 +44,7 @@ impl<T: Copy, W: Window<Held<T>, 256>> Station<T, W> {
     ///
     /// `OutOfMemory`, after all of these and for a new number alone: a growth was refused. After any of them the station is as it
     /// was.
-    #[tactic(auto, using(crate::proofs::Sendable::data_has_room, crate::proofs::Sendable::data_is_held, crate::proofs::Sendable::nak_has_cause))]
+    #[tactic(auto, using(crate::proofs::Sendable::sendable))]
     pub fn sent(&mut self, message: &Message) -> Result<SentAs<T>, StationFault>
         ensures allowed { OnOk result (wire_sending_refusal self.old (view message.now) ≡ None) }
         ensures ok { OnOk result (self.new ≡ wire_after_sending self.old (view message.now)) }

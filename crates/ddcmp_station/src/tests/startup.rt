@@ -1,35 +1,14 @@
-use super::*;
-use crate::StationRefusal;
+use super::bench::plays_over_both;
+use super::{
+    ACK, ALONE, Answer, BODY, DONE, HALT, PAIRED, STACK, START, STRT, Step, ack, comes, data,
+    refused, rep, sent, takes,
+};
+use crate::{Arrival, Held, State, Station, StationRefusal, Tag};
 use Step::{Comes, Sends, Takes};
+use std::alloc::{AllocError, Global};
+use std::process::Abort;
 use std::test::Fail;
-
-const ACK_1: Message<'static> = Message::Ack {
-    flags: NONE,
-    resp: 1,
-};
-
-const DATA: Message<'static> = Message::Data {
-    flags: NONE,
-    resp: 0,
-    num: 1,
-    body: b"\x05",
-};
-
-const DATA_0: Message<'static> = Message::Data {
-    flags: NONE,
-    resp: 0,
-    num: 0,
-    body: b"\x05",
-};
-
-const REP: Message<'static> = Message::Rep {
-    flags: NONE,
-    num: 0,
-};
-
-fn refused(refusal: StationRefusal) -> Answer<'static> {
-    Err(StationFault::Refused(refusal))
-}
+use wire_base::{PlainWindow, RingWindow, Window};
 
 // Neither a start nor anything else has happened to it.
 fn is_new<W: Window<Held<u32>, 256> + Drop>(
@@ -117,10 +96,16 @@ fn what_is_not_acted_on_changes_nothing(rt: HostRuntime) -> Result<(), Fail> {
             ),
             ("ACK 0 in ISTRT", comes(ACK, PAIRED), DONE, Istrt, 1),
             ("STRT comes", comes(STRT, ALONE), DONE, Astrt, 1),
-            ("ACK 1 in ASTRT", comes(ACK_1, PAIRED), DONE, Astrt, 1),
+            ("ACK 1 in ASTRT", comes(ack(1), PAIRED), DONE, Astrt, 1),
             ("bad data come", Comes(Arrival::DataBad), DONE, Astrt, 1),
-            ("data come", comes(DATA, PAIRED), DONE, Running, 1),
-            ("REP in RUNNING", comes(REP, PAIRED), DONE, Running, 1),
+            (
+                "data come",
+                comes(data(1, 0, BODY), PAIRED),
+                DONE,
+                Running,
+                1,
+            ),
+            ("REP in RUNNING", comes(rep(0), PAIRED), DONE, Running, 1),
             ("STRT in RUNNING", comes(STRT, ALONE), DONE, Halted, 1),
         ],
     )?;
@@ -157,12 +142,12 @@ fn each_refusal_has_its_name_and_changes_nothing(rt: HostRuntime) -> Result<(), 
             ("ACK 0 to no start", comes(ACK, ALONE), crossed, Astrt, 1),
             ("both at once", takes(ACK, ALONE), crossed, Astrt, 1),
             ("ACK 0 comes", comes(ACK, PAIRED), DONE, Running, 1),
-            ("ACK 1", Sends(ACK_1), response, Running, 1),
+            ("ACK 1", Sends(ack(1)), response, Running, 1),
             ("STACK in RUNNING", Sends(STACK), state, Running, 1),
-            ("REP, all acknowledged", Sends(REP), state, Running, 1),
+            ("rep(0), all acknowledged", Sends(rep(0)), state, Running, 1),
             (
                 "data that come again, taken",
-                takes(DATA_0, PAIRED),
+                takes(data(0, 0, BODY), PAIRED),
                 keep,
                 Running,
                 1,

@@ -1,120 +1,15 @@
-use super::*;
-use crate::StationRefusal;
+use super::bench::{Bench, follows, passes_all, running, sends_all, takes_all};
+use super::{
+    Answer, BODY, DONE, OTHER, PAIRED, START, Step, ack, data, nak, paired, refused, rep, sent,
+    sent_as,
+};
+use crate::{Arrival, Held, StationRefusal};
 use Step::{Comes, Labels, Sends};
 use ddcmp_msg::NakReason;
+use std::alloc::{AllocError, Global};
+use std::process::Abort;
 use std::test::Fail;
-
-const BODY: &[u8] = b"\x05";
-
-const OTHER: &[u8] = b"\x05\x06";
-
-// A message with the wire values of these numbers.
-fn data<'a>(num: u64, resp: u64, body: &'a [u8]) -> Message<'a> {
-    Message::Data {
-        flags: NONE,
-        resp: (resp % 256) as u8,
-        num: (num % 256) as u8,
-        body,
-    }
-}
-
-fn ack(resp: u64) -> Message<'static> {
-    Message::Ack {
-        flags: NONE,
-        resp: (resp % 256) as u8,
-    }
-}
-
-fn nak(reason: NakReason, resp: u64) -> Message<'static> {
-    Message::Nak {
-        flags: NONE,
-        reason,
-        resp: (resp % 256) as u8,
-    }
-}
-
-fn rep(num: u64) -> Message<'static> {
-    Message::Rep {
-        flags: NONE,
-        num: (num % 256) as u8,
-    }
-}
-
-// It gives a new number, or none, and of a packet that is sent again it has this label.
-fn sent_as(first: bool, label: Option<u32>) -> Answer<'static> {
-    Ok(Given::Sent(SentAs {
-        tag: PAIRED,
-        first,
-        label,
-    }))
-}
-
-fn refused(refusal: StationRefusal) -> Answer<'static> {
-    Err(StationFault::Refused(refusal))
-}
-
-fn paired<'a>(message: Message<'a>) -> Step<'a> {
-    comes(message, PAIRED)
-}
-
-// One station of a pair that is in RUNNING, each side after its first start.
-fn running<W: Window<Held<u32>, 256> + Drop>(
-    rt: &impl Abort,
-    alloc: Global,
-) -> Result<Bench<u32, W>, AllocError> {
-    let mut bench = Bench::<u32, W>::new(alloc)?;
-    let rows = [("starts", START, DONE), ("STACK", paired(STACK), DONE)];
-    follows(rt, &mut bench, &rows);
-    Ok(bench)
-}
-
-// It makes these steps, one after another, with these answers.
-fn follows<W: Window<Held<u32>, 256>>(
-    rt: &impl Abort,
-    bench: &mut Bench<u32, W>,
-    rows: &[(&'static str, Step<'static>, Answer<'static>)],
-) {
-    for (name, step, want) in rows {
-        assert_eq!(rt; bench.makes(rt, *step), *want, "{name}");
-    }
-}
-
-// It sends the packets with the numbers from the first through the last.
-fn sends_all<W: Window<Held<u32>, 256>>(
-    rt: &impl Abort,
-    bench: &mut Bench<u32, W>,
-    numbers: (u64, u64),
-    first: bool,
-) {
-    for number in numbers.0..=numbers.1 {
-        let step = Sends(data(number, 0, BODY));
-        assert_eq!(rt; bench.makes(rt, step), sent_as(first, None), "{number}");
-    }
-}
-
-// They come to it, and it takes them.
-fn takes_all<W: Window<Held<u32>, 256>>(
-    rt: &impl Abort,
-    bench: &mut Bench<u32, W>,
-    numbers: (u64, u64),
-) {
-    for number in numbers.0..=numbers.1 {
-        let step = takes(data(number, 0, BODY), PAIRED);
-        assert_eq!(rt; bench.makes(rt, step), Ok(Given::Packet(BODY)), "{number}");
-    }
-}
-
-// They come to it, and it takes none.
-fn passes_all<W: Window<Held<u32>, 256>>(
-    rt: &impl Abort,
-    bench: &mut Bench<u32, W>,
-    numbers: (u64, u64),
-) {
-    for number in numbers.0..=numbers.1 {
-        let step = paired(data(number, 0, BODY));
-        assert_eq!(rt; bench.makes(rt, step), DONE, "{number}");
-    }
-}
+use wire_base::{PlainWindow, RingWindow, Window};
 
 // The sender of 255 packets, of which 10 are acknowledged, asks for the answer to the next one.
 fn asks_across_the_wrap<W: Window<Held<u32>, 256> + Drop>(
