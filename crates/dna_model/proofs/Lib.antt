@@ -25,6 +25,7 @@ mod RunBounds
 mod Delivered
 mod DeliveredSteps
 mod DeliveredRuns
+mod Places
 mod DeliveredCaptures
 mod Partnered
 mod InOrder
