@@ -73,7 +73,7 @@ event_delivers s ps Halt d = record { earlier = d.earlier; present = d.present }
 
 -- ---- a sending
 
-packets_begin : (new : Bool) (packets : List (List ℕ)) (body : List ℕ) → BeginsWith (with_packet new packets body) packets
+pub packets_begin : (new : Bool) (packets : List (List ℕ)) (body : List ℕ) → BeginsWith (with_packet new packets body) packets
 packets_begin true packets body = record { rest = body ∷ []; whole = refl }
 packets_begin false packets body = begins_same packets
 
@@ -98,7 +98,7 @@ is_the_packet None body e = absurd cc
 is_the_packet (Some packet) body e = ap Some (sym ((bytes_eq-Decides body packet).0 e))
 
 -- the packet that is sent is the one of its number
-packet_there : (s : Station) (new : Bool) (body : List ℕ) → is_new s ≡ new → data_refusal new s body ≡ None → slice_get (with_packet new s.packets body) (s.next_to_send - 1) ≡ Some body
+pub packet_there : (s : Station) (new : Bool) (body : List ℕ) → is_new s ≡ new → data_refusal new s body ≡ None → slice_get (with_packet new s.packets body) (s.next_to_send - 1) ≡ Some body
 packet_there s true body e allowed =
     let f = eqb-true s.next_to_send (given s + 1) e in
     let place : s.next_to_send - 1 ≡ length s.packets = omega arith in

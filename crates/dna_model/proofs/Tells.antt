@@ -49,7 +49,7 @@ step_tells rule n (User event) = event_tells n event
 pub pair_tells : BothTell pair
 pair_tells = record { of_a = step_tells crossed; of_b = step_tells crossed }
 
--- ---- the nodes as they run
+-- ---- the same of a node that runs
 
 module _ {L : Type 0} where
   wire_does_tells : (n : WireNode L) (event : StationEvent) (refusal : Option StationRefusal) → AgreesWith (wire_does n event refusal) None false
@@ -59,12 +59,7 @@ module _ {L : Type 0} where
   wire_event_tells : (n : WireNode L) (event : Event) → AgreesWith (wire_user_step n event) None false
   wire_event_tells n Start = wire_does_tells n station.Start (user_refusal n.station.kept.state station.Start)
   wire_event_tells n Halt = wire_does_tells n station.Halt (user_refusal n.station.kept.state station.Halt)
-  wire_event_tells n (Open link) = (refl, refl)
-  wire_event_tells n (Accept partner link) = (refl, refl)
-  wire_event_tells n (Reject partner link) = (refl, refl)
-  wire_event_tells n (In link bytes) = (refl, refl)
-  wire_event_tells n (Up link bytes) = (refl, refl)
-  wire_event_tells n (Close link) = (refl, refl)
+  wire_event_tells n event = (refl, refl)
 
   wire_sends_tells : (n : WireNode L) (bytes : List ℕ) (m : MessageValue) (refusal : Option StationRefusal) → AgreesWith (wire_sends n bytes m refusal) None true
   wire_sends_tells n bytes m None = (refl, refl)
@@ -81,5 +76,5 @@ module _ {L : Type 0} where
   wire_step_tells rule n (Received hint kept bytes) = (refl, refl)
   wire_step_tells rule n (User event) = wire_event_tells n event
 
-  pub wire_pair_tells : BothTell (wire_pair {L = L})
-  wire_pair_tells = record { of_a = wire_step_tells crossed; of_b = wire_step_tells crossed }
+pub wire_pair_tells : (L : Type 0) → BothTell (wire_pair {L = L})
+wire_pair_tells L = record { of_a = wire_step_tells crossed; of_b = wire_step_tells crossed }

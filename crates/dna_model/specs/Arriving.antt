@@ -1,5 +1,6 @@
 -- What an arrival does to a station (DDCMP 4.1, startup state table, data transfer). NUM and RESP are the numbers of the unit's truth,
--- with one exception: RESP 0 in ASTRT is the byte 0, and is tested before the rule on periods.
+-- with one exception: RESP 0 in ASTRT is the byte 0, and is tested before the rule on periods. R, N, A and T are the numbers of
+-- `Station`; 12 and 13 are numbers of reasons.
 use Rattle.std.specs.Prelude.{ℕ, ◌+◌, Bool, true, false, ◌&&◌, ◌==◌, nat_lt, nat_le, max, if◌then◌else◌, Option, Some, None, List, [], ◌∷◌, ◌++◌}
 use Rattle.ddcmp_msg.specs.Message.{MessageValue, Data, Ack, Nak, Rep, Strt, Stack}
 use Rattle.ddcmp_msg.specs.declared.nak_reason.NakReason.{NakReason}
@@ -91,7 +92,7 @@ arrived_in Astrt s (Ack flags resp) u kept = if resp == 0 then record s { state 
 arrived_in Astrt s (Data flags resp num body) u kept = if resp == 0 then data_arrived (record s { state = Running }) u body kept else s
 -- RUNNING, STRT: to HALTED
 arrived_in Running s (Strt flags) u kept = record s { state = Halted }
--- RUNNING, all others: STACK changes nothing, the others as above
+-- RUNNING, all others: STACK changes nothing; RESP of ACK, NAK and data is looked at, and then what else they bring
 arrived_in Running s (Stack flags) u kept = s
 arrived_in Running s (Ack flags resp) u kept = responded s u.response
 arrived_in Running s (Nak flags reason resp) u kept = set_back (responded s u.response)

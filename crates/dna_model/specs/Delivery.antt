@@ -1,12 +1,13 @@
 -- What each period of a station took, beside what its partner period gave.
 use Rattle.std.specs.Prelude.{◌≡◌, ℕ, Bool, true, false, Option, Some, None, List, [], ◌∷◌, ◌++◌, slice_get, map, flat_map, fold}
-use Rattle.ddcmp_msg.specs.Message.{Data}
+use Rattle.ddcmp_msg.specs.Message.{MessageValue, Data}
 use Rattle.ddcmp_msg.specs.Reading.{ReadingValue, reading, Sound}
 use Rattle.capture.specs.declared.record.Record.{Record}
 use Rattle.capture.specs.declared.record.Record.TheVariants.{Sent, Received, User}
 use Rattle.capture.specs.declared.event.Event.{Event}
 use Rattle.capture.specs.declared.event.Event.TheVariants.{Start}
 use Rattle.dna_model.specs.Station.{Station, PastPeriod, past}
+use Rattle.dna_model.specs.Truth.{Truth}
 
 -- all periods of a station in order, the present one last; period 0 is before the first start
 abbrev pub periods : Station → List PastPeriod
@@ -73,3 +74,8 @@ pub data AreAmong : List (List ℕ) → List (List ℕ) → Type 0 where
 -- all packets that a station ever took, in order
 abbrev pub all_taken : Station → List (List ℕ)
 all_taken s = flat_map (λ (period : PastPeriod). period.taken) (periods s)
+
+-- a data message carries the packet at its place among these
+abbrev pub CarriesItsPacket : List (List ℕ) → MessageValue → Truth → Type 0
+CarriesItsPacket packets (Data flags resp num body) u = slice_get packets u.place ≡ Some body
+CarriesItsPacket packets m u = Unit {0}

@@ -1,10 +1,10 @@
 -- What a reader must believe of the protocols, lowest first
 pub mod Causes
 pub mod Station
-pub mod Delivery
 pub mod Periods
 pub mod Sending
 pub mod Truth
+pub mod Delivery
 pub mod Arriving
 pub mod Line
 pub mod Node

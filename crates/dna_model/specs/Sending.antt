@@ -1,5 +1,5 @@
 -- What a station may send, and what sending changes (DDCMP 4.1, data transfer). Flags are never judged. The order of the checks is
--- the order of refusals.
+-- the order of refusals; `else` gives the number of the reason. R, N, A and T are the numbers of `Station`.
 use Rattle.std.specs.Prelude.{ℕ, ◌+◌, ◌-◌, Bool, true, false, not, ◌==◌, nat_lt, Option, Some, None, List, [], ◌∷◌, ◌++◌, slice_get}
 use Rattle.std.specs.Str.{bytes_eq}
 use Rattle.ddcmp_msg.specs.Message.{MessageValue, Data, Ack, Nak, Rep, Strt, Stack}

@@ -10,7 +10,7 @@ use Rattle.dna_model.specs.declared.refusal.StationRefusal.{StationRefusal}
 use Rattle.dna_model.specs.declared.refusal.StationRefusal.TheVariants.{WrongUserEvent}
 use Rattle.dna_model.specs.Causes.{Causes, no_causes}
 
--- What a period that is over came to. No rule reads it
+-- What a period that is over came to: its partner, all packets given in it, and all packets taken. No rule reads it
 pub record PastPeriod : Type 0 where
   pub partner : Option ℕ
   pub given : List (List ℕ)

@@ -12,7 +12,8 @@ pub record Truth : Type 0 where
   pub number : ℕ
   -- what RESP stands for
   pub response : ℕ
-  -- of a data message, the place of its packet among all packets that its sender ever sent first, from 0 on
+  -- of a data message, the place of its packet among all packets that its sender ever sent first, from 0 on. No rule of a station
+  -- reads it
   pub place : ℕ
   -- the sender's own numbers after the sending: the last received in order, the highest given, and the highest acknowledged
   pub received : ℕ

@@ -1,14 +1,14 @@
 //! What holds of the definitions in `specs/`, whatever the code does, for the proofs of callers to cite. `L` is the type of the
 //! labels that a node puts beside packets.
 
-ghost use Rattle.std.specs.Prelude.{◌≡◌, ◌+◌, ◌<◌, ◌≤◌, Bool, false, None, List};
+ghost use Rattle.std.specs.Prelude.{◌≡◌, ℕ, ◌+◌, ◌<◌, ◌≤◌, Bool, false, Some, None, List, slice_get};
 ghost use Rattle.two_nodes.specs.Nodes.{Half, World, Run, advance};
 ghost use Rattle.ddcmp_msg.specs.Message.{MessageValue};
 ghost use Rattle.capture.specs.declared.record.Record.{Record};
 ghost use Rattle.dna_model.specs.declared.state.StationEvent.{StationEvent};
 ghost use Rattle.dna_model.specs.declared.tag.Tag.{Tag};
 ghost use Rattle.dna_model.specs.Station.{Station, new_station, given, offered, after_event};
-ghost use Rattle.dna_model.specs.Delivery.{AreAmong, DeliversFrom, all_taken, delivered, taken_by_period};
+ghost use Rattle.dna_model.specs.Delivery.{AreAmong, CarriesItsPacket, DeliversFrom, all_taken, delivered, taken_by_period};
 ghost use Rattle.dna_model.specs.Periods.{PeriodRule, crossed};
 ghost use Rattle.dna_model.specs.Sending.{sending_refusal, after_sending};
 ghost use Rattle.dna_model.specs.Truth.{Truth};
@@ -52,6 +52,18 @@ pub fn delivered_in_order()
         → Run pair start of_a of_b w → AreAmong (all_taken w.a.state.station) (offered w.b.state.station) }
     ensures b_among { (w : World Node SentUnit) (of_a of_b : List Record)
         → Run pair start of_a of_b w → AreAmong (all_taken w.b.state.station) (offered w.a.state.station) }
+{
+    always::<Brand>();
+}
+
+/// In every run, each data message carries the packet at its place among all packets that its sender ever gave.
+pub fn packets_at_their_places()
+    ensures of_a { (w : World Node SentUnit) (of_a of_b : List Record) → Run pair start of_a of_b w
+        → (i : ℕ) (unit : SentUnit) → slice_get w.a.sent i ≡ Some unit
+        → CarriesItsPacket (offered w.a.state.station) unit.message unit.known }
+    ensures of_b { (w : World Node SentUnit) (of_a of_b : List Record) → Run pair start of_a of_b w
+        → (i : ℕ) (unit : SentUnit) → slice_get w.b.sent i ≡ Some unit
+        → CarriesItsPacket (offered w.b.state.station) unit.message unit.known }
 {
     always::<Brand>();
 }
