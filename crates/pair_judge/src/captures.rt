@@ -53,7 +53,7 @@ impl TwoNodes for Running {
 
     ghost nodes = { run_pair };
 
-    ghost tells = { wire_pair_tells };
+    ghost tells = { wire_pair_tells (Unit {0}) };
 }
 
 // The one seen by the other, in each world that a run reaches.
