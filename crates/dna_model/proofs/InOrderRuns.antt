@@ -8,7 +8,7 @@ use Rattle.two_nodes.proofs.Order.{slice_get-append}
 use Rattle.ddcmp_msg.specs.Message.{MessageValue, Data, Ack, Nak, Rep, Strt, Stack}
 use Rattle.capture.specs.declared.record.Record.{Record}
 use Rattle.dna_model.specs.declared.state.StationEvent.TheVariants.{Start, Halt}
-use Rattle.dna_model.specs.Station.{Station, past, offered}
+use Rattle.dna_model.specs.Station.{Station, past, all_given}
 use Rattle.dna_model.specs.Delivery.{AreAmong, all_taken}
 use Rattle.dna_model.specs.Periods.{crossed}
 use Rattle.dna_model.specs.Sending.{after_sending}
@@ -123,8 +123,8 @@ new_order = record { partnered = new_partnered new_node.station; takes = new_tak
 pub start_order : BothInOrder start [] []
 start_order = record { captured = start_captured; a_order = new_order; b_order = new_order }
 
-pub a_among : (w : World Node SentUnit) (of_a of_b : List Record) → BothInOrder w of_a of_b → AreAmong (all_taken w.a.state.station) (offered w.b.state.station)
+pub a_among : (w : World Node SentUnit) (of_a of_b : List Record) → BothInOrder w of_a of_b → AreAmong (all_taken w.a.state.station) (all_given w.b.state.station)
 a_among w of_a of_b h = taken_among_offered w.a.state.station w.b.state.station (delivers_from w.a.state.station w.b.state.station h.captured.both.a_delivers) h.a_order.takes.rising
 
-pub b_among : (w : World Node SentUnit) (of_a of_b : List Record) → BothInOrder w of_a of_b → AreAmong (all_taken w.b.state.station) (offered w.a.state.station)
+pub b_among : (w : World Node SentUnit) (of_a of_b : List Record) → BothInOrder w of_a of_b → AreAmong (all_taken w.b.state.station) (all_given w.a.state.station)
 b_among w of_a of_b h = taken_among_offered w.b.state.station w.a.state.station (delivers_from w.b.state.station w.a.state.station h.captured.both.b_delivers) h.b_order.takes.rising

@@ -10,7 +10,7 @@ use Rattle.capture.specs.declared.record.Record.{Record}
 use Rattle.dna_model.specs.declared.state.State.{State}
 use Rattle.dna_model.specs.declared.state.State.TheVariants.{Halted, Istrt, Astrt, Running}
 use Rattle.dna_model.specs.declared.state.StationEvent.TheVariants.{Start, Halt}
-use Rattle.dna_model.specs.Station.{Station, PastPeriod, past, packets_of, offered, after_event}
+use Rattle.dna_model.specs.Station.{Station, PastPeriod, past, packets_of, all_given, after_event}
 use Rattle.dna_model.specs.Periods.{crossed}
 use Rattle.dna_model.specs.Sending.{is_new, sending_refusal_in, after_sending, with_packet}
 use Rattle.dna_model.specs.Truth.{Truth, truth_of}
@@ -43,37 +43,37 @@ carried_still (Strt flags) u packets more c b = tt
 carried_still (Stack flags) u packets more c b = tt
 
 abbrev AtPlaces : Station → List SentUnit → Type 0
-AtPlaces s own = (i : ℕ) (unit : SentUnit) → slice_get own i ≡ Some unit → CarriesItsPacket (offered s) unit.message unit.known
+AtPlaces s own = (i : ℕ) (unit : SentUnit) → slice_get own i ≡ Some unit → CarriesItsPacket (all_given s) unit.message unit.known
 
 -- ---- all packets given, after each step
 
-same_offered : (s t : Station) → t.earlier ≡ s.earlier → t.packets ≡ s.packets → BeginsWith (offered t) (offered s)
+same_offered : (s t : Station) → t.earlier ≡ s.earlier → t.packets ≡ s.packets → BeginsWith (all_given t) (all_given s)
 same_offered s t earlier packets =
-    subst (λ (l : List (List ℕ)). BeginsWith l (offered s)) (sym (ap₂ (λ (e : List PastPeriod) (ps : List (List ℕ)). packets_of e ++ ps) earlier packets)) (begins_same (offered s))
+    subst (λ (l : List (List ℕ)). BeginsWith l (all_given s)) (sym (ap₂ (λ (e : List PastPeriod) (ps : List (List ℕ)). packets_of e ++ ps) earlier packets)) (begins_same (all_given s))
 
-start_offered : (s : Station) → BeginsWith (offered (after_event s Start)) (offered s)
+start_offered : (s : Station) → BeginsWith (all_given (after_event s Start)) (all_given s)
 start_offered s =
-    let same : offered (after_event s Start) ≡ offered s =
+    let same : all_given (after_event s Start) ≡ all_given s =
     append-nil (packets_of (s.earlier ++ past s ∷ [])) ∙ flat_map-append (λ (p : PastPeriod). p.given) s.earlier (past s ∷ []) ∙ ap (λ (l : List (List ℕ)). packets_of s.earlier ++ l) (append-nil s.packets) in
-    subst (λ (l : List (List ℕ)). BeginsWith l (offered s)) (sym same) (begins_same (offered s))
+    subst (λ (l : List (List ℕ)). BeginsWith l (all_given s)) (sym same) (begins_same (all_given s))
 
-more_offered : (s t : Station) → t.earlier ≡ s.earlier → BeginsWith t.packets s.packets → BeginsWith (offered t) (offered s)
+more_offered : (s t : Station) → t.earlier ≡ s.earlier → BeginsWith t.packets s.packets → BeginsWith (all_given t) (all_given s)
 more_offered s t earlier more = record {
   rest = more.rest;
   whole = ap₂ (λ (e : List PastPeriod) (ps : List (List ℕ)). packets_of e ++ ps) earlier more.whole ∙ sym (append_assoc (packets_of s.earlier) s.packets more.rest);
 }
 
-sending_offered : (s : Station) (m : MessageValue) → BeginsWith (offered (after_sending s m)) (offered s)
+sending_offered : (s : Station) (m : MessageValue) → BeginsWith (all_given (after_sending s m)) (all_given s)
 sending_offered s (Data flags resp num body) = more_offered s (after_sending s (Data flags resp num body)) refl (packets_begin (is_new s) s.packets body)
-sending_offered s (Ack flags resp) = begins_same (offered s)
-sending_offered s (Nak flags reason resp) = begins_same (offered s)
-sending_offered s (Rep flags num) = begins_same (offered s)
-sending_offered s (Strt flags) = begins_same (offered s)
-sending_offered s (Stack flags) = begins_same (offered s)
+sending_offered s (Ack flags resp) = begins_same (all_given s)
+sending_offered s (Nak flags reason resp) = begins_same (all_given s)
+sending_offered s (Rep flags num) = begins_same (all_given s)
+sending_offered s (Strt flags) = begins_same (all_given s)
+sending_offered s (Stack flags) = begins_same (all_given s)
 
 -- ---- what is sent
 
-sent_at_place : (s : Station) (state : State) (m : MessageValue) → sending_refusal_in state s m ≡ None → CarriesItsPacket (offered (after_sending s m)) m (truth_of s m)
+sent_at_place : (s : Station) (state : State) (m : MessageValue) → sending_refusal_in state s m ≡ None → CarriesItsPacket (all_given (after_sending s m)) m (truth_of s m)
 sent_at_place s Running (Data flags resp num body) e =
     item_behind (packets_of s.earlier) (with_packet (is_new s) s.packets body) (s.next_to_send - 1) ∙ packet_there s (is_new s) body refl (data_passed s num resp body e).2
 sent_at_place s Halted (Data flags resp num body) e = absurd cc
@@ -88,8 +88,8 @@ sent_at_place s state (Stack flags) e = tt
 -- ---- any record
 
 module _ (own other : Half Node SentUnit) (h : IsSound own.state own.sent other.sent) (p : AtPlaces own.state.station own.sent) where
-  places_still : (t : Station) → BeginsWith (offered t) (offered own.state.station) → AtPlaces t own.sent
-  places_still t b i unit at = carried_still unit.message unit.known (offered own.state.station) (offered t) (p i unit at) b
+  places_still : (t : Station) → BeginsWith (all_given t) (all_given own.state.station) → AtPlaces t own.sent
+  places_still t b i unit at = carried_still unit.message unit.known (all_given own.state.station) (all_given t) (p i unit at) b
 
   places_left : (r : Record) (left : Half Node SentUnit) → Happens crossed own other r left → AtPlaces left.state.station left.sent
   places_left r left (Nothing event none) = p
@@ -97,9 +97,9 @@ module _ (own other : Half Node SentUnit) (h : IsSound own.state own.sent other.
   places_left r left (UserEvent Halt allowed) = p
   places_left r left (Sending bytes m read allowed) = λ i unit at. go unit (at_pushed own.sent (unit_of own.state.station bytes m) unit i at)
     where
-      go : (unit : SentUnit) → {i : ℕ} → (slice_get own.sent i ≡ Some unit) ⊎ ((i ≡ length own.sent) × (unit_of own.state.station bytes m ≡ unit)) → CarriesItsPacket (offered (after_sending own.state.station m)) unit.message unit.known
+      go : (unit : SentUnit) → {i : ℕ} → (slice_get own.sent i ≡ Some unit) ⊎ ((i ≡ length own.sent) × (unit_of own.state.station bytes m ≡ unit)) → CarriesItsPacket (all_given (after_sending own.state.station m)) unit.message unit.known
       go unit {i} (inl a) = places_still (after_sending own.state.station m) (sending_offered own.state.station m) i unit a
-      go unit (inr a) = subst (λ (x : SentUnit). CarriesItsPacket (offered (after_sending own.state.station m)) x.message x.known) a.1 (sent_at_place own.state.station own.state.station.state m allowed)
+      go unit (inr a) = subst (λ (x : SentUnit). CarriesItsPacket (all_given (after_sending own.state.station m)) x.message x.known) a.1 (sent_at_place own.state.station own.state.station.state m allowed)
   places_left r left (Receipt hint kept bytes unit arrival there ahead of_unit allowed) =
       let stays = (arrival_took own.state.station unit bytes arrival kept of_unit h.none allowed).0 in
       places_still (after_arrival own.state.station arrival kept) (same_offered own.state.station (after_arrival own.state.station arrival kept) stays.earlier stays.packets)

@@ -1,4 +1,5 @@
--- What a station may answer with a NAK: the open causes of each reason (DDCMP 4.1, NAK message).
+-- What a station in RUNNING may answer with a NAK: the open causes of each reason (DDCMP 4.1, NAK message). That a NAK wants an open
+-- cause, and uses it up, is this project's own.
 use Rattle.std.specs.Prelude.{ℕ, ◌+◌, ◌-◌, Bool, true, nat_lt}
 use Rattle.ddcmp_msg.specs.declared.nak_reason.NakReason.{NakReason}
 use Rattle.ddcmp_msg.specs.declared.nak_reason.NakReason.TheVariants.{HeaderCheck, DataCheck, RepResponse, NoBuffer}
@@ -31,7 +32,7 @@ has_cause RepResponse c = nat_lt 0 c.rep_response
 has_cause NoBuffer c = nat_lt 0 c.no_buffer
 has_cause reason c = true
 
--- the NAK uses up one open cause of its reason
+-- a NAK with reason 1, 2, 3 or 8 uses up one open cause of its reason
 abbrev pub without_cause : NakReason → Causes → Causes
 without_cause HeaderCheck c = record c { header_check = c.header_check - 1 }
 without_cause DataCheck c = record c { data_check = c.data_check - 1 }

@@ -23,7 +23,7 @@ use Rattle.dna_model.specs.Line.{SentUnit, coming}
 
 pub record Node : Type 0 where
   pub station : Station
-  -- the other side's first unit that may still come: one more than the last hint received
+  -- the other side's first unit that may still come: one more than the last hint received, and 0 before any
   pub front : ℕ
 
 abbrev pub new_node : Node

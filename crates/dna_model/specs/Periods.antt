@@ -1,5 +1,6 @@
--- The rule on periods: a message that is acted on belongs to the same pair of starts as its receiver. It is this project's own, and
--- makes the crossing of periods visible.
+-- The rule on periods: a message that is acted on belongs to the same pair of starts as its receiver; of a STRT nothing is asked, and of
+-- a STACK before RUNNING that it answers the receiver's present start. It is this project's own, and makes the crossing of periods
+-- visible.
 use Rattle.std.specs.Prelude.{ℕ, Bool, false, ◌&&◌, not, ◌==◌, Option, Some, None}
 use Rattle.ddcmp_msg.specs.Message.{MessageValue, Data, Ack, Strt, Stack}
 use Rattle.dna_model.specs.declared.state.State.{State}

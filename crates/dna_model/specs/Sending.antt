@@ -60,13 +60,13 @@ sending_refusal s m = sending_refusal_in s.state s m
 
 -- ---- what sending changes
 
--- a new number is given, and N rises
+-- where the number is new it is given, and N rises
 abbrev pub with_packet : Bool → List (List ℕ) → List ℕ → List (List ℕ)
 with_packet true packets body = packets ++ body ∷ []
 with_packet false packets body = packets
 
 abbrev pub after_sending : Station → MessageValue → Station
--- a NAK uses up one open cause
+-- a NAK with reason 1, 2, 3 or 8 uses up one open cause
 after_sending s (Nak flags reason resp) = record s { causes = without_cause reason s.causes }
 -- data: if T = N + 1 the number is new; then T rises
 after_sending s (Data flags resp num body) = record s { packets = with_packet (is_new s) s.packets body; next_to_send = s.next_to_send + 1 }

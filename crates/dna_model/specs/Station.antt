@@ -10,7 +10,7 @@ use Rattle.dna_model.specs.declared.refusal.StationRefusal.{StationRefusal}
 use Rattle.dna_model.specs.declared.refusal.StationRefusal.TheVariants.{WrongUserEvent}
 use Rattle.dna_model.specs.Causes.{Causes, no_causes}
 
--- What a period that is over came to: its partner, all packets given in it, and all packets taken. No rule reads it
+-- What a period that is over came to: its partner, all packets given in it, and all packets taken. No check and no step goes by it
 pub record PastPeriod : Type 0 where
   pub partner : Option ℕ
   pub given : List (List ℕ)
@@ -33,7 +33,8 @@ pub record Station : Type 0 where
   pub packets : List (List ℕ)
   -- what a NAK may still answer
   pub causes : Causes
-  -- all packets taken in the period, and the periods before it, period 0 first. No rule reads them
+  -- all packets taken in the period, and the periods before it, period 0 first. No check and no step goes by them; the place of a
+  -- packet among all packets is counted from them
   pub taken : List (List ℕ)
   pub earlier : List PastPeriod
 
@@ -88,12 +89,12 @@ after_event s Start = record {
 }
 after_event s Halt = record s { state = Halted }
 
--- ---- what was offered over all periods
+-- ---- what was given over all periods
 
 -- all packets first sent in these periods, in order
 abbrev pub packets_of : List PastPeriod → List (List ℕ)
 packets_of periods = flat_map (λ (p : PastPeriod). p.given) periods
 
 -- all packets ever first sent, in order
-abbrev pub offered : Station → List (List ℕ)
-offered s = packets_of s.earlier ++ s.packets
+abbrev pub all_given : Station → List (List ℕ)
+all_given s = packets_of s.earlier ++ s.packets

@@ -5,6 +5,7 @@ use Rattle.dna_model.specs.declared.tag.Tag.{Tag}
 use Rattle.dna_model.specs.Station.{Station, given, packets_of}
 use Rattle.dna_model.specs.Sending.{after_sending}
 
+-- A number that the message does not have is 0 here, and nothing looks at it
 pub record Truth : Type 0 where
   -- the sender's period and its partner period
   pub tag : Tag
@@ -12,8 +13,8 @@ pub record Truth : Type 0 where
   pub number : ℕ
   -- what RESP stands for
   pub response : ℕ
-  -- of a data message, the place of its packet among all packets that its sender ever sent first, from 0 on. No rule of a station
-  -- reads it
+  -- of a data message, the place of its packet among all packets that its sender ever sent first, from 0 on. No
+  -- station goes by it, nor by the sender's own numbers
   pub place : ℕ
   -- the sender's own numbers after the sending: the last received in order, the highest given, and the highest acknowledged
   pub received : ℕ

@@ -27,16 +27,16 @@ pub record HeldPacket (L : Type 0) : Type 0 where
 -- what any node keeps
 pub record Kept (L : Type 0) : Type 0 where
   pub state : State
-  -- the last number received in order, modulo 256
+  -- R, the last number received in order, modulo 256
   pub received : ℕ
-  -- the highest number acknowledged, modulo 256
+  -- A, the highest number acknowledged, modulo 256
   pub acknowledged : ℕ
-  -- how many of the held packets are sent in the present go
+  -- how many of the held packets come before the next to send: T - (A + 1)
   pub ahead : ℕ
   -- the packets given and not acknowledged, the one after the acknowledged number first
   pub held : List (HeldPacket L)
 
--- what a node that is judged keeps besides
+-- and what the judge keeps of it besides
 pub record WireStation (L : Type 0) : Type 0 where
   pub kept : Kept L
   pub period : ℕ
@@ -68,7 +68,7 @@ module _ {L : Type 0} where
 
   -- ---- what may be sent
 
-  -- all held packets are sent in this go, so the next one is new
+  -- all held packets come before the next to send, so that is new
   abbrev pub wire_is_new : Kept L → Bool
   wire_is_new k = k.ahead == length k.held
 
@@ -104,7 +104,7 @@ module _ {L : Type 0} where
   wire_after_sending w (Data flags resp num body) = record w { kept = record w.kept { ahead = w.kept.ahead + 1; held = with_new (wire_is_new w.kept) w.kept.held body } }
   wire_after_sending w m = w
 
-  -- whether the message gives a new number
+  -- whether the message, where it is not refused, gives a new number
   abbrev pub gives_new : WireStation L → MessageValue → Bool
   gives_new w (Data flags resp num body) = wire_is_new w.kept
   gives_new w m = false
@@ -143,7 +143,7 @@ module _ {L : Type 0} where
   wire_arrival_refusal rule w HeaderBad kept = keep_refusal false kept
   wire_arrival_refusal rule w DataBad kept = keep_refusal false kept
 
-  -- the packet that is taken
+  -- the packet that is taken, where the arrival is not refused
   abbrev pub wire_taken : WireStation L → ArrivalValue Tag → Bool → Option (List ℕ)
   wire_taken w (Sound m tag) kept = if (wire_takes_in w.kept.state w.kept m && kept) then body_of m else None
   wire_taken w HeaderBad kept = None
@@ -204,6 +204,6 @@ module _ {L : Type 0} where
 
   -- ---- counts
 
-  -- All counts that the station keeps, together: where this is below a bound, so is each. A record adds at most one to it
+  -- All counts that no rule bounds, together: where this is below a bound, so is each. A record adds at most one to it
   abbrev pub load : WireStation L → ℕ
   load w = w.period + w.causes.header_check + w.causes.data_check + w.causes.rep_response + w.causes.no_buffer

@@ -7,7 +7,7 @@ ghost use Rattle.ddcmp_msg.specs.Message.{MessageValue};
 ghost use Rattle.capture.specs.declared.record.Record.{Record};
 ghost use Rattle.dna_model.specs.declared.state.StationEvent.{StationEvent};
 ghost use Rattle.dna_model.specs.declared.tag.Tag.{Tag};
-ghost use Rattle.dna_model.specs.Station.{Station, new_station, given, offered, after_event};
+ghost use Rattle.dna_model.specs.Station.{Station, new_station, given, all_given, after_event};
 ghost use Rattle.dna_model.specs.Delivery.{AreAmong, CarriesItsPacket, DeliversFrom, all_taken, delivered, taken_by_period};
 ghost use Rattle.dna_model.specs.Periods.{PeriodRule, crossed};
 ghost use Rattle.dna_model.specs.Sending.{sending_refusal, after_sending};
@@ -49,9 +49,9 @@ pub fn delivered_in_order()
 
     // Over all periods it stands in order among all that the other gave.
     ensures a_among { (w : World Node SentUnit) (of_a of_b : List Record)
-        → Run pair start of_a of_b w → AreAmong (all_taken w.a.state.station) (offered w.b.state.station) }
+        → Run pair start of_a of_b w → AreAmong (all_taken w.a.state.station) (all_given w.b.state.station) }
     ensures b_among { (w : World Node SentUnit) (of_a of_b : List Record)
-        → Run pair start of_a of_b w → AreAmong (all_taken w.b.state.station) (offered w.a.state.station) }
+        → Run pair start of_a of_b w → AreAmong (all_taken w.b.state.station) (all_given w.a.state.station) }
 {
     always::<Brand>();
 }
@@ -60,10 +60,10 @@ pub fn delivered_in_order()
 pub fn packets_at_their_places()
     ensures of_a { (w : World Node SentUnit) (of_a of_b : List Record) → Run pair start of_a of_b w
         → (i : ℕ) (unit : SentUnit) → slice_get w.a.sent i ≡ Some unit
-        → CarriesItsPacket (offered w.a.state.station) unit.message unit.known }
+        → CarriesItsPacket (all_given w.a.state.station) unit.message unit.known }
     ensures of_b { (w : World Node SentUnit) (of_a of_b : List Record) → Run pair start of_a of_b w
         → (i : ℕ) (unit : SentUnit) → slice_get w.b.sent i ≡ Some unit
-        → CarriesItsPacket (offered w.b.state.station) unit.message unit.known }
+        → CarriesItsPacket (all_given w.b.state.station) unit.message unit.known }
 {
     always::<Brand>();
 }

@@ -17,7 +17,8 @@ pub enum StationRefusal {
     NoCause,
     /// The receipt claims to have taken a packet, and takes none (reason 12).
     WrongKeep,
-    /// A message that is acted on belongs to another pair of starts (reason 13).
+    /// A message that is acted on belongs to another pair of starts: a STACK before RUNNING answers another start, any
+    /// message but a STRT else is not of the pair (reason 13).
     CrossedPeriod,
     /// A start in a state other than HALTED (reason 14).
     WrongUserEvent,

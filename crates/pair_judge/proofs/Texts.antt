@@ -15,7 +15,7 @@ use Rattle.dna_model.specs.Delivery.{AreAmong, DeliversFrom, all_taken, delivere
 use Rattle.dna_model.specs.Line.{SentUnit}
 use Rattle.dna_model.specs.Node.{Node}
 use Rattle.dna_model.specs.Pair.{IsRun, is_sent, pair, start}
-use Rattle.dna_model.specs.Station.{offered}
+use Rattle.dna_model.specs.Station.{all_given}
 use Rattle.pair_judge.specs.declared.course.Ahead.{Ahead}
 use Rattle.pair_judge.specs.declared.course.Ahead.TheVariants.{Unread, Waits, Ended}
 use Rattle.pair_judge.specs.declared.course.Course.{Course}
@@ -55,8 +55,8 @@ pub record RunLaws : Type 0 where
   pub of_b : (w : World Node SentUnit) (of_a of_b : List Record) → Run pair start of_a of_b w → DeliversFrom w.b.state.station w.a.state.station
   pub a_captured : (w : World Node SentUnit) (of_a of_b : List Record) → Run pair start of_a of_b w → delivered of_a ≡ taken_by_period w.a.state.station
   pub b_captured : (w : World Node SentUnit) (of_a of_b : List Record) → Run pair start of_a of_b w → delivered of_b ≡ taken_by_period w.b.state.station
-  pub a_among : (w : World Node SentUnit) (of_a of_b : List Record) → Run pair start of_a of_b w → AreAmong (all_taken w.a.state.station) (offered w.b.state.station)
-  pub b_among : (w : World Node SentUnit) (of_a of_b : List Record) → Run pair start of_a of_b w → AreAmong (all_taken w.b.state.station) (offered w.a.state.station)
+  pub a_among : (w : World Node SentUnit) (of_a of_b : List Record) → Run pair start of_a of_b w → AreAmong (all_taken w.a.state.station) (all_given w.b.state.station)
+  pub b_among : (w : World Node SentUnit) (of_a of_b : List Record) → Run pair start of_a of_b w → AreAmong (all_taken w.b.state.station) (all_given w.a.state.station)
 
 delivers_a : (laws : RunLaws) (of_a of_b : List Record) (run : IsRun of_a of_b) → Delivers run.0.a.state.station run.0.b.state.station of_a
 delivers_a laws of_a of_b run = record {

@@ -7,7 +7,7 @@ use Rattle.dna_model.specs.declared.finding.Finding.{Finding}
 use Rattle.dna_model.specs.declared.finding.Finding.TheVariants as findings
 use Rattle.dna_model.specs.Delivery.{AreAmong, DeliversFrom, all_taken, delivered, taken_by_period}
 use Rattle.dna_model.specs.Pair.{IsRun}
-use Rattle.dna_model.specs.Station.{Station, offered}
+use Rattle.dna_model.specs.Station.{Station, all_given}
 use Rattle.dna_model.specs.Verdict.{IsVerdict}
 use Rattle.pair_judge.specs.declared.summary.Summary.{Summary}
 use Rattle.pair_judge.specs.declared.verdict.Verdict.{Verdict}
@@ -23,7 +23,7 @@ pub record Delivers (own other : Station) (of_own : List Record) : Type 0 where
   -- in every period the data of the kept receipts
   pub captured : delivered of_own ≡ taken_by_period own
   -- over all periods it stands, in order, among what the other one ever first sent
-  pub among : AreAmong (all_taken own) (offered other)
+  pub among : AreAmong (all_taken own) (all_given other)
 
 -- The bytes are the texts of two captures, all of whose records are one run of the two specified stations; what each took was sent, in
 -- order; and the summary counts the records.
