@@ -1,9 +1,9 @@
 -- One node as it runs: its station is the wire station, and of a unit it knows the bytes and the tag. Its step is that of `Node` made on
 -- that.
 use Rattle.std.specs.Prelude.{ℕ, ◌+◌, Bool, Option, Some, None, Result, Ok, Err, List, if◌then◌else◌, nat_lt, map}
-use Rattle.two_nodes.specs.Nodes.{Answer, Half, Nodes, Outcome, World, start_world}
+use Rattle.two_nodes.specs.Nodes.{Answer, Nodes, World, start_world}
+use Rattle.two_nodes.specs.Cutting.{Cut}
 use Rattle.two_nodes.specs.Nodes.Answer.{Refuses, Goes, Sends, Reads}
-use Rattle.two_nodes.specs.Nodes.Outcome.{Made, Waits, Refused}
 use Rattle.ddcmp_msg.specs.Message.{MessageValue}
 use Rattle.ddcmp_msg.specs.Reading.{ReadingValue, reading, Sound}
 use Rattle.capture.specs.declared.record.Record.{Record}
@@ -86,13 +86,9 @@ abbrev pub cut_unit : SentUnit → WireUnit
 cut_unit unit = record { bytes = unit.bytes; message = unit.message; known = unit.known.tag }
 
 module _ {L : Type 0} where
-  abbrev pub cut_half : Half Node SentUnit → Half (WireNode L) WireUnit
-  cut_half half = record { state = cut_node half.state; sent = map cut_unit half.sent }
-
-  abbrev pub cut_outcome : Outcome Node SentUnit StepRefusal → Outcome (WireNode L) WireUnit StepRefusal
-  cut_outcome (Made half) = Made (cut_half half)
-  cut_outcome Waits = Waits
-  cut_outcome (Refused refusal) = Refused refusal
+  -- what a node that runs sees of the true one
+  abbrev pub seen : Cut Node SentUnit (WireNode L) WireUnit
+  seen = record { of_state = cut_node; of_unit = cut_unit }
 
   -- both nodes go by the wire step, with the rule on periods
   abbrev pub wire_pair : Nodes (WireNode L) Record WireUnit StepRefusal

@@ -19,11 +19,14 @@ ghost use Rattle.dna_model.specs.Bounds.{IsBounded, IsOrdered, IsWithin};
 ghost use Rattle.dna_model.specs.Line.{SentUnit};
 ghost use Rattle.dna_model.specs.Node.{Node, new_node, step};
 ghost use Rattle.dna_model.specs.Pair.{pair, start};
-ghost use Rattle.dna_model.specs.WireNode.{new_wire_node, wire_step, cut_node, cut_half, cut_outcome};
+ghost use Rattle.two_nodes.specs.Nodes.Outcome.{Refused, Waits};
+ghost use Rattle.dna_model.specs.declared.refusal.StepRefusal.{StepRefusal};
+ghost use Rattle.two_nodes.specs.Cutting.{cut_half, cut_outcome, cut_world};
+ghost use Rattle.dna_model.specs.WireNode.{WireNode, WireUnit, new_wire_node, wire_step, wire_pair, wire_start, cut_node, seen};
 ghost use Rattle.dna_model.specs.Cut.{AreLabelled, cut, all_after, all_after_event};
 
 use std::marker::Brand;
-use two_nodes::always;
+use two_nodes::{always, simulation};
 
 /// In every run, the numbers of each station are in order, and what it may still meet is within the bounds.
 pub fn numbers_within_bounds()
@@ -137,5 +140,29 @@ pub fn counts_rise_by_one<L>()
 pub fn cut_record<L>()
     ensures start { new_wire_node {L = L} ≡ cut_node new_node }
     ensures outcome { (own other : Half Node SentUnit) (r : Record) → IsBounded own other
-        → advance (wire_step crossed) (cut_half {L = L} own) (cut_half other) r ≡ cut_outcome (advance (step crossed) own other r) }
+        → advance (wire_step crossed) (cut_half (seen {L = L}) own) (cut_half seen other) r ≡ cut_outcome seen (advance (step crossed) own other r) }
 {}
+
+/// The runs of two nodes that run are just what they see of the runs of the two true nodes.
+pub fn running_nodes_see_right<L>()
+    ensures of_true { (w : World Node SentUnit) (of_a of_b : List Record) → Run pair start of_a of_b w
+        → Run wire_pair (wire_start {L = L}) of_a of_b (cut_world seen w) }
+    ensures of_running { (end : World (WireNode L) WireUnit) (of_a of_b : List Record) → Run wire_pair wire_start of_a of_b end
+        → (w : World Node SentUnit) × Run pair start of_a of_b w × (end ≡ cut_world seen w) }
+
+    // What is refused or waits at a running node, is refused or waits at the true one.
+    ensures a_refused { (end : World (WireNode L) WireUnit) (of_a of_b : List Record) (r : Record) (reason : StepRefusal)
+        → Run wire_pair wire_start of_a of_b end → advance (wire_step crossed) end.a end.b r ≡ Refused reason
+        → (w : World Node SentUnit) × Run pair start of_a of_b w × (advance (step crossed) w.a w.b r ≡ Refused reason) }
+    ensures b_refused { (end : World (WireNode L) WireUnit) (of_a of_b : List Record) (r : Record) (reason : StepRefusal)
+        → Run wire_pair wire_start of_a of_b end → advance (wire_step crossed) end.b end.a r ≡ Refused reason
+        → (w : World Node SentUnit) × Run pair start of_a of_b w × (advance (step crossed) w.b w.a r ≡ Refused reason) }
+    ensures a_waits { (end : World (WireNode L) WireUnit) (of_a of_b : List Record) (r : Record)
+        → Run wire_pair wire_start of_a of_b end → advance (wire_step crossed) end.a end.b r ≡ Waits
+        → (w : World Node SentUnit) × Run pair start of_a of_b w × (advance (step crossed) w.a w.b r ≡ Waits) }
+    ensures b_waits { (end : World (WireNode L) WireUnit) (of_a of_b : List Record) (r : Record)
+        → Run wire_pair wire_start of_a of_b end → advance (wire_step crossed) end.b end.a r ≡ Waits
+        → (w : World Node SentUnit) × Run pair start of_a of_b w × (advance (step crossed) w.b w.a r ≡ Waits) }
+{
+    simulation::<Brand>();
+}

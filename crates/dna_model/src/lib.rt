@@ -14,6 +14,7 @@ pub use finding::{Cause, Finding};
 pub use laws::{
     counts_rise_by_one, cut_arrival, cut_event, cut_label, cut_record, cut_sending,
     delivered_in_order, numbers_in_order, numbers_within_bounds, packets_at_their_places,
+    running_nodes_see_right,
 };
 pub use refusal::{StationRefusal, StepRefusal};
 pub use state::{State, StationEvent};
