@@ -7,4 +7,7 @@ mod rows;
 mod show;
 mod show_devices;
 mod texts;
+mod transfer;
+mod units;
+mod window;
 mod words;

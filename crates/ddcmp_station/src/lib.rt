@@ -1,14 +1,20 @@
 //! One DDCMP station as a machine: it decides whether its user may do something, whether a message may be sent, and what an
-//! arrival does (DDCMP 4.1, startup state table). It looks at no time, no file, no bytes and no line, and at no order but the order
-//! of its calls.
+//! arrival does (DDCMP 4.1, startup state table, data transfer). It looks at no time, no file, no line and no byte of a packet, and
+//! at no order but the order of its calls.
 #![tactic(auto)]
 
 mod arrival;
+mod causes;
+mod fault;
+mod held;
+mod kept;
 mod sent_as;
 mod station;
 
 pub use arrival::Arrival;
 pub use dna_model::{State, StationEvent, StationRefusal, Tag};
+pub use fault::StationFault;
+pub use held::Held;
 pub use sent_as::SentAs;
 pub use station::Station;
 

@@ -4,7 +4,11 @@ use dna_model::Tag;
 
 /// How a message was sent.
 #[derive(Clone, Copy, Debug, PartialEq, Eq)]
-pub struct SentAs {
+pub struct SentAs<T> {
     /// The sender's period and its partner at that moment.
     pub tag: Tag,
+    /// Whether the message gave a new number: a packet that is sent for the first time.
+    pub first: bool,
+    /// Of a packet that is sent again, the label that was put beside it, if one was.
+    pub label: Option<T>,
 }

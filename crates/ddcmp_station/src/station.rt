@@ -1,15 +1,20 @@
-//! The station and its three verbs.
+//! The station, and what its user does.
 
-ghost use Rattle.std.specs.Prelude.{◌≡◌, ◌^◌, ◌<◌, ◌==◌, if◌then◌else◌, OnOk, OnErr, IfOk, IfErr};
-ghost use Rattle.ddcmp_msg.specs.Message.{view};
-ghost use Rattle.dna_model.specs.Station.{user_refusal, after_event, sending_refusal, tag_of, crossed, crossed_in, keep_refusal, arrival_refusal, arrived_in, after_arrival};
-ghost use Rattle.dna_model.specs.Station as spec;
-ghost use Rattle.ddcmp_station.specs.Arrival.{arrival_view};
+ghost use Rattle.std.specs.Prelude.{◌≡◌, ◌+◌, ◌^◌, ◌<◌, ◌≤◌, length, IfOk, OnOk, OnErr, IfErr};
+ghost use Rattle.dna_model.specs.Station.{user_refusal};
+ghost use Rattle.dna_model.specs.WireStation.{new_wire_station, wire_after_event, wire_after_label, load};
+ghost use Rattle.ddcmp_station.specs.Fault.{IsRefused};
 
-use crate::{Arrival, SentAs};
-use ddcmp_msg::Message;
-use dna_model::{State, StationEvent, StationRefusal, Tag};
+mod arriving;
+mod sending;
+
+use crate::causes::Causes;
+use crate::kept::Kept;
+use crate::{Held, StationFault};
+use dna_model::{State, StationEvent, StationRefusal};
+use std::alloc::{AllocError, Global};
 use std::marker::Model;
+use wire_base::Window;
 
 /// One station, with three verbs: [`Station::user`], what its user does; [`Station::sent`], its node sent this;
 /// [`Station::arrived`], this came.
@@ -22,42 +27,50 @@ use std::marker::Model;
 ///    +------------------------- halt from every state; STRT comes in RUNNING -----------+
 /// ```
 ///
-/// A contract sees it as the record of its state, its period and its partner period. A refused call changes nothing.
-/// No call takes memory. Provisional: a data, NAK or REP message that is sent is refused, and no packet is ever taken.
+/// It keeps the packets that are not acknowledged in a window, each with the label of type `T` that its node put beside it, and
+/// of its numbers their values modulo 256. A contract sees it as the record of what it keeps, its period, its partner period and
+/// the open causes of a NAK. A refused call changes nothing.
 #[derive(Drop)]
-pub struct Station {
-    state: State,
+pub struct Station<T: Copy, W: Window<Held<T>, 256>> {
+    kept: Kept<T, W>,
+    // how many starts there were: the number of the present period
     period: u64,
+    // the other side's period that the present one goes with, once it is known
     partner: Option<u64>,
+    // what a NAK may still answer
+    causes: Causes,
+    // where the packets lie
+    alloc: Global,
 }
 
-impl Model for Station {
-    ghost use Rattle.dna_model.specs.Station.{Station};
+impl<T: Copy, W: Window<Held<T>, 256>> Model for Station<T, W> {
+    ghost use Rattle.dna_model.specs.WireStation.{WireStation};
 
-    ghost Value = { Station };
+    ghost Value = { WireStation T };
 
-    ghost view = { λ s. record { state = s.state; period = s.period; partner = s.partner } };
+    ghost view = { λ s. record { kept = s.kept; period = s.period; partner = s.partner; causes = s.causes } };
 }
 
-impl Station {
-    ghost use Rattle.dna_model.specs.Station.{new_station};
-
-    /// A station that nobody has started: in HALTED, in period 0, with no partner (DDCMP 4.1, startup state table).
-    pub fn new() -> Self
-        ensures { result ≡ new_station }
+impl<T: Copy, W: Window<Held<T>, 256>> Station<T, W> {
+    /// A station that nobody has started: in HALTED, in period 0, with no partner (DDCMP 4.1, startup state table). It takes
+    /// the memory that its window takes when it is made.
+    pub fn new(alloc: Global) -> Result<Self, AllocError>
+        ensures { IfOk result (λ station. station ≡ new_wire_station) }
     {
-        Station {
-            state: State::Halted,
+        Ok(Station {
+            kept: Kept::new(alloc, State::Halted)?,
             period: 0,
             partner: None,
-        }
+            causes: Causes::new(),
+            alloc,
+        })
     }
 
     /// Its state: HALTED, ISTRT, ASTRT or RUNNING.
     pub fn state(&self) -> State
-        ensures { result ≡ self.now.state }
+        ensures { result ≡ self.now.kept.state }
     {
-        self.state
+        self.kept.state()
     }
 
     /// How many starts there were so far, which is the number of the present period: 0 before the first.
@@ -68,203 +81,55 @@ impl Station {
     }
 
     /// Its user starts or halts it (DDCMP 4.1, startup state table). A start leads to ISTRT and begins the next period,
-    /// which has no partner yet; a halt leads to HALTED from every state. There may be at most 2^63 starts.
+    /// which has no partner yet: all packets and causes are dropped, and the next packet will have number 1. A halt leads to
+    /// HALTED from every state. The counts that the station keeps are together below 2^63. Takes no memory.
     ///
-    /// `WrongUserEvent`: a start in a state other than HALTED. The station stays as it was.
-    pub fn user(&mut self, event: StationEvent) -> Result<(), StationRefusal>
-        requires { self.old.period < 2 ^ 63 }
-        ensures allowed { OnOk result (user_refusal self.old.state event ≡ None) }
-        ensures ok { OnOk result (self.new ≡ after_event self.old event) }
-        ensures refused { IfErr result (λ z. user_refusal self.old.state event ≡ Some z) }
+    /// `Refused` with `WrongUserEvent`, and with nothing else: a start in a state other than HALTED. The station stays as it
+    /// was.
+    pub fn user(&mut self, event: StationEvent) -> Result<(), StationFault>
+        requires { load self.old < 2 ^ 63 }
+        ensures allowed { OnOk result (user_refusal self.old.kept.state event ≡ None) }
+        ensures ok { OnOk result (self.new ≡ wire_after_event self.old event) }
+        ensures refused { IfErr result (λ fault. IsRefused (user_refusal self.old.kept.state event) fault) }
+        ensures alone { IfErr result (λ fault. fault ≡ StationFault.Refused StationRefusal.WrongUserEvent) }
         ensures err { OnErr result (self.new ≡ self.old) }
+        ensures load { load self.new ≤ load self.old + 1 }
     {
         match event {
             StationEvent::Start => self.start(),
             StationEvent::Halt => {
-                self.state = State::Halted;
+                self.kept.go_to(State::Halted);
                 Ok(())
             }
         }
     }
 
     // Its user starts it.
-    fn start(&mut self) -> Result<(), StationRefusal>
-        requires { self.old.period < 2 ^ 63 }
-        ensures allowed { OnOk result (user_refusal self.old.state StationEvent.Start ≡ None) }
-        ensures ok { OnOk result (self.new ≡ after_event self.old StationEvent.Start) }
-        ensures refused { IfErr result (λ z. user_refusal self.old.state StationEvent.Start ≡ Some z) }
+    fn start(&mut self) -> Result<(), StationFault>
+        requires { load self.old < 2 ^ 63 }
+        ensures allowed { OnOk result (user_refusal self.old.kept.state StationEvent.Start ≡ None) }
+        ensures ok { OnOk result (self.new ≡ wire_after_event self.old StationEvent.Start) }
+        ensures refused { IfErr result (λ fault. IsRefused (user_refusal self.old.kept.state StationEvent.Start) fault) }
+        ensures alone { IfErr result (λ fault. fault ≡ StationFault.Refused StationRefusal.WrongUserEvent) }
         ensures err { OnErr result (self.new ≡ self.old) }
+        ensures load { load self.new ≤ load self.old + 1 }
     {
-        let State::Halted = self.state else {
-            return Err(StationRefusal::WrongUserEvent);
+        let State::Halted = self.kept.state() else {
+            return Err(StationFault::Refused(StationRefusal::WrongUserEvent));
         };
-        self.state = State::Istrt;
+        self.kept.start();
         self.period += 1;
         self.partner = None;
+        self.causes = Causes::new();
         Ok(())
     }
 
-    /// Its node sent this message: STRT in ISTRT, STACK in ASTRT, or ACK in RUNNING (DDCMP 4.1, startup state table). The
-    /// answer has the tag that the unit goes with. Sending changes nothing, whether it is refused or not.
-    ///
-    /// `WrongState`: the message may not be sent in this state. `WrongResponse`: an ACK of a number other than that of
-    /// the last data message received, which is 0 while there is none.
-    pub fn sent(&self, message: &Message) -> Result<SentAs, StationRefusal>
-        ensures allowed { OnOk result (sending_refusal self.now.state (view message.now) ≡ None) }
-        ensures ok { IfOk result (λ sent. sent.tag ≡ tag_of self.now) }
-        ensures refused { IfErr result (λ z. sending_refusal self.now.state (view message.now) ≡ Some z) }
+    /// Puts a label beside the packet with the newest number, in the place of one that it had. A number is outstanding. Takes
+    /// no memory.
+    pub fn label(&mut self, label: T)
+        requires { 0 < length self.old.kept.held }
+        ensures { self.new ≡ wire_after_label self.old label }
     {
-        match refusal_to_send(self.state, message) {
-            Some(refusal) => Err(refusal),
-            None => Ok(SentAs {
-                tag: Tag {
-                    period: self.period,
-                    partner: self.partner,
-                },
-            }),
-        }
-    }
-
-    /// This came, and the node kept its packet or did not (DDCMP 4.1, startup state table). What the table does not name in
-    /// this state, and a unit that shows damage, changes nothing.
-    ///
-    /// `CrossedPeriod`: a message that is acted on belongs to another pair of starts. `WrongKeep`, after it: nothing is
-    /// taken, and `kept` says that something was. After either the station is as it was.
-    pub fn arrived(&mut self, arrival: Arrival, kept: bool) -> Result<(), StationRefusal>
-        ensures allowed { OnOk result (arrival_refusal crossed self.old (arrival_view arrival.entry) kept ≡ None) }
-        ensures ok { OnOk result (self.new ≡ after_arrival self.old (arrival_view arrival.entry)) }
-        ensures refused { IfErr result (λ z. arrival_refusal crossed self.old (arrival_view arrival.entry) kept ≡ Some z) }
-        ensures err { OnErr result (self.new ≡ self.old) }
-    {
-        let Arrival::Sound(message, tag) = arrival else {
-            return refused_keep(kept);
-        };
-        if self.crosses(&message, tag) {
-            return Err(StationRefusal::CrossedPeriod);
-        }
-        refused_keep(kept)?;
-        self.take_step(&message, tag.period);
-        Ok(())
-    }
-
-    // Whether a message that is acted on in this state belongs to another pair of starts.
-    fn crosses(&self, message: &Message, tag: Tag) -> bool
-        ensures { result ≡ crossed self.now (view message.now) tag }
-    {
-        let fresh = is_period(tag.partner, self.period);
-        let of_pair = is_period(self.partner, tag.period) && fresh;
-        crosses_in(self.state, message, fresh, of_pair)
-    }
-
-    // The step of a sound message that was sent in this period of the other side.
-    fn take_step(&mut self, message: &Message, from: u64)
-        ensures { self.new ≡ arrived_in self.old.state self.old (view message.now) from }
-    {
-        match self.state {
-            State::Halted => {}
-            State::Istrt => match message {
-                Message::Strt { .. } => {
-                    self.state = State::Astrt;
-                    self.partner = Some(from);
-                }
-                Message::Stack { .. } => {
-                    self.state = State::Running;
-                    self.partner = Some(from);
-                }
-                _ => {}
-            },
-            State::Astrt => match message {
-                Message::Strt { .. } => self.partner = Some(from),
-                Message::Stack { .. } => {
-                    self.state = State::Running;
-                    self.partner = Some(from);
-                }
-                Message::Ack { resp: 0, .. } | Message::Data { resp: 0, .. } => {
-                    self.state = State::Running;
-                }
-                _ => {}
-            },
-            State::Running => {
-                if let Message::Strt { .. } = message {
-                    self.state = State::Halted;
-                }
-            }
-        }
-    }
-}
-
-// Why the message may not be sent in this state, or `None` where it may.
-fn refusal_to_send(state: State, message: &Message) -> Option<StationRefusal>
-    ensures { result ≡ sending_refusal state (view message.now) }
-{
-    match message {
-        Message::Strt { .. } => match state {
-            State::Istrt => None,
-            _ => Some(StationRefusal::WrongState),
-        },
-        Message::Stack { .. } => match state {
-            State::Astrt => None,
-            _ => Some(StationRefusal::WrongState),
-        },
-        Message::Ack { resp, .. } => match state {
-            State::Running => wrong_response(*resp),
-            _ => Some(StationRefusal::WrongState),
-        },
-        _ => Some(StationRefusal::WrongState),
-    }
-}
-
-// No data message was received: its number would be 0.
-fn wrong_response(resp: u8) -> Option<StationRefusal>
-    ensures { result ≡ (if resp == 0 then None else Some StationRefusal.WrongResponse) }
-{
-    if resp == 0 {
-        None
-    } else {
-        Some(StationRefusal::WrongResponse)
-    }
-}
-
-// A receipt that takes nothing may not claim that it did.
-fn refused_keep(kept: bool) -> Result<(), StationRefusal>
-    ensures ok { OnOk result (keep_refusal kept ≡ None) }
-    ensures err { IfErr result (λ z. keep_refusal kept ≡ Some z) }
-{
-    if kept {
-        Err(StationRefusal::WrongKeep)
-    } else {
-        Ok(())
-    }
-}
-
-// The period is known, and it is this one.
-fn is_period(known: Option<u64>, period: u64) -> bool
-    ensures { result ≡ spec.is_period known period }
-{
-    match known {
-        Some(known) => known == period,
-        None => false,
-    }
-}
-
-// Whether a message is acted on in this state though it is not fresh, or not of the pair.
-fn crosses_in(state: State, message: &Message, fresh: bool, of_pair: bool) -> bool
-    ensures { result ≡ crossed_in state (view message.now) fresh of_pair }
-{
-    match state {
-        State::Halted => false,
-        State::Istrt => match message {
-            Message::Stack { .. } => !fresh,
-            _ => false,
-        },
-        State::Astrt => match message {
-            Message::Stack { .. } => !fresh,
-            Message::Ack { resp: 0, .. } | Message::Data { resp: 0, .. } => !of_pair,
-            _ => false,
-        },
-        State::Running => match message {
-            Message::Strt { .. } => false,
-            _ => !of_pair,
-        },
+        self.kept.label(self.alloc, label);
     }
 }

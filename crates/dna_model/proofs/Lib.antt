@@ -1,2 +1,33 @@
-mod Rows
+-- what a record alone tells
 pub mod Tells
+-- worked rows
+mod RowUnits
+mod Rows
+mod TransferRows
+mod StationRows
+-- what holds of one station, and its cut to what a node keeps
+mod Modulo
+mod Ordered
+mod CutSending
+mod CutArriving
+mod CutLabel
+mod CutNode
+mod Loads
+-- the bounds, in every run
+mod Numbered
+mod NumberedSteps
+mod Happens
+mod StationNumbers
+mod StationBounds
+mod ReceiptBounds
+mod RunBounds
+-- what is delivered, in every run
+mod Delivered
+mod DeliveredSteps
+mod DeliveredRuns
+mod Places
+mod DeliveredCaptures
+mod Partnered
+mod InOrder
+mod Among
+mod InOrderRuns

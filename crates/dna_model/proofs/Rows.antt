@@ -1,30 +1,16 @@
--- Worked rows, computed from the definitions: an accepted row is its run, one record after another; a refused row is the
+-- Worked rows of startup, computed from the definitions: an accepted row is its run, one record after another; a refused row is the
 -- answer to its last record in the world that the earlier ones lead to.
-use Rattle.std.proofs.Common.{◌≡◌, ℕ, true, false, List, [], ◌∷◌, refl}
-use Rattle.two_nodes.specs.Nodes.{World, Run, Done, OfA, OfB, Outcome, Waits, Refused, advance}
+use Rattle.std.proofs.Common.{true, false, List, [], ◌∷◌, ◌++◌, refl}
+use Rattle.two_nodes.specs.Nodes.{Done, OfA, OfB, Waits, Refused}
 use Rattle.wire_base.specs.BlockCheck.{is_good, check_of, after_byte, shift}
 use Rattle.ddcmp_msg.specs.Reading.{reading}
 use Rattle.capture.specs.declared.record.Record.{Record}
 use Rattle.capture.specs.declared.record.Record.TheVariants.{Sent, Received, User}
 use Rattle.capture.specs.declared.event.Event.TheVariants.{Start, Halt}
 use Rattle.dna_model.specs.declared.refusal.StationRefusal.TheVariants.{WrongState, WrongResponse, WrongKeep, CrossedPeriod, WrongUserEvent}
-use Rattle.dna_model.specs.declared.refusal.StepRefusal.{StepRefusal}
 use Rattle.dna_model.specs.declared.refusal.StepRefusal.TheVariants.{NotAMessage, HintOrder, Undetected, Station as OfStation}
-use Rattle.dna_model.specs.Line.{SentUnit}
-use Rattle.dna_model.specs.Node.{Node}
-use Rattle.dna_model.specs.Pair.{pair, start, IsRun}
-
-abbrev STRT : List ℕ
-STRT = 0x05 ∷ 0x06 ∷ 0xc0 ∷ 0 ∷ 0 ∷ 1 ∷ 0x75 ∷ 0x95 ∷ []
-
-abbrev STACK : List ℕ
-STACK = 0x05 ∷ 0x07 ∷ 0xc0 ∷ 0 ∷ 0 ∷ 1 ∷ 0x48 ∷ 0x55 ∷ []
-
-abbrev ACK0 : List ℕ
-ACK0 = 0x05 ∷ 1 ∷ 0 ∷ 0 ∷ 0 ∷ 1 ∷ 0xfc ∷ 0x55 ∷ []
-
-abbrev ACK1 : List ℕ
-ACK1 = 0x05 ∷ 1 ∷ 0 ∷ 1 ∷ 0 ∷ 1 ∷ 0xad ∷ 0x95 ∷ []
+use Rattle.dna_model.specs.Pair.{start, IsRun}
+use Rattle.dna_model.proofs.RowUnits.{STRT, STACK, ACK0, ACK1, EndsAt}
 
 abbrev first_start_lost_a : List Record
 first_start_lost_a = User Start ∷ Sent STRT ∷ Sent STRT ∷ Received 0 false STACK ∷ Sent ACK0 ∷ []
@@ -52,12 +38,6 @@ two_empty_captures = (_, Done)
 damaged_start : IsRun (User Start ∷ Sent STRT ∷ Sent STRT ∷ []) (User Start ∷ Received 0 false (0x85 ∷ 0x06 ∷ 0xc0 ∷ 0 ∷ 0 ∷ 1 ∷ 0x75 ∷ 0x95 ∷ []) ∷ Received 1 false STRT ∷ [])
 unfolding reading is_good check_of after_byte shift
 damaged_start = (_, OfA refl (OfA refl (OfA refl (OfB refl (OfB refl (OfB refl Done))))))
-
--- The records of a and of b are made, and what becomes of one more of b
-record EndsAt (as' bs : List Record) (of_b : Record) (outcome : Outcome Node SentUnit StepRefusal) : Type 0 where
-  world : World Node SentUnit
-  run : Run pair start as' bs world
-  becomes : advance pair.node_b world.b world.a of_b ≡ outcome
 
 -- the bytes that are sent are no message
 not_a_message : EndsAt [] [] (Sent (0 ∷ [])) (Refused NotAMessage)
@@ -107,3 +87,43 @@ crossed_period = record { world = _; run = OfA refl (OfB refl (OfB refl (OfA ref
 -- a second start without a halt
 starts_twice : EndsAt [] (User Start ∷ []) (User Start) (Refused (OfStation WrongUserEvent))
 starts_twice = record { world = _; run = OfB refl Done; becomes = refl }
+
+-- ---- each row of the startup table once more
+
+-- in HALTED every arrival is ignored
+halted_ignores : IsRun (Received 0 false STRT ∷ []) (User Start ∷ Sent STRT ∷ [])
+unfolding reading is_good check_of after_byte shift
+halted_ignores = (_, OfB refl (OfB refl (OfA refl Done)))
+
+-- a STACK that is repeated changes nothing in RUNNING
+repeated_stack : IsRun (User Start ∷ Sent STRT ∷ Received 0 false STACK ∷ Sent ACK0 ∷ Received 1 false STACK ∷ Sent ACK0 ∷ []) (User Start ∷ Received 0 false STRT ∷ Sent STACK ∷ Sent STACK ∷ Received 2 false ACK0 ∷ [])
+unfolding reading is_good check_of after_byte shift
+repeated_stack = (_, OfA refl (OfA refl (OfB refl (OfB refl (OfB refl (OfB refl (OfA refl (OfA refl (OfA refl (OfA refl (OfB refl Done)))))))))))
+
+-- b starts again while a is in ASTRT: a goes with the new period
+partner_starts_again : IsRun (User Start ∷ Received 0 false STRT ∷ Received 1 false STRT ∷ Sent STACK ∷ Received 2 false ACK0 ∷ []) (User Start ∷ Sent STRT ∷ User Halt ∷ User Start ∷ Sent STRT ∷ Received 0 false STACK ∷ Sent ACK0 ∷ [])
+unfolding reading is_good check_of after_byte shift
+partner_starts_again = (_, OfB refl (OfB refl (OfB refl (OfB refl (OfB refl (OfA refl (OfA refl (OfA refl (OfA refl (OfB refl (OfB refl (OfA refl Done))))))))))))
+
+-- b starts again while a is in RUNNING: a halts, and may start
+partner_restarts : IsRun (User Start ∷ Sent STRT ∷ Received 0 false STACK ∷ Received 1 false STRT ∷ User Start ∷ Sent STRT ∷ []) (User Start ∷ Received 0 false STRT ∷ Sent STACK ∷ User Halt ∷ User Start ∷ Sent STRT ∷ [])
+unfolding reading is_good check_of after_byte shift
+partner_restarts = (_, OfA refl (OfA refl (OfB refl (OfB refl (OfB refl (OfB refl (OfB refl (OfB refl (OfA refl (OfA refl (OfA refl (OfA refl Done))))))))))))
+
+-- the answer to b's first start comes in its second, while b is in ASTRT
+stack_of_an_earlier_start : EndsAt (User Start ∷ Sent STRT ∷ Received 0 false STRT ∷ Sent STACK ∷ []) (User Start ∷ Sent STRT ∷ User Halt ∷ User Start ∷ Received 0 false STRT ∷ []) (Received 1 false STACK) (Refused (OfStation CrossedPeriod))
+unfolding reading is_good check_of after_byte shift
+stack_of_an_earlier_start = record { world = _; run = OfA refl (OfA refl (OfB refl (OfB refl (OfA refl (OfA refl (OfB refl (OfB refl (OfB refl Done)))))))); becomes = refl }
+
+-- so does an ACK
+abbrev restarted_b : List Record
+restarted_b = User Start ∷ Received 0 false STRT ∷ Sent STACK ∷ User Halt ∷ User Start ∷ []
+
+ack_of_an_earlier_start : EndsAt (User Start ∷ Sent STRT ∷ Sent STRT ∷ Received 0 false STACK ∷ Sent ACK0 ∷ []) (restarted_b ++ Received 1 false STRT ∷ []) (Received 2 false ACK0) (Refused (OfStation CrossedPeriod))
+unfolding reading is_good check_of after_byte shift
+ack_of_an_earlier_start = record { world = _; run = OfA refl (OfA refl (OfA refl (OfB refl (OfB refl (OfB refl (OfA refl (OfA refl (OfB refl (OfB refl (OfB refl Done)))))))))); becomes = refl }
+
+-- but in ISTRT it is ignored
+ack_before_any_answer : IsRun (User Start ∷ Sent STRT ∷ Received 0 false STACK ∷ Sent ACK0 ∷ []) (restarted_b ++ Received 1 false ACK0 ∷ Sent STRT ∷ [])
+unfolding reading is_good check_of after_byte shift
+ack_before_any_answer = (_, OfA refl (OfA refl (OfB refl (OfB refl (OfB refl (OfA refl (OfA refl (OfB refl (OfB refl (OfB refl (OfB refl Done)))))))))))

@@ -1,4 +1,5 @@
--- One node: what it makes of one record of its capture. The order of the cases is the order of the checks.
+-- One node: what it makes of one record of its capture. The order of the cases is the order of the checks. Provisional: packets are
+-- carried unread.
 use Rattle.std.specs.Prelude.{ℕ, ◌+◌, Bool, Option, Some, None, Result, Ok, Err, List, if◌then◌else◌, nat_lt}
 use Rattle.two_nodes.specs.Nodes.{Answer}
 use Rattle.two_nodes.specs.Nodes.Answer.{Refuses, Goes, Sends, Reads}
@@ -13,12 +14,16 @@ use Rattle.dna_model.specs.declared.state.StationEvent.TheVariants.{Start, Halt}
 use Rattle.dna_model.specs.declared.refusal.StationRefusal.{StationRefusal}
 use Rattle.dna_model.specs.declared.refusal.StepRefusal.{StepRefusal}
 use Rattle.dna_model.specs.declared.refusal.StepRefusal.TheVariants.{NotAMessage, HintOrder, Undetected, Station as OfStation}
-use Rattle.dna_model.specs.Station.{Station, new_station, user_refusal, after_event, sending_refusal, tag_of, PeriodRule, ArrivalValue, arrival_refusal, after_arrival}
+use Rattle.dna_model.specs.Station.{Station, new_station, user_refusal, after_event}
+use Rattle.dna_model.specs.Periods.{PeriodRule}
+use Rattle.dna_model.specs.Sending.{sending_refusal, after_sending}
+use Rattle.dna_model.specs.Truth.{Truth, truth_of}
+use Rattle.dna_model.specs.Arriving.{ArrivalValue, arrival_refusal, after_arrival}
 use Rattle.dna_model.specs.Line.{SentUnit, coming}
 
 pub record Node : Type 0 where
   pub station : Station
-  -- the other side's first unit that may still come: one more than the last hint received
+  -- the other side's first unit that may still come: one more than the last hint received, and 0 before any
   pub front : ℕ
 
 abbrev pub new_node : Node
@@ -36,29 +41,29 @@ does n event (Some refusal) = Refuses (OfStation refusal)
 abbrev pub user_step : Node → Event → NodeAnswer
 user_step n events.Start = does n Start (user_refusal n.station.state Start)
 user_step n events.Halt = does n Halt (user_refusal n.station.state Halt)
--- provisional: link events are not judged yet, and change nothing
+-- provisional: links are not judged yet, and their events change nothing
 user_step n event = Goes n
 
 -- ---- a sent unit
 
 abbrev pub sends : Node → List ℕ → MessageValue → Option StationRefusal → NodeAnswer
-sends n bytes m None = Sends n (record { bytes = bytes; message = m; tag = tag_of n.station })
+sends n bytes m None = Sends (record n { station = after_sending n.station m }) (record { bytes = bytes; message = m; known = truth_of n.station m })
 sends n bytes m (Some refusal) = Refuses (OfStation refusal)
 
 abbrev pub sent_step : Node → List ℕ → ReadingValue → NodeAnswer
-sent_step n bytes (Sound m) = sends n bytes m (sending_refusal n.station.state m)
+sent_step n bytes (Sound m) = sends n bytes m (sending_refusal n.station m)
 sent_step n bytes read = Refuses NotAMessage
 
 -- ---- a receipt
 
 -- what comes is met by the station, and the front goes past the unit
-abbrev pub met : Node → ℕ → ArrivalValue → Option StationRefusal → Result Node StepRefusal
-met n hint arrival None = Ok (record { station = after_arrival n.station arrival; front = hint + 1 })
-met n hint arrival (Some refusal) = Err (OfStation refusal)
+abbrev pub met : Node → ℕ → ArrivalValue Truth → Bool → Option StationRefusal → Result Node StepRefusal
+met n hint arrival kept None = Ok (record { station = after_arrival n.station arrival kept; front = hint + 1 })
+met n hint arrival kept (Some refusal) = Err (OfStation refusal)
 
-abbrev pub comes : PeriodRule → Node → ℕ → Bool → Option ArrivalValue → Result Node StepRefusal
+abbrev pub comes : PeriodRule → Node → ℕ → Bool → Option (ArrivalValue Truth) → Result Node StepRefusal
 comes rule n hint kept None = Err Undetected
-comes rule n hint kept (Some arrival) = met n hint arrival (arrival_refusal rule n.station arrival kept)
+comes rule n hint kept (Some arrival) = met n hint arrival kept (arrival_refusal rule n.station arrival kept)
 
 -- the unit has been sent; its number lies at or above the front
 abbrev pub receives : PeriodRule → Node → ℕ → Bool → List ℕ → SentUnit → Result Node StepRefusal

@@ -3,13 +3,22 @@
 /// Why a station refuses a step. Each has the number of the reason that the judge prints for it.
 #[derive(Clone, Copy, Debug, PartialEq, Eq)]
 pub enum StationRefusal {
-    /// The message may not be sent in this state (reason 6).
+    /// The message may not be sent in this state; or it is a REP while every packet is acknowledged (reason 6).
     WrongState,
-    /// RESP is not the number of the last data message received, which is 0 while there is none (reason 8).
+    /// NUM is not the number of the next packet to send, or of a REP not the highest number given (reason 7).
+    WrongNumber,
+    /// RESP is not the number of the last packet received in order, which is 0 while there is none (reason 8).
     WrongResponse,
+    /// A new packet while 255 are not acknowledged (reason 9).
+    WindowFull,
+    /// A packet that is sent again has other data than at first (reason 10).
+    Changed,
+    /// A NAK with reason 1, 2, 3 or 8 while nothing that gives such a reason is left to answer (reason 11).
+    NoCause,
     /// The receipt claims to have taken a packet, and takes none (reason 12).
     WrongKeep,
-    /// A message that is acted on belongs to another pair of starts (reason 13).
+    /// A message that is acted on belongs to another pair of starts: a STACK before RUNNING answers another start, any
+    /// message but a STRT else is not of the pair (reason 13).
     CrossedPeriod,
     /// A start in a state other than HALTED (reason 14).
     WrongUserEvent,

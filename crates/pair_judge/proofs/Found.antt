@@ -91,13 +91,18 @@ module _ (text_a text_b : Option (List ℕ)) (a b : Course) (come_a come_b : Opt
       verdict_at all_a all_b made_a (made_b ++ r ∷ y.0) (Refused side place cause) (goes_ended a.ahead made_a all_a ahead_a goes_a) y.1 (law y.0))
 
   -- both have ended
-  pub both_ended : IsRead text_a a.capture a.ahead come_a made_a → IsRead text_b b.capture b.ahead come_b made_b → a.ahead ≡ Ended → b.ahead ≡ Ended → HasReached a.end b.end made_a made_b → IsFound text_a text_b a b come_a come_b Accepted
-  both_ended read_a read_b ahead_a ahead_b reached = record {
+  pub both_ended : IsVerdict made_a made_b Accepted → IsRead text_a a.capture a.ahead come_a made_a → IsRead text_b b.capture b.ahead come_b made_b → a.ahead ≡ Ended → b.ahead ≡ Ended → HasReached a.end b.end made_a made_b → IsFound text_a text_b a b come_a come_b Accepted
+  both_ended law read_a read_b ahead_a ahead_b reached = record {
     made_a = made_a;
     made_b = made_b;
     read_a = read_a;
     read_b = read_b;
-    verdict = λ all_a all_b goes_a goes_b. verdict_at all_a all_b made_a made_b Accepted (goes_ended a.ahead made_a all_a ahead_a goes_a) (goes_ended b.ahead made_b all_b ahead_b goes_b) (reached.world, reached.run);
+    verdict = λ all_a all_b goes_a goes_b. verdict_at all_a all_b made_a made_b Accepted (goes_ended a.ahead made_a all_a ahead_a goes_a) (goes_ended b.ahead made_b all_b ahead_b goes_b) law;
     whole = (ahead_a, ahead_b);
     counts = λ e. (reached.counts_a, reached.counts_b);
   }
+
+-- the place that is named is this one
+pub at_place : (text_a text_b : Option (List ℕ)) (a b : Course) (come_a come_b : Option (List ℕ)) (side : Side) (cause : Cause) (named place : ℕ) → named ≡ place → IsFound text_a text_b a b come_a come_b (Refused side place cause) → IsFound text_a text_b a b come_a come_b (Refused side named cause)
+at_place text_a text_b a b come_a come_b side cause named place is found =
+    subst (λ (n : ℕ). IsFound text_a text_b a b come_a come_b (Refused side n cause)) (sym is) found

@@ -7,3 +7,4 @@ pub mod Found
 pub mod Texts
 pub mod Starts
 pub mod Faults
+pub mod Seen

@@ -1,9 +1,7 @@
 -- Two sides whose heads have been read, and what holds of the two between turns.
 use Rattle.std.proofs.Common.{◌≡◌, ℕ, ◌+◌, List, [], length, drop, Option, Result, Ok, Err, refl, sym, subst, ◌∙◌, arith}
 use Rattle.two_nodes.specs.Nodes.{Done}
-use Rattle.dna_model.specs.Line.{SentUnit}
-use Rattle.dna_model.specs.Node.{new_node}
-use Rattle.dna_model.specs.Pair.{start}
+use Rattle.dna_model.specs.WireNode.{WireUnit, new_wire_node}
 use Rattle.capture.specs.declared.record.Record.{Record}
 use Rattle.pair_judge.specs.declared.course.Course.{Course}
 use Rattle.pair_judge.specs.declared.fault.JudgeFault.{JudgeFault}
@@ -14,6 +12,7 @@ use Rattle.pair_judge.specs.Lines.{Shows}
 use Rattle.pair_judge.specs.Making.{StandsFor}
 use Rattle.pair_judge.specs.Reached.{IsUnderWay}
 use Rattle.pair_judge.specs.Opened.{OpensAt}
+use Rattle.pair_judge.specs.Wire.{run_start}
 
 -- as many records are made as turns were taken, and no call of a reader failed
 pub record HasTaken (text_a text_b : Option (List ℕ)) (a b : Course) (come_a come_b : Option (List ℕ)) (turns : ℕ) : Type 0 where
@@ -27,10 +26,10 @@ pub record HasTaken (text_a text_b : Option (List ℕ)) (a b : Course) (come_a c
 nothing_sent : (line : Line) → line.gone ≡ 0 → line.units.items ≡ [] → Shows line []
 nothing_sent line gone units = record {
   within = omega (arith, gone);
-  rest = units ∙ sym (subst (λ (n : ℕ). drop {A = SentUnit} n [] ≡ []) (sym gone) refl);
+  rest = units ∙ sym (subst (λ (n : ℕ). drop {A = WireUnit} n [] ≡ []) (sym gone) refl);
 }
 
-stands : (text_own text_other : Option (List ℕ)) (own other : Course) (come_own come_other : Option (List ℕ)) → OpensAt text_own own come_own → OpensAt text_other other come_other → StandsFor own.end other.end.line (record { state = new_node; sent = [] })
+stands : (text_own text_other : Option (List ℕ)) (own other : Course) (come_own come_other : Option (List ℕ)) → OpensAt text_own own come_own → OpensAt text_other other come_other → StandsFor own.end other.end.line (record { state = new_wire_node; sent = [] })
 stands text_own text_other own other come_own come_other o p = record {
   station = sym o.station;
   front = sym p.gone;
@@ -45,7 +44,7 @@ started text_a text_b a b come_a come_b o p = record {
     read_a = o.read;
     read_b = p.read;
     reached = record {
-      world = start;
+      world = run_start;
       run = Done;
       stands_a = stands text_a text_b a b come_a come_b o p;
       stands_b = stands text_b text_a b a come_b come_a p o;

@@ -10,7 +10,12 @@ use Rattle.capture.specs.Range.{IsNode, IsRecord, IsText}
 use Rattle.capture.specs.Reader.{CaptureState}
 use Rattle.dna_model.specs.declared.finding.Finding.{Finding}
 use Rattle.dna_model.specs.declared.finding.Finding.TheVariants.{Accepted, Refused}
-use Rattle.dna_model.specs.Pair.{is_sent}
+use Rattle.two_nodes.specs.Nodes.{World, Run}
+use Rattle.dna_model.specs.Delivery.{AreAmong, DeliversFrom, all_taken, delivered, taken_by_period}
+use Rattle.dna_model.specs.Line.{SentUnit}
+use Rattle.dna_model.specs.Node.{Node}
+use Rattle.dna_model.specs.Pair.{IsRun, is_sent, pair, start}
+use Rattle.dna_model.specs.Station.{all_given}
 use Rattle.pair_judge.specs.declared.course.Ahead.{Ahead}
 use Rattle.pair_judge.specs.declared.course.Ahead.TheVariants.{Unread, Waits, Ended}
 use Rattle.pair_judge.specs.declared.course.Course.{Course}
@@ -20,7 +25,7 @@ use Rattle.pair_judge.specs.Counting.{is_received, is_damaged, is_kept, is_start
 use Rattle.pair_judge.specs.Course.{IsRead, IsBeginning, waiting}
 use Rattle.pair_judge.specs.Summary.{summary_of, HasRoom}
 use Rattle.pair_judge.specs.Reached.{GoesOn, IsFound}
-use Rattle.pair_judge.specs.Judged.{IsRunWhere, IsFoundIn}
+use Rattle.pair_judge.specs.Judged.{Delivers, IsRunWhere, IsFoundIn}
 
 -- ---- counts
 
@@ -43,6 +48,29 @@ pub record TextLaws : Type 0 where
   pub begun : (begun rs : List Record) (rest : List ℕ) → AllByRecursion IsRecord begun → AllByRecursion IsRecord rs → record_lines rs ≡ record_lines begun ++ rest → (more : List Record) × (rs ≡ begun ++ more) × (rest ≡ record_lines more)
   pub heads : (own peer own' peer' : ℕ) (x y : List ℕ) → IsNode own → IsNode peer → IsNode own' → IsNode peer' → head_line own peer ++ x ≡ head_line own' peer' ++ y → (own ≡ own') × (peer ≡ peer') × (x ≡ y)
   pub one : (own peer own' peer' : ℕ) (rs ss : List Record) (bytes : List ℕ) → IsText own peer rs bytes → IsText own' peer' ss bytes → (own ≡ own') × (peer ≡ peer') × (rs ≡ ss)
+
+-- the laws of what was taken in a run
+pub record RunLaws : Type 0 where
+  pub of_a : (w : World Node SentUnit) (of_a of_b : List Record) → Run pair start of_a of_b w → DeliversFrom w.a.state.station w.b.state.station
+  pub of_b : (w : World Node SentUnit) (of_a of_b : List Record) → Run pair start of_a of_b w → DeliversFrom w.b.state.station w.a.state.station
+  pub a_captured : (w : World Node SentUnit) (of_a of_b : List Record) → Run pair start of_a of_b w → delivered of_a ≡ taken_by_period w.a.state.station
+  pub b_captured : (w : World Node SentUnit) (of_a of_b : List Record) → Run pair start of_a of_b w → delivered of_b ≡ taken_by_period w.b.state.station
+  pub a_among : (w : World Node SentUnit) (of_a of_b : List Record) → Run pair start of_a of_b w → AreAmong (all_taken w.a.state.station) (all_given w.b.state.station)
+  pub b_among : (w : World Node SentUnit) (of_a of_b : List Record) → Run pair start of_a of_b w → AreAmong (all_taken w.b.state.station) (all_given w.a.state.station)
+
+delivers_a : (laws : RunLaws) (of_a of_b : List Record) (run : IsRun of_a of_b) → Delivers run.0.a.state.station run.0.b.state.station of_a
+delivers_a laws of_a of_b run = record {
+  in_order = laws.of_a run.0 of_a of_b run.1;
+  captured = laws.a_captured run.0 of_a of_b run.1;
+  among = laws.a_among run.0 of_a of_b run.1;
+}
+
+delivers_b : (laws : RunLaws) (of_a of_b : List Record) (run : IsRun of_a of_b) → Delivers run.0.b.state.station run.0.a.state.station of_b
+delivers_b laws of_a of_b run = record {
+  in_order = laws.of_b run.0 of_a of_b run.1;
+  captured = laws.b_captured run.0 of_a of_b run.1;
+  among = laws.b_among run.0 of_a of_b run.1;
+}
 
 -- a text that was read to its end
 pub whole_text : (text : List ℕ) (capture : CaptureState) (come : Option (List ℕ)) (made : List Record) → IsRead (Some text) capture Ended come made → IsText capture.own capture.peer (made ++ []) text
@@ -79,30 +107,36 @@ text_at_end : (text : List ℕ) (capture : CaptureState) (ahead : Ahead) (come :
 text_at_end text capture ahead come made is h =
     subst (λ (x : Ahead). IsText capture.own capture.peer (made ++ waiting x) text) (sym is) (whole_text text capture come made (subst (λ (x : Ahead). IsRead (Some text) capture x come made) is h))
 
-accepts : (text_a text_b : List ℕ) (a b : Course) (come_a come_b : Option (List ℕ)) (summary : Summary) (finding : Finding) → (f : IsFound (Some text_a) (Some text_b) a b come_a come_b finding) → summary.a ≡ a.end.counts → summary.b ≡ b.end.counts → IsRunWhere finding text_a text_b summary
-accepts text_a text_b a b come_a come_b summary Accepted f sum_a sum_b = record {
-  own_a = a.capture.own;
-  peer_a = a.capture.peer;
-  of_a = f.made_a ++ waiting a.ahead;
-  own_b = b.capture.own;
-  peer_b = b.capture.peer;
-  of_b = f.made_b ++ waiting b.ahead;
-  is_text_a = text_at_end text_a a.capture a.ahead come_a f.made_a f.whole.0 f.read_a;
-  is_text_b = text_at_end text_b b.capture b.ahead come_b f.made_b f.whole.1 f.read_b;
-  run = f.verdict (f.made_a ++ waiting a.ahead) (f.made_b ++ waiting b.ahead) (goes_nowhere a.ahead _ f.whole.0) (goes_nowhere b.ahead _ f.whole.1);
-  counts_a = sum_a ∙ (f.counts refl).0 ∙ ap summary_of (nothing_waits a.ahead f.made_a f.whole.0);
-  counts_b = sum_b ∙ (f.counts refl).1 ∙ ap summary_of (nothing_waits b.ahead f.made_b f.whole.1);
-}
-accepts text_a text_b a b come_a come_b summary (Refused side place cause) f sum_a sum_b = tt
+accepts : (laws : RunLaws) (text_a text_b : List ℕ) (a b : Course) (come_a come_b : Option (List ℕ)) (summary : Summary) (finding : Finding) → (f : IsFound (Some text_a) (Some text_b) a b come_a come_b finding) → summary.a ≡ a.end.counts → summary.b ≡ b.end.counts → IsRunWhere finding text_a text_b summary
+accepts laws text_a text_b a b come_a come_b summary Accepted f sum_a sum_b =
+    let of_a = f.made_a ++ waiting a.ahead in
+    let of_b = f.made_b ++ waiting b.ahead in
+    let run : IsRun of_a of_b = f.verdict of_a of_b (goes_nowhere a.ahead _ f.whole.0) (goes_nowhere b.ahead _ f.whole.1) in
+    record {
+      own_a = a.capture.own;
+      peer_a = a.capture.peer;
+      of_a = f.made_a ++ waiting a.ahead;
+      own_b = b.capture.own;
+      peer_b = b.capture.peer;
+      of_b = f.made_b ++ waiting b.ahead;
+      is_text_a = text_at_end text_a a.capture a.ahead come_a f.made_a f.whole.0 f.read_a;
+      is_text_b = text_at_end text_b b.capture b.ahead come_b f.made_b f.whole.1 f.read_b;
+      run = run;
+      delivers_a = delivers_a laws of_a of_b run;
+      delivers_b = delivers_b laws of_a of_b run;
+      counts_a = sum_a ∙ (f.counts refl).0 ∙ ap summary_of (nothing_waits a.ahead f.made_a f.whole.0);
+      counts_b = sum_b ∙ (f.counts refl).1 ∙ ap summary_of (nothing_waits b.ahead f.made_b f.whole.1);
+    }
+accepts laws text_a text_b a b come_a come_b summary (Refused side place cause) f sum_a sum_b = tt
 
-pub found_in : (laws : TextLaws) (text_a text_b : List ℕ) (a b : Course) (come_a come_b : Option (List ℕ)) (summary : Summary) (finding : Finding) → IsFound (Some text_a) (Some text_b) a b come_a come_b finding → summary.a ≡ a.end.counts → summary.b ≡ b.end.counts → IsFoundIn finding summary text_a text_b
-found_in laws text_a text_b a b come_a come_b summary finding f sum_a sum_b = record {
-  accepted = accepts text_a text_b a b come_a come_b summary finding f sum_a sum_b;
+pub found_in : (laws : TextLaws) (runs : RunLaws) (text_a text_b : List ℕ) (a b : Course) (come_a come_b : Option (List ℕ)) (summary : Summary) (finding : Finding) → IsFound (Some text_a) (Some text_b) a b come_a come_b finding → summary.a ≡ a.end.counts → summary.b ≡ b.end.counts → IsFoundIn finding summary text_a text_b
+found_in laws runs text_a text_b a b come_a come_b summary finding f sum_a sum_b = record {
+  accepted = accepts runs text_a text_b a b come_a come_b summary finding f sum_a sum_b;
   verdict = λ own_a peer_a own_b peer_b of_a of_b is_a is_b. f.verdict of_a of_b (goes_on laws text_a a.capture a.ahead come_a f.made_a of_a own_a peer_a f.read_a is_a) (goes_on laws text_b b.capture b.ahead come_b f.made_b of_b own_b peer_b f.read_b is_b);
 }
 
 -- where the readers tell their bytes
-pub found_where : (laws : TextLaws) (text_a text_b : Option (List ℕ)) (a b : Course) (come_a come_b : Option (List ℕ)) (summary : Summary) (finding : Finding) → IsFound text_a text_b a b come_a come_b finding → summary.a ≡ a.end.counts → summary.b ≡ b.end.counts → IfSome text_a (λ bytes_a. IfSome text_b (λ bytes_b. IsFoundIn finding summary bytes_a bytes_b))
-found_where laws None text_b a b come_a come_b summary finding f sum_a sum_b = tt
-found_where laws (Some ta) None a b come_a come_b summary finding f sum_a sum_b = tt
-found_where laws (Some ta) (Some tb) a b come_a come_b summary finding f sum_a sum_b = found_in laws ta tb a b come_a come_b summary finding f sum_a sum_b
+pub found_where : (laws : TextLaws) (runs : RunLaws) (text_a text_b : Option (List ℕ)) (a b : Course) (come_a come_b : Option (List ℕ)) (summary : Summary) (finding : Finding) → IsFound text_a text_b a b come_a come_b finding → summary.a ≡ a.end.counts → summary.b ≡ b.end.counts → IfSome text_a (λ bytes_a. IfSome text_b (λ bytes_b. IsFoundIn finding summary bytes_a bytes_b))
+found_where laws runs None text_b a b come_a come_b summary finding f sum_a sum_b = tt
+found_where laws runs (Some ta) None a b come_a come_b summary finding f sum_a sum_b = tt
+found_where laws runs (Some ta) (Some tb) a b come_a come_b summary finding f sum_a sum_b = found_in laws runs ta tb a b come_a come_b summary finding f sum_a sum_b

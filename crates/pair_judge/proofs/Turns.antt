@@ -1,11 +1,9 @@
 -- What one record does to the world that both sides of the judge stand for.
 use Rattle.std.proofs.Common.{◌≡◌, ℕ, ◌+◌, Bool, true, false, cond, List, [], ◌∷◌, ◌++◌, length, Option, refl, sym, ap, subst, ◌∙◌, arith, length-append, count_by}
 use Rattle.std.proofs.lemmas.List.Sums.{sum_by_push}
-use Rattle.two_nodes.specs.Nodes.{Half, Run}
+use Rattle.two_nodes.specs.Nodes.{Run}
 use Rattle.capture.specs.declared.record.Record.{Record}
-use Rattle.dna_model.specs.Pair.{pair, start, is_sent}
-use Rattle.dna_model.specs.Line.{SentUnit}
-use Rattle.dna_model.specs.Node.{Node}
+use Rattle.dna_model.specs.Pair.{is_sent}
 use Rattle.pair_judge.specs.declared.line.Line.{Line}
 use Rattle.pair_judge.specs.declared.end.End.{End}
 use Rattle.pair_judge.specs.declared.summary.SideSummary.{SideSummary}
@@ -16,6 +14,7 @@ use Rattle.pair_judge.specs.Lines.{Shows}
 use Rattle.pair_judge.specs.declared.course.Course.{Course}
 use Rattle.pair_judge.specs.Course.{MayRead, IsBlocked}
 use Rattle.pair_judge.specs.Reached.{HasReached, IsHeldUp}
+use Rattle.pair_judge.specs.Wire.{RunHalf, run_pair, run_start}
 
 -- ---- counts
 
@@ -45,14 +44,14 @@ pub record IsSame (old new : End) (after : Line) : Type 0 where
   pub line : new.line ≡ after
 
 -- the other side stands for the same half
-pub stands_on : (own own' other other' : End) (after : Line) (r : Record) (mine theirs : Half Node SentUnit) → StandsFor other own.line theirs → IsMade own own' other.line after r mine theirs → IsSame other other' after → StandsFor other' own'.line theirs
+pub stands_on : (own own' other other' : End) (after : Line) (r : Record) (mine theirs : RunHalf) → StandsFor other own.line theirs → IsMade own own' other.line after r mine theirs → IsSame other other' after → StandsFor other' own'.line theirs
 stands_on own own' other other' after r mine theirs stands made same = record {
   station = stands.station ∙ sym same.station;
   front = stands.front ∙ sym made.same_front;
   sent = rw same.line made.incoming;
 }
 
-pub reached_by_a : (a a' b b' : End) (after : Line) (made_a made_b : List Record) (r : Record) → (h : HasReached a b made_a made_b) → (m : IsMade a a' b.line after r h.world.a h.world.b) → IsSame b b' after → Run pair start (made_a ++ r ∷ []) made_b (record { a = m.next; b = h.world.b }) → HasReached a' b' (made_a ++ r ∷ []) made_b
+pub reached_by_a : (a a' b b' : End) (after : Line) (made_a made_b : List Record) (r : Record) → (h : HasReached a b made_a made_b) → (m : IsMade a a' b.line after r h.world.a h.world.b) → IsSame b b' after → Run run_pair run_start (made_a ++ r ∷ []) made_b (record { a = m.next; b = h.world.b }) → HasReached a' b' (made_a ++ r ∷ []) made_b
 reached_by_a a a' b b' after made_a made_b r h m same run = record {
   world = record { a = m.next; b = h.world.b };
   run = run;
@@ -62,7 +61,7 @@ reached_by_a a a' b b' after made_a made_b r h m same run = record {
   counts_b = same.counts ∙ h.counts_b;
 }
 
-pub reached_by_b : (a a' b b' : End) (after : Line) (made_a made_b : List Record) (r : Record) → (h : HasReached a b made_a made_b) → (m : IsMade b b' a.line after r h.world.b h.world.a) → IsSame a a' after → Run pair start made_a (made_b ++ r ∷ []) (record { a = h.world.a; b = m.next }) → HasReached a' b' made_a (made_b ++ r ∷ [])
+pub reached_by_b : (a a' b b' : End) (after : Line) (made_a made_b : List Record) (r : Record) → (h : HasReached a b made_a made_b) → (m : IsMade b b' a.line after r h.world.b h.world.a) → IsSame a a' after → Run run_pair run_start made_a (made_b ++ r ∷ []) (record { a = h.world.a; b = m.next }) → HasReached a' b' made_a (made_b ++ r ∷ [])
 reached_by_b a a' b b' after made_a made_b r h m same run = record {
   world = record { a = h.world.a; b = m.next };
   run = run;

@@ -2,6 +2,7 @@
 pub mod Reason
 pub mod Counting
 pub mod Summary
+pub mod Wire
 pub mod Unit
 pub mod Lines
 pub mod Receipts

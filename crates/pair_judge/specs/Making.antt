@@ -1,38 +1,38 @@
 -- One side of the judge beside the half of a run that it stands for, and what became of one record there.
 use Rattle.std.specs.Prelude.{◌≡◌}
-use Rattle.two_nodes.specs.Nodes.{Half, Outcome, advance}
+use Rattle.two_nodes.specs.Nodes.{Outcome, advance}
 use Rattle.two_nodes.specs.Nodes as any
 use Rattle.capture.specs.declared.record.Record.{Record}
-use Rattle.dna_model.specs.Station.{crossed}
-use Rattle.dna_model.specs.Line.{SentUnit}
-use Rattle.dna_model.specs.Node.{Node, step}
+use Rattle.dna_model.specs.Periods.{crossed}
+use Rattle.dna_model.specs.WireNode.{wire_step}
 use Rattle.pair_judge.specs.declared.line.Line.{Line}
 use Rattle.pair_judge.specs.declared.end.End.{End}
 use Rattle.pair_judge.specs.declared.making.Made.{Made}
 use Rattle.pair_judge.specs.declared.making.Made.TheVariants.{Done, Waits, Fails}
 use Rattle.pair_judge.specs.Lines.{Shows}
 use Rattle.pair_judge.specs.Summary.{counted}
+use Rattle.pair_judge.specs.Wire.{RunHalf}
 
 -- this end of the judge, with the line from the other side, stands for that half of the run
-pub record StandsFor (own : End) (incoming : Line) (half : Half Node SentUnit) : Type 0 where
+pub record StandsFor (own : End) (incoming : Line) (half : RunHalf) : Type 0 where
   pub station : half.state.station ≡ own.station
   pub front : half.state.front ≡ incoming.gone
   pub sent : Shows own.line half.sent
 
 -- the record is made, and the end stands for the half after it
-pub record IsMade (old new : End) (before after : Line) (r : Record) (own other : Half Node SentUnit) : Type 0 where
-  pub next : Half Node SentUnit
-  pub step_is : advance (step crossed) own other r ≡ any.Made next
+pub record IsMade (old new : End) (before after : Line) (r : Record) (own other : RunHalf) : Type 0 where
+  pub next : RunHalf
+  pub step_is : advance (wire_step crossed) own other r ≡ any.Made next
   pub stands : StandsFor new after next
   pub incoming : Shows after other.sent
   pub same_front : new.line.gone ≡ old.line.gone
   pub counts : new.counts ≡ counted old.counts r
 
-abbrev pub MadeIs : Made → End → End → Line → Line → Record → Half Node SentUnit → Half Node SentUnit → Type 0
+abbrev pub MadeIs : Made → End → End → Line → Line → Record → RunHalf → RunHalf → Type 0
 MadeIs Done old new before after r own other = IsMade old new before after r own other
 -- the unit that the record names is not sent yet
-MadeIs (Waits back) old new before after r own other = advance (step crossed) own other r ≡ any.Waits
-MadeIs (Fails refusal) old new before after r own other = advance (step crossed) own other r ≡ any.Refused refusal
+MadeIs (Waits back) old new before after r own other = advance (wire_step crossed) own other r ≡ any.Waits
+MadeIs (Fails refusal) old new before after r own other = advance (wire_step crossed) own other r ≡ any.Refused refusal
 
 -- a record that waits is handed back, and leaves all as it was
 abbrev pub LeavesWaiting : Made → End → End → Line → Line → Record → Type 0

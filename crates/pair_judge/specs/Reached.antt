@@ -1,14 +1,12 @@
 -- Both sides of the judge beside the world that the records made so far led to, and what a turn leads to.
 use Rattle.std.specs.Prelude.{◌≡◌, ℕ, ◌+◌, List, ◌++◌, length, Option, Some, None}
-use Rattle.two_nodes.specs.Nodes.{World, Half, Run, advance}
+use Rattle.two_nodes.specs.Nodes.{Run, advance}
 use Rattle.two_nodes.specs.Nodes as any
 use Rattle.capture.specs.declared.record.Record.{Record}
 use Rattle.dna_model.specs.declared.finding.Finding.{Finding}
 use Rattle.dna_model.specs.declared.finding.Finding.TheVariants.{Accepted, Refused}
-use Rattle.dna_model.specs.Line.{SentUnit}
-use Rattle.dna_model.specs.Station.{crossed}
-use Rattle.dna_model.specs.Node.{Node, step}
-use Rattle.dna_model.specs.Pair.{pair, start}
+use Rattle.dna_model.specs.Periods.{crossed}
+use Rattle.dna_model.specs.WireNode.{wire_step}
 use Rattle.dna_model.specs.Verdict.{IsVerdict}
 use Rattle.pair_judge.specs.declared.line.Line.{Line}
 use Rattle.pair_judge.specs.declared.end.End.{End}
@@ -16,14 +14,15 @@ use Rattle.pair_judge.specs.declared.course.Ahead.{Ahead}
 use Rattle.pair_judge.specs.declared.course.Ahead.TheVariants.{Unread, Waits, Ended}
 use Rattle.pair_judge.specs.declared.course.Course.{Course}
 use Rattle.pair_judge.specs.Lines.{Shows}
+use Rattle.pair_judge.specs.Wire.{RunHalf, RunWorld, run_pair, run_start}
 use Rattle.pair_judge.specs.Making.{StandsFor}
 use Rattle.pair_judge.specs.Course.{IsRead, waiting}
 use Rattle.pair_judge.specs.Summary.{summary_of}
 
 -- some order of these records leads to a world that the two ends stand for
 pub record HasReached (a b : End) (made_a made_b : List Record) : Type 0 where
-  pub world : World Node SentUnit
-  pub run : Run pair start made_a made_b world
+  pub world : RunWorld
+  pub run : Run run_pair run_start made_a made_b world
   pub stands_a : StandsFor a b.line world.a
   pub stands_b : StandsFor b a.line world.b
   pub counts_a : a.counts ≡ summary_of made_a
@@ -60,7 +59,7 @@ pub record IsFound (text_a text_b : Option (List ℕ)) (a b : Course) (come_a co
 pub record IsHeldUp (own : Course) (incoming : Line) : Type 0 where
   pub next : Record
   pub ahead : own.ahead ≡ Waits next
-  pub waits : (mine theirs : Half Node SentUnit) → StandsFor own.end incoming mine → Shows incoming theirs.sent → advance (step crossed) mine theirs next ≡ any.Waits
+  pub waits : (mine theirs : RunHalf) → StandsFor own.end incoming mine → Shows incoming theirs.sent → advance (wire_step crossed) mine theirs next ≡ any.Waits
 
 -- one record more was made
 pub record HasGoneOn (text_a text_b : Option (List ℕ)) (a b : Course) (come_a come_b : Option (List ℕ)) (made : ℕ) : Type 0 where

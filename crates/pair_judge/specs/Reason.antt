@@ -68,7 +68,11 @@ reason_name AddressInUse = codes "AddressInUse"
 
 abbrev pub reason_of_station : StationRefusal → Reason
 reason_of_station station.WrongState = WrongState
+reason_of_station station.WrongNumber = WrongNumber
 reason_of_station station.WrongResponse = WrongResponse
+reason_of_station station.WindowFull = WindowFull
+reason_of_station station.Changed = Changed
+reason_of_station station.NoCause = NoCause
 reason_of_station station.WrongKeep = WrongKeep
 reason_of_station station.CrossedPeriod = CrossedPeriod
 reason_of_station station.WrongUserEvent = WrongUserEvent

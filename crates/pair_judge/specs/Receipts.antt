@@ -1,9 +1,10 @@
 -- What became of a receipt, beside all units that the other side sent.
 use Rattle.std.specs.Prelude.{◌≡◌, ℕ, Bool, true, false, Some, None, Ok, Err, List, slice_get}
 use Rattle.ddcmp_msg.specs.Reading.{reading}
-use Rattle.dna_model.specs.Station.{Station, crossed, ArrivalValue, Sound, HeaderBad, DataBad}
-use Rattle.dna_model.specs.Line.{SentUnit}
-use Rattle.dna_model.specs.Node.{Node, receives}
+use Rattle.dna_model.specs.declared.tag.Tag.{Tag}
+use Rattle.dna_model.specs.Arriving.{ArrivalValue, Sound, HeaderBad, DataBad}
+use Rattle.dna_model.specs.Periods.{crossed}
+use Rattle.dna_model.specs.WireNode.{WireUnit, wire_receives}
 use Rattle.pair_judge.specs.declared.line.Line.{Line}
 use Rattle.pair_judge.specs.declared.receipt.Receipt.{Receipt}
 use Rattle.pair_judge.specs.declared.receipt.Receipt.TheVariants.{Done, Waits, Fails}
@@ -12,9 +13,10 @@ use Rattle.pair_judge.specs.declared.sending.SendFault.TheVariants.{Refused, Out
 use Rattle.dna_model.specs.declared.refusal.StepRefusal.{StepRefusal}
 use Rattle.pair_judge.specs.Lines.{Shows}
 use Rattle.pair_judge.specs.Counting.{shows_damage}
+use Rattle.pair_judge.specs.Wire.{RunNode, RunStation}
 
 -- a node at this front
-abbrev pub node_at : Station → ℕ → Node
+abbrev pub node_at : RunStation → ℕ → RunNode
 node_at station front = record { station = station; front = front }
 
 -- a fact of the refusal, where a sending was refused
@@ -23,26 +25,26 @@ IfRefused P (Refused refusal) = P refusal
 IfRefused P OutOfMemory = Unit {0}
 
 -- whether what came is damaged
-abbrev pub is_damage : ArrivalValue → Bool
+abbrev pub is_damage : ArrivalValue Tag → Bool
 is_damage (Sound m tag) = false
 is_damage HeaderBad = true
 is_damage DataBad = true
 
 -- the node of a side whose other side's line is this
-abbrev pub node_of : Station → Line → Node
+abbrev pub node_of : RunStation → Line → RunNode
 node_of station line = node_at station line.gone
 
 -- the unit of the hint was sent, and the node goes by it: to this station and this line
-pub record IsReceived (old new : Station) (before after : Line) (hint : ℕ) (kept : Bool) (bytes : List ℕ) (sent : List SentUnit) : Type 0 where
-  pub unit : SentUnit
+pub record IsReceived (old new : RunStation) (before after : Line) (hint : ℕ) (kept : Bool) (bytes : List ℕ) (sent : List WireUnit) : Type 0 where
+  pub unit : WireUnit
   pub was_sent : slice_get sent hint ≡ Some unit
-  pub step : receives crossed (node_of old before) hint kept bytes unit ≡ Ok (node_of new after)
+  pub step : wire_receives crossed (node_of old before) hint kept bytes unit ≡ Ok (node_of new after)
   pub shows : Shows after sent
 
-abbrev pub ReceiptIs : Receipt → Station → Station → Line → Line → ℕ → Bool → List ℕ → List SentUnit → Type 0
+abbrev pub ReceiptIs : Receipt → RunStation → RunStation → Line → Line → ℕ → Bool → List ℕ → List WireUnit → Type 0
 ReceiptIs (Done damaged) old new before after hint kept bytes sent =
     IsReceived old new before after hint kept bytes sent × (damaged ≡ shows_damage (reading bytes))
 -- the unit was not sent yet
 ReceiptIs Waits old new before after hint kept bytes sent = slice_get sent hint ≡ None
 ReceiptIs (Fails refusal) old new before after hint kept bytes sent =
-    (unit : SentUnit) × (slice_get sent hint ≡ Some unit) × (receives crossed (node_of old before) hint kept bytes unit ≡ Err refusal)
+    (unit : WireUnit) × (slice_get sent hint ≡ Some unit) × (wire_receives crossed (node_of old before) hint kept bytes unit ≡ Err refusal)

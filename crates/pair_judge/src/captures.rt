@@ -1,7 +1,7 @@
 //! What follows of a pair of captures from the world that their beginnings reached.
 
 ghost use Rattle.std.specs.Prelude.{◌≡◌, ◌∷◌, ◌++◌, List, length};
-ghost use Rattle.two_nodes.specs.Nodes.{World, Run, advance};
+ghost use Rattle.two_nodes.specs.Nodes.{Run, advance};
 ghost use Rattle.two_nodes.specs.Nodes as any;
 ghost use Rattle.capture.specs.declared.record.Record.{Record};
 ghost use Rattle.dna_model.specs.declared.finding.Cause.TheVariants as causes;
@@ -9,10 +9,13 @@ ghost use Rattle.dna_model.specs.declared.finding.Finding.TheVariants as finding
 ghost use Rattle.dna_model.specs.declared.refusal.StepRefusal.{StepRefusal};
 ghost use Rattle.dna_model.specs.Line.{SentUnit};
 ghost use Rattle.dna_model.specs.Node.{Node};
-ghost use Rattle.dna_model.specs.Pair.{pair, start};
+ghost use Rattle.dna_model.specs.Pair.{pair};
 ghost use Rattle.dna_model.specs.Verdict.{IsVerdict};
-ghost use Rattle.dna_model.proofs.Tells.{pair_tells};
+ghost use Rattle.dna_model.specs.WireNode.{WireUnit};
+ghost use Rattle.dna_model.proofs.Tells.{pair_tells, wire_pair_tells};
+ghost use Rattle.pair_judge.specs.Wire.{RunNode, RunWorld, run_pair, run_start};
 
+use dna_model::running_nodes_see_right;
 use two_nodes::{TwoNodes, both_waiting, one_waiting, refused_record};
 use wire_base::Side;
 
@@ -33,30 +36,50 @@ impl TwoNodes for Captures {
     ghost tells = { pair_tells };
 }
 
+/// The two nodes as the judge runs them.
+pub struct Running;
+
+impl TwoNodes for Running {
+    ghost State = { RunNode };
+
+    ghost Record = { Record };
+
+    ghost Sent = { WireUnit };
+
+    ghost Reason = { StepRefusal };
+
+    ghost nodes = { run_pair };
+
+    ghost tells = { wire_pair_tells (Unit {0}) };
+}
+
 /// Each way for the judge to end is a verdict on every pair of captures that begins with the records made so far.
 pub fn endings()
-    ensures a_refused { (w : World Node SentUnit) (done_a rest_a done_b rest_b : List Record) (r : Record) (refusal : StepRefusal)
-        → Run pair start done_a done_b w
-        → advance pair.node_a w.a w.b r ≡ any.Refused refusal
+    ensures accepted { (w : RunWorld) (of_a of_b : List Record)
+        → Run run_pair run_start of_a of_b w → IsVerdict of_a of_b findings.Accepted }
+    ensures a_refused { (w : RunWorld) (done_a rest_a done_b rest_b : List Record) (r : Record) (refusal : StepRefusal)
+        → Run run_pair run_start done_a done_b w
+        → advance run_pair.node_a w.a w.b r ≡ any.Refused refusal
         → IsVerdict (done_a ++ r ∷ rest_a) (done_b ++ rest_b) (findings.Refused Side.A (length done_a) (causes.Step refusal)) }
-    ensures b_refused { (w : World Node SentUnit) (done_a rest_a done_b rest_b : List Record) (r : Record) (refusal : StepRefusal)
-        → Run pair start done_a done_b w
-        → advance pair.node_b w.b w.a r ≡ any.Refused refusal
+    ensures b_refused { (w : RunWorld) (done_a rest_a done_b rest_b : List Record) (r : Record) (refusal : StepRefusal)
+        → Run run_pair run_start done_a done_b w
+        → advance run_pair.node_b w.b w.a r ≡ any.Refused refusal
         → IsVerdict (done_a ++ rest_a) (done_b ++ r ∷ rest_b) (findings.Refused Side.B (length done_b) (causes.Step refusal)) }
-    ensures stuck { (w : World Node SentUnit) (done_a rest_a done_b rest_b : List Record) (r s : Record)
-        → Run pair start done_a done_b w
-        → advance pair.node_a w.a w.b r ≡ any.Waits
-        → advance pair.node_b w.b w.a s ≡ any.Waits
+    ensures stuck { (w : RunWorld) (done_a rest_a done_b rest_b : List Record) (r s : Record)
+        → Run run_pair run_start done_a done_b w
+        → advance run_pair.node_a w.a w.b r ≡ any.Waits
+        → advance run_pair.node_b w.b w.a s ≡ any.Waits
         → IsVerdict (done_a ++ r ∷ rest_a) (done_b ++ s ∷ rest_b) (findings.Refused Side.A (length done_a) causes.NoOrder) }
-    ensures a_lacks { (w : World Node SentUnit) (done_a rest_a all_b : List Record) (r : Record)
-        → Run pair start done_a all_b w
-        → advance pair.node_a w.a w.b r ≡ any.Waits
+    ensures a_lacks { (w : RunWorld) (done_a rest_a all_b : List Record) (r : Record)
+        → Run run_pair run_start done_a all_b w
+        → advance run_pair.node_a w.a w.b r ≡ any.Waits
         → IsVerdict (done_a ++ r ∷ rest_a) all_b (findings.Refused Side.A (length done_a) causes.NoSuchUnit) }
-    ensures b_lacks { (w : World Node SentUnit) (all_a done_b rest_b : List Record) (r : Record)
-        → Run pair start all_a done_b w
-        → advance pair.node_b w.b w.a r ≡ any.Waits
+    ensures b_lacks { (w : RunWorld) (all_a done_b rest_b : List Record) (r : Record)
+        → Run run_pair run_start all_a done_b w
+        → advance run_pair.node_b w.b w.a r ≡ any.Waits
         → IsVerdict all_a (done_b ++ r ∷ rest_b) (findings.Refused Side.B (length done_b) causes.NoSuchUnit) }
 {
+    running_nodes_see_right::<()>();
     refused_record::<Captures>();
     both_waiting::<Captures>();
     one_waiting::<Captures>();

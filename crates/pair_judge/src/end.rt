@@ -1,10 +1,15 @@
 //! One end of the line, as far as the judge has gone along its capture.
 
-ghost use Rattle.std.specs.Prelude.{◌≡◌, ◌+◌};
+ghost use Rattle.std.specs.Prelude.{◌≤◌};
+ghost use Rattle.dna_model.specs.WireStation.{load};
 
 use crate::line::Line;
 use crate::summary::SideSummary;
-use ddcmp_station::Station;
+use ddcmp_station::Held;
+use wire_base::RingWindow;
+
+/// The station of a side. No packet has a label, since links are not judged yet.
+pub type Station = ddcmp_station::Station<(), RingWindow<Held<()>, 256>>;
 
 /// One side: its station, the units that it sent and the other may still receive, and its counts so far.
 #[derive(Drop)]
@@ -12,5 +17,5 @@ pub struct End {
     pub station: Station,
     pub line: Line,
     pub counts: SideSummary,
-    ghost a_period_a_start: { station.period ≡ counts.periods },
+    ghost one_a_record: { load station ≤ counts.records },
 }

@@ -1,25 +1,26 @@
 //! A user event.
 
-ghost use Rattle.std.specs.Prelude.{◌≡◌, ◌^◌, ◌<◌, ℕ, OnOk, OnErr, IfErr};
+ghost use Rattle.std.specs.Prelude.{◌≡◌, ◌+◌, ◌^◌, ◌<◌, ◌≤◌, ℕ, OnOk, OnErr, IfErr};
 ghost use Rattle.two_nodes.specs.Nodes.Answer.{Goes, Refuses};
-ghost use Rattle.dna_model.specs.Node.{does, user_step};
-ghost use Rattle.dna_model.specs.Station.{after_event, user_refusal};
+ghost use Rattle.dna_model.specs.Station.{user_refusal};
+ghost use Rattle.dna_model.specs.WireNode.{wire_does, wire_user_step};
+ghost use Rattle.dna_model.specs.WireStation.{load};
 ghost use Rattle.pair_judge.specs.Receipts.{node_at};
-ghost use Rattle.pair_judge.specs.Counting.{more_if, starts};
 
+use crate::end::Station;
 use capture::Event;
-use ddcmp_station::{Station, StationEvent};
+use ddcmp_station::{StationEvent, StationFault};
 use dna_model::StepRefusal;
 
 /// The user does this. `WrongUserEvent`: a start in a state other than HALTED (DDCMP 4.1, startup state table). A refusal
 /// changes nothing. Provisional: the events of links change nothing.
 pub fn happen(station: &mut Station, event: &Event) -> Result<(), StepRefusal>
-    requires { station.old.period < 2 ^ 63 }
+    requires { load station.old < 2 ^ 63 }
     ensures ok { OnOk result ((front : ℕ) →
-        user_step (node_at station.old front) event.now ≡ Goes (node_at station.new front)) }
-    ensures periods { OnOk result (station.new.period ≡ more_if (starts event.now) station.old.period) }
+        wire_user_step (node_at station.old front) event.now ≡ Goes (node_at station.new front)) }
+    ensures load { load station.new ≤ load station.old + 1 }
     ensures err { IfErr result (λ z. (front : ℕ) →
-        user_step (node_at station.old front) event.now ≡ Refuses z) }
+        wire_user_step (node_at station.old front) event.now ≡ Refuses z) }
     ensures unchanged { OnErr result (station.new ≡ station.old) }
 {
     match event {
@@ -31,16 +32,17 @@ pub fn happen(station: &mut Station, event: &Event) -> Result<(), StepRefusal>
 
 // The station is asked.
 fn ask(station: &mut Station, event: StationEvent) -> Result<(), StepRefusal>
-    requires { station.old.period < 2 ^ 63 }
+    requires { load station.old < 2 ^ 63 }
     ensures ok { OnOk result ((front : ℕ) →
-        does (node_at station.old front) event (user_refusal station.old.state event) ≡ Goes (node_at station.new front)) }
-    ensures after { OnOk result (station.new ≡ after_event station.old event) }
+        wire_does (node_at station.old front) event (user_refusal station.old.kept.state event) ≡ Goes (node_at station.new front)) }
+    ensures load { load station.new ≤ load station.old + 1 }
     ensures err { IfErr result (λ z. (front : ℕ) →
-        does (node_at station.old front) event (user_refusal station.old.state event) ≡ Refuses z) }
+        wire_does (node_at station.old front) event (user_refusal station.old.kept.state event) ≡ Refuses z) }
     ensures unchanged { OnErr result (station.new ≡ station.old) }
 {
     match station.user(event) {
         Ok(()) => Ok(()),
-        Err(refusal) => Err(StepRefusal::Station(refusal)),
+        Err(StationFault::Refused(refusal)) => Err(StepRefusal::Station(refusal)),
+        Err(StationFault::OutOfMemory) => unreachable!(),
     }
 }

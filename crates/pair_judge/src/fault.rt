@@ -20,6 +20,6 @@ pub enum TextFault {
 pub enum JudgeFault {
     /// A text was faulty, or could not be read, as far as it was read by then.
     Capture { side: Side, fault: TextFault },
-    /// There was no memory for a reader's block, for a record's bytes, or for a unit that may still be received.
+    /// There was no memory for a reader's block, a station's window, a record's bytes, a packet, or a unit that may still be received.
     OutOfMemory,
 }

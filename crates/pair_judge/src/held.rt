@@ -16,11 +16,11 @@ pub struct Held {
 }
 
 impl Model for Held {
-    ghost use Rattle.dna_model.specs.Line.{SentUnit};
+    ghost use Rattle.dna_model.specs.WireNode.{WireUnit};
     ghost use Rattle.ddcmp_msg.specs.Reading.{reading};
     ghost use Rattle.pair_judge.specs.Unit.{unit_of, IsSoundReading};
 
-    ghost Value = { SentUnit };
+    ghost Value = { WireUnit };
 
     ghost view = { λ u. unit_of u.bytes u.tag };
 
@@ -42,14 +42,14 @@ impl Held {
     pub fn bytes(&self) -> &[u8]
         ensures bytes { result.now ≡ self.now.bytes }
         ensures sound { IsSoundReading (reading self.now.bytes) }
-        ensures message { self.now ≡ unit_of self.now.bytes self.now.tag }
+        ensures message { self.now ≡ unit_of self.now.bytes self.now.known }
     {
         self.bytes.as_slice()
     }
 
     /// The tag that it was sent with.
     pub fn tag(&self) -> Tag
-        ensures { result ≡ self.now.tag }
+        ensures { result ≡ self.now.known }
     {
         self.tag
     }

@@ -11,7 +11,7 @@ ghost use Rattle.pair_judge.specs.Opened.{OpensAt};
 ghost use Rattle.pair_judge.specs.Answer.{verdict_of};
 
 use crate::course::{Ahead, Course, course_fault};
-use crate::end::End;
+use crate::end::{End, Station};
 use crate::fault::JudgeFault;
 use crate::line::Line;
 use crate::reason::Reason;
@@ -19,8 +19,7 @@ use crate::summary::{SideSummary, Summary};
 use crate::turn::{side_fault, turn};
 use crate::verdict::Verdict;
 use capture::{CaptureReader, MAX_RECORDS, begun_list, no_head_begins_another, one_head_and_list};
-use ddcmp_station::Station;
-use dna_model::Finding;
+use dna_model::{Finding, delivered_in_order};
 use std::alloc::Global;
 use std::io::Read;
 use wire_base::{Side, Tally};
@@ -43,14 +42,15 @@ pub struct Found {
 /// yet sent. So a fault that stands behind the record of a refusal is not met. Of each direction only the units above the last
 /// hint received are held.
 ///
-/// `Accepted`: both texts are texts of captures, all records of both are one run, and the summary is their counts. `Refused`: the
-/// record that is named, with its reason. `Capture`: the first fault met, at the side whose text it is in: the first line there
-/// that departs from the format, and how; `Read` only where that reader failed. `OutOfMemory`: a growth was refused. No verdict
-/// stands in place of a fault. After any answer the readers have given what was read ahead, and nothing is said of the rest.
+/// `Accepted`: both texts are texts of captures, all records of both are one run of two stations whose numbers have no bound, what
+/// each station took was sent, in order, and the summary is the counts of the records. `Refused`: the record that is named, with
+/// its reason. `Capture`: the first fault met, at the side whose text it is in: the first line there that departs from the format,
+/// and how; `Read` only where that reader failed. `OutOfMemory`: a growth was refused. No verdict stands in place of a fault. After
+/// any answer the readers have given what was read ahead, and nothing is said of the rest.
 ///
 /// The contract claims what is said of `Accepted`, of a text's faults and of `Read`, and nothing yet of `Refused` and of the order
-/// of reading. For now a run is one of startups: a sent data, NAK or REP message and a kept receipt are refused, and link events
-/// are not judged, so that one that no link allows is accepted.
+/// of reading. For now packets are carried unread, and link events are not judged: a pair whose packets or link events no node
+/// allows is accepted.
 pub fn judge<R: Read, S: Read>(
     alloc: Global,
     a: &mut Tally<R>,
@@ -99,6 +99,7 @@ pub fn find<R: Read, S: Read>(
     begun_list();
     no_head_begins_another();
     one_head_and_list();
+    delivered_in_order();
     let mut course_a = open(alloc, Side::A, a)?;
     let mut course_b = open(alloc, Side::B, b)?;
     for _ in 0..MOST_TURNS {
@@ -127,16 +128,21 @@ fn open<R: Read>(alloc: Global, side: Side, reader: &mut Tally<R>) -> Result<Cou
         (of ≡ side) × CountedFault (tally_faults reader.old) (tally_faults reader.new) }
     ensures faults { OnOk result (tally_faults reader.new ≡ tally_faults reader.old) }
 {
-    match CaptureReader::open(alloc, reader) {
-        Ok(capture) => Ok(Course {
-            capture,
-            end: End {
-                station: Station::new(),
-                line: Line::new(alloc),
-                counts: SideSummary::new(),
-            },
-            ahead: Ahead::Unread,
-        }),
-        Err(fault) => Err(side_fault(side, course_fault(fault))),
-    }
+    let capture = match CaptureReader::open(alloc, reader) {
+        Ok(capture) => capture,
+        Err(fault) => return Err(side_fault(side, course_fault(fault))),
+    };
+    let Ok(station) = Station::new(alloc) else {
+        return Err(JudgeFault::OutOfMemory);
+    };
+    let end = End {
+        station,
+        line: Line::new(alloc),
+        counts: SideSummary::new(),
+    };
+    Ok(Course {
+        capture,
+        end,
+        ahead: Ahead::Unread,
+    })
 }

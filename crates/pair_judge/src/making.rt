@@ -1,15 +1,13 @@
 //! One record of one side.
 
 ghost use Rattle.std.specs.Prelude.{◌≡◌, ◌≤◌, IfOk};
-ghost use Rattle.two_nodes.specs.Nodes.{Half};
 ghost use Rattle.capture.specs.Range.{NumbersFit};
 ghost use Rattle.capture.specs.declared.limit.TheConstants.{MAX_HINT};
-ghost use Rattle.dna_model.specs.Line.{SentUnit};
-ghost use Rattle.dna_model.specs.Node.{Node};
 ghost use Rattle.pair_judge.specs.Lines.{Shows};
 ghost use Rattle.pair_judge.specs.Summary.{HasRoom};
 ghost use Rattle.pair_judge.specs.declared.line.Line.{Line};
 ghost use Rattle.pair_judge.specs.Making.{StandsFor, MadeIs, LeavesWaiting, NeverWaits, IfFails};
+ghost use Rattle.pair_judge.specs.Wire.{RunHalf};
 
 use crate::end::End;
 use crate::event::happen;
@@ -36,7 +34,7 @@ pub enum Made {
 pub fn make(own: &mut End, incoming: &mut Line, entry: Record) -> Result<Made, AllocError>
     requires room { HasRoom own.old.counts }
     requires numbers { NumbersFit entry }
-    ensures made { IfOk result (λ made. (mine theirs : Half Node SentUnit) →
+    ensures made { IfOk result (λ made. (mine theirs : RunHalf) →
         StandsFor own.old incoming.old mine → Shows incoming.old theirs.sent →
         MadeIs made own.old own.new incoming.old incoming.new entry mine theirs) }
     ensures waits { IfOk result (λ made. LeavesWaiting made own.old own.new incoming.old incoming.new entry) }
@@ -53,13 +51,13 @@ pub fn make(own: &mut End, incoming: &mut Line, entry: Record) -> Result<Made, A
 
 fn make_sent(own: &mut End, bytes: Bytes) -> Result<Made, AllocError>
     requires { HasRoom own.old.counts }
-    ensures made { IfOk result (λ made. (incoming : Line) (mine theirs : Half Node SentUnit) →
+    ensures made { IfOk result (λ made. (incoming : Line) (mine theirs : RunHalf) →
         StandsFor own.old incoming mine → Shows incoming theirs.sent →
         MadeIs made own.old own.new incoming incoming (Record.Sent bytes) mine theirs) }
     ensures waits { IfOk result NeverWaits }
     ensures counts { IfOk result (λ made. IfFails made (own.new.counts ≡ own.old.counts)) }
 {
-    match send(&own.station, &mut own.line, bytes) {
+    match send(&mut own.station, &mut own.line, bytes) {
         Ok(()) => {
             own.counts = own.counts.with_sending();
             Ok(Made::Done)
@@ -74,7 +72,7 @@ fn make_sent(own: &mut End, bytes: Bytes) -> Result<Made, AllocError>
 fn make_received(own: &mut End, incoming: &mut Line, hint: u64, kept: bool, bytes: Bytes) -> Made
     requires room { HasRoom own.old.counts }
     requires hint { hint ≤ MAX_HINT }
-    ensures made { (mine theirs : Half Node SentUnit) →
+    ensures made { (mine theirs : RunHalf) →
         StandsFor own.old incoming.old mine → Shows incoming.old theirs.sent →
         MadeIs result own.old own.new incoming.old incoming.new (Record.Received hint kept bytes) mine theirs }
     ensures waits { LeavesWaiting result own.old own.new incoming.old incoming.new (Record.Received hint kept bytes) }
@@ -92,7 +90,7 @@ fn make_received(own: &mut End, incoming: &mut Line, hint: u64, kept: bool, byte
 
 fn make_event(own: &mut End, event: Event) -> Made
     requires { HasRoom own.old.counts }
-    ensures made { (incoming : Line) (mine theirs : Half Node SentUnit) →
+    ensures made { (incoming : Line) (mine theirs : RunHalf) →
         StandsFor own.old incoming mine → Shows incoming theirs.sent →
         MadeIs result own.old own.new incoming incoming (Record.User event) mine theirs }
     ensures waits { NeverWaits result }

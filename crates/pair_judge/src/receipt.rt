@@ -1,8 +1,10 @@
 //! A receipt: the bytes that came beside the unit that their hint names.
 
-ghost use Rattle.std.specs.Prelude.{◌≡◌, ◌^◌, ◌<◌, List, IfSome};
+ghost use Rattle.std.specs.Prelude.{◌≡◌, ◌+◌, ◌^◌, ◌<◌, ◌≤◌, List, IfSome};
 ghost use Rattle.std.specs.Option.{option_map};
-ghost use Rattle.dna_model.specs.Line.{SentUnit};
+ghost use Rattle.dna_model.specs.declared.refusal.StepRefusal.{StepRefusal};
+ghost use Rattle.dna_model.specs.WireNode.{WireUnit};
+ghost use Rattle.dna_model.specs.WireStation.{load};
 ghost use Rattle.dna_model.specs.Line as line;
 ghost use Rattle.ddcmp_station.specs.Arrival.{arrival_view};
 ghost use Rattle.ddcmp_msg.specs.Reading.{reading};
@@ -10,10 +12,11 @@ ghost use Rattle.pair_judge.specs.Counting.{shows_damage};
 ghost use Rattle.pair_judge.specs.Lines.{Shows};
 ghost use Rattle.pair_judge.specs.Receipts.{ReceiptIs, is_damage};
 
+use crate::end::Station;
 use crate::held::Held;
 use crate::line::Line;
 use ddcmp_msg::{Reading, read_unit};
-use ddcmp_station::{Arrival, Station};
+use ddcmp_station::{Arrival, StationFault};
 use dna_model::StepRefusal;
 
 /// What became of a receipt.
@@ -39,11 +42,13 @@ pub fn receive(
     kept: bool,
     bytes: &[u8],
 ) -> Receipt
-    requires { hint < 2 ^ 63 }
-    ensures receipt { (sent : List SentUnit) → Shows line.old sent →
+    requires hint { hint < 2 ^ 63 }
+    requires load { load station.old < 2 ^ 63 }
+    ensures receipt { (sent : List WireUnit) → Shows line.old sent →
         ReceiptIs result station.old station.new line.old line.new hint kept bytes.now sent }
     ensures waits { result ≡ Receipt.Waits → (station.new ≡ station.old) × (line.new ≡ line.old) }
-    ensures period { station.new.period ≡ station.old.period }
+    ensures load { load station.new ≤ load station.old + 1 }
+    ensures unchanged { (refusal : StepRefusal) → result ≡ Receipt.Fails refusal → station.new ≡ station.old }
 {
     if hint < line.gone {
         return Receipt::Fails(StepRefusal::HintOrder);
@@ -55,11 +60,14 @@ pub fn receive(
             Some(arrival) => {
                 let damaged = is_damaged(&arrival);
                 match station.arrived(arrival, kept) {
-                    Ok(()) => {
+                    Ok(_) => {
                         line.release(hint);
                         Receipt::Done { damaged }
                     }
-                    Err(refusal) => Receipt::Fails(StepRefusal::Station(refusal)),
+                    Err(StationFault::Refused(refusal)) => {
+                        Receipt::Fails(StepRefusal::Station(refusal))
+                    }
+                    Err(StationFault::OutOfMemory) => unreachable!(),
                 }
             }
         },

@@ -1,64 +1,72 @@
 //! A unit that was sent.
 
-ghost use Rattle.std.specs.Prelude.{◌≡◌, ℕ, [], ◌∷◌, ◌++◌, OnOk, IfOk, IfErr};
+ghost use Rattle.std.specs.Prelude.{◌≡◌, ℕ, ◌≤◌, [], ◌∷◌, ◌++◌, OnOk, IfOk, IfErr};
 ghost use Rattle.two_nodes.specs.Nodes.Answer.{Sends, Refuses};
 ghost use Rattle.ddcmp_msg.specs.Reading.{reading};
-ghost use Rattle.dna_model.specs.Station.{tag_of};
-ghost use Rattle.dna_model.specs.Node.{sent_step};
+ghost use Rattle.dna_model.specs.WireNode.{wire_sent_step, wire_tag};
+ghost use Rattle.dna_model.specs.WireStation.{load};
 ghost use Rattle.pair_judge.specs.Receipts.{node_at, IfRefused};
 ghost use Rattle.pair_judge.specs.Unit.{unit_of, IsSoundReading};
 
+use crate::end::Station;
 use crate::held::Held;
 use crate::line::Line;
 use capture::Bytes;
 use ddcmp_msg::{Reading, read_unit};
-use ddcmp_station::{SentAs, Station};
+use ddcmp_station::{StationFault, Tag};
 use dna_model::StepRefusal;
-use std::alloc::AllocError;
 
 /// Why a sending was not made.
 #[derive(Clone, Copy, Debug, PartialEq, Eq)]
 pub enum SendFault {
     /// It can't be.
     Refused(StepRefusal),
-    /// There is no memory for the unit.
+    /// There is no memory for the unit, or for its packet.
     OutOfMemory,
 }
 
 /// The node sends these bytes on its line. They are held with the station's tag until they can't come any more.
 ///
-/// `Refused`: they are no sound message, or the station may not send it now. `OutOfMemory`: there is no room on the line.
-/// The station never changes.
-pub fn send(station: &Station, line: &mut Line, bytes: Bytes) -> Result<(), SendFault>
-    ensures ok { OnOk result ((front : ℕ) → sent_step (node_at station.now front) bytes (reading bytes)
-        ≡ Sends (node_at station.now front) (unit_of bytes (tag_of station.now))) }
+/// `Refused`: they are no sound message, or the station may not send it now. `OutOfMemory`: there is no room on the line, or
+/// for a new packet in the station.
+pub fn send(station: &mut Station, line: &mut Line, bytes: Bytes) -> Result<(), SendFault>
+    ensures ok { OnOk result ((front : ℕ) → wire_sent_step (node_at station.old front) bytes (reading bytes)
+        ≡ Sends (node_at station.new front) (unit_of bytes (wire_tag station.old))) }
     ensures units { OnOk result (line.new.units.items
-        ≡ line.old.units.items ++ unit_of bytes (tag_of station.now) ∷ []) }
+        ≡ line.old.units.items ++ unit_of bytes (wire_tag station.old) ∷ []) }
     ensures gone { line.new.gone ≡ line.old.gone }
+    ensures load { load station.new ≤ load station.old }
     ensures err { IfErr result (IfRefused (λ z. (front : ℕ) →
-        sent_step (node_at station.now front) bytes (reading bytes) ≡ Refuses z)) }
+        wire_sent_step (node_at station.old front) bytes (reading bytes) ≡ Refuses z)) }
 {
-    let sent_as = allowed(station, bytes.as_slice()).map_err(SendFault::Refused)?;
-    line.push(Held::new(bytes, sent_as.tag))
+    let tag = match sent(station, bytes.as_slice()) {
+        Ok(tag) => tag,
+        Err(fault) => return Err(fault),
+    };
+    line.push(Held::new(bytes, tag))
         .map_err(|_| SendFault::OutOfMemory)
 }
 
-// How the unit is sent, if the station lets its node send it.
-fn allowed(station: &Station, bytes: &[u8]) -> Result<SentAs, StepRefusal>
+// The station lets its node send the unit: the tag that it goes with.
+fn sent(station: &mut Station, bytes: &[u8]) -> Result<Tag, SendFault>
     ensures sound { OnOk result (IsSoundReading (reading bytes.now)) }
-    ensures tag { IfOk result (λ sent. sent.tag ≡ tag_of station.now) }
-    ensures ok { OnOk result ((front : ℕ) → sent_step (node_at station.now front) bytes.now (reading bytes.now)
-        ≡ Sends (node_at station.now front) (unit_of bytes.now (tag_of station.now))) }
-    ensures err { IfErr result (λ z. (front : ℕ) →
-        sent_step (node_at station.now front) bytes.now (reading bytes.now) ≡ Refuses z) }
+    ensures tag { IfOk result (λ tag. tag ≡ wire_tag station.old) }
+    ensures ok { OnOk result ((front : ℕ) → wire_sent_step (node_at station.old front) bytes.now (reading bytes.now)
+        ≡ Sends (node_at station.new front) (unit_of bytes.now (wire_tag station.old))) }
+    ensures load { load station.new ≤ load station.old }
+    ensures err { IfErr result (IfRefused (λ z. (front : ℕ) →
+        wire_sent_step (node_at station.old front) bytes.now (reading bytes.now) ≡ Refuses z)) }
 {
     match read_unit(bytes) {
         Reading::Sound(message) => match station.sent(&message) {
-            Ok(sent_as) => Ok(sent_as),
-            Err(refusal) => Err(StepRefusal::Station(refusal)),
+            Ok(sent_as) => Ok(sent_as.tag),
+            Err(StationFault::Refused(refusal)) => {
+                Err(SendFault::Refused(StepRefusal::Station(refusal)))
+            }
+            Err(StationFault::OutOfMemory) => Err(SendFault::OutOfMemory),
         },
-        Reading::HeaderBad => Err(StepRefusal::NotAMessage),
-        Reading::DataBad => Err(StepRefusal::NotAMessage),
-        Reading::Malformed(_) => Err(StepRefusal::NotAMessage),
+        Reading::HeaderBad => Err(SendFault::Refused(StepRefusal::NotAMessage)),
+        Reading::DataBad => Err(SendFault::Refused(StepRefusal::NotAMessage)),
+        Reading::Malformed(_) => Err(SendFault::Refused(StepRefusal::NotAMessage)),
     }
 }

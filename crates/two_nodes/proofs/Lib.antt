@@ -8,3 +8,5 @@ pub mod Before
 pub mod Breaking
 pub mod Ends
 pub mod Lasting
+pub mod Simulated
+pub mod Counts

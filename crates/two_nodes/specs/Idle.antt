@@ -3,6 +3,7 @@ use Rattle.std.specs.Prelude.{None, false, List, refl}
 use Rattle.two_nodes.specs.Nodes.{Node, Nodes, World}
 use Rattle.two_nodes.specs.Nodes.Answer.{Goes}
 use Rattle.two_nodes.specs.Past.{BothTell}
+use Rattle.two_nodes.specs.Cutting.{Cut}
 
 abbrev pub idle_node : Node (Unit {0}) (Unit {0}) (Unit {0}) (Unit {0})
 idle_node state r = Goes state
@@ -16,3 +17,6 @@ idle_nodes_tell = record { of_a = λ state r. (refl, refl); of_b = λ state r. (
 -- a property that always holds
 abbrev pub no_property : World (Unit {0}) (Unit {0}) → List (Unit {0}) → List (Unit {0}) → Type 0
 no_property w made_a made_b = Unit {0}
+
+abbrev pub idle_cut : Cut (Unit {0}) (Unit {0}) (Unit {0}) (Unit {0})
+idle_cut = record { of_state = λ state. state; of_unit = λ unit. unit }

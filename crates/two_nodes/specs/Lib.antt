@@ -3,5 +3,7 @@ pub mod Nodes
 pub mod Past
 pub mod Endings
 pub mod Kept
+pub mod Cutting
 pub mod Idle
 pub mod Example
+pub mod Keeping

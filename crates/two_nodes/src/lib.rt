@@ -4,12 +4,14 @@
 #![tactic(auto)]
 
 pub mod blaming;
+pub mod cutting;
 pub mod ending;
 pub mod kept;
 pub mod nodes;
 pub mod running;
 
 pub use blaming::{closed_beginnings, offender, refused_record};
+pub use cutting::{SeenNodes, simulation};
 pub use ending::{both_waiting, one_waiting};
 pub use kept::{KeptProperty, always};
 pub use nodes::TwoNodes;

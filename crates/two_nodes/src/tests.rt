@@ -1,17 +1,20 @@
 ghost use Rattle.std.specs.Prelude.{◌≡◌, ◌≤◌, ◌+◌, ℕ, List, [], ◌∷◌, ◌++◌, length, take};
+ghost use Rattle.two_nodes.specs.Cutting.{ComesOf, cut_world};
 ghost use Rattle.two_nodes.specs.Endings.{LacksUnit, IsStuck};
 ghost use Rattle.two_nodes.specs.Example.{Event, Fault, SentWithin, counter, counters, counters_tell};
 ghost use Rattle.two_nodes.specs.Example.Event.{Count, Tell, Hear};
 ghost use Rattle.two_nodes.specs.Example.Fault.{Misheard, NothingToTell};
+ghost use Rattle.two_nodes.specs.Keeping.{Keeper, any_world, counts_of, keepers, new_keeper};
 ghost use Rattle.two_nodes.specs.Nodes.{World, Half, Run, IsRun, advance, exchanged, exchanged_world, start_world};
 ghost use Rattle.two_nodes.specs.Nodes.Outcome.{Waits};
 ghost use Rattle.two_nodes.specs.Past.{Offends};
 
+use crate::cutting::SeenNodes;
 use crate::kept::always;
 use crate::nodes::TwoNodes;
 use crate::{
     any_order, both_waiting, closed_beginnings, exchanged_sides, missing_unit, offender,
-    one_waiting, reading_on, refused_record, units_sent,
+    one_waiting, reading_on, refused_record, simulation, units_sent,
 };
 use std::marker::Brand;
 
@@ -126,6 +129,42 @@ fn no_side_sends_more_units_than_it_makes_records()
     always::<Brand>();
 }
 
+// Two keepers, seen as two counters.
+struct Keepers;
+
+impl SeenNodes for Keepers {
+    ghost State = { Keeper };
+
+    ghost SeenState = { ℕ };
+
+    ghost Record = { Event };
+
+    ghost Sent = { ℕ };
+
+    ghost SeenUnit = { ℕ };
+
+    ghost Reason = { Fault };
+
+    ghost nodes = { keepers };
+
+    ghost others = { counters };
+
+    ghost cut = { counts_of };
+
+    ghost holds = { any_world };
+}
+
+fn what_keepers_make_is_seen_as_counting()
+    ensures seen { (end : World Keeper ℕ) (xs ys : List Event)
+        → Run keepers (start_world new_keeper new_keeper) xs ys end
+        → Run counters (start_world 0 0) xs ys (cut_world counts_of end) }
+    ensures comes_of { (seen : World ℕ ℕ) (xs ys : List Event)
+        → Run counters (start_world 0 0) xs ys seen
+        → ComesOf keepers counts_of any_world (start_world new_keeper new_keeper) [] [] xs ys seen }
+{
+    simulation::<Keepers>();
+}
+
 #[test]
 fn laws_hold_of_two_counters() {
     one_is_told_and_heard();
@@ -141,4 +180,5 @@ fn laws_hold_of_two_counters() {
     two_that_wait_for_each_other_are_stuck();
     one_that_waits_for_nothing_lacks_its_unit();
     no_side_sends_more_units_than_it_makes_records();
+    what_keepers_make_is_seen_as_counting();
 }

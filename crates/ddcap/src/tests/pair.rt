@@ -1,5 +1,6 @@
 //! Pairs of captures in memory, and what `check` prints of them.
 
+use super::units::digits_of;
 use crate::check::check_to;
 use std::alloc::{AllocError, Global};
 use std::io::{self, ErrorKind, Read, Write};
@@ -97,35 +98,31 @@ impl Write for Shown {
     }
 }
 
-/// A capture's text: its head, and its records, separated by `; `. STRT, STACK and ACK n stand for their bytes.
+/// A capture's text: its head, and its records, separated by `; `. A unit stands by its name or by its digits.
 pub fn text_of(alloc: Global, head: &str, records: &str) -> Result<String, AllocError> {
     let mut text = String::from_str(alloc, head)?;
     text.push_str("\n")?;
     if records.is_empty() {
         return Ok(text);
     }
+    add_records(&mut text, records)?;
+    Ok(text)
+}
+
+/// Adds records to a text. They are written as in `text_of`, and there is at least one.
+pub fn add_records(text: &mut String, records: &str) -> Result<(), AllocError> {
     for words in records.split("; ") {
         match words.rsplit_once(' ') {
             Some((front, unit)) => {
                 text.push_str(front)?;
                 text.push_str(" ")?;
-                text.push_str(bytes_of(unit))?;
+                text.push_str(digits_of(unit))?;
             }
             None => text.push_str(words)?,
         }
         text.push_str("\n")?;
     }
-    Ok(text)
-}
-
-fn bytes_of(unit: &str) -> &str {
-    match unit {
-        "STRT" => "0506c00000017595",
-        "STACK" => "0507c00000014855",
-        "ACK0" => "050100000001fc55",
-        "ACK1" => "050100010001ad95",
-        other => other,
-    }
+    Ok(())
 }
 
 /// Checks two texts by readers that give one byte a call and by readers that give all: the same answer.
@@ -166,12 +163,17 @@ pub fn expect_verdict(
 ) -> Result<(), AllocError> {
     let text_a = text_of(alloc, HEAD_A, records_a)?;
     let text_b = text_of(alloc, HEAD_B, records_b)?;
+    expect_verdict_of(rt, alloc, text_a.as_str(), text_b.as_str(), out);
+    Ok(())
+}
+
+/// Checks two texts, which have a verdict.
+pub fn expect_verdict_of(rt: &impl Abort, alloc: Global, text_a: &str, text_b: &str, out: &str) {
     let status = if out.starts_with("accepted") { 0 } else { 1 };
     let answer = Answer {
         out,
         err: "",
         status,
     };
-    expect(rt, alloc, text_a.as_str(), text_b.as_str(), answer);
-    Ok(())
+    expect(rt, alloc, text_a, text_b, answer);
 }

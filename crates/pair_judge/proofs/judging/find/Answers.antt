@@ -1,7 +1,7 @@
 use Rattle.std.proofs.Common.{Err, refl, sym, ap, ◌∙◌, arith}
 use Rattle.std.proofs.lemmas.Result.{err_from_is_err_and}
 use Rattle.wire_base.specs.Tally.{tally_lent}
-use Rattle.pair_judge.proofs.Texts.{TextLaws, has_room, few_made, found_where}
+use Rattle.pair_judge.proofs.Texts.{RunLaws, TextLaws, has_room, few_made, found_where}
 use Rattle.pair_judge.proofs.Starts.{started, same_fault}
 use Rattle.pair_judge.proofs.judging.find.Goals as goal
 
@@ -29,9 +29,11 @@ pub returns-in-Ok-Some-clause-found : goal.returns-in-Ok-Some-clause-found
 returns-in-Ok-Some-clause-found g c =
     let h = c.loop.invariant.0 in
     let laws : TextLaws = record { begun = c.begun_list.ensures; heads = c.no_head_begins_another.ensures; one = c.one_head_and_list.ensures } in
+    let d = c.delivered_in_order.ensures in
+    let runs : RunLaws = record { of_a = d.of_a; of_b = d.of_b; a_captured = d.a_captured; b_captured = d.b_captured; a_among = d.a_among; b_among = d.b_among } in
     let turned = rw c.in-Ok-Some.field-0-is at c.in-Ok-Some.ensures.turn in
     let found = turned (g.R.Read.remaining c.args.a.now.lent) (g.S.Read.remaining c.args.b.now.lent) h.made_a h.made_b h.under_way in
-    found_where laws _ _ c.turn.new.a c.turn.new.b _ _ _ _ found refl refl
+    found_where laws runs _ _ c.turn.new.a c.turn.new.b _ _ _ _ found refl refl
 
 pub returns-in_err-course_a-clause-fault : goal.returns-in_err-course_a-clause-fault
 returns-in_err-course_a-clause-fault g c =

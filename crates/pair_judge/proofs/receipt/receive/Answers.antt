@@ -3,14 +3,14 @@ use Rattle.std.specs.List.{slice_get}
 use Rattle.std.specs.Option.{option_copied, option_map}
 use Rattle.std.proofs.lemmas.Option.{slice_get_within}
 use Rattle.ddcmp_station.specs.Arrival.{arrival_view}
-use Rattle.dna_model.specs.Station.{Station, after_arrival}
+use Rattle.dna_model.specs.WireStation.{wire_after_arrival}
 use Rattle.dna_model.specs.Line.{coming}
-use Rattle.dna_model.specs.Node.{Node}
+use Rattle.pair_judge.specs.Wire.{RunNode}
 use Rattle.ddcmp_msg.specs.Reading.{reading}
 use Rattle.pair_judge.specs.Counting.{shows_damage}
 use Rattle.pair_judge.specs.Receipts.{node_of}
 use Rattle.pair_judge.proofs.Sent.{held_at, item_within, released}
-use Rattle.pair_judge.proofs.Comes.{receives_back, receives_at, comes_met, comes_refused, after_arrival-period}
+use Rattle.pair_judge.proofs.Comes.{receives_back, receives_at, comes_met, comes_refused}
 use Rattle.pair_judge.proofs.receipt.receive.Goals as goal
 
 -- the hint lies below the front, so its unit was sent
@@ -40,8 +40,8 @@ returns-in-Ok-clause-receipt c = λ sent shows.
     let arrival = arrival_view c.in-Some-coming.arrival in
     let was_sent : slice_get sent c.args.hint ≡ Some unit = sym (ap option_copied (sym c.in-Some.is) ∙ c.unit.ensures ∙ held_at c.args.line.now sent c.args.hint shows c.if-hint-line.false) in
     let comes : Some arrival ≡ coming unit c.args.bytes.now = ap (option_map arrival_view) (sym c.in-Some-coming.is) ∙ c.coming.ensures.coming in
-    let after : Node = node_of c.arrived.new.self c.release.new.self in
-    let stepped : record { station = after_arrival n.station arrival; front = c.args.hint + 1 } ≡ after = cc (sym c.in-Ok.ensures.ok, sym c.release.ensures.gone) in
+    let after : RunNode = node_of c.arrived.new.self c.release.new.self in
+    let stepped : record { station = wire_after_arrival n.station arrival c.args.kept; front = c.args.hint + 1 } ≡ after = cc (sym c.in-Ok.ensures.ok, sym c.release.ensures.gone) in
     let damaged : c.is_damaged-damaged.result ≡ shows_damage (reading c.args.bytes.now) = c.is_damaged-damaged.ensures ∙ c.in-Some-coming.ensures.damage in (
       record {
         unit = unit;
@@ -52,15 +52,11 @@ returns-in-Ok-clause-receipt c = λ sent shows.
       damaged,
     )
 
-pub returns-in-Err-clause-receipt : goal.returns-in-Err-clause-receipt
-returns-in-Err-clause-receipt c = λ sent shows.
+pub returns-in-Err-Refused-clause-receipt : goal.returns-in-Err-Refused-clause-receipt
+returns-in-Err-Refused-clause-receipt c = λ sent shows.
     let unit = c.in-Some.unit.now in
     let n = node_of c.args.station.now c.args.line.now in
     let arrival = arrival_view c.in-Some-coming.arrival in
     let was_sent : slice_get sent c.args.hint ≡ Some unit = sym (ap option_copied (sym c.in-Some.is) ∙ c.unit.ensures ∙ held_at c.args.line.now sent c.args.hint shows c.if-hint-line.false) in
     let comes : Some arrival ≡ coming unit c.args.bytes.now = ap (option_map arrival_view) (sym c.in-Some-coming.is) ∙ c.coming.ensures.coming in
-    (unit, was_sent, receives_at n c.args.hint c.args.kept c.args.bytes.now unit (Some arrival) c.if-hint-line.false comes ∙ comes_refused n c.args.hint c.args.kept arrival c.in-Err.refusal c.in-Err.ensures.refused)
-
-pub returns-in-Ok-clause-period : goal.returns-in-Ok-clause-period
-returns-in-Ok-clause-period c =
-    ap (λ (s : Station). s.period) c.in-Ok.ensures.ok ∙ after_arrival-period c.args.station.now (arrival_view c.in-Some-coming.arrival)
+    (unit, was_sent, receives_at n c.args.hint c.args.kept c.args.bytes.now unit (Some arrival) c.if-hint-line.false comes ∙ comes_refused n c.args.hint c.args.kept arrival c.in-Err-Refused.refusal (rw c.in-Err-Refused.field-0-is at c.in-Err-Refused.ensures.refused))

@@ -5,10 +5,10 @@ use Rattle.wire_base.specs.declared.side.Side.TheVariants.{A}
 use Rattle.capture.specs.Lines.{to_come}
 use Rattle.capture.specs.Reader.{CaptureState}
 use Rattle.dna_model.specs.declared.finding.Cause.TheVariants.{Step}
-use Rattle.dna_model.specs.Pair.{start}
+use Rattle.pair_judge.specs.Wire.{run_start}
 use Rattle.pair_judge.specs.Reached.{TurnIs}
 use Rattle.pair_judge.proofs.Turns.{reached_by_a, reached_still, same_end, next_place, held_up}
-use Rattle.pair_judge.proofs.Found.{a_fails}
+use Rattle.pair_judge.proofs.Found.{at_place, a_fails}
 use Rattle.pair_judge.proofs.turn.turn.Goals as goal
 
 pub returns-in-Ok-Made-clause-turn : goal.returns-in-Ok-Made-clause-turn
@@ -17,7 +17,7 @@ returns-in-Ok-Made-clause-turn g c = λ text_a text_b made_a made_b under.
     let m = advanced text_a made_a under.read_a in
     let h = under.reached in
     let made = m.made_it h.world.a h.world.b h.stands_a h.stands_b.sent in
-    let run = c.reading_on.ensures.of_a start h.world made.next m.next made_a made_b h.run made.step_is in
+    let run = c.reading_on.ensures.of_a run_start h.world made.next m.next made_a made_b h.run made.step_is in
     record {
       made_a = made_a ++ m.next ∷ [];
       made_b = made_b;
@@ -37,7 +37,7 @@ returns-in-Ok-Fails-clause-turn g c = λ text_a text_b made_a made_b under.
     let refused = f.3 h.world.a h.world.b h.stands_a h.stands_b.sent in
     let place : c.advance.new.self.end.counts.records ≡ length made_a =
     next_place c.advance.new.self.end.counts made_a (f.2 ∙ h.counts_a) in
-    rw c.refused.ensures (rw place (a_fails text_a text_b _ _ _ _ made_a made_b A (length made_a) (Step c.in-Ok-Fails.refusal) f.0 f.1 under.read_b (λ rest_a rest_b. c.endings.ensures.a_refused h.world made_a rest_a made_b rest_b f.0 c.in-Ok-Fails.refusal h.run refused)))
+    rw c.refused.ensures (at_place text_a text_b _ _ _ _ A (Step c.in-Ok-Fails.refusal) _ _ place (a_fails text_a text_b _ _ _ _ made_a made_b A (length made_a) (Step c.in-Ok-Fails.refusal) f.0 f.1 under.read_b (λ rest_a rest_b. c.endings.ensures.a_refused h.world made_a rest_a made_b rest_b f.0 c.in-Ok-Fails.refusal h.run refused)))
 
 pub returns-in-Ok-Blocked-clause-turn : goal.returns-in-Ok-Blocked-clause-turn
 returns-in-Ok-Blocked-clause-turn g c =

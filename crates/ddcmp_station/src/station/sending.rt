@@ -1,0 +1,229 @@
+//! What a station's node may send, and what sending changes.
+
+ghost use Rattle.std.specs.Prelude.{◌≡◌, ◌<◌, ◌≤◌, ◌==◌, ◌+◌, IsTrue, true, false, None, length, not, nat_lt, IfOk, OnOk, OnErr, IfErr};
+ghost use Rattle.ddcmp_msg.specs.Message.{view};
+ghost use Rattle.dna_model.specs.Causes.{has_cause};
+ghost use Rattle.dna_model.specs.Station.{wire};
+ghost use Rattle.dna_model.specs.Sending.{WINDOW, check};
+ghost use Rattle.dna_model.specs.WireStation.{wire_refusal_in, wire_data_refusal, wire_is_new, wire_sending_refusal, wire_after_sending, load, gives_new, with_new};
+ghost use Rattle.ddcmp_station.specs.Fault.{IsFault, is_of_repeats};
+ghost use Rattle.ddcmp_station.specs.Sent.{sent_as};
+
+use super::Station;
+use crate::{Held, SentAs, StationFault};
+use ddcmp_msg::{Message, NakReason};
+use dna_model::{State, StationRefusal, Tag};
+use std::alloc::AllocError;
+use wire_base::Window;
+
+impl<T: Copy, W: Window<Held<T>, 256>> Station<T, W> {
+    /// Its node sent this message (DDCMP 4.1, startup state table, data transfer). The answer has the tag that the unit goes
+    /// with; whether the message gave a new number, beside which a label may now be put; and of a packet that is sent again its
+    /// label, if it has one. A new number takes memory for a copy of its packet, and no other message takes any.
+    ///
+    /// What is tested, in this order; where nothing stands, and in HALTED, the message may not be sent:
+    ///
+    /// ```text
+    ///          ISTRT      ASTRT      RUNNING
+    ///  STRT    may go
+    ///  STACK              may go
+    ///  ACK                           RESP
+    ///  NAK                           RESP; an open cause of its reason
+    ///  REP                           that a packet is not acknowledged; NUM
+    ///  data                          NUM; RESP; of a new packet room in the window, of another one its bytes
+    /// ```
+    ///
+    /// `Refused`, the first that fits:
+    ///
+    /// - `WrongState`: the message may not be sent in this state; or it is a REP while every packet is acknowledged.
+    /// - `WrongNumber`: NUM is not that of the next packet to send, or of a REP not the highest given.
+    /// - `WrongResponse`: RESP is not the number of the last packet received, which is 0 while there is none.
+    /// - `NoCause`: a NAK with reason 1, 2, 3 or 8 and no open cause of that reason.
+    /// - `WindowFull`: a new packet while 255 are not acknowledged.
+    /// - `Changed`: a packet that is sent again has other data than at first.
+    ///
+    /// `OutOfMemory`, after all of these and for a new number alone: a growth was refused. After any of them the station is as it
+    /// was.
+    #[tactic(auto, using(crate::proofs::Sendable::sendable))]
+    pub fn sent(&mut self, message: &Message) -> Result<SentAs<T>, StationFault>
+        ensures allowed { OnOk result (wire_sending_refusal self.old (view message.now) ≡ None) }
+        ensures ok { OnOk result (self.new ≡ wire_after_sending self.old (view message.now)) }
+        ensures answer { IfOk result (λ sent. sent ≡ sent_as self.old (view message.now)) }
+        ensures outstanding { IfOk result (λ sent. sent.first ≡ true → 0 < length self.new.kept.held) }
+        ensures refused { IfErr result (λ fault. IsFault (wire_sending_refusal self.old (view message.now))
+            (gives_new self.old (view message.now)) fault) }
+        ensures again { gives_new self.old (view message.now) ≡ false → IfErr result (λ fault. IsTrue (is_of_repeats fault)) }
+        ensures err { OnErr result (self.new ≡ self.old) }
+        ensures load { load self.new ≤ load self.old }
+    {
+        if let Some(refusal) = self.refusal_to_send(message) {
+            return Err(StationFault::Refused(refusal));
+        }
+        let sent = self.sent_as(message);
+        match message {
+            Message::Data { body, .. } => {
+                if self.kept.is_new() {
+                    if let Err(AllocError) = self.give(body) {
+                        return Err(StationFault::OutOfMemory);
+                    }
+                    return Ok(sent);
+                }
+                self.kept.send_again();
+                Ok(sent)
+            }
+            Message::Nak { reason, .. } => {
+                self.causes.use_up(*reason);
+                Ok(sent)
+            }
+            _ => Ok(sent),
+        }
+    }
+
+    // What a message that may be sent is sent as.
+    fn sent_as(&self, message: &Message) -> SentAs<T>
+        ensures { result ≡ sent_as self.now (view message.now) }
+    {
+        let tag = Tag {
+            period: self.period,
+            partner: self.partner,
+        };
+        match message {
+            Message::Data { .. } => SentAs {
+                tag,
+                first: self.kept.is_new(),
+                label: self.kept.label_to_send(),
+            },
+            _ => SentAs {
+                tag,
+                first: false,
+                label: None,
+            },
+        }
+    }
+
+    // A packet of these bytes gets the next number. Where memory for it is refused, nothing changes.
+    fn give(&mut self, body: &[u8]) -> Result<(), AllocError>
+        requires new { wire_is_new self.old.kept ≡ true }
+        requires room { length self.old.kept.held < 255 }
+        ensures ok { OnOk result (self.new ≡ record self.old {
+          kept = record self.old.kept {
+            ahead = self.old.kept.ahead + 1;
+            held = with_new true self.old.kept.held body.now;
+          };
+        }) }
+        ensures err { OnErr result (self.new ≡ self.old) }
+    {
+        let mut copy = Vec::new(self.alloc);
+        copy.extend_from_slice(body)?;
+        self.kept.send_new(Held::new(copy))?;
+        Ok(())
+    }
+
+    // ---- what refuses
+
+    // Why the message may not be sent, or `None` where it may.
+    fn refusal_to_send(&self, message: &Message) -> Option<StationRefusal>
+        ensures { result ≡ wire_sending_refusal self.now (view message.now) }
+    {
+        match self.kept.state() {
+            State::Halted => Some(StationRefusal::WrongState),
+            State::Istrt => match message {
+                Message::Strt { .. } => None,
+                _ => Some(StationRefusal::WrongState),
+            },
+            State::Astrt => match message {
+                Message::Stack { .. } => None,
+                _ => Some(StationRefusal::WrongState),
+            },
+            State::Running => self.refusal_in_running(message),
+        }
+    }
+
+    fn refusal_in_running(&self, message: &Message) -> Option<StationRefusal>
+        ensures { result ≡ wire_refusal_in State.Running self.now.kept self.now.causes (view message.now) }
+    {
+        match message {
+            Message::Ack { resp, .. } => self.refusal_of_response(*resp),
+            Message::Nak { reason, resp, .. } => self.refusal_of_nak(*reason, *resp),
+            Message::Rep { num, .. } => self.refusal_of_rep(*num),
+            Message::Data {
+                resp,
+                num,
+                body,
+                ..
+            } => self.refusal_of_data(*resp, *num, body),
+            Message::Strt { .. } | Message::Stack { .. } => Some(StationRefusal::WrongState),
+        }
+    }
+
+    // RESP is the last number received.
+    fn refusal_of_response(&self, resp: u8) -> Option<StationRefusal>
+        ensures { result ≡ check (resp == self.now.kept.received) StationRefusal.WrongResponse None }
+    {
+        if self.kept.is_received(resp) {
+            None
+        } else {
+            Some(StationRefusal::WrongResponse)
+        }
+    }
+
+    // A NAK of a reason that needs a cause has an open one.
+    fn refusal_of_nak(&self, reason: NakReason, resp: u8) -> Option<StationRefusal>
+        ensures { result ≡ check (resp == self.now.kept.received) StationRefusal.WrongResponse
+            (check (has_cause reason self.now.causes) StationRefusal.NoCause None) }
+    {
+        if !self.kept.is_received(resp) {
+            return Some(StationRefusal::WrongResponse);
+        }
+        if !self.causes.has(reason) {
+            return Some(StationRefusal::NoCause);
+        }
+        None
+    }
+
+    // A REP asks for the answer to the highest number given, while one is outstanding.
+    fn refusal_of_rep(&self, num: u8) -> Option<StationRefusal>
+        ensures { result ≡ check (not (length self.now.kept.held == 0)) StationRefusal.WrongState
+            (check (num == wire (self.now.kept.acknowledged + length self.now.kept.held)) StationRefusal.WrongNumber None) }
+    {
+        if !self.kept.is_outstanding() {
+            return Some(StationRefusal::WrongState);
+        }
+        if !self.kept.is_highest(num) {
+            return Some(StationRefusal::WrongNumber);
+        }
+        None
+    }
+
+    // Data have the next number to send. A new packet has room in the window; one that is sent again is as first given.
+    fn refusal_of_data(&self, resp: u8, num: u8, body: &[u8]) -> Option<StationRefusal>
+        ensures { result ≡ check (num == wire (self.now.kept.acknowledged + 1 + self.now.kept.ahead)) StationRefusal.WrongNumber
+            (check (resp == self.now.kept.received) StationRefusal.WrongResponse
+            (wire_data_refusal (wire_is_new self.now.kept) self.now.kept body.now)) }
+    {
+        if !self.kept.is_to_send(num) {
+            return Some(StationRefusal::WrongNumber);
+        }
+        if !self.kept.is_received(resp) {
+            return Some(StationRefusal::WrongResponse);
+        }
+        if self.kept.is_new() {
+            return self.refusal_of_new();
+        }
+        if !self.kept.is_first_given(body) {
+            return Some(StationRefusal::Changed);
+        }
+        None
+    }
+
+    // Fewer packets are outstanding than may be.
+    fn refusal_of_new(&self) -> Option<StationRefusal>
+        ensures { result ≡ check (nat_lt (length self.now.kept.held) WINDOW) StationRefusal.WindowFull None }
+    {
+        if self.kept.has_room() {
+            None
+        } else {
+            Some(StationRefusal::WindowFull)
+        }
+    }
+}

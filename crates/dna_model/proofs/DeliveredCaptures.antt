@@ -1,0 +1,128 @@
+-- What each period took is what the receipts of the capture say.
+use Rattle.std.proofs.Common.{◌≡◌, ℕ, Bool, true, false, inl, inr, None, List, [], ◌∷◌, ◌++◌, map, refl, sym, ap, ap₂, ◌∙◌}
+use Rattle.std.proofs.lemmas.List.{map-append}
+use Rattle.std.proofs.lemmas.List.Sums.{fold-append}
+use Rattle.two_nodes.specs.Nodes.{Half, World}
+use Rattle.two_nodes.specs.Kept.{IsKept}
+use Rattle.ddcmp_msg.specs.Message.{MessageValue, Data, Ack, Nak, Rep, Strt, Stack}
+use Rattle.ddcmp_msg.specs.Reading.{reading}
+use Rattle.ddcmp_msg.specs.Reading as read_as
+use Rattle.capture.specs.declared.record.Record.{Record}
+use Rattle.capture.specs.declared.record.Record.TheVariants.{Received}
+use Rattle.dna_model.specs.declared.state.StationEvent.TheVariants.{Start, Halt}
+use Rattle.dna_model.specs.Station.{Station, PastPeriod, past, after_event}
+use Rattle.dna_model.specs.Delivery.{periods, taken_by_period, packet_in, in_last, with_period, delivered_by, delivered}
+use Rattle.dna_model.specs.Periods.{crossed}
+use Rattle.dna_model.specs.Sending.{after_sending}
+use Rattle.dna_model.specs.Truth.{Truth}
+use Rattle.dna_model.specs.Arriving.{ArrivalValue, HeaderBad, DataBad, Sound, arrival_refusal, after_arrival}
+use Rattle.dna_model.specs.Line.{SentUnit}
+use Rattle.dna_model.specs.Node.{Node}
+use Rattle.dna_model.specs.Pair.{pair, start}
+use Rattle.dna_model.proofs.Happens.{Happens, Nothing, UserEvent, Sending, Receipt, ComesOf, Itself, BadHeader, BadData, happens}
+use Rattle.dna_model.proofs.StationBounds.{IsSound}
+use Rattle.dna_model.proofs.DeliveredSteps.{Stays, TookBy, Took, arrival_took, unkept, claim_allowed}
+use Rattle.dna_model.proofs.DeliveredRuns.{BothDeliver, delivery_kept, start_delivers}
+
+abbrev taken : PastPeriod → List (List ℕ)
+taken period = period.taken
+
+in_last-append : (packets : List (List ℕ)) (ps : List (List (List ℕ))) (p : List (List ℕ)) → in_last packets (ps ++ p ∷ []) ≡ ps ++ (p ++ packets) ∷ []
+in_last-append packets [] p = refl
+in_last-append packets (q ∷ []) p = refl
+in_last-append packets (q ∷ r ∷ ps) p = ap (λ (x : List (List (List ℕ))). q ∷ x) (in_last-append packets (r ∷ ps) p)
+
+-- what was taken before, and in the present period
+periods_taken : (s : Station) → taken_by_period s ≡ map taken s.earlier ++ s.taken ∷ []
+periods_taken s = map-append taken s.earlier (past s ∷ [])
+
+same_taken : (s t : Station) → t.earlier ≡ s.earlier → t.taken ≡ s.taken → taken_by_period t ≡ taken_by_period s
+same_taken s t earlier same =
+    periods_taken t ∙ ap₂ (λ (x : List PastPeriod) (y : List (List ℕ)). map taken x ++ y ∷ []) earlier same ∙ sym (periods_taken s)
+
+more_taken : (s t : Station) (packets : List (List ℕ)) → t.earlier ≡ s.earlier → t.taken ≡ s.taken ++ packets → taken_by_period t ≡ in_last packets (taken_by_period s)
+more_taken s t packets earlier more =
+    periods_taken t ∙ ap₂ (λ (x : List PastPeriod) (y : List (List ℕ)). map taken x ++ y ∷ []) earlier more
+    ∙ sym (in_last-append packets (map taken s.earlier) s.taken) ∙ ap (in_last packets) (sym (periods_taken s))
+
+sending_taken : (s : Station) (m : MessageValue) → taken_by_period (after_sending s m) ≡ taken_by_period s
+sending_taken s (Data flags resp num body) = same_taken s (after_sending s (Data flags resp num body)) refl refl
+sending_taken s (Nak flags reason resp) = same_taken s (after_sending s (Nak flags reason resp)) refl refl
+sending_taken s (Ack flags resp) = refl
+sending_taken s (Rep flags num) = refl
+sending_taken s (Strt flags) = refl
+sending_taken s (Stack flags) = refl
+
+-- ---- a receipt
+
+not_kept : (ps : List (List (List ℕ))) (hint : ℕ) (kept : Bool) (bytes : List ℕ) → kept ≡ false → ps ≡ delivered_by ps (Received hint kept bytes)
+not_kept ps hint true bytes e = absurd cc
+not_kept ps hint false bytes e = refl
+
+was_kept : (ps : List (List (List ℕ))) (hint : ℕ) (kept : Bool) (bytes packet : List ℕ) → kept ≡ true → packet_in (reading bytes) ≡ packet ∷ [] → in_last (packet ∷ []) ps ≡ delivered_by ps (Received hint kept bytes)
+was_kept ps hint true bytes packet e read = ap (λ (x : List (List ℕ)). in_last x ps) (sym read)
+was_kept ps hint false bytes packet e read = absurd cc
+
+packet_read : (m : MessageValue) (bytes : List ℕ) (packet : List (List ℕ)) → reading bytes ≡ read_as.Sound m → packet_in (read_as.Sound m) ≡ packet → packet_in (reading bytes) ≡ packet
+packet_read m bytes packet read is = ap packet_in read ∙ is
+
+module _ (s t : Station) (hint : ℕ) (kept : Bool) (bytes : List ℕ) (unit : SentUnit) (stays : Stays s t) where
+  -- the packet that was taken is the one of these bytes
+  sound_taken : reading bytes ≡ read_as.Sound unit.message → TookBy s t unit.message unit.known kept → taken_by_period t ≡ delivered_by (taken_by_period s) (Received hint kept bytes)
+  sound_taken read (inl (n, none)) = same_taken s t stays.earlier n.taken ∙ not_kept (taken_by_period s) hint kept bytes none
+  sound_taken read (inr (inl (p, none))) = same_taken s t stays.earlier p.taken ∙ not_kept (taken_by_period s) hint kept bytes none
+  sound_taken read (inr (inr (p, was))) =
+      more_taken s t (p.body ∷ []) stays.earlier p.taken
+      ∙ was_kept (taken_by_period s) hint kept bytes p.body was (packet_read unit.message bytes (p.body ∷ []) read (ap (λ (m : MessageValue). packet_in (read_as.Sound m)) p.message))
+
+  damage_taken : kept ≡ false → TookBy s t unit.message unit.known kept → taken_by_period t ≡ delivered_by (taken_by_period s) (Received hint kept bytes)
+  damage_taken none (inl (n, e)) = same_taken s t stays.earlier n.taken ∙ not_kept (taken_by_period s) hint kept bytes none
+  damage_taken none (inr (inl (p, e))) = same_taken s t stays.earlier p.taken ∙ not_kept (taken_by_period s) hint kept bytes none
+  damage_taken none (inr (inr (p, was))) = absurd cc
+
+receipt_taken : (s : Station) (hint : ℕ) (kept : Bool) (bytes : List ℕ) (unit : SentUnit) (arrival : ArrivalValue Truth) → reading unit.bytes ≡ read_as.Sound unit.message → ComesOf unit bytes arrival → arrival_refusal crossed s arrival kept ≡ None →
+    Took s (after_arrival s arrival kept) unit.message unit.known kept → taken_by_period (after_arrival s arrival kept) ≡ delivered_by (taken_by_period s) (Received hint kept bytes)
+receipt_taken s hint kept bytes unit (Sound m u) reads (Itself same) allowed took = sound_taken s _ hint kept bytes unit took.0 (ap reading same ∙ reads) took.1
+receipt_taken s hint kept bytes unit HeaderBad reads BadHeader allowed took = damage_taken s _ hint kept bytes unit took.0 (unkept kept (claim_allowed false kept allowed)) took.1
+receipt_taken s hint kept bytes unit DataBad reads BadData allowed took = damage_taken s _ hint kept bytes unit took.0 (unkept kept (claim_allowed false kept allowed)) took.1
+
+-- ---- any record
+
+module _ (own other : Half Node SentUnit) (h : IsSound own.state own.sent other.sent) (theirs : IsSound other.state other.sent own.sent) where
+  record_taken : (r : Record) (left : Half Node SentUnit) → Happens crossed own other r left → taken_by_period left.state.station ≡ delivered_by (taken_by_period own.state.station) r
+  record_taken r left (Nothing event none) = ap (λ (b : Bool). with_period b (taken_by_period own.state.station)) (sym none)
+  record_taken r left (UserEvent Start allowed) = map-append taken (periods own.state.station) (past (after_event own.state.station Start) ∷ [])
+  record_taken r left (UserEvent Halt allowed) = refl
+  record_taken r left (Sending bytes m read allowed) = sending_taken own.state.station m
+  record_taken r left (Receipt hint kept bytes unit arrival there ahead of_unit allowed) =
+      receipt_taken own.state.station hint kept bytes unit arrival (theirs.told hint unit there).reads of_unit allowed (arrival_took own.state.station unit bytes arrival kept of_unit h.none allowed)
+
+-- ---- in a run
+
+-- of a world and the records that led to it
+pub record BothCaptured (w : World Node SentUnit) (of_a of_b : List Record) : Type 0 where
+  pub both : BothDeliver w
+  pub a_took : delivered of_a ≡ taken_by_period w.a.state.station
+  pub b_took : delivered of_b ≡ taken_by_period w.b.state.station
+
+one_more : (own other : Half Node SentUnit) (h : IsSound own.state own.sent other.sent) (theirs : IsSound other.state other.sent own.sent) (made : List Record) (r : Record) (left : Half Node SentUnit) →
+    Happens crossed own other r left → delivered made ≡ taken_by_period own.state.station → delivered (made ++ r ∷ []) ≡ taken_by_period left.state.station
+one_more own other h theirs made r left what e =
+    fold-append delivered_by ([] ∷ []) made (r ∷ []) ∙ ap (λ (ps : List (List (List ℕ))). delivered_by ps r) e ∙ sym (record_taken own other h theirs r left what)
+
+pub captured_kept : IsKept pair BothCaptured
+captured_kept = record {
+  by_a = λ w made_a made_b r h c made. record {
+    both = delivery_kept.by_a w made_a made_b r h c.both made;
+    a_took = one_more w.a w.b c.both.sound.of_a c.both.sound.of_b made_a r h (happens crossed w.a w.b h r made) c.a_took;
+    b_took = c.b_took;
+  };
+  by_b = λ w made_a made_b r h c made. record {
+    both = delivery_kept.by_b w made_a made_b r h c.both made;
+    a_took = c.a_took;
+    b_took = one_more w.b w.a c.both.sound.of_b c.both.sound.of_a made_b r h (happens crossed w.b w.a h r made) c.b_took;
+  };
+}
+
+pub start_captured : BothCaptured start [] []
+start_captured = record { both = start_delivers; a_took = refl; b_took = refl }

@@ -1,0 +1,160 @@
+-- In every run, what each period took is a beginning of what its partner period gave.
+use Rattle.std.proofs.Common.{◌≡◌, ℕ, Bool, zero, suc, ◌+◌, ◌-◌, ◌<◌, ◌⊎◌, inl, inr, Option, Some, List, [], ◌∷◌, length, refl, sym, ap, ◌∙◌, subst, arith}
+use Rattle.std.specs.Prelude.{slice_get}
+use Rattle.std.proofs.lemmas.List.{length_push, nil_from_length}
+use Rattle.std.proofs.lemmas.Option.{same_Some}
+use Rattle.two_nodes.specs.Nodes.{Half, World}
+use Rattle.two_nodes.specs.Kept.{IsKept}
+use Rattle.ddcmp_msg.specs.Message.{MessageValue, Data}
+use Rattle.capture.specs.declared.record.Record.{Record}
+use Rattle.dna_model.specs.Station.{Station, PastPeriod, past}
+use Rattle.dna_model.specs.Delivery.{periods, BeginsWith, IsDelivered, DeliversFrom}
+use Rattle.dna_model.specs.Periods.{crossed}
+use Rattle.dna_model.specs.Truth.{Truth}
+use Rattle.dna_model.specs.Arriving.{after_arrival}
+use Rattle.dna_model.specs.Line.{SentUnit}
+use Rattle.dna_model.specs.Node.{Node, new_node}
+use Rattle.dna_model.specs.Pair.{pair, start}
+use Rattle.dna_model.proofs.Happens.{Happens, Nothing, UserEvent, Sending, Receipt, happens}
+use Rattle.dna_model.proofs.NumberedSteps.{at_pushed}
+use Rattle.dna_model.proofs.StationBounds.{IsSound}
+use Rattle.dna_model.proofs.RunBounds.{BothSound, sound_kept, start_sound}
+use Rattle.dna_model.proofs.Delivered.{GrowTo, begins_same, grow_present, IsOffered, offered_grown, begins_next}
+use Rattle.dna_model.proofs.DeliveredSteps.{Offers, Delivers, Stays, TookPacket, TookBy, Took, delivers_beside, event_grows, event_offers, event_delivers, sending_grows, sending_offers, sending_delivers, arrival_took}
+
+item_within : {X : Type 0} (xs : List X) (i : ℕ) → i < length xs → (x : X) × (slice_get xs i ≡ Some x)
+item_within [] i within = absurd (omega arith)
+item_within (x ∷ xs) zero within = (x, refl)
+item_within (x ∷ xs) (suc i) within = item_within xs i (omega arith)
+
+-- ---- a receipt
+
+module _ (s t : Station) (m : MessageValue) (u : Truth) (kept : Bool) (took : Took s t m u kept) where
+  stays : Stays s t
+  stays = took.0
+
+  receipt_grows : GrowTo (periods s) (periods t)
+  receipt_grows = grow_present s t stays.earlier (subst (λ (ps : List (List ℕ)). BeginsWith ps s.packets) (sym stays.packets) (begins_same s.packets))
+
+  taken_counted : length s.taken ≡ s.received → TookBy s t m u kept → length t.taken ≡ t.received
+  taken_counted c (inl (n, none)) = ap length n.taken ∙ c ∙ sym n.received
+  taken_counted c (inr (inl (p, none))) = ap length p.taken ∙ c ∙ sym p.received
+  taken_counted c (inr (inr (p, was))) = ap length p.taken ∙ length_push s.taken p.body ∙ ap (λ n. n + 1) c ∙ sym p.received
+
+  pub receipt_offers : (own : List SentUnit) → Offers s own → Offers t own
+  receipt_offers own o = record {
+    count = ap length stays.earlier ∙ o.count ∙ sym stays.period;
+    taken_count = taken_counted o.taken_count took.1;
+    offered = λ i x at. offered_grown x.message x.known (periods s) (periods t) receipt_grows (o.offered i x at);
+  }
+
+  -- beside the periods of the other side, which has this message's period, and gave its packet
+  module _ (ps : List PastPeriod) (taken_count : length s.taken ≡ s.received) (there : u.tag.period < length ps) (offered : IsOffered m u ps) (d : Delivers s ps) where
+    packet_delivered : (p : TookPacket s t m u) → IsDelivered (Some u.tag.period) t.taken ps
+    packet_delivered p =
+        let was : IsDelivered (Some u.tag.period) s.taken ps = subst (λ (x : Option ℕ). IsDelivered x s.taken ps) p.from d.present in
+        let gave : IsOffered (Data p.flags p.resp p.num p.body) u ps = subst (λ (x : MessageValue). IsOffered x u ps) p.message offered in
+        let same : gave.0 ≡ was.0 = same_Some gave.0 was.0 (sym gave.1 ∙ was.1) in
+        let next = p.next in
+        let place : length s.taken ≡ u.number - 1 = omega arith in
+        let at : slice_get was.0.given (length s.taken) ≡ Some p.body = ap (slice_get was.0.given) place ∙ ap (λ (x : PastPeriod). slice_get x.given (u.number - 1)) (sym same) ∙ gave.3 in
+        (was.0, was.1, subst (λ (l : List (List ℕ)). BeginsWith was.0.given l) (sym p.taken) (begins_next was.0.given s.taken p.body was.2 at))
+
+    present_delivered : TookBy s t m u kept → IsDelivered t.partner t.taken ps
+    present_delivered (inl (n, none)) =
+        subst (λ (l : List (List ℕ)). IsDelivered t.partner l ps) (sym n.taken) (subst (λ (x : Option ℕ). IsDelivered x s.taken ps) (sym n.partner) d.present)
+    present_delivered (inr (inl (p, nothing))) =
+        let none : t.taken ≡ [] = p.taken ∙ nil_from_length s.taken (taken_count ∙ p.none.received) in
+        let y = item_within ps u.tag.period there in
+        subst (λ (x : Option ℕ). IsDelivered x t.taken ps) (sym p.partner)
+        (y.0, y.1, subst (λ (l : List (List ℕ)). BeginsWith y.0.given l) (sym none) (record { rest = y.0.given; whole = refl }))
+    present_delivered (inr (inr (p, was))) = subst (λ (x : Option ℕ). IsDelivered x t.taken ps) (sym (p.partner ∙ p.from)) (packet_delivered p)
+
+    pub receipt_delivers : Delivers t ps
+    receipt_delivers = record {
+      earlier = λ q x at. d.earlier q x (ap (λ (l : List PastPeriod). slice_get l q) (sym stays.earlier) ∙ at);
+      present = present_delivered took.1;
+    }
+
+-- ---- any record
+
+-- of both nodes
+pub record BothDeliver (w : World Node SentUnit) : Type 0 where
+  pub sound : BothSound w
+  pub a_offers : Offers w.a.state.station w.a.sent
+  pub b_offers : Offers w.b.state.station w.b.sent
+  pub a_delivers : Delivers w.a.state.station (periods w.b.state.station)
+  pub b_delivers : Delivers w.b.state.station (periods w.a.state.station)
+
+-- what a record leaves of its own side
+record Left (own left other : Half Node SentUnit) : Type 0 where
+  offers : Offers left.state.station left.sent
+  delivers : Delivers left.state.station (periods other.state.station)
+  grows : GrowTo (periods own.state.station) (periods left.state.station)
+
+module _ (own other : Half Node SentUnit) (h : IsSound own.state own.sent other.sent) (theirs : IsSound other.state other.sent own.sent)
+    (o : Offers own.state.station own.sent) (p : Offers other.state.station other.sent) (d : Delivers own.state.station (periods other.state.station)) where
+  left_by : (r : Record) (left : Half Node SentUnit) → Happens crossed own other r left → Left own left other
+  left_by r left (Nothing event none) = record { offers = o; delivers = d; grows = grow_present own.state.station own.state.station refl (begins_same own.state.station.packets) }
+  left_by r left (UserEvent event allowed) = record {
+    offers = event_offers own.state.station own.sent event o;
+    delivers = event_delivers own.state.station (periods other.state.station) event d;
+    grows = event_grows own.state.station event;
+  }
+  left_by r left (Sending bytes m read allowed) = record {
+    offers = sending_offers own.state.station own.sent bytes m h.ordered allowed o;
+    delivers = sending_delivers own.state.station (periods other.state.station) m d;
+    grows = sending_grows own.state.station m;
+  }
+  left_by r left (Receipt hint kept bytes unit arrival there ahead of_unit allowed) =
+      let took = arrival_took own.state.station unit bytes arrival kept of_unit h.none allowed in
+      let later = (theirs.told hint unit there).no_later in
+      let count = length_push other.state.station.earlier (past other.state.station) in
+      let same = p.count in
+      record {
+        offers = receipt_offers own.state.station (after_arrival own.state.station arrival kept) unit.message unit.known kept took own.sent o;
+        delivers = receipt_delivers own.state.station (after_arrival own.state.station arrival kept) unit.message unit.known kept took (periods other.state.station) o.taken_count (omega arith) (p.offered hint unit there) d;
+        grows = receipt_grows own.state.station (after_arrival own.state.station arrival kept) unit.message unit.known kept took;
+      }
+
+abbrev pub delivery_property : World Node SentUnit → List Record → List Record → Type 0
+delivery_property w of_a of_b = BothDeliver w
+
+pub delivery_kept : IsKept pair delivery_property
+delivery_kept = record {
+  by_a = λ w made_a made_b r h both made.
+      let left = left_by w.a w.b both.sound.of_a both.sound.of_b both.a_offers both.b_offers both.a_delivers r h (happens crossed w.a w.b h r made) in
+      record {
+        sound = sound_kept.by_a w made_a made_b r h both.sound made;
+        a_offers = left.offers;
+        b_offers = both.b_offers;
+        a_delivers = left.delivers;
+        b_delivers = delivers_beside w.b.state.station (periods w.a.state.station) (periods h.state.station) left.grows both.b_delivers;
+      };
+  by_b = λ w made_a made_b r h both made.
+      let left = left_by w.b w.a both.sound.of_b both.sound.of_a both.b_offers both.a_offers both.b_delivers r h (happens crossed w.b w.a h r made) in
+      record {
+        sound = sound_kept.by_b w made_a made_b r h both.sound made;
+        a_offers = both.a_offers;
+        b_offers = left.offers;
+        a_delivers = delivers_beside w.a.state.station (periods w.b.state.station) (periods h.state.station) left.grows both.a_delivers;
+        b_delivers = left.delivers;
+      };
+}
+
+new_offers : Offers new_node.station []
+new_offers = record { count = refl; taken_count = refl; offered = λ i u at. absurd cc }
+
+new_delivers : Delivers new_node.station (periods new_node.station)
+new_delivers = record { earlier = λ q x at. absurd cc; present = refl }
+
+pub start_delivers : BothDeliver start
+start_delivers = record { sound = start_sound; a_offers = new_offers; b_offers = new_offers; a_delivers = new_delivers; b_delivers = new_delivers }
+
+-- in all periods, the present one among them
+pub delivers_from : (own other : Station) → Delivers own (periods other) → DeliversFrom own other
+delivers_from own other d q x at = go (at_pushed own.earlier (past own) x q at)
+  where
+    go : (slice_get own.earlier q ≡ Some x) ⊎ ((q ≡ length own.earlier) × (past own ≡ x)) → IsDelivered x.partner x.taken (periods other)
+    go (inl e) = d.earlier q x e
+    go (inr e) = subst (λ (y : PastPeriod). IsDelivered y.partner y.taken (periods other)) e.1 d.present

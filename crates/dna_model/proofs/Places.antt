@@ -1,0 +1,131 @@
+-- In every run, each data message carries the packet at its place among all that its sender gave.
+use Rattle.std.proofs.Common.{◌≡◌, ℕ, suc, ◌+◌, ◌-◌, ◌⊎◌, inl, inr, Some, None, List, [], ◌∷◌, ◌++◌, length, refl, sym, ap, ap₂, ◌∙◌, subst, arith, append-nil, append_assoc}
+use Rattle.std.specs.Prelude.{slice_get}
+use Rattle.std.proofs.lemmas.Grind.{flat_map-append}
+use Rattle.two_nodes.specs.Nodes.{Half, World}
+use Rattle.two_nodes.specs.Kept.{IsKept}
+use Rattle.two_nodes.proofs.Order.{slice_get-append}
+use Rattle.ddcmp_msg.specs.Message.{MessageValue, Data, Ack, Nak, Rep, Strt, Stack}
+use Rattle.capture.specs.declared.record.Record.{Record}
+use Rattle.dna_model.specs.declared.state.State.{State}
+use Rattle.dna_model.specs.declared.state.State.TheVariants.{Halted, Istrt, Astrt, Running}
+use Rattle.dna_model.specs.declared.state.StationEvent.TheVariants.{Start, Halt}
+use Rattle.dna_model.specs.Station.{Station, PastPeriod, past, packets_of, all_given, after_event}
+use Rattle.dna_model.specs.Periods.{crossed}
+use Rattle.dna_model.specs.Sending.{is_new, sending_refusal_in, after_sending, with_packet}
+use Rattle.dna_model.specs.Truth.{Truth, truth_of}
+use Rattle.dna_model.specs.Delivery.{BeginsWith, CarriesItsPacket}
+use Rattle.dna_model.specs.Arriving.{after_arrival}
+use Rattle.dna_model.specs.Line.{SentUnit}
+use Rattle.dna_model.specs.Node.{Node}
+use Rattle.dna_model.specs.Pair.{pair, start}
+use Rattle.dna_model.proofs.Ordered.{data_passed}
+use Rattle.dna_model.proofs.Happens.{Happens, Nothing, UserEvent, Sending, Receipt, happens}
+use Rattle.dna_model.proofs.NumberedSteps.{at_pushed}
+use Rattle.dna_model.proofs.StationNumbers.{unit_of}
+use Rattle.dna_model.proofs.StationBounds.{IsSound}
+use Rattle.dna_model.proofs.RunBounds.{BothSound, sound_kept, start_sound}
+use Rattle.dna_model.proofs.Delivered.{begins_same}
+use Rattle.dna_model.proofs.DeliveredSteps.{arrival_took, packet_there, packets_begin}
+
+-- an item behind a list
+item_behind : {X : Type 0} (xs ys : List X) (i : ℕ) → slice_get (xs ++ ys) (length xs + i) ≡ slice_get ys i
+item_behind [] ys i = let e : 0 + i ≡ i = omega arith in ap (slice_get ys) e
+item_behind (x ∷ xs) ys i = let e : suc (length xs) + i ≡ suc (length xs + i) = omega arith in ap (slice_get (x ∷ (xs ++ ys))) e ∙ item_behind xs ys i
+
+-- what is carried stays where it is when there are more packets
+carried_still : (m : MessageValue) (u : Truth) (packets more : List (List ℕ)) → CarriesItsPacket packets m u → BeginsWith more packets → CarriesItsPacket more m u
+carried_still (Data flags resp num body) u packets more c b = ap (λ (l : List (List ℕ)). slice_get l u.place) b.whole ∙ slice_get-append packets b.rest u.place body c
+carried_still (Ack flags resp) u packets more c b = tt
+carried_still (Nak flags reason resp) u packets more c b = tt
+carried_still (Rep flags num) u packets more c b = tt
+carried_still (Strt flags) u packets more c b = tt
+carried_still (Stack flags) u packets more c b = tt
+
+abbrev AtPlaces : Station → List SentUnit → Type 0
+AtPlaces s own = (i : ℕ) (unit : SentUnit) → slice_get own i ≡ Some unit → CarriesItsPacket (all_given s) unit.message unit.known
+
+-- ---- all packets given, after each step
+
+same_offered : (s t : Station) → t.earlier ≡ s.earlier → t.packets ≡ s.packets → BeginsWith (all_given t) (all_given s)
+same_offered s t earlier packets =
+    subst (λ (l : List (List ℕ)). BeginsWith l (all_given s)) (sym (ap₂ (λ (e : List PastPeriod) (ps : List (List ℕ)). packets_of e ++ ps) earlier packets)) (begins_same (all_given s))
+
+start_offered : (s : Station) → BeginsWith (all_given (after_event s Start)) (all_given s)
+start_offered s =
+    let same : all_given (after_event s Start) ≡ all_given s =
+    append-nil (packets_of (s.earlier ++ past s ∷ [])) ∙ flat_map-append (λ (p : PastPeriod). p.given) s.earlier (past s ∷ []) ∙ ap (λ (l : List (List ℕ)). packets_of s.earlier ++ l) (append-nil s.packets) in
+    subst (λ (l : List (List ℕ)). BeginsWith l (all_given s)) (sym same) (begins_same (all_given s))
+
+more_offered : (s t : Station) → t.earlier ≡ s.earlier → BeginsWith t.packets s.packets → BeginsWith (all_given t) (all_given s)
+more_offered s t earlier more = record {
+  rest = more.rest;
+  whole = ap₂ (λ (e : List PastPeriod) (ps : List (List ℕ)). packets_of e ++ ps) earlier more.whole ∙ sym (append_assoc (packets_of s.earlier) s.packets more.rest);
+}
+
+sending_offered : (s : Station) (m : MessageValue) → BeginsWith (all_given (after_sending s m)) (all_given s)
+sending_offered s (Data flags resp num body) = more_offered s (after_sending s (Data flags resp num body)) refl (packets_begin (is_new s) s.packets body)
+sending_offered s (Ack flags resp) = begins_same (all_given s)
+sending_offered s (Nak flags reason resp) = begins_same (all_given s)
+sending_offered s (Rep flags num) = begins_same (all_given s)
+sending_offered s (Strt flags) = begins_same (all_given s)
+sending_offered s (Stack flags) = begins_same (all_given s)
+
+-- ---- what is sent
+
+sent_at_place : (s : Station) (state : State) (m : MessageValue) → sending_refusal_in state s m ≡ None → CarriesItsPacket (all_given (after_sending s m)) m (truth_of s m)
+sent_at_place s Running (Data flags resp num body) e =
+    item_behind (packets_of s.earlier) (with_packet (is_new s) s.packets body) (s.next_to_send - 1) ∙ packet_there s (is_new s) body refl (data_passed s num resp body e).2
+sent_at_place s Halted (Data flags resp num body) e = absurd cc
+sent_at_place s Istrt (Data flags resp num body) e = absurd cc
+sent_at_place s Astrt (Data flags resp num body) e = absurd cc
+sent_at_place s state (Ack flags resp) e = tt
+sent_at_place s state (Nak flags reason resp) e = tt
+sent_at_place s state (Rep flags num) e = tt
+sent_at_place s state (Strt flags) e = tt
+sent_at_place s state (Stack flags) e = tt
+
+-- ---- any record
+
+module _ (own other : Half Node SentUnit) (h : IsSound own.state own.sent other.sent) (p : AtPlaces own.state.station own.sent) where
+  places_still : (t : Station) → BeginsWith (all_given t) (all_given own.state.station) → AtPlaces t own.sent
+  places_still t b i unit at = carried_still unit.message unit.known (all_given own.state.station) (all_given t) (p i unit at) b
+
+  places_left : (r : Record) (left : Half Node SentUnit) → Happens crossed own other r left → AtPlaces left.state.station left.sent
+  places_left r left (Nothing event none) = p
+  places_left r left (UserEvent Start allowed) = places_still (after_event own.state.station Start) (start_offered own.state.station)
+  places_left r left (UserEvent Halt allowed) = p
+  places_left r left (Sending bytes m read allowed) = λ i unit at. go unit (at_pushed own.sent (unit_of own.state.station bytes m) unit i at)
+    where
+      go : (unit : SentUnit) → {i : ℕ} → (slice_get own.sent i ≡ Some unit) ⊎ ((i ≡ length own.sent) × (unit_of own.state.station bytes m ≡ unit)) → CarriesItsPacket (all_given (after_sending own.state.station m)) unit.message unit.known
+      go unit {i} (inl a) = places_still (after_sending own.state.station m) (sending_offered own.state.station m) i unit a
+      go unit (inr a) = subst (λ (x : SentUnit). CarriesItsPacket (all_given (after_sending own.state.station m)) x.message x.known) a.1 (sent_at_place own.state.station own.state.station.state m allowed)
+  places_left r left (Receipt hint kept bytes unit arrival there ahead of_unit allowed) =
+      let stays = (arrival_took own.state.station unit bytes arrival kept of_unit h.none allowed).0 in
+      places_still (after_arrival own.state.station arrival kept) (same_offered own.state.station (after_arrival own.state.station arrival kept) stays.earlier stays.packets)
+
+-- of both nodes
+pub record BothAtPlaces (w : World Node SentUnit) : Type 0 where
+  pub sound : BothSound w
+  pub of_a : AtPlaces w.a.state.station w.a.sent
+  pub of_b : AtPlaces w.b.state.station w.b.sent
+
+abbrev pub places_property : World Node SentUnit → List Record → List Record → Type 0
+places_property w of_a of_b = BothAtPlaces w
+
+pub places_kept : IsKept pair places_property
+places_kept = record {
+  by_a = λ w made_a made_b r h both made. record {
+    sound = sound_kept.by_a w made_a made_b r h both.sound made;
+    of_a = places_left w.a w.b both.sound.of_a both.of_a r h (happens crossed w.a w.b h r made);
+    of_b = both.of_b;
+  };
+  by_b = λ w made_a made_b r h both made. record {
+    sound = sound_kept.by_b w made_a made_b r h both.sound made;
+    of_a = both.of_a;
+    of_b = places_left w.b w.a both.sound.of_b both.of_b r h (happens crossed w.b w.a h r made);
+  };
+}
+
+pub start_at_places : BothAtPlaces start
+start_at_places = record { sound = start_sound; of_a = λ i unit at. absurd cc; of_b = λ i unit at. absurd cc }

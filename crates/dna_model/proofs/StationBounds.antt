@@ -1,0 +1,149 @@
+-- The bounds of DDCMP hold at any time: what holds of each node beside the other is kept by every record.
+use Rattle.std.proofs.Common.{◌≡◌, ℕ, ◌≤◌, Bool, true, false, Some, None, List, [], ◌∷◌, ◌++◌, length, refl, sym, ap, ◌∙◌, subst, arith, length-append, inl, inr, ◌⊎◌}
+use Rattle.std.specs.Prelude.{slice_get}
+use Rattle.ddcmp_msg.specs.Message.{MessageValue, Data, Ack, Nak, Rep, Strt, Stack}
+use Rattle.ddcmp_msg.specs.Reading.{reading, Sound}
+use Rattle.dna_model.specs.declared.state.State.{State}
+use Rattle.dna_model.specs.declared.state.State.TheVariants.{Halted, Istrt, Astrt, Running}
+use Rattle.dna_model.specs.declared.state.StationEvent.{StationEvent}
+use Rattle.dna_model.specs.declared.state.StationEvent.TheVariants.{Start, Halt}
+use Rattle.dna_model.specs.Station.{Station, given, after_event}
+use Rattle.dna_model.specs.Sending.{sending_refusal, sending_refusal_in, after_sending}
+use Rattle.dna_model.specs.Bounds.{IsOrdered, HasWireNumbers}
+use Rattle.dna_model.specs.Line.{SentUnit}
+use Rattle.dna_model.specs.Node.{Node}
+use Rattle.dna_model.proofs.Ordered.{event_ordered, sending_ordered}
+use Rattle.dna_model.proofs.Numbered.{Numbers, AreNumbered, IsPresent}
+use Rattle.dna_model.proofs.NumberedSteps.{at_pushed, numbered_beside, present_beside, numbered_sending, present_sending, present_new}
+use Rattle.dna_model.proofs.StationNumbers.{limits, numbers_of, view, AsksForHighest, unit_of, sent_spelled, sent_asks, sending_is}
+
+-- before RUNNING
+abbrev pub is_starting : State → Bool
+is_starting Istrt = true
+is_starting Astrt = true
+is_starting state = false
+
+-- nothing is received, acknowledged or given
+pub record HasNone (s : Station) : Type 0 where
+  pub received : s.received ≡ 0
+  pub acknowledged : s.acknowledged ≡ 0
+  pub packets : s.packets ≡ []
+
+-- of a unit that was sent
+pub record IsTold (period : ℕ) (u : SentUnit) : Type 0 where
+  pub reads : reading u.bytes ≡ Sound u.message
+  pub spelled : HasWireNumbers u.message u.known
+  pub asks : AsksForHighest u.message u.known
+  pub no_later : u.known.tag.period ≤ period
+
+-- of a node, with all units that it sent and all that the other side sent
+pub record IsSound (n : Node) (own other : List SentUnit) : Type 0 where
+  pub ordered : IsOrdered n.station
+  pub none : is_starting n.station.state ≡ true → HasNone n.station
+  pub met : n.front ≤ length other
+  pub told : (i : ℕ) (u : SentUnit) → slice_get own i ≡ Some u → IsTold n.station.period u
+  pub messages : AreNumbered view limits own other
+  pub present : IsPresent view limits own other n.front (numbers_of n.station)
+
+-- ---- the other side sends a unit
+
+pub sound_beside : (n : Node) (own other : List SentUnit) (x : SentUnit) → IsSound n own other → IsSound n own (other ++ x ∷ [])
+sound_beside n own other x h = record {
+  ordered = h.ordered;
+  none = h.none;
+  met = let e = length-append other (x ∷ []) in let m = h.met in omega arith;
+  told = h.told;
+  messages = numbered_beside view limits other x own h.messages;
+  present = present_beside view limits other x own n.front (numbers_of n.station) h.present;
+}
+
+-- ---- the user
+
+starting_new : (n : Node) (own other : List SentUnit) → IsSound n own other → IsSound (record n { station = after_event n.station Start }) own other
+starting_new n own other h = record {
+  ordered = event_ordered n.station Start h.ordered;
+  none = λ e. record { received = refl; acknowledged = refl; packets = refl };
+  met = h.met;
+  told = λ i u at. let t = h.told i u at in record { reads = t.reads; spelled = t.spelled; asks = t.asks; no_later = let l = t.no_later in omega arith };
+  messages = h.messages;
+  present = present_new view limits own other n.front (numbers_of (after_event n.station Start)) refl refl (omega arith)
+      (λ i u at same. let l = (h.told i u at).no_later in absurd (omega arith));
+}
+
+halted : (n : Node) (own other : List SentUnit) → IsSound n own other → IsSound (record n { station = after_event n.station Halt }) own other
+halted n own other h = record {
+  ordered = event_ordered n.station Halt h.ordered;
+  none = λ e. absurd cc;
+  met = h.met;
+  told = h.told;
+  messages = h.messages;
+  present = h.present;
+}
+
+pub sound_event : (n : Node) (own other : List SentUnit) (event : StationEvent) → IsSound n own other → IsSound (record n { station = after_event n.station event }) own other
+sound_event n own other Start h = starting_new n own other h
+sound_event n own other Halt h = halted n own other h
+
+-- ---- a sending
+
+-- a sending leaves all but what was given, what comes next, and the causes
+pub record StaysAs (s t : Station) : Type 0 where
+  pub state : t.state ≡ s.state
+  pub period : t.period ≡ s.period
+  pub partner : t.partner ≡ s.partner
+  pub received : t.received ≡ s.received
+  pub acknowledged : t.acknowledged ≡ s.acknowledged
+
+pub sending_stays : (s : Station) (m : MessageValue) → StaysAs s (after_sending s m)
+sending_stays s (Data flags resp num body) = record { state = refl; period = refl; partner = refl; received = refl; acknowledged = refl }
+sending_stays s (Ack flags resp) = record { state = refl; period = refl; partner = refl; received = refl; acknowledged = refl }
+sending_stays s (Nak flags reason resp) = record { state = refl; period = refl; partner = refl; received = refl; acknowledged = refl }
+sending_stays s (Rep flags num) = record { state = refl; period = refl; partner = refl; received = refl; acknowledged = refl }
+sending_stays s (Strt flags) = record { state = refl; period = refl; partner = refl; received = refl; acknowledged = refl }
+sending_stays s (Stack flags) = record { state = refl; period = refl; partner = refl; received = refl; acknowledged = refl }
+
+-- before RUNNING no packet is given
+nothing_given : (s : Station) (state : State) (m : MessageValue) → sending_refusal_in state s m ≡ None → is_starting state ≡ true → (after_sending s m).packets ≡ s.packets
+nothing_given s Istrt (Data flags resp num body) e starting = absurd cc
+nothing_given s Astrt (Data flags resp num body) e starting = absurd cc
+nothing_given s Halted (Data flags resp num body) e starting = absurd cc
+nothing_given s Running (Data flags resp num body) e starting = absurd cc
+nothing_given s state (Ack flags resp) e starting = refl
+nothing_given s state (Nak flags reason resp) e starting = refl
+nothing_given s state (Rep flags num) e starting = refl
+nothing_given s state (Strt flags) e starting = refl
+nothing_given s state (Stack flags) e starting = refl
+
+sending_numbers : (s : Station) (m : MessageValue) → record (numbers_of s) { given = given (after_sending s m); last = s.received } ≡ numbers_of (after_sending s m)
+sending_numbers s (Data flags resp num body) = refl
+sending_numbers s (Ack flags resp) = refl
+sending_numbers s (Nak flags reason resp) = refl
+sending_numbers s (Rep flags num) = refl
+sending_numbers s (Strt flags) = refl
+sending_numbers s (Stack flags) = refl
+
+module _ (n : Node) (own other : List SentUnit) (bytes : List ℕ) (m : MessageValue) (h : IsSound n own other) (read : reading bytes ≡ Sound m) (allowed : sending_refusal n.station m ≡ None) where
+  sending_told : (i : ℕ) (u : SentUnit) → slice_get (own ++ unit_of n.station bytes m ∷ []) i ≡ Some u → IsTold (after_sending n.station m).period u
+  sending_told i u at = go (at_pushed own (unit_of n.station bytes m) u i at)
+    where
+      stays : StaysAs n.station (after_sending n.station m)
+      stays = sending_stays n.station m
+
+      go : (slice_get own i ≡ Some u) ⊎ ((i ≡ length own) × (unit_of n.station bytes m ≡ u)) → IsTold (after_sending n.station m).period u
+      go (inl p) = let t = h.told i u p in let e = stays.period in record { reads = t.reads; spelled = t.spelled; asks = t.asks; no_later = let l = t.no_later in omega arith }
+      go (inr p) = let e = stays.period in subst (λ (x : SentUnit). IsTold (after_sending n.station m).period x) p.1 (record { reads = read; spelled = sent_spelled n.station h.ordered bytes m allowed; asks = sent_asks n.station h.ordered bytes m; no_later = omega arith })
+
+  pub sound_sending : IsSound (record n { station = after_sending n.station m }) (own ++ unit_of n.station bytes m ∷ []) other
+  sound_sending =
+      let stays = sending_stays n.station m in
+      record {
+        ordered = sending_ordered n.station h.ordered m allowed;
+        none = λ e.
+            let k = h.none (ap is_starting (sym stays.state) ∙ e) in
+            record { received = stays.received ∙ k.received; acknowledged = stays.acknowledged ∙ k.acknowledged; packets = nothing_given n.station n.station.state m allowed (ap is_starting (sym stays.state) ∙ e) ∙ k.packets };
+        met = h.met;
+        told = sending_told;
+        messages = numbered_sending view limits own other n.front (numbers_of n.station) (given (after_sending n.station m)) n.station.received (unit_of n.station bytes m) h.messages h.present h.met (sending_is n.station h.ordered bytes m allowed);
+        present = subst (λ (x : Numbers). IsPresent view limits (own ++ unit_of n.station bytes m ∷ []) other n.front x) (sending_numbers n.station m)
+            (present_sending view limits own other n.front (numbers_of n.station) (given (after_sending n.station m)) n.station.received (unit_of n.station bytes m) h.messages h.present h.met (sending_is n.station h.ordered bytes m allowed));
+      }

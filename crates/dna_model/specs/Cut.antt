@@ -1,0 +1,37 @@
+-- A station on true numbers, cut to what a node keeps.
+use Rattle.std.specs.Prelude.{◌≡◌, ◌+◌, ◌-◌, List, [], map, drop}
+use Rattle.ddcmp_msg.specs.Message.{MessageValue, Data}
+use Rattle.dna_model.specs.declared.state.StationEvent.{StationEvent}
+use Rattle.dna_model.specs.declared.state.StationEvent.TheVariants.{Start, Halt}
+use Rattle.dna_model.specs.Station.{Station, wire}
+use Rattle.dna_model.specs.Sending.{is_new}
+use Rattle.dna_model.specs.WireStation.{HeldPacket, WireStation, with_new}
+
+module _ {L : Type 0} where
+  -- these are all packets given in the period, each with its label
+  abbrev pub AreLabelled : List (HeldPacket L) → Station → Type 0
+  AreLabelled all s = map (λ (packet : HeldPacket L). packet.body) all ≡ s.packets
+
+  abbrev pub cut : List (HeldPacket L) → Station → WireStation L
+  cut all s = record {
+    kept = record {
+      state = s.state;
+      received = wire s.received;
+      acknowledged = wire s.acknowledged;
+      ahead = s.next_to_send - (s.acknowledged + 1);
+      held = drop s.acknowledged all;
+    };
+    period = s.period;
+    partner = s.partner;
+    causes = s.causes;
+  }
+
+  -- all packets with their labels after this message is sent
+  abbrev pub all_after : List (HeldPacket L) → Station → MessageValue → List (HeldPacket L)
+  all_after all s (Data flags resp num body) = with_new (is_new s) all body
+  all_after all s m = all
+
+  -- all packets with their labels after the user does this: a start drops them
+  abbrev pub all_after_event : List (HeldPacket L) → StationEvent → List (HeldPacket L)
+  all_after_event all Start = []
+  all_after_event all Halt = all

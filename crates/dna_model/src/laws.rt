@@ -1,0 +1,154 @@
+//! What holds of the definitions in `specs/`, whatever the code does, for the proofs of callers to cite. `L` is the type of the
+//! labels that a node puts beside packets.
+
+ghost use Rattle.std.specs.Prelude.{◌≡◌, ℕ, ◌+◌, ◌<◌, ◌≤◌, Bool, false, Some, None, List, slice_get};
+ghost use Rattle.two_nodes.specs.Nodes.{Half, World, Run, advance};
+ghost use Rattle.ddcmp_msg.specs.Message.{MessageValue};
+ghost use Rattle.capture.specs.declared.record.Record.{Record};
+ghost use Rattle.dna_model.specs.declared.state.StationEvent.{StationEvent};
+ghost use Rattle.dna_model.specs.declared.tag.Tag.{Tag};
+ghost use Rattle.dna_model.specs.Station.{Station, new_station, given, all_given, after_event};
+ghost use Rattle.dna_model.specs.Delivery.{AreAmong, CarriesItsPacket, DeliversFrom, all_taken, delivered, taken_by_period};
+ghost use Rattle.dna_model.specs.Periods.{PeriodRule, crossed};
+ghost use Rattle.dna_model.specs.Sending.{sending_refusal, after_sending};
+ghost use Rattle.dna_model.specs.Truth.{Truth};
+ghost use Rattle.dna_model.specs.Arriving.{ArrivalValue, standing, arrival_refusal, after_arrival};
+ghost use Rattle.dna_model.specs.Arriving as arriving;
+ghost use Rattle.dna_model.specs.WireStation.{HeldPacket, WireStation, load, with_label, wire_after_event, wire_after_label, wire_sending_refusal, wire_after_sending, wire_arrival_refusal, wire_after_arrival};
+ghost use Rattle.dna_model.specs.Bounds.{IsBounded, IsOrdered, IsWithin};
+ghost use Rattle.dna_model.specs.Line.{SentUnit};
+ghost use Rattle.dna_model.specs.Node.{Node, new_node, step};
+ghost use Rattle.dna_model.specs.Pair.{pair, start};
+ghost use Rattle.two_nodes.specs.Cutting.{cut_half, cut_outcome, cut_world};
+ghost use Rattle.dna_model.specs.WireNode.{WireNode, WireUnit, new_wire_node, wire_step, wire_pair, wire_start, cut_node, seen};
+ghost use Rattle.dna_model.specs.Seen.{IsSeen};
+ghost use Rattle.dna_model.specs.Cut.{AreLabelled, cut, all_after, all_after_event};
+
+use std::marker::Brand;
+use two_nodes::{always, simulation};
+
+/// In every run, the numbers of each station are in order, and what it may still meet is within the bounds.
+pub fn numbers_within_bounds()
+    ensures of_a { (w : World Node SentUnit) (of_a of_b : List Record) → Run pair start of_a of_b w → IsBounded w.a w.b }
+    ensures of_b { (w : World Node SentUnit) (of_a of_b : List Record) → Run pair start of_a of_b w → IsBounded w.b w.a }
+{
+    always::<Brand>();
+}
+
+/// In every run, what a station took in a period is a beginning of what the other gave in the period that it goes with; where it
+/// goes with none, it is nothing.
+pub fn delivered_in_order()
+    ensures of_a { (w : World Node SentUnit) (of_a of_b : List Record)
+        → Run pair start of_a of_b w → DeliversFrom w.a.state.station w.b.state.station }
+    ensures of_b { (w : World Node SentUnit) (of_a of_b : List Record)
+        → Run pair start of_a of_b w → DeliversFrom w.b.state.station w.a.state.station }
+
+    // What it took is the data of the kept receipts of its capture.
+    ensures a_captured { (w : World Node SentUnit) (of_a of_b : List Record)
+        → Run pair start of_a of_b w → delivered of_a ≡ taken_by_period w.a.state.station }
+    ensures b_captured { (w : World Node SentUnit) (of_a of_b : List Record)
+        → Run pair start of_a of_b w → delivered of_b ≡ taken_by_period w.b.state.station }
+
+    // Over all periods it stands in order among all that the other gave.
+    ensures a_among { (w : World Node SentUnit) (of_a of_b : List Record)
+        → Run pair start of_a of_b w → AreAmong (all_taken w.a.state.station) (all_given w.b.state.station) }
+    ensures b_among { (w : World Node SentUnit) (of_a of_b : List Record)
+        → Run pair start of_a of_b w → AreAmong (all_taken w.b.state.station) (all_given w.a.state.station) }
+{
+    always::<Brand>();
+}
+
+/// In every run, each data message carries the packet at its place among all packets that its sender ever gave.
+pub fn packets_at_their_places()
+    ensures of_a { (w : World Node SentUnit) (of_a of_b : List Record) → Run pair start of_a of_b w
+        → (i : ℕ) (unit : SentUnit) → slice_get w.a.sent i ≡ Some unit
+        → CarriesItsPacket (all_given w.a.state.station) unit.message unit.known }
+    ensures of_b { (w : World Node SentUnit) (of_a of_b : List Record) → Run pair start of_a of_b w
+        → (i : ℕ) (unit : SentUnit) → slice_get w.b.sent i ≡ Some unit
+        → CarriesItsPacket (all_given w.b.state.station) unit.message unit.known }
+{
+    always::<Brand>();
+}
+
+/// A station's own numbers are in order before any record, and stay so.
+pub fn numbers_in_order()
+    ensures start { IsOrdered new_station }
+    ensures event { (s : Station) (event : StationEvent) → IsOrdered s → IsOrdered (after_event s event) }
+    ensures sending { (s : Station) (m : MessageValue)
+        → IsOrdered s → sending_refusal s m ≡ None → IsOrdered (after_sending s m) }
+    ensures arrival { (s : Station) (arrival : ArrivalValue Truth) (kept : Bool)
+        → IsOrdered s → IsOrdered (after_arrival s arrival kept) }
+{}
+
+/// What the user does changes what is kept as it changes the station.
+pub fn cut_event<L>()
+    ensures step { (all : List (HeldPacket L)) (s : Station) (event : StationEvent)
+        → cut (all_after_event all event) (after_event s event) ≡ wire_after_event (cut all s) event }
+    ensures labelled { (all : List (HeldPacket L)) (s : Station) (event : StationEvent)
+        → AreLabelled all s → AreLabelled (all_after_event all event) (after_event s event) }
+{}
+
+/// From what is kept the same messages are refused for the same reasons, and sending changes it as it changes the station.
+pub fn cut_sending<L>()
+    ensures refusal { (all : List (HeldPacket L)) (s : Station) (m : MessageValue)
+        → AreLabelled all s → IsOrdered s → sending_refusal s m ≡ wire_sending_refusal (cut all s) m }
+    ensures step { (all : List (HeldPacket L)) (s : Station) (m : MessageValue)
+        → AreLabelled all s → IsOrdered s
+        → cut (all_after all s m) (after_sending s m) ≡ wire_after_sending (cut all s) m }
+    ensures labelled { (all : List (HeldPacket L)) (s : Station) (m : MessageValue)
+        → AreLabelled all s → AreLabelled (all_after all s m) (after_sending s m) }
+{}
+
+/// A label beside the newest packet, while a number is outstanding.
+pub fn cut_label<L>()
+    ensures step { (all : List (HeldPacket L)) (s : Station) (label : L)
+        → AreLabelled all s → s.acknowledged < given s
+        → cut (with_label all label) s ≡ wire_after_label (cut all s) label }
+    ensures labelled { (all : List (HeldPacket L)) (s : Station) (label : L)
+        → AreLabelled all s → AreLabelled (with_label all label) s }
+{}
+
+/// From what is kept, a sound message that comes within the bounds is refused for the same reasons, and changes it as it
+/// changes the station; and so does damage.
+pub fn cut_arrival<L>()
+    ensures refusal { (all : List (HeldPacket L)) (s : Station) (rule : PeriodRule) (m : MessageValue) (u : Truth) (kept : Bool)
+        → AreLabelled all s → IsOrdered s → (rule (standing s) m u.tag ≡ false → IsWithin s m u)
+        → arrival_refusal rule s (arriving.Sound m u) kept
+        ≡ wire_arrival_refusal rule (cut all s) (arriving.Sound m u.tag) kept }
+    ensures step { (all : List (HeldPacket L)) (s : Station) (m : MessageValue) (u : Truth) (kept : Bool)
+        → AreLabelled all s → IsOrdered s → IsWithin s m u
+        → cut all (after_arrival s (arriving.Sound m u) kept)
+        ≡ wire_after_arrival (cut all s) (arriving.Sound m u.tag) kept }
+    ensures header_bad { (all : List (HeldPacket L)) (s : Station) (kept : Bool)
+        → cut all (after_arrival s arriving.HeaderBad kept) ≡ wire_after_arrival (cut all s) arriving.HeaderBad kept }
+    ensures data_bad { (all : List (HeldPacket L)) (s : Station) (kept : Bool)
+        → cut all (after_arrival s arriving.DataBad kept) ≡ wire_after_arrival (cut all s) arriving.DataBad kept }
+{}
+
+/// A record adds at most one to the counts that a station keeps.
+pub fn counts_rise_by_one<L>()
+    ensures event { (w : WireStation L) (event : StationEvent) → load (wire_after_event w event) ≤ load w + 1 }
+    ensures sending { (w : WireStation L) (m : MessageValue) → load (wire_after_sending w m) ≤ load w }
+    ensures label { (w : WireStation L) (label : L) → load (wire_after_label w label) ≡ load w }
+    ensures arrival { (w : WireStation L) (arrival : ArrivalValue Tag) (kept : Bool)
+        → load (wire_after_arrival w arrival kept) ≤ load w + 1 }
+{}
+
+/// In a world within the bounds the same becomes of a record at a node that runs as at the node on true numbers, seen as the
+/// former sees it. No packet has a label.
+pub fn cut_record<L>()
+    ensures start { new_wire_node {L = L} ≡ cut_node new_node }
+    ensures outcome { (own other : Half Node SentUnit) (r : Record) → IsBounded own other
+        → advance (wire_step crossed) (cut_half (seen {L = L}) own) (cut_half seen other) r ≡ cut_outcome seen (advance (step crossed) own other r) }
+{}
+
+/// The runs of two nodes that run are just what they see of the runs of the two nodes on true numbers; and after such a run the same
+/// becomes of each record.
+pub fn running_nodes_see_right<L>()
+    ensures of_true { (w : World Node SentUnit) (of_a of_b : List Record) → Run pair start of_a of_b w
+        → Run wire_pair (wire_start {L = L}) of_a of_b (cut_world seen w) }
+    ensures of_running { (end : World (WireNode L) WireUnit) (of_a of_b : List Record) → Run wire_pair wire_start of_a of_b end
+        → IsSeen end of_a of_b }
+{
+    simulation::<Brand>();
+}
