@@ -3,7 +3,7 @@
 /// The state of a station (DDCMP 4.1, startup state table).
 #[derive(Clone, Copy, Debug, PartialEq, Eq)]
 pub enum State {
-    /// HALTED: whatever arrives is ignored.
+    /// HALTED: whatever arrives changes nothing, and no packet is taken.
     Halted,
     /// ISTRT: the user has started the station, and it repeats STRT.
     Istrt,
