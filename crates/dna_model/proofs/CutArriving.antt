@@ -89,13 +89,13 @@ module _ {L : Type 0} (all : List (HeldPacket L)) where
   abbrev in_running : Station → Station
   in_running s = record s { state = Running }
 
-  module _ (s : Station) (labelled : AreLabelled all s) (ordered : IsOrdered s) (u : Truth) where
-    takes_same : (state : State) (m : MessageValue) → HasWireNumbers m u → (reads_numbers state m ≡ true → NumbersAreNear s m u) → takes_in state s m u ≡ wire_takes_in state (cut all s).kept m
-    takes_same Astrt (Data flags resp num body) wires near =
-        both_tests (eqb resp 0) _ _ (λ e. next_same s u (near e).1 ∙ ap (λ n. wire_is_next (cut all s).kept n) (sym wires.1))
-    takes_same Running (Data flags resp num body) wires near = next_same s u (near refl).1 ∙ ap (λ n. wire_is_next (cut all s).kept n) (sym wires.1)
-    takes_same state m wires near = refl
+  pub takes_same : (s : Station) (u : Truth) (state : State) (m : MessageValue) → HasWireNumbers m u → (reads_numbers state m ≡ true → NumbersAreNear s m u) → takes_in state s m u ≡ wire_takes_in state (cut all s).kept m
+  takes_same s u Astrt (Data flags resp num body) wires near =
+      both_tests (eqb resp 0) _ _ (λ e. next_same s u (near e).1 ∙ ap (λ n. wire_is_next (cut all s).kept n) (sym wires.1))
+  takes_same s u Running (Data flags resp num body) wires near = next_same s u (near refl).1 ∙ ap (λ n. wire_is_next (cut all s).kept n) (sym wires.1)
+  takes_same s u state m wires near = refl
 
+  module _ (s : Station) (labelled : AreLabelled all s) (ordered : IsOrdered s) (u : Truth) where
     data_same : (resp num : ℕ) (body : List ℕ) (kept : Bool) → resp ≡ wire u.response → num ≡ wire u.number → ResponseIsNear s u.response → NumberIsNear s u.number →
         cut all (data_arrived s u body kept) ≡ wire_data_arrived (cut all s) resp num kept
     data_same resp num body kept r n response number =
@@ -145,7 +145,7 @@ module _ {L : Type 0} (all : List (HeldPacket L)) where
     where
       go : (b : Bool) → rule (standing s) m u.tag ≡ b → cond b (Some CrossedPeriod) (keep_refusal (takes_in s.state s m u) kept) ≡ cond b (Some CrossedPeriod) (keep_refusal (wire_takes_in s.state (cut all s).kept m) kept)
       go true e = refl
-      go false e = ap (λ (b : Bool). keep_refusal b kept) (takes_same s labelled ordered u s.state m (within e).wire_numbers (within e).near)
+      go false e = ap (λ (b : Bool). keep_refusal b kept) (takes_same s u s.state m (within e).wire_numbers (within e).near)
 
   -- and what comes changes what is kept in the same way
   pub arrival_same : (s : Station) (labelled : AreLabelled all s) (ordered : IsOrdered s) (m : MessageValue) (u : Truth) (kept : Bool) → IsWithin s m u →

@@ -1,6 +1,6 @@
 -- Cutting a station to what a node keeps commutes with what it may send and with what sending changes.
 use Rattle.std.proofs.Common.{◌≡◌, ℕ, zero, suc, ◌+◌, ◌-◌, ◌≤◌, Bool, true, false, not, eqb, ltb, Option, Some, None, List, [], ◌∷◌, ◌++◌, map, length, drop, refl, sym, ap, ap₂, ◌∙◌, arith, length-drop, zero-add, option_map}
-use Rattle.std.specs.Prelude.{slice_get}
+use Rattle.std.specs.Prelude.{slice_get, option_and_then}
 use Rattle.std.proofs.lemmas.List.{length-map, map-append, drop-append-le}
 use Rattle.std.proofs.lemmas.Option.{slice_get-map}
 use Rattle.ddcmp_msg.specs.Message.{MessageValue, Data, Ack, Nak, Rep, Strt, Stack}
@@ -9,10 +9,10 @@ use Rattle.dna_model.specs.declared.state.State.TheVariants.{Running}
 use Rattle.dna_model.specs.declared.refusal.StationRefusal.{StationRefusal}
 use Rattle.dna_model.specs.declared.refusal.StationRefusal.TheVariants.{WrongState, WrongNumber, WrongResponse, WindowFull, Changed}
 use Rattle.dna_model.specs.Station.{Station, given, wire}
-use Rattle.dna_model.specs.Sending.{WINDOW, check, is_new, is_packet, data_refusal, sending_refusal, sending_refusal_in, after_sending, with_packet}
-use Rattle.dna_model.specs.WireStation.{HeldPacket, wire_is_new, is_held_packet, wire_data_refusal, wire_refusal_in, wire_sending_refusal, wire_after_sending, with_new}
+use Rattle.dna_model.specs.Sending.{WINDOW, check, is_new, is_packet, data_refusal, sending_refusal, sending_refusal_in, after_sending, with_packet, gives_number}
+use Rattle.dna_model.specs.WireStation.{HeldPacket, wire_is_new, is_held_packet, wire_data_refusal, wire_refusal_in, wire_sending_refusal, wire_after_sending, with_new, gives_new, label_again}
 use Rattle.dna_model.specs.Bounds.{IsOrdered}
-use Rattle.dna_model.specs.Cut.{AreLabelled, cut, all_after}
+use Rattle.dna_model.specs.Cut.{AreLabelled, cut, all_after, label_of_next}
 use Rattle.dna_model.proofs.Modulo.{wire-add, wire-next, same_test}
 
 -- an item behind the first n
@@ -113,3 +113,28 @@ module _ {L : Type 0} where
     sending_same (Rep flags num) = refl
     sending_same (Strt flags) = refl
     sending_same (Stack flags) = refl
+
+    -- what is answered of it is what is true of it: whether it gives a new number
+    pub first_same : (m : MessageValue) → gives_new (cut all s) m ≡ gives_number s m
+    first_same (Data flags resp num body) = sym new_same
+    first_same (Ack flags resp) = refl
+    first_same (Nak flags reason resp) = refl
+    first_same (Rep flags num) = refl
+    first_same (Strt flags) = refl
+    first_same (Stack flags) = refl
+
+  -- and the label beside its packet
+  module _ (all : List (HeldPacket L)) (s : Station) (ordered : IsOrdered s) where
+    next_packet : slice_get (drop s.acknowledged all) (s.next_to_send - (s.acknowledged + 1)) ≡ slice_get all (s.next_to_send - 1)
+    next_packet =
+        let l = ordered.above in
+        let place : s.acknowledged + (s.next_to_send - (s.acknowledged + 1)) ≡ s.next_to_send - 1 = omega arith in
+        slice_get-drop s.acknowledged (s.next_to_send - (s.acknowledged + 1)) all ∙ ap (slice_get all) place
+
+    pub label_same : (m : MessageValue) → label_again (cut all s) m ≡ label_of_next all s m
+    label_same (Data flags resp num body) = ap (λ (o : Option (HeldPacket L)). option_and_then (λ (packet : HeldPacket L). packet.label) o) next_packet
+    label_same (Ack flags resp) = refl
+    label_same (Nak flags reason resp) = refl
+    label_same (Rep flags num) = refl
+    label_same (Strt flags) = refl
+    label_same (Stack flags) = refl

@@ -10,6 +10,7 @@ mod Modulo
 mod Ordered
 mod CutSending
 mod CutArriving
+mod CutTaken
 mod CutLabel
 mod CutNode
 mod Loads

@@ -1,5 +1,5 @@
 -- A station on true numbers, cut to what a node keeps.
-use Rattle.std.specs.Prelude.{◌≡◌, ◌+◌, ◌-◌, List, [], map, drop}
+use Rattle.std.specs.Prelude.{◌≡◌, ℕ, ◌+◌, ◌-◌, Option, Some, None, List, [], ◌∷◌, ◌++◌, map, drop, slice_get, option_and_then}
 use Rattle.ddcmp_msg.specs.Message.{MessageValue, Data}
 use Rattle.dna_model.specs.declared.state.StationEvent.{StationEvent}
 use Rattle.dna_model.specs.declared.state.StationEvent.TheVariants.{Start, Halt}
@@ -35,3 +35,13 @@ module _ {L : Type 0} where
   abbrev pub all_after_event : List (HeldPacket L) → StationEvent → List (HeldPacket L)
   all_after_event all Start = []
   all_after_event all Halt = all
+
+  -- the label beside the packet that this message would send, which has the next number
+  abbrev pub label_of_next : List (HeldPacket L) → Station → MessageValue → Option L
+  label_of_next all s (Data flags resp num body) = option_and_then (λ (packet : HeldPacket L). packet.label) (slice_get all (s.next_to_send - 1))
+  label_of_next all s m = None
+
+-- these packets, and the one that was taken, if one was
+abbrev pub with_taken : List (List ℕ) → Option (List ℕ) → List (List ℕ)
+with_taken packets None = packets
+with_taken packets (Some packet) = packets ++ packet ∷ []

@@ -60,6 +60,11 @@ sending_refusal s m = sending_refusal_in s.state s m
 
 -- ---- what sending changes
 
+-- whether a message, where it is not refused, gives a new number
+abbrev pub gives_number : Station → MessageValue → Bool
+gives_number s (Data flags resp num body) = is_new s
+gives_number s m = false
+
 -- where the number is new it is given, and N rises
 abbrev pub with_packet : Bool → List (List ℕ) → List ℕ → List (List ℕ)
 with_packet true packets body = packets ++ body ∷ []

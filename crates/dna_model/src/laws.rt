@@ -10,11 +10,11 @@ ghost use Rattle.dna_model.specs.declared.tag.Tag.{Tag};
 ghost use Rattle.dna_model.specs.Station.{Station, new_station, given, all_given, after_event};
 ghost use Rattle.dna_model.specs.Delivery.{AreAmong, CarriesItsPacket, DeliversFrom, all_taken, delivered, taken_by_period};
 ghost use Rattle.dna_model.specs.Periods.{PeriodRule, crossed};
-ghost use Rattle.dna_model.specs.Sending.{sending_refusal, after_sending};
+ghost use Rattle.dna_model.specs.Sending.{sending_refusal, after_sending, gives_number};
 ghost use Rattle.dna_model.specs.Truth.{Truth};
 ghost use Rattle.dna_model.specs.Arriving.{ArrivalValue, standing, arrival_refusal, after_arrival};
 ghost use Rattle.dna_model.specs.Arriving as arriving;
-ghost use Rattle.dna_model.specs.WireStation.{HeldPacket, WireStation, load, with_label, wire_after_event, wire_after_label, wire_sending_refusal, wire_after_sending, wire_arrival_refusal, wire_after_arrival};
+ghost use Rattle.dna_model.specs.WireStation.{HeldPacket, WireStation, load, with_label, wire_after_event, wire_after_label, wire_sending_refusal, wire_after_sending, gives_new, label_again, wire_arrival_refusal, wire_after_arrival, wire_taken};
 ghost use Rattle.dna_model.specs.Bounds.{IsBounded, IsOrdered, IsWithin};
 ghost use Rattle.dna_model.specs.Line.{SentUnit};
 ghost use Rattle.dna_model.specs.Node.{Node, new_node, step};
@@ -22,7 +22,7 @@ ghost use Rattle.dna_model.specs.Pair.{pair, start};
 ghost use Rattle.two_nodes.specs.Cutting.{cut_half, cut_outcome, cut_world};
 ghost use Rattle.dna_model.specs.WireNode.{WireNode, WireUnit, new_wire_node, wire_step, wire_pair, wire_start, cut_node, seen};
 ghost use Rattle.dna_model.specs.Seen.{IsSeen};
-ghost use Rattle.dna_model.specs.Cut.{AreLabelled, cut, all_after, all_after_event};
+ghost use Rattle.dna_model.specs.Cut.{AreLabelled, cut, all_after, all_after_event, label_of_next, with_taken};
 
 use std::marker::Brand;
 use two_nodes::{always, simulation};
@@ -88,7 +88,8 @@ pub fn cut_event<L>()
         → AreLabelled all s → AreLabelled (all_after_event all event) (after_event s event) }
 {}
 
-/// From what is kept the same messages are refused for the same reasons, and sending changes it as it changes the station.
+/// From what is kept the same messages are refused for the same reasons, and sending changes it as it changes the station. What is
+/// answered of a message is what is true of it.
 pub fn cut_sending<L>()
     ensures refusal { (all : List (HeldPacket L)) (s : Station) (m : MessageValue)
         → AreLabelled all s → IsOrdered s → sending_refusal s m ≡ wire_sending_refusal (cut all s) m }
@@ -97,6 +98,12 @@ pub fn cut_sending<L>()
         → cut (all_after all s m) (after_sending s m) ≡ wire_after_sending (cut all s) m }
     ensures labelled { (all : List (HeldPacket L)) (s : Station) (m : MessageValue)
         → AreLabelled all s → AreLabelled (all_after all s m) (after_sending s m) }
+
+    // What is answered of it: whether its number is new, and the label of a packet that is sent again.
+    ensures first { (all : List (HeldPacket L)) (s : Station) (m : MessageValue)
+        → AreLabelled all s → IsOrdered s → gives_new (cut all s) m ≡ gives_number s m }
+    ensures label { (all : List (HeldPacket L)) (s : Station) (m : MessageValue)
+        → IsOrdered s → label_again (cut all s) m ≡ label_of_next all s m }
 {}
 
 /// A label beside the newest packet, while a number is outstanding.
@@ -109,7 +116,7 @@ pub fn cut_label<L>()
 {}
 
 /// From what is kept, a sound message that comes within the bounds is refused for the same reasons, and changes it as it
-/// changes the station; and so does damage.
+/// changes the station; and so does damage. The packet that is answered is the one that the station takes.
 pub fn cut_arrival<L>()
     ensures refusal { (all : List (HeldPacket L)) (s : Station) (rule : PeriodRule) (m : MessageValue) (u : Truth) (kept : Bool)
         → AreLabelled all s → IsOrdered s → (rule (standing s) m u.tag ≡ false → IsWithin s m u)
@@ -119,6 +126,10 @@ pub fn cut_arrival<L>()
         → AreLabelled all s → IsOrdered s → IsWithin s m u
         → cut all (after_arrival s (arriving.Sound m u) kept)
         ≡ wire_after_arrival (cut all s) (arriving.Sound m u.tag) kept }
+    ensures taken { (all : List (HeldPacket L)) (s : Station) (m : MessageValue) (u : Truth) (kept : Bool)
+        → IsWithin s m u
+        → (after_arrival s (arriving.Sound m u) kept).taken
+        ≡ with_taken s.taken (wire_taken (cut all s) (arriving.Sound m u.tag) kept) }
     ensures header_bad { (all : List (HeldPacket L)) (s : Station) (kept : Bool)
         → cut all (after_arrival s arriving.HeaderBad kept) ≡ wire_after_arrival (cut all s) arriving.HeaderBad kept }
     ensures data_bad { (all : List (HeldPacket L)) (s : Station) (kept : Bool)

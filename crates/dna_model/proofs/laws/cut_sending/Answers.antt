@@ -1,4 +1,4 @@
-use Rattle.dna_model.proofs.CutSending.{sending_refusal_same, sending_same, sending_labelled}
+use Rattle.dna_model.proofs.CutSending.{sending_refusal_same, sending_same, sending_labelled, first_same, label_same}
 use Rattle.dna_model.proofs.laws.cut_sending.Goals as goal
 
 pub returns : goal.returns
@@ -6,4 +6,6 @@ returns g c = record {
   refusal = λ all s m labelled ordered. sending_refusal_same all s labelled ordered m;
   step = λ all s m labelled ordered. sending_same all s labelled ordered m;
   labelled = λ all s m labelled. sending_labelled all s labelled m;
+  first = λ all s m labelled ordered. first_same all s labelled ordered m;
+  label = λ all s m ordered. label_same all s ordered m;
 }
