@@ -4,6 +4,7 @@ pub mod Tells
 mod RowUnits
 mod Rows
 mod TransferRows
+mod OrderRows
 mod StationRows
 -- what holds of one station, and its cut to what a node keeps
 mod Modulo

@@ -52,6 +52,10 @@ REP1 = 0x05 ∷ 3 ∷ 0 ∷ 0 ∷ 1 ∷ 1 ∷ 0x84 ∷ 0x05 ∷ []
 abbrev pub D1_RESP1 : List ℕ
 D1_RESP1 = 0x81 ∷ 1 ∷ 0 ∷ 1 ∷ 1 ∷ 1 ∷ 0xb2 ∷ 0x41 ∷ 0x05 ∷ 0xc0 ∷ 0x03 ∷ []
 
+-- NUM 1 with the byte 06 and RESP 1
+abbrev pub other_D1_RESP1 : List ℕ
+other_D1_RESP1 = 0x81 ∷ 1 ∷ 0 ∷ 1 ∷ 1 ∷ 1 ∷ 0xb2 ∷ 0x41 ∷ 0x06 ∷ 0x80 ∷ 0x02 ∷ []
+
 -- a NAK in answer to a REP: RESP 0 and RESP 1
 abbrev pub NAK_REP0 : List ℕ
 NAK_REP0 = 0x05 ∷ 2 ∷ 3 ∷ 0 ∷ 0 ∷ 1 ∷ 0xb8 ∷ 0x11 ∷ []

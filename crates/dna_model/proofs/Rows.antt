@@ -74,10 +74,10 @@ unfolding reading is_good check_of after_byte shift
 keeps_a_start = record { world = _; run = OfA refl (OfA refl (OfB refl Done)); becomes = refl }
 
 -- the answer to b's first start comes in its second
-abbrev crossed_period_a : List Record
+abbrev pub crossed_period_a : List Record
 crossed_period_a = User Start ∷ Received 0 false STRT ∷ Sent STACK ∷ Sent STACK ∷ []
 
-abbrev crossed_period_b : List Record
+abbrev pub crossed_period_b : List Record
 crossed_period_b = User Start ∷ Sent STRT ∷ Received 0 false STACK ∷ Sent ACK0 ∷ User Halt ∷ User Start ∷ []
 
 crossed_period : EndsAt crossed_period_a crossed_period_b (Received 1 false STACK) (Refused (OfStation CrossedPeriod))
@@ -116,7 +116,7 @@ unfolding reading is_good check_of after_byte shift
 stack_of_an_earlier_start = record { world = _; run = OfA refl (OfA refl (OfB refl (OfB refl (OfA refl (OfA refl (OfB refl (OfB refl (OfB refl Done)))))))); becomes = refl }
 
 -- so does an ACK
-abbrev restarted_b : List Record
+abbrev pub restarted_b : List Record
 restarted_b = User Start ∷ Received 0 false STRT ∷ Sent STACK ∷ User Halt ∷ User Start ∷ []
 
 ack_of_an_earlier_start : EndsAt (User Start ∷ Sent STRT ∷ Sent STRT ∷ Received 0 false STACK ∷ Sent ACK0 ∷ []) (restarted_b ++ Received 1 false STRT ∷ []) (Received 2 false ACK0) (Refused (OfStation CrossedPeriod))

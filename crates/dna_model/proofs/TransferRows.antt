@@ -12,10 +12,10 @@ use Rattle.dna_model.specs.Pair.{IsRun}
 use Rattle.dna_model.proofs.RowUnits.{STRT, STACK, ACK0, ACK1, D1, D2, damaged_D1, other_D1, NAK_DATA0, NAK_DATA1, REP0, REP1, D1_RESP1, NAK_REP0, NAK_REP1, NAK_BUFFER0, NAK_OVERRUN1, EndsAt, EndsAtA}
 
 -- a starts, b answers; nothing of a is sent yet
-abbrev started_a : List Record
+abbrev pub started_a : List Record
 started_a = User Start ∷ Sent STRT ∷ Received 0 false STACK ∷ Sent ACK0 ∷ []
 
-abbrev started_b : List Record
+abbrev pub started_b : List Record
 started_b = User Start ∷ Received 0 false STRT ∷ Sent STACK ∷ []
 
 -- one packet is kept
