@@ -31,6 +31,16 @@ b records 4 sent 1 received 2 damaged 0 kept 0 periods 1 links 0 up 0
 }
 
 #[test]
+fn the_window_is_full_without_an_acknowledgement(rt: HostRuntime) -> Result<(), Fail> {
+    let mut a = text_of(rt.alloc(), HEAD_A, "u start; s STRT; r 0 STACK")?;
+    let b = text_of(rt.alloc(), HEAD_B, "u start; r 0 STRT; s STACK")?;
+    add_sent(&rt, rt.alloc(), &mut a, 1..=256)?;
+    let printed = "refused a 258 line 260: 9 WindowFull\n";
+    expect_verdict_of(&rt, rt.alloc(), a.as_str(), b.as_str(), printed);
+    Ok(())
+}
+
+#[test]
 fn an_acknowledgement_makes_room_for_one_more(rt: HostRuntime) -> Result<(), Fail> {
     let mut a = text_of(rt.alloc(), HEAD_A, LOST_A)?;
     let mut b = text_of(rt.alloc(), HEAD_B, LOST_B)?;

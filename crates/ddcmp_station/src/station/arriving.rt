@@ -29,7 +29,7 @@ impl<T: Copy, W: Window<Held<T>, 256>> Station<T, W> {
     ///  STRT    to ASTRT      another partner             to HALTED
     ///  STACK   to RUNNING    to RUNNING
     ///  ACK                   with RESP 0: to RUNNING     RESP acknowledges
-    ///  NAK                                               RESP acknowledges; all behind it is sent again
+    ///  NAK                                               RESP acknowledges; the oldest left is next to send
     ///  REP                                               NUM is not the last received: a cause
     ///  data                  with RESP 0: to RUNNING,    RESP acknowledges; the next packet is taken,
     ///                        and then as there           or gives a cause where no buffer is left
