@@ -3,6 +3,8 @@
 use Rattle.std.specs.Prelude.{◌≡◌, ℕ, ◌+◌, ◌⊎◌, List, ◌++◌, Option, Result, Ok, Err, codes}
 use Rattle.std.specs.Fmt.{decimal}
 use Rattle.std.specs.Io.KnownBytes.{Appends}
+use Rattle.std.specs.declared.io.ErrorKind.{ErrorKind}
+use Rattle.std.specs.declared.io.ErrorKind.TheVariants as kind
 use Rattle.wire_base.specs.Side.{side_letter}
 use Rattle.wire_base.specs.Tally.{AppendsBeginning, CountedFault, tally_faults, tally_lent}
 use Rattle.wire_base.specs.declared.side.Side.{Side}
@@ -76,6 +78,11 @@ words_fault_status words.OutOfMemory = 3
 abbrev pub not_opened_text : Side → List ℕ
 not_opened_text A = codes "a: cannot open\n"
 not_opened_text B = codes "b: cannot open\n"
+
+-- where opening it failed with an error of this kind
+abbrev pub not_opened_says : Side → ErrorKind → List ℕ
+not_opened_says side kind.OutOfMemory = fault_text OutOfMemory
+not_opened_says side _ = not_opened_text side
 
 -- what a stream shows: its bytes, where they are known, and how many of its calls failed
 pub record Stream : Type 0 where

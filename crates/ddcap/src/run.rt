@@ -1,8 +1,7 @@
 //! The program between its words and its status.
 
-ghost use Rattle.std.specs.Prelude.{◌⊎◌};
-ghost use Rattle.pair_judge.specs.declared.fault.JudgeFault.TheVariants.{OutOfMemory};
-ghost use Rattle.ddcap.specs.Printed.{Writes, fault_text, not_opened_text, stream_of, words_fault_status, words_fault_text};
+ghost use Rattle.std.specs.IoError.{error_kind};
+ghost use Rattle.ddcap.specs.Printed.{Writes, not_opened_says, stream_of, words_fault_status, words_fault_text};
 
 use crate::check::{check_to, print, print_out_of_memory};
 use crate::show::show_to;
@@ -97,8 +96,8 @@ fn show_file<R: Files + AllocGlobal, O: Write, E: Write>(
 
 /// Prints that a side's file can't be opened, or that memory was wanting for it, and answers the status.
 fn print_not_opened<W: Write>(err: &mut Tally<W>, side: Side, error: &io::Error) -> u8
-    ensures { Writes (stream_of W.contents err.old) (stream_of W.contents err.new) (not_opened_text side) 3 result
-        ⊎ Writes (stream_of W.contents err.old) (stream_of W.contents err.new) (fault_text OutOfMemory) 3 result }
+    ensures { Writes (stream_of W.contents err.old) (stream_of W.contents err.new)
+        (not_opened_says side (error_kind error.now)) 3 result }
 {
     if error.kind() == ErrorKind::OutOfMemory {
         return print_out_of_memory(err);
