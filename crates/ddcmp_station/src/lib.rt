@@ -1,6 +1,6 @@
 //! One DDCMP station as a machine: it decides whether its user may do something, whether a message may be sent, and what an
-//! arrival does (DDCMP 4.1, startup state table, data transfer). It looks at no time, no file, no line and no byte of a packet, and
-//! at no order but the order of its calls.
+//! arrival does (DDCMP 4.1, startup state table, data transfer). It looks at no time, no file and no line, at a packet only to
+//! compare it with its first sending, and at no order but the order of its calls.
 #![tactic(auto)]
 
 mod arrival;

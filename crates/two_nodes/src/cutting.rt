@@ -63,8 +63,8 @@ impl SeenNodes for Brand {
     ghost holds = { no_property };
 }
 
-/// Where a property is kept by each record, and in each world that has it each record becomes the same to the others' eyes,
-/// the runs of the others are just what they see of the runs of the nodes.
+/// Where a property holds where the run begins and is kept by each record, and in each world that has it each record becomes the
+/// same to the others' eyes, the runs of the others are just what they see of the runs of the nodes.
 pub fn simulation<N: SeenNodes>()
     ensures seen { (w end : World N.State N.Sent) (made_a made_b xs ys : List N.Record)
         → IsKept N.nodes N.holds → Commutes N.nodes N.others N.cut N.holds → N.holds w made_a made_b
