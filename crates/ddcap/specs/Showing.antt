@@ -1,9 +1,9 @@
 -- What `show` prints of a capture, and with which status it ends.
-use Rattle.std.specs.Prelude.{◌≡◌, ℕ, ◌+◌, ◌≤◌, ◌⊎◌, List, [], ◌++◌, length, Option, IfSome, codes}
-use Rattle.std.specs.Fmt.{decimal}
+use Rattle.std.specs.Prelude.{◌≡◌, ℕ, ◌+◌, ◌≤◌, ◌⊎◌, List, [], ◌++◌, length, Option, IfSome}
 use Rattle.std.specs.List.{AllByRecursion}
 use Rattle.std.specs.Io.KnownBytes.{Appends, Consumes}
 use Rattle.wire_base.specs.Tally.{AppendsBeginning, CountedFault}
+use Rattle.wire_base.specs.declared.side.Side.TheVariants.{A}
 use Rattle.capture.specs.declared.fault.CaptureFault.{CaptureFault}
 use Rattle.capture.specs.declared.fault.CaptureFault.TheVariants.{Syntax, TooLong, TooMany, Read, OutOfMemory, Failed}
 use Rattle.capture.specs.declared.limit.TheConstants.{MAX_RECORDS}
@@ -12,9 +12,11 @@ use Rattle.capture.specs.Text.{head_line, record_lines}
 use Rattle.capture.specs.Range.{IsNode, IsRecord, IsText}
 use Rattle.capture.specs.Departing.{HeadDeparts, RecordDeparts}
 use Rattle.capture.specs.Reader.{FaultShows}
+use Rattle.pair_judge.specs.declared.fault.JudgeFault.TheVariants as judge
+use Rattle.pair_judge.specs.declared.fault.TextFault.TheVariants as of_text
 use Rattle.ddcap.specs.declared.show.Ending.{Ending}
 use Rattle.ddcap.specs.declared.show.Ending.TheVariants.{Whole, Faulty, Cut}
-use Rattle.ddcap.specs.Printed.{Stream, Writes}
+use Rattle.ddcap.specs.Printed.{Stream, Writes, fault_text}
 use Rattle.ddcap.specs.Shown.{shown_lines}
 
 -- ---- what was read
@@ -63,13 +65,13 @@ Lines Whole old new lines = WritesAll old new lines
 Lines (Faulty fault) old new lines = WritesAll old new lines
 Lines Cut old new lines = WritesSome old new lines
 
--- `a: line 3: syntax` and its kin, or `out of memory`
+-- `a: line 3: syntax` and its kin, or `out of memory`, as `check` tells the same fault of a's text
 abbrev pub shown_fault : CaptureFault → List ℕ
-shown_fault (Syntax line) = codes "a: line " ++ (decimal line ++ codes ": syntax\n")
-shown_fault (TooLong line) = codes "a: line " ++ (decimal line ++ codes ": too long\n")
-shown_fault (TooMany line) = codes "a: line " ++ (decimal line ++ codes ": too many\n")
-shown_fault Read = codes "a: read failed\n"
-shown_fault OutOfMemory = codes "out of memory\n"
+shown_fault (Syntax line) = fault_text (judge.Capture A (of_text.Syntax line))
+shown_fault (TooLong line) = fault_text (judge.Capture A (of_text.TooLong line))
+shown_fault (TooMany line) = fault_text (judge.Capture A (of_text.TooMany line))
+shown_fault Read = fault_text (judge.Capture A of_text.Read)
+shown_fault OutOfMemory = fault_text judge.OutOfMemory
 shown_fault Failed = []
 
 -- 2: a faulty text; 3: its reader or the memory failed
