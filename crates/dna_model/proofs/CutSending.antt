@@ -47,6 +47,14 @@ module _ {L : Type 0} where
     sending_labelled (Strt flags) = labelled
     sending_labelled (Stack flags) = labelled
 
+  -- the packet that is sent next, among those held
+  module _ (all : List (HeldPacket L)) (s : Station) (ordered : IsOrdered s) where
+    next_packet : slice_get (drop s.acknowledged all) (s.next_to_send - (s.acknowledged + 1)) ≡ slice_get all (s.next_to_send - 1)
+    next_packet =
+        let l = ordered.above in
+        let place : s.acknowledged + (s.next_to_send - (s.acknowledged + 1)) ≡ s.next_to_send - 1 = omega arith in
+        slice_get-drop s.acknowledged (s.next_to_send - (s.acknowledged + 1)) all ∙ ap (slice_get all) place
+
   module _ (all : List (HeldPacket L)) (s : Station) (labelled : AreLabelled all s) (ordered : IsOrdered s) where
     -- as many are held as are outstanding
     pub outstanding : length (drop s.acknowledged all) ≡ given s - s.acknowledged
@@ -70,13 +78,10 @@ module _ {L : Type 0} where
 
     first_given_same : (body : List ℕ) → is_packet (slice_get s.packets (s.next_to_send - 1)) body ≡ is_held_packet (slice_get (drop s.acknowledged all) (s.next_to_send - (s.acknowledged + 1))) body
     first_given_same body =
-        let l = ordered.above in
-        let place : s.next_to_send - 1 ≡ s.acknowledged + (s.next_to_send - (s.acknowledged + 1)) = omega arith in
         ap (λ (ps : List (List ℕ)). is_packet (slice_get ps (s.next_to_send - 1)) body) (sym labelled)
         ∙ ap (λ (o : Option (List ℕ)). is_packet o body) (slice_get-map body_at all (s.next_to_send - 1))
         ∙ packet_same (slice_get all (s.next_to_send - 1)) body
-        ∙ ap (λ n. is_held_packet (slice_get all n) body) place
-        ∙ ap (λ (o : Option (HeldPacket L)). is_held_packet o body) (sym (slice_get-drop s.acknowledged (s.next_to_send - (s.acknowledged + 1)) all))
+        ∙ ap (λ (o : Option (HeldPacket L)). is_held_packet o body) (sym (next_packet all s ordered))
 
     data_same : (new : Bool) (body : List ℕ) → data_refusal new s body ≡ wire_data_refusal new (cut all s).kept body
     data_same true body = ap (λ n. check (ltb n WINDOW) WindowFull None) (sym outstanding)
@@ -125,14 +130,8 @@ module _ {L : Type 0} where
 
   -- and the label beside its packet
   module _ (all : List (HeldPacket L)) (s : Station) (ordered : IsOrdered s) where
-    next_packet : slice_get (drop s.acknowledged all) (s.next_to_send - (s.acknowledged + 1)) ≡ slice_get all (s.next_to_send - 1)
-    next_packet =
-        let l = ordered.above in
-        let place : s.acknowledged + (s.next_to_send - (s.acknowledged + 1)) ≡ s.next_to_send - 1 = omega arith in
-        slice_get-drop s.acknowledged (s.next_to_send - (s.acknowledged + 1)) all ∙ ap (slice_get all) place
-
     pub label_same : (m : MessageValue) → label_again (cut all s) m ≡ label_of_next all s m
-    label_same (Data flags resp num body) = ap (λ (o : Option (HeldPacket L)). option_and_then (λ (packet : HeldPacket L). packet.label) o) next_packet
+    label_same (Data flags resp num body) = ap (λ (o : Option (HeldPacket L)). option_and_then (λ (packet : HeldPacket L). packet.label) o) (next_packet all s ordered)
     label_same (Ack flags resp) = refl
     label_same (Nak flags reason resp) = refl
     label_same (Rep flags num) = refl

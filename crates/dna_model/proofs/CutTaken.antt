@@ -1,22 +1,16 @@
 -- The packet that is answered from what is kept is the one that the station on true numbers takes.
-use Rattle.std.proofs.Common.{◌≡◌, ℕ, Bool, true, false, ◌&&◌, eqb, ltb, leb, cond, Some, None, List, refl, ap, ◌∙◌}
+use Rattle.std.proofs.Common.{◌≡◌, ℕ, Bool, true, false, ◌&&◌, eqb, cond, Some, None, List, refl, ap, ◌∙◌}
 use Rattle.ddcmp_msg.specs.Message.{MessageValue, Data, Ack, Nak, Rep, Strt, Stack}
 use Rattle.dna_model.specs.declared.state.State.{State}
 use Rattle.dna_model.specs.declared.state.State.TheVariants.{Halted, Istrt, Astrt, Running}
-use Rattle.dna_model.specs.Station.{Station, given}
+use Rattle.dna_model.specs.Station.{Station}
 use Rattle.dna_model.specs.Truth.{Truth}
-use Rattle.dna_model.specs.Arriving.{Sound, is_next, takes_in, acknowledged_by, responded, with_data, data_arrived, asked, arrived_in, after_arrival}
+use Rattle.dna_model.specs.Arriving.{Sound, is_next, takes_in, responded, with_data, data_arrived, asked, arrived_in, after_arrival}
 use Rattle.dna_model.specs.WireStation.{HeldPacket, wire_taken, body_of}
 use Rattle.dna_model.specs.Bounds.{IsWithin}
 use Rattle.dna_model.specs.Cut.{cut, with_taken}
 use Rattle.dna_model.proofs.CutArriving.{takes_same}
-
-acknowledged_takes : (b : Bool) (s : Station) (r : ℕ) → (acknowledged_by b s r).taken ≡ s.taken
-acknowledged_takes true s r = refl
-acknowledged_takes false s r = refl
-
-responded_takes : (s : Station) (r : ℕ) → (responded s r).taken ≡ s.taken
-responded_takes s r = acknowledged_takes (ltb s.acknowledged r && leb r (given s)) s r
+use Rattle.dna_model.proofs.DeliveredSteps.{responded_stays}
 
 asked_takes : (b : Bool) (s : Station) → (asked b s).taken ≡ s.taken
 asked_takes true s = refl
@@ -31,7 +25,7 @@ data_takes false false s body = refl
 data_arrived_takes : (s : Station) (u : Truth) (body : List ℕ) (kept : Bool) → (data_arrived s u body kept).taken ≡ with_taken s.taken (cond (is_next s u && kept) (Some body) None)
 data_arrived_takes s u body kept =
     data_takes (is_next s u) kept (responded s u.response) body
-    ∙ ap (λ (packets : List (List ℕ)). with_taken packets (cond (is_next s u && kept) (Some body) None)) (responded_takes s u.response)
+    ∙ ap (λ (packets : List (List ℕ)). with_taken packets (cond (is_next s u && kept) (Some body) None)) (responded_stays s u.response).1.taken
 
 starting_takes : (begins next kept : Bool) (s t : Station) (body : List ℕ) → t.taken ≡ with_taken s.taken (cond (next && kept) (Some body) None) →
     (cond begins t s).taken ≡ with_taken s.taken (cond (begins && next && kept) (Some body) None)
@@ -57,8 +51,8 @@ takes Astrt s (Rep flags num) u kept = refl
 takes Astrt s (Strt flags) u kept = refl
 takes Astrt s (Stack flags) u kept = refl
 takes Running s (Data flags resp num body) u kept = data_arrived_takes s u body kept
-takes Running s (Ack flags resp) u kept = responded_takes s u.response
-takes Running s (Nak flags reason resp) u kept = responded_takes s u.response
+takes Running s (Ack flags resp) u kept = (responded_stays s u.response).1.taken
+takes Running s (Nak flags reason resp) u kept = (responded_stays s u.response).1.taken
 takes Running s (Rep flags num) u kept = asked_takes (eqb u.number s.received) s
 takes Running s (Strt flags) u kept = refl
 takes Running s (Stack flags) u kept = refl

@@ -205,7 +205,7 @@ acknowledged_stays : (s : Station) (b : Bool) (r : ℕ) → Stays s (acknowledge
 acknowledged_stays s true r = (record { earlier = refl; period = refl; packets = refl }, record { partner = refl; taken = refl; received = refl })
 acknowledged_stays s false r = (stays_same s, took_nothing s)
 
-responded_stays : (s : Station) (r : ℕ) → Stays s (responded s r) × TookNothing s (responded s r)
+pub responded_stays : (s : Station) (r : ℕ) → Stays s (responded s r) × TookNothing s (responded s r)
 responded_stays s r = acknowledged_stays s (ltb s.acknowledged r && leb r (given s)) r
 
 module _ (s : Station) (u : Truth) where

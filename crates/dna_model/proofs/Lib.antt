@@ -11,7 +11,6 @@ mod Modulo
 mod Ordered
 mod CutSending
 mod CutArriving
-mod CutTaken
 mod CutLabel
 mod CutNode
 mod Loads
@@ -26,6 +25,7 @@ mod RunBounds
 -- what is delivered, in every run
 mod Delivered
 mod DeliveredSteps
+mod CutTaken
 mod DeliveredRuns
 mod Places
 mod DeliveredCaptures

@@ -8,7 +8,7 @@ use Rattle.capture.specs.declared.record.Record.TheVariants.{Sent, Received, Use
 use Rattle.capture.specs.declared.event.Event.TheVariants.{Start}
 use Rattle.dna_model.specs.declared.refusal.StationRefusal.TheVariants.{WrongState, WrongNumber, WrongResponse, CrossedPeriod}
 use Rattle.dna_model.specs.declared.refusal.StepRefusal.TheVariants.{HintOrder, Undetected, Station as OfStation}
-use Rattle.dna_model.proofs.RowUnits.{STRT, STACK, ACK0, D1, NAK_DATA0, NAK_DATA1, REP1, D1_RESP1, other_D1_RESP1, damaged_D1, EndsAt, EndsAtA}
+use Rattle.dna_model.proofs.RowUnits.{STRT, STACK, ACK0, DATA1, NAK_DATA0, NAK_DATA1, REP1, DATA1_RESP1, other_DATA1_RESP1, damaged_DATA1, EndsAt, EndsAtA}
 use Rattle.dna_model.proofs.Rows.{crossed_period_a, crossed_period_b, restarted_b}
 use Rattle.dna_model.proofs.TransferRows.{started_a, started_b}
 
@@ -20,7 +20,7 @@ unfolding reading is_good check_of after_byte shift
 hint_before_bytes = record { world = _; run = OfA refl (OfA refl (OfB refl (OfB refl Done))); becomes = refl }
 
 -- an ACK of b's first start comes in its second, with the bytes of a data message: 5, and 13 fits both
-bytes_before_period : EndsAt (User Start ∷ Sent STRT ∷ Sent STRT ∷ Received 0 false STACK ∷ Sent ACK0 ∷ []) (restarted_b ++ Received 1 false STRT ∷ []) (Received 2 false D1) (Refused Undetected)
+bytes_before_period : EndsAt (User Start ∷ Sent STRT ∷ Sent STRT ∷ Received 0 false STACK ∷ Sent ACK0 ∷ []) (restarted_b ++ Received 1 false STRT ∷ []) (Received 2 false DATA1) (Refused Undetected)
 unfolding reading is_good check_of after_byte shift
 bytes_before_period = record { world = _; run = OfA refl (OfA refl (OfA refl (OfB refl (OfB refl (OfB refl (OfA refl (OfA refl (OfB refl (OfB refl (OfB refl Done)))))))))); becomes = refl }
 
@@ -42,12 +42,12 @@ unfolding reading is_good check_of after_byte shift
 state_before_number = record { world = _; run = OfA refl (OfA refl (OfB refl (OfB refl (OfB refl (OfA refl (OfA refl Done)))))); becomes = refl }
 
 -- number 1 is sent where 2 is the next, and responds to what never came: 7, and 8 fits too
-number_before_response : EndsAtA (started_a ++ Sent D1 ∷ []) started_b (Sent D1_RESP1) (Refused (OfStation WrongNumber))
+number_before_response : EndsAtA (started_a ++ Sent DATA1 ∷ []) started_b (Sent DATA1_RESP1) (Refused (OfStation WrongNumber))
 unfolding reading is_good check_of after_byte shift
 number_before_response = record { world = _; run = OfA refl (OfA refl (OfB refl (OfB refl (OfB refl (OfA refl (OfA refl (OfA refl Done))))))); becomes = refl }
 
 -- a packet is sent again with other data, and responds to what never came: 8, and 10 fits too
-response_before_data : EndsAtA (started_a ++ Sent D1 ∷ Received 1 false NAK_DATA0 ∷ []) (started_b ++ Received 1 false ACK0 ∷ Received 2 false damaged_D1 ∷ Sent NAK_DATA0 ∷ []) (Sent other_D1_RESP1) (Refused (OfStation WrongResponse))
+response_before_data : EndsAtA (started_a ++ Sent DATA1 ∷ Received 1 false NAK_DATA0 ∷ []) (started_b ++ Received 1 false ACK0 ∷ Received 2 false damaged_DATA1 ∷ Sent NAK_DATA0 ∷ []) (Sent other_DATA1_RESP1) (Refused (OfStation WrongResponse))
 unfolding reading is_good check_of after_byte shift
 response_before_data = record { world = _; run = OfA refl (OfA refl (OfB refl (OfB refl (OfB refl (OfA refl (OfA refl (OfB refl (OfA refl (OfB refl (OfB refl (OfA refl Done))))))))))); becomes = refl }
 

@@ -21,19 +21,19 @@ abbrev pub ACK1 : List ℕ
 ACK1 = 0x05 ∷ 1 ∷ 0 ∷ 1 ∷ 0 ∷ 1 ∷ 0xad ∷ 0x95 ∷ []
 
 -- packets of the one byte 05: NUM 1 and NUM 2, both with RESP 0
-abbrev pub D1 : List ℕ
-D1 = 0x81 ∷ 1 ∷ 0 ∷ 0 ∷ 1 ∷ 1 ∷ 0xe3 ∷ 0x81 ∷ 0x05 ∷ 0xc0 ∷ 0x03 ∷ []
+abbrev pub DATA1 : List ℕ
+DATA1 = 0x81 ∷ 1 ∷ 0 ∷ 0 ∷ 1 ∷ 1 ∷ 0xe3 ∷ 0x81 ∷ 0x05 ∷ 0xc0 ∷ 0x03 ∷ []
 
-abbrev pub D2 : List ℕ
-D2 = 0x81 ∷ 1 ∷ 0 ∷ 0 ∷ 2 ∷ 1 ∷ 0xe3 ∷ 0x71 ∷ 0x05 ∷ 0xc0 ∷ 0x03 ∷ []
+abbrev pub DATA2 : List ℕ
+DATA2 = 0x81 ∷ 1 ∷ 0 ∷ 0 ∷ 2 ∷ 1 ∷ 0xe3 ∷ 0x71 ∷ 0x05 ∷ 0xc0 ∷ 0x03 ∷ []
 
--- D1 with its last byte damaged
-abbrev pub damaged_D1 : List ℕ
-damaged_D1 = 0x81 ∷ 1 ∷ 0 ∷ 0 ∷ 1 ∷ 1 ∷ 0xe3 ∷ 0x81 ∷ 0x05 ∷ 0xc0 ∷ 0x83 ∷ []
+-- DATA1 with its last byte damaged
+abbrev pub damaged_DATA1 : List ℕ
+damaged_DATA1 = 0x81 ∷ 1 ∷ 0 ∷ 0 ∷ 1 ∷ 1 ∷ 0xe3 ∷ 0x81 ∷ 0x05 ∷ 0xc0 ∷ 0x83 ∷ []
 
 -- NUM 1 with the byte 06
-abbrev pub other_D1 : List ℕ
-other_D1 = 0x81 ∷ 1 ∷ 0 ∷ 0 ∷ 1 ∷ 1 ∷ 0xe3 ∷ 0x81 ∷ 0x06 ∷ 0x80 ∷ 0x02 ∷ []
+abbrev pub other_DATA1 : List ℕ
+other_DATA1 = 0x81 ∷ 1 ∷ 0 ∷ 0 ∷ 1 ∷ 1 ∷ 0xe3 ∷ 0x81 ∷ 0x06 ∷ 0x80 ∷ 0x02 ∷ []
 
 -- a NAK for bad data: RESP 0 and RESP 1
 abbrev pub NAK_DATA0 : List ℕ
@@ -48,13 +48,13 @@ REP0 = 0x05 ∷ 3 ∷ 0 ∷ 0 ∷ 0 ∷ 1 ∷ 0x85 ∷ 0x95 ∷ []
 abbrev pub REP1 : List ℕ
 REP1 = 0x05 ∷ 3 ∷ 0 ∷ 0 ∷ 1 ∷ 1 ∷ 0x84 ∷ 0x05 ∷ []
 
--- D1 with RESP 1
-abbrev pub D1_RESP1 : List ℕ
-D1_RESP1 = 0x81 ∷ 1 ∷ 0 ∷ 1 ∷ 1 ∷ 1 ∷ 0xb2 ∷ 0x41 ∷ 0x05 ∷ 0xc0 ∷ 0x03 ∷ []
+-- DATA1 with RESP 1
+abbrev pub DATA1_RESP1 : List ℕ
+DATA1_RESP1 = 0x81 ∷ 1 ∷ 0 ∷ 1 ∷ 1 ∷ 1 ∷ 0xb2 ∷ 0x41 ∷ 0x05 ∷ 0xc0 ∷ 0x03 ∷ []
 
 -- NUM 1 with the byte 06 and RESP 1
-abbrev pub other_D1_RESP1 : List ℕ
-other_D1_RESP1 = 0x81 ∷ 1 ∷ 0 ∷ 1 ∷ 1 ∷ 1 ∷ 0xb2 ∷ 0x41 ∷ 0x06 ∷ 0x80 ∷ 0x02 ∷ []
+abbrev pub other_DATA1_RESP1 : List ℕ
+other_DATA1_RESP1 = 0x81 ∷ 1 ∷ 0 ∷ 1 ∷ 1 ∷ 1 ∷ 0xb2 ∷ 0x41 ∷ 0x06 ∷ 0x80 ∷ 0x02 ∷ []
 
 -- a NAK in answer to a REP: RESP 0 and RESP 1
 abbrev pub NAK_REP0 : List ℕ

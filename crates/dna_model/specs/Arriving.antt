@@ -1,8 +1,7 @@
 -- What an arrival does to a station (DDCMP 4.1, startup state table, data transfer). Where the standard leaves a choice this table is the
 -- project's own: what is not named changes nothing, damage changes no number, and each event that calls for a NAK is one open cause of
--- it. NUM and RESP are the numbers of the unit's truth,
--- with one exception: RESP 0 in ASTRT is the byte 0, and is tested before the rule on periods. R, N, A and T are the numbers of
--- `Station`; 12 and 13 are numbers of reasons.
+-- it. NUM and RESP are the numbers of the unit's truth, with one exception: RESP 0 in ASTRT is the byte 0, and is tested before the rule
+-- on periods. R, N, A and T are the numbers of `Station`; 12 and 13 are numbers of reasons.
 use Rattle.std.specs.Prelude.{ℕ, ◌+◌, Bool, true, false, ◌&&◌, ◌==◌, nat_lt, nat_le, max, if◌then◌else◌, Option, Some, None, List, [], ◌∷◌, ◌++◌}
 use Rattle.ddcmp_msg.specs.Message.{MessageValue, Data, Ack, Nak, Rep, Strt, Stack}
 use Rattle.ddcmp_msg.specs.declared.nak_reason.NakReason.{NakReason}

@@ -45,12 +45,12 @@ pub struct Found {
 /// `Accepted`: both texts are texts of captures, all records of both are one run of two stations whose numbers have no bound, what
 /// each station took was sent, in order, and the summary is the counts of the records. `Refused`: the record that is named, with
 /// its reason. `Capture`: the first fault met, at the side whose text it is in: the first line there that departs from the format,
-/// and how; `Read` only where that reader failed. `OutOfMemory`: a growth was refused. After
-/// any answer the readers have given what was read ahead, and nothing is said of the rest.
+/// and how; `Read` only where that reader failed. `OutOfMemory`: a growth was refused. After any answer the readers have given
+/// what was read ahead, and nothing is said of the rest.
 ///
-/// The contract claims what is said of `Accepted`, of a text's faults and of `Read`, and nothing yet of `Refused`, of `OutOfMemory` and of
-/// the order of reading. For now packets are carried unread, and link events are not judged: a pair whose packets or link events no node
-/// allows is accepted.
+/// The contract claims what is said of `Accepted`, of a text's faults and of `Read`, and nothing yet of `Refused`, of
+/// `OutOfMemory` and of the order of reading. For now packets are carried unread, and link events are not judged: a pair whose
+/// packets or link events no node allows is accepted.
 pub fn judge<R: Read, S: Read>(
     alloc: Global,
     a: &mut Tally<R>,

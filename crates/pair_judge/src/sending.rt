@@ -28,7 +28,7 @@ pub enum SendFault {
 /// The node sends these bytes on its line. They are held with the station's tag until they can't come any more.
 ///
 /// `Refused`: they are no sound message, or the station may not send it now. `OutOfMemory`: there is no room on the line, or
-/// for a new packet in the station.
+/// for a new packet in the station. After it the station may have gone on without its unit, so that no record can follow.
 pub fn send(station: &mut Station, line: &mut Line, bytes: Bytes) -> Result<(), SendFault>
     ensures ok { OnOk result ((front : ℕ) → wire_sent_step (node_at station.old front) bytes (reading bytes)
         ≡ Sends (node_at station.new front) (unit_of bytes (wire_tag station.old))) }

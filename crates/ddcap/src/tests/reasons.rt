@@ -46,15 +46,15 @@ fn each_reason_names_its_record(rt: HostRuntime) -> Result<(), Fail> {
 #[test]
 fn each_reason_of_data_names_its_record(rt: HostRuntime) -> Result<(), Fail> {
     let answers = "u start; r 0 STRT; s STACK";
-    let passes = "u start; r 0 STRT; s STACK; r 1 D1; s NAK8";
+    let passes = "u start; r 0 STRT; s STACK; r 1 DATA1; s NAK8";
     let rows = [
         (
-            "u start; s STRT; r 0 STACK; s D2",
+            "u start; s STRT; r 0 STACK; s DATA2",
             answers,
             "refused a 3 line 5: 7 WrongNumber\n",
         ),
         (
-            "u start; s STRT; r 0 STACK; s D1; r 1 NAK8; s OTHER1",
+            "u start; s STRT; r 0 STACK; s DATA1; r 1 NAK8; s OTHER1",
             passes,
             "refused a 5 line 7: 10 Changed\n",
         ),
@@ -72,23 +72,23 @@ fn each_reason_of_data_names_its_record(rt: HostRuntime) -> Result<(), Fail> {
 
 #[test]
 fn of_two_reasons_of_a_sending_the_first_is_named(rt: HostRuntime) -> Result<(), Fail> {
-    let b = "u start; r 0 STRT; s STACK; r 1 D1; s NAK8";
+    let b = "u start; r 0 STRT; s STACK; r 1 DATA1; s NAK8";
     let rows = [
-        ("u start; s D1R1", "refused a 1 line 3: 6 WrongState\n"),
+        ("u start; s DATA1R1", "refused a 1 line 3: 6 WrongState\n"),
         (
             "u start; s STRT; r 0 STACK; s REP1",
             "refused a 3 line 5: 6 WrongState\n",
         ),
         (
-            "u start; s STRT; r 0 STACK; s D1; s REP2",
+            "u start; s STRT; r 0 STACK; s DATA1; s REP2",
             "refused a 4 line 6: 7 WrongNumber\n",
         ),
         (
-            "u start; s STRT; r 0 STACK; s D2R1",
+            "u start; s STRT; r 0 STACK; s DATA2R1",
             "refused a 3 line 5: 7 WrongNumber\n",
         ),
         (
-            "u start; s STRT; r 0 STACK; s D1R1",
+            "u start; s STRT; r 0 STACK; s DATA1R1",
             "refused a 3 line 5: 8 WrongResponse\n",
         ),
         (
@@ -96,7 +96,7 @@ fn of_two_reasons_of_a_sending_the_first_is_named(rt: HostRuntime) -> Result<(),
             "refused a 3 line 5: 8 WrongResponse\n",
         ),
         (
-            "u start; s STRT; r 0 STACK; s D1; r 1 NAK8; s OTHER1R1",
+            "u start; s STRT; r 0 STACK; s DATA1; r 1 NAK8; s OTHER1R1",
             "refused a 5 line 7: 8 WrongResponse\n",
         ),
     ];
@@ -108,7 +108,7 @@ fn of_two_reasons_of_a_sending_the_first_is_named(rt: HostRuntime) -> Result<(),
 
 #[test]
 fn of_two_reasons_of_a_receipt_the_first_is_named(rt: HostRuntime) -> Result<(), Fail> {
-    let a = "u start; s STRT; s STRT; r 0 STACK; s ACK0; s D1";
+    let a = "u start; s STRT; s STRT; r 0 STACK; s ACK0; s DATA1";
     let crossed = "refused b 6 line 8: 13 CrossedPeriod\n";
     let kept = "refused b 6 line 8: 12 WrongKeep\n";
     let rows = [
@@ -117,11 +117,11 @@ fn of_two_reasons_of_a_receipt_the_first_is_named(rt: HostRuntime) -> Result<(),
             crossed,
         ),
         (
-            "u start; r 0 STRT; s STACK; u halt; u start; r 1 STRT; k 3 D1",
+            "u start; r 0 STRT; s STACK; u halt; u start; r 1 STRT; k 3 DATA1",
             crossed,
         ),
         (
-            "u start; r 0 STRT; s STACK; u halt; u start; u halt; k 3 D1",
+            "u start; r 0 STRT; s STACK; u halt; u start; u halt; k 3 DATA1",
             kept,
         ),
     ];

@@ -10,7 +10,7 @@ const NONE: Flags = Flags {
     select: false,
 };
 
-/// The digits of the unit with this name; digits stand for themselves. `D2` is data number 2 with the packet 05, `OTHER1`
+/// The digits of the unit with this name; digits stand for themselves. `DATA2` is data number 2 with the packet 05, `OTHER1`
 /// number 1 with the packet 07, `NAK3` a NAK for reason 3, `REP1` a REP for number 1. A RESP that is not 0 stands behind an
 /// R; in an ACK it is the number. Numbers are those of the line, modulo 256.
 pub fn digits_of(unit: &str) -> &str {
@@ -34,12 +34,12 @@ pub fn digits_of(unit: &str) -> &str {
         "REP1" => "0503000001018405",
         "REP2" => "05030000020184f5",
         "REP44" => "050300002c019955",
-        "D1" => "810100000101e38105c003",
-        "D2" => "810100000201e37105c003",
-        "D3" => "810100000301e2e105c003",
-        "D0R1" => "810100010001b3d105c003",
-        "D1R1" => "810100010101b24105c003",
-        "D2R1" => "810100010201b2b105c003",
+        "DATA1" => "810100000101e38105c003",
+        "DATA2" => "810100000201e37105c003",
+        "DATA3" => "810100000301e2e105c003",
+        "DATA0R1" => "810100010001b3d105c003",
+        "DATA1R1" => "810100010101b24105c003",
+        "DATA2R1" => "810100010201b2b105c003",
         "OTHER0" => "810100000001e2110741c2",
         "OTHER1" => "810100000101e3810741c2",
         "OTHER1R1" => "810100010101b2410741c2",

@@ -21,7 +21,7 @@ b records 4 sent 1 received 2 damaged 0 kept 0 periods 1 links 0 up 0
 ";
     expect_verdict_of(&rt, rt.alloc(), a.as_str(), b.as_str(), printed);
     let mut wrong = String::from_str(rt.alloc(), a.as_str())?;
-    add_records(&mut wrong, "s D0R1")?;
+    add_records(&mut wrong, "s DATA0R1")?;
     let printed = "refused a 260 line 262: 8 WrongResponse\n";
     expect_verdict_of(&rt, rt.alloc(), wrong.as_str(), b.as_str(), printed);
     add_sent(&rt, rt.alloc(), &mut a, 256..=256)?;
