@@ -73,8 +73,8 @@ module _ (ps : List PastPeriod) where
           (among_next x.taken (flat_map taken_of xs) ps p d.0 d.1 d.2 (rest (suc p) (λ q y at. later p t ts took is y (rising 0 (suc q) x y (omega arith) refl at))))
 
 -- all packets given, by periods
-offered_is : (s : Station) → flat_map given_of (periods s) ≡ all_given s
-offered_is s = flat_map-append given_of s.earlier (past s ∷ []) ∙ ap (λ (l : List (List ℕ)). packets_of s.earlier ++ l) (append-nil s.packets)
+all_given_is : (s : Station) → flat_map given_of (periods s) ≡ all_given s
+all_given_is s = flat_map-append given_of s.earlier (past s ∷ []) ∙ ap (λ (l : List (List ℕ)). packets_of s.earlier ++ l) (append-nil s.packets)
 
 is_above_0 : (own other : Station) → DeliversFrom own other → (q : ℕ) (x : PastPeriod) → slice_get (periods own) q ≡ Some x → IsAbove 0 x
 is_above_0 own other delivers q x at = go x.partner refl (delivers q x at)
@@ -83,6 +83,6 @@ is_above_0 own other delivers q x at = go x.partner refl (delivers q x at)
     go None is d = inl d
     go (Some p) is d = inr (p, is, omega arith)
 
-pub taken_among_offered : (own other : Station) → DeliversFrom own other → ((q r : ℕ) (x y : PastPeriod) → q < r → slice_get (periods own) q ≡ Some x → slice_get (periods own) r ≡ Some y → AreInOrder x y) → AreAmong (all_taken own) (all_given other)
-taken_among_offered own other delivers rising =
-    subst (λ (ys : List (List ℕ)). AreAmong (all_taken own) ys) (offered_is other) (among_all (periods other) (periods own) 0 delivers rising (is_above_0 own other delivers))
+pub taken_among_given : (own other : Station) → DeliversFrom own other → ((q r : ℕ) (x y : PastPeriod) → q < r → slice_get (periods own) q ≡ Some x → slice_get (periods own) r ≡ Some y → AreInOrder x y) → AreAmong (all_taken own) (all_given other)
+taken_among_given own other delivers rising =
+    subst (λ (ys : List (List ℕ)). AreAmong (all_taken own) ys) (all_given_is other) (among_all (periods other) (periods own) 0 delivers rising (is_above_0 own other delivers))

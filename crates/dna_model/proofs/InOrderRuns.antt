@@ -24,7 +24,7 @@ use Rattle.dna_model.proofs.DeliveredRuns.{delivers_from}
 use Rattle.dna_model.proofs.DeliveredCaptures.{BothCaptured, captured_kept, start_captured}
 use Rattle.dna_model.proofs.Partnered.{Partnered, new_partnered, event_partnered, sending_partnered, receipt_partnered}
 use Rattle.dna_model.proofs.InOrder.{TakesInOrder, all_from, all_rising, takes_beside, takes_last, takes_none, takes_start, takes_packet}
-use Rattle.dna_model.proofs.Among.{taken_among_offered}
+use Rattle.dna_model.proofs.Among.{taken_among_given}
 
 -- a sending takes nothing
 record TakesNothing (s t : Station) : Type 0 where
@@ -124,7 +124,7 @@ pub start_order : BothInOrder start [] []
 start_order = record { captured = start_captured; a_order = new_order; b_order = new_order }
 
 pub a_among : (w : World Node SentUnit) (of_a of_b : List Record) → BothInOrder w of_a of_b → AreAmong (all_taken w.a.state.station) (all_given w.b.state.station)
-a_among w of_a of_b h = taken_among_offered w.a.state.station w.b.state.station (delivers_from w.a.state.station w.b.state.station h.captured.both.a_delivers) h.a_order.takes.rising
+a_among w of_a of_b h = taken_among_given w.a.state.station w.b.state.station (delivers_from w.a.state.station w.b.state.station h.captured.both.a_delivers) h.a_order.takes.rising
 
 pub b_among : (w : World Node SentUnit) (of_a of_b : List Record) → BothInOrder w of_a of_b → AreAmong (all_taken w.b.state.station) (all_given w.a.state.station)
-b_among w of_a of_b h = taken_among_offered w.b.state.station w.a.state.station (delivers_from w.b.state.station w.a.state.station h.captured.both.b_delivers) h.b_order.takes.rising
+b_among w of_a of_b h = taken_among_given w.b.state.station w.a.state.station (delivers_from w.b.state.station w.a.state.station h.captured.both.b_delivers) h.b_order.takes.rising

@@ -47,29 +47,29 @@ AtPlaces s own = (i : ℕ) (unit : SentUnit) → slice_get own i ≡ Some unit �
 
 -- ---- all packets given, after each step
 
-same_offered : (s t : Station) → t.earlier ≡ s.earlier → t.packets ≡ s.packets → BeginsWith (all_given t) (all_given s)
-same_offered s t earlier packets =
+given_same : (s t : Station) → t.earlier ≡ s.earlier → t.packets ≡ s.packets → BeginsWith (all_given t) (all_given s)
+given_same s t earlier packets =
     subst (λ (l : List (List ℕ)). BeginsWith l (all_given s)) (sym (ap₂ (λ (e : List PastPeriod) (ps : List (List ℕ)). packets_of e ++ ps) earlier packets)) (begins_same (all_given s))
 
-start_offered : (s : Station) → BeginsWith (all_given (after_event s Start)) (all_given s)
-start_offered s =
+given_start : (s : Station) → BeginsWith (all_given (after_event s Start)) (all_given s)
+given_start s =
     let same : all_given (after_event s Start) ≡ all_given s =
     append-nil (packets_of (s.earlier ++ past s ∷ [])) ∙ flat_map-append (λ (p : PastPeriod). p.given) s.earlier (past s ∷ []) ∙ ap (λ (l : List (List ℕ)). packets_of s.earlier ++ l) (append-nil s.packets) in
     subst (λ (l : List (List ℕ)). BeginsWith l (all_given s)) (sym same) (begins_same (all_given s))
 
-more_offered : (s t : Station) → t.earlier ≡ s.earlier → BeginsWith t.packets s.packets → BeginsWith (all_given t) (all_given s)
-more_offered s t earlier more = record {
+given_more : (s t : Station) → t.earlier ≡ s.earlier → BeginsWith t.packets s.packets → BeginsWith (all_given t) (all_given s)
+given_more s t earlier more = record {
   rest = more.rest;
   whole = ap₂ (λ (e : List PastPeriod) (ps : List (List ℕ)). packets_of e ++ ps) earlier more.whole ∙ sym (append_assoc (packets_of s.earlier) s.packets more.rest);
 }
 
-sending_offered : (s : Station) (m : MessageValue) → BeginsWith (all_given (after_sending s m)) (all_given s)
-sending_offered s (Data flags resp num body) = more_offered s (after_sending s (Data flags resp num body)) refl (packets_begin (is_new s) s.packets body)
-sending_offered s (Ack flags resp) = begins_same (all_given s)
-sending_offered s (Nak flags reason resp) = begins_same (all_given s)
-sending_offered s (Rep flags num) = begins_same (all_given s)
-sending_offered s (Strt flags) = begins_same (all_given s)
-sending_offered s (Stack flags) = begins_same (all_given s)
+given_sending : (s : Station) (m : MessageValue) → BeginsWith (all_given (after_sending s m)) (all_given s)
+given_sending s (Data flags resp num body) = given_more s (after_sending s (Data flags resp num body)) refl (packets_begin (is_new s) s.packets body)
+given_sending s (Ack flags resp) = begins_same (all_given s)
+given_sending s (Nak flags reason resp) = begins_same (all_given s)
+given_sending s (Rep flags num) = begins_same (all_given s)
+given_sending s (Strt flags) = begins_same (all_given s)
+given_sending s (Stack flags) = begins_same (all_given s)
 
 -- ---- what is sent
 
@@ -93,16 +93,16 @@ module _ (own other : Half Node SentUnit) (h : IsSound own.state own.sent other.
 
   places_left : (r : Record) (left : Half Node SentUnit) → Happens crossed own other r left → AtPlaces left.state.station left.sent
   places_left r left (Nothing event none) = p
-  places_left r left (UserEvent Start allowed) = places_still (after_event own.state.station Start) (start_offered own.state.station)
+  places_left r left (UserEvent Start allowed) = places_still (after_event own.state.station Start) (given_start own.state.station)
   places_left r left (UserEvent Halt allowed) = p
   places_left r left (Sending bytes m read allowed) = λ i unit at. go unit (at_pushed own.sent (unit_of own.state.station bytes m) unit i at)
     where
       go : (unit : SentUnit) → {i : ℕ} → (slice_get own.sent i ≡ Some unit) ⊎ ((i ≡ length own.sent) × (unit_of own.state.station bytes m ≡ unit)) → CarriesItsPacket (all_given (after_sending own.state.station m)) unit.message unit.known
-      go unit {i} (inl a) = places_still (after_sending own.state.station m) (sending_offered own.state.station m) i unit a
+      go unit {i} (inl a) = places_still (after_sending own.state.station m) (given_sending own.state.station m) i unit a
       go unit (inr a) = subst (λ (x : SentUnit). CarriesItsPacket (all_given (after_sending own.state.station m)) x.message x.known) a.1 (sent_at_place own.state.station own.state.station.state m allowed)
   places_left r left (Receipt hint kept bytes unit arrival there ahead of_unit allowed) =
       let stays = (arrival_took own.state.station unit bytes arrival kept of_unit h.none allowed).0 in
-      places_still (after_arrival own.state.station arrival kept) (same_offered own.state.station (after_arrival own.state.station arrival kept) stays.earlier stays.packets)
+      places_still (after_arrival own.state.station arrival kept) (given_same own.state.station (after_arrival own.state.station arrival kept) stays.earlier stays.packets)
 
 -- of both nodes
 pub record BothAtPlaces (w : World Node SentUnit) : Type 0 where

@@ -144,7 +144,7 @@ fn each_refusal_has_its_name_and_changes_nothing(rt: HostRuntime) -> Result<(), 
             ("ACK 0 comes", comes(ACK, PAIRED), DONE, Running, 1),
             ("ACK 1", Sends(ack(1)), response, Running, 1),
             ("STACK in RUNNING", Sends(STACK), state, Running, 1),
-            ("rep(0), all acknowledged", Sends(rep(0)), state, Running, 1),
+            ("REP, all acknowledged", Sends(rep(0)), state, Running, 1),
             (
                 "data that come again, taken",
                 takes(data(0, 0, BODY), PAIRED),
