@@ -38,32 +38,32 @@ response_test a n r h d least most held distance = go (cases_lt a r)
 
 module _ {L : Type 0} (all : List (HeldPacket L)) where
   module _ (s : Station) (labelled : AreLabelled all s) (ordered : IsOrdered s) (r : ℕ) (near : ResponseIsNear s r) where
-    distance : acknowledges (cut all s).kept (wire r) ≡ r - s.acknowledged
+    distance : acknowledges (cut all s).variables (wire r) ≡ r - s.acknowledged
     distance =
         let l = near.least in let m = near.most in let few = ordered.few in
         distance_near s.acknowledged r l (omega arith)
 
-    acknowledged_same : (b : Bool) → cut all (acknowledged_by b s r) ≡ record (cut all s) { kept = wire_acknowledged_by b (cut all s).kept (wire r) }
+    acknowledged_same : (b : Bool) → cut all (acknowledged_by b s r) ≡ record (cut all s) { variables = wire_acknowledged_by b (cut all s).variables (wire r) }
     acknowledged_same true =
         let l = near.least in let a = ordered.above in let d = distance in
-        let ahead : max s.next_to_send (r + 1) - (r + 1) ≡ s.next_to_send - (s.acknowledged + 1) - acknowledges (cut all s).kept (wire r) = omega arith in
-        let place : r ≡ s.acknowledged + acknowledges (cut all s).kept (wire r) = omega arith in
-        let held = ap (λ n. drop n all) place ∙ sym (drop-drop (acknowledges (cut all s).kept (wire r)) s.acknowledged all) in
-        ap₂ (λ (n : ℕ) (ps : List (HeldPacket L)). record (cut all s) { kept = record (cut all s).kept { acknowledged = wire r; ahead = n; held = ps } }) ahead held
+        let ahead : max s.next_to_send (r + 1) - (r + 1) ≡ s.next_to_send - (s.acknowledged + 1) - acknowledges (cut all s).variables (wire r) = omega arith in
+        let place : r ≡ s.acknowledged + acknowledges (cut all s).variables (wire r) = omega arith in
+        let held = ap (λ n. drop n all) place ∙ sym (drop-drop (acknowledges (cut all s).variables (wire r)) s.acknowledged all) in
+        ap₂ (λ (n : ℕ) (ps : List (HeldPacket L)). record (cut all s) { variables = record (cut all s).variables { acknowledged = wire r; ahead = n; held = ps } }) ahead held
     acknowledged_same false = refl
 
     pub responded_same : cut all (responded s r) ≡ wire_responded (cut all s) (wire r)
     responded_same =
         acknowledged_same (ltb s.acknowledged r && leb r (given s))
-        ∙ ap (λ (b : Bool). record (cut all s) { kept = wire_acknowledged_by b (cut all s).kept (wire r) })
-        (response_test s.acknowledged (given s) r (length (drop s.acknowledged all)) (acknowledges (cut all s).kept (wire r)) near.least near.most (outstanding all s labelled ordered) distance)
+        ∙ ap (λ (b : Bool). record (cut all s) { variables = wire_acknowledged_by b (cut all s).variables (wire r) })
+        (response_test s.acknowledged (given s) r (length (drop s.acknowledged all)) (acknowledges (cut all s).variables (wire r)) near.least near.most (outstanding all s labelled ordered) distance)
 
   with_data_same : (t : Station) (next kept : Bool) (body : List ℕ) → cut all (with_data next kept t body) ≡ wire_with_data next kept (cut all t)
-  with_data_same t true true body = ap (λ (n : ℕ). record (cut all t) { kept = record (cut all t).kept { received = n } }) (sym (wire-one t.received))
+  with_data_same t true true body = ap (λ (n : ℕ). record (cut all t) { variables = record (cut all t).variables { received = n } }) (sym (wire-one t.received))
   with_data_same t true false body = refl
   with_data_same t false kept body = refl
 
-  next_same : (s : Station) (u : Truth) → NumberIsNear s u.number → is_next s u ≡ wire_is_next (cut all s).kept (wire u.number)
+  next_same : (s : Station) (u : Truth) → NumberIsNear s u.number → is_next s u ≡ wire_is_next (cut all s).variables (wire u.number)
   next_same s u near = next_near s.received u.number near.least near.most
 
   data_arrived_same : (s : Station) → AreLabelled all s → IsOrdered s → (u : Truth) (body : List ℕ) (kept : Bool) → ResponseIsNear s u.response → NumberIsNear s u.number →
@@ -75,7 +75,7 @@ module _ {L : Type 0} (all : List (HeldPacket L)) where
   set_back_same : (t : Station) → cut all (set_back t) ≡ wire_set_back (cut all t)
   set_back_same t =
       let none : t.acknowledged + 1 - (t.acknowledged + 1) ≡ 0 = omega arith in
-      ap (λ (n : ℕ). record (cut all t) { kept = record (cut all t).kept { ahead = n } }) none
+      ap (λ (n : ℕ). record (cut all t) { variables = record (cut all t).variables { ahead = n } }) none
 
   asked_same : (s : Station) (b : Bool) → cut all (asked b s) ≡ wire_asked b (cut all s)
   asked_same s true = refl
@@ -89,10 +89,10 @@ module _ {L : Type 0} (all : List (HeldPacket L)) where
   abbrev in_running : Station → Station
   in_running s = record s { state = Running }
 
-  pub takes_same : (s : Station) (u : Truth) (state : State) (m : MessageValue) → HasWireNumbers m u → (reads_numbers state m ≡ true → NumbersAreNear s m u) → takes_in state s m u ≡ wire_takes_in state (cut all s).kept m
+  pub takes_same : (s : Station) (u : Truth) (state : State) (m : MessageValue) → HasWireNumbers m u → (reads_numbers state m ≡ true → NumbersAreNear s m u) → takes_in state s m u ≡ wire_takes_in state (cut all s).variables m
   takes_same s u Astrt (Data flags resp num body) wires near =
-      both_tests (eqb resp 0) _ _ (λ e. next_same s u (near e).1 ∙ ap (λ n. wire_is_next (cut all s).kept n) (sym wires.1))
-  takes_same s u Running (Data flags resp num body) wires near = next_same s u (near refl).1 ∙ ap (λ n. wire_is_next (cut all s).kept n) (sym wires.1)
+      both_tests (eqb resp 0) _ _ (λ e. next_same s u (near e).1 ∙ ap (λ n. wire_is_next (cut all s).variables n) (sym wires.1))
+  takes_same s u Running (Data flags resp num body) wires near = next_same s u (near refl).1 ∙ ap (λ n. wire_is_next (cut all s).variables n) (sym wires.1)
   takes_same s u state m wires near = refl
 
   module _ (s : Station) (labelled : AreLabelled all s) (ordered : IsOrdered s) (u : Truth) where
@@ -143,7 +143,7 @@ module _ {L : Type 0} (all : List (HeldPacket L)) where
       arrival_refusal rule s (Sound m u) kept ≡ wire_arrival_refusal rule (cut all s) (Sound m u.tag) kept
   arrival_refusal_same rule s labelled ordered m u kept within = go (rule (standing s) m u.tag) refl
     where
-      go : (b : Bool) → rule (standing s) m u.tag ≡ b → cond b (Some CrossedPeriod) (keep_refusal (takes_in s.state s m u) kept) ≡ cond b (Some CrossedPeriod) (keep_refusal (wire_takes_in s.state (cut all s).kept m) kept)
+      go : (b : Bool) → rule (standing s) m u.tag ≡ b → cond b (Some CrossedPeriod) (keep_refusal (takes_in s.state s m u) kept) ≡ cond b (Some CrossedPeriod) (keep_refusal (wire_takes_in s.state (cut all s).variables m) kept)
       go true e = refl
       go false e = ap (λ (b : Bool). keep_refusal b kept) (takes_same s u s.state m (within e).wire_numbers (within e).near)
 

@@ -1,4 +1,4 @@
--- In a world within the bounds the same becomes of a record at a node that runs as at the node on true numbers.
+-- In a world within the bounds the same becomes of a record at a wire node as at the node on true numbers.
 use Rattle.std.proofs.Common.{◌≡◌, ℕ, ◌+◌, ◌≤◌, Bool, true, false, cond, nat_lt, ltb-false, Option, Some, None, Err, List, [], ◌∷◌, map, refl, sym, ap, ap₂, ◌∙◌, option_map}
 use Rattle.std.specs.Prelude.{slice_get, bytes_eq}
 use Rattle.std.proofs.lemmas.List.{map-append}

@@ -71,7 +71,7 @@ module _ {L : Type 0} where
         let h = outstanding in let l = ordered.above in let m = ordered.below in
         same_test s.acknowledged (given s) (length (drop s.acknowledged all)) 0 (λ e. omega arith) (λ e. omega arith)
 
-    new_same : is_new s ≡ wire_is_new (cut all s).kept
+    new_same : is_new s ≡ wire_is_new (cut all s).variables
     new_same =
         let h = outstanding in let l = ordered.above in let m = ordered.below in
         same_test s.next_to_send (given s + 1) (s.next_to_send - (s.acknowledged + 1)) (length (drop s.acknowledged all)) (λ e. omega arith) (λ e. omega arith)
@@ -83,17 +83,17 @@ module _ {L : Type 0} where
         ∙ packet_same (slice_get all (s.next_to_send - 1)) body
         ∙ ap (λ (o : Option (HeldPacket L)). is_held_packet o body) (sym (next_packet all s ordered))
 
-    data_same : (new : Bool) (body : List ℕ) → data_refusal new s body ≡ wire_data_refusal new (cut all s).kept body
+    data_same : (new : Bool) (body : List ℕ) → data_refusal new s body ≡ wire_data_refusal new (cut all s).variables body
     data_same true body = ap (λ n. check (ltb n WINDOW) WindowFull None) (sym outstanding)
     data_same false body = ap (λ (b : Bool). check b Changed None) (first_given_same body)
 
-    refusal_in : (state : State) (m : MessageValue) → sending_refusal_in state s m ≡ wire_refusal_in state (cut all s).kept s.causes m
+    refusal_in : (state : State) (m : MessageValue) → sending_refusal_in state s m ≡ wire_refusal_in state (cut all s).variables s.causes m
     refusal_in Running (Rep flags num) =
         ap₂ (λ (b : Bool) (n : ℕ). check (not b) WrongState (check (eqb num (n)) WrongNumber None)) none_outstanding highest
     refusal_in Running (Data flags resp num body) =
         ap₂ (λ (n : ℕ) (o : Option StationRefusal). check (eqb num n) WrongNumber (check (eqb resp (wire s.received)) WrongResponse o))
         (sym (wire-next s.acknowledged s.next_to_send ordered.above))
-        (data_same (is_new s) body ∙ ap (λ (b : Bool). wire_data_refusal b (cut all s).kept body) new_same)
+        (data_same (is_new s) body ∙ ap (λ (b : Bool). wire_data_refusal b (cut all s).variables body) new_same)
     refusal_in state m = refl
 
     -- the same messages are refused, for the same reasons
@@ -112,7 +112,7 @@ module _ {L : Type 0} where
         let l = ordered.above in
         let ahead : s.next_to_send + 1 - (s.acknowledged + 1) ≡ s.next_to_send - (s.acknowledged + 1) + 1 = omega arith in
         let held = new_held (is_new s) body ∙ ap (λ (b : Bool). with_new b (drop s.acknowledged all) body) new_same in
-        ap₂ (λ (n : ℕ) (ps : List (HeldPacket L)). record (cut all s) { kept = record (cut all s).kept { ahead = n; held = ps } }) ahead held
+        ap₂ (λ (n : ℕ) (ps : List (HeldPacket L)). record (cut all s) { variables = record (cut all s).variables { ahead = n; held = ps } }) ahead held
     sending_same (Ack flags resp) = refl
     sending_same (Nak flags reason resp) = refl
     sending_same (Rep flags num) = refl

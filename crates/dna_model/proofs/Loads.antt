@@ -1,4 +1,4 @@
--- A record adds at most one to the counts of a station that runs.
+-- A record adds at most one to the counts of a wire station.
 use Rattle.std.proofs.Common.{ℕ, ◌+◌, ◌≤◌, Bool, true, false, eqb, arith}
 use Rattle.std.proofs.lemmas.Bool.{cond_both}
 use Rattle.ddcmp_msg.specs.Message.{MessageValue, Data, Ack, Nak, Rep, Strt, Stack}
@@ -50,7 +50,7 @@ module _ {L : Type 0} where
   data_load w false kept = omega arith
 
   data_arrived_load : (w : WireStation L) (resp num : ℕ) (kept : Bool) → load (wire_data_arrived w resp num kept) ≤ load w + 1
-  data_arrived_load w resp num kept = data_load (wire_responded w resp) (wire_is_next w.kept num) kept
+  data_arrived_load w resp num kept = data_load (wire_responded w resp) (wire_is_next w.variables num) kept
 
   asked_load : (w : WireStation L) (b : Bool) → load (wire_asked b w) ≤ load w + 1
   asked_load w true = omega arith
@@ -61,7 +61,7 @@ module _ {L : Type 0} where
   arrived_load w Astrt (Ack flags resp) from kept = cond_both (eqb resp 0) (in_state w Running) w (λ (x : WireStation L). load x ≤ load w + 1) (λ e. omega arith) (λ e. omega arith)
   arrived_load w Astrt (Data flags resp num body) from kept =
       cond_both (eqb resp 0) (wire_data_arrived (in_state w Running) resp num kept) w (λ (x : WireStation L). load x ≤ load w + 1) (λ e. data_arrived_load (in_state w Running) resp num kept) (λ e. omega arith)
-  arrived_load w Running (Rep flags num) from kept = asked_load w (eqb num w.kept.received)
+  arrived_load w Running (Rep flags num) from kept = asked_load w (eqb num w.variables.received)
   arrived_load w Running (Data flags resp num body) from kept = data_arrived_load w resp num kept
   arrived_load w state m from kept = omega arith
 
@@ -70,6 +70,6 @@ module _ {L : Type 0} where
   damaged_load w state reason = omega arith
 
   pub arrival_load : (w : WireStation L) (arrival : ArrivalValue Tag) (kept : Bool) → load (wire_after_arrival w arrival kept) ≤ load w + 1
-  arrival_load w (Sound m tag) kept = arrived_load w w.kept.state m tag.period kept
-  arrival_load w HeaderBad kept = damaged_load w w.kept.state HeaderCheck
-  arrival_load w DataBad kept = damaged_load w w.kept.state DataCheck
+  arrival_load w (Sound m tag) kept = arrived_load w w.variables.state m tag.period kept
+  arrival_load w HeaderBad kept = damaged_load w w.variables.state HeaderCheck
+  arrival_load w DataBad kept = damaged_load w w.variables.state DataCheck

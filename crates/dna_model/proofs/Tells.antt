@@ -49,7 +49,7 @@ step_tells rule n (User event) = event_tells n event
 pub pair_tells : BothTell pair
 pair_tells = record { of_a = step_tells crossed; of_b = step_tells crossed }
 
--- ---- the same of a node that runs
+-- ---- the same of a wire node
 
 module _ {L : Type 0} where
   wire_does_tells : (n : WireNode L) (event : StationEvent) (refusal : Option StationRefusal) → AgreesWith (wire_does n event refusal) None false
@@ -57,8 +57,8 @@ module _ {L : Type 0} where
   wire_does_tells n event (Some refusal) = refl
 
   wire_event_tells : (n : WireNode L) (event : Event) → AgreesWith (wire_user_step n event) None false
-  wire_event_tells n Start = wire_does_tells n station.Start (user_refusal n.station.kept.state station.Start)
-  wire_event_tells n Halt = wire_does_tells n station.Halt (user_refusal n.station.kept.state station.Halt)
+  wire_event_tells n Start = wire_does_tells n station.Start (user_refusal n.station.variables.state station.Start)
+  wire_event_tells n Halt = wire_does_tells n station.Halt (user_refusal n.station.variables.state station.Halt)
   wire_event_tells n event = (refl, refl)
 
   wire_sends_tells : (n : WireNode L) (bytes : List ℕ) (m : MessageValue) (refusal : Option StationRefusal) → AgreesWith (wire_sends n bytes m refusal) None true

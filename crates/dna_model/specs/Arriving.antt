@@ -16,7 +16,7 @@ use Rattle.dna_model.specs.Periods.{PeriodRule, Standing}
 use Rattle.dna_model.specs.Truth.{Truth}
 
 -- What comes to a station: a sound message with what is known of it, or a unit whose header or data shows damage. Of a message the
--- station on true numbers knows the truth; one that runs knows the tag
+-- station on true numbers knows the truth; a wire station knows the tag
 pub data ArrivalValue (K : Type 0) : Type 0 where
   Sound : (message : MessageValue) → (known : K) → ArrivalValue K
   HeaderBad : ArrivalValue K

@@ -14,7 +14,7 @@ module _ {L : Type 0} where
 
   abbrev pub cut : List (HeldPacket L) → Station → WireStation L
   cut all s = record {
-    kept = record {
+    variables = record {
       state = s.state;
       received = wire s.received;
       acknowledged = wire s.acknowledged;

@@ -1,4 +1,4 @@
--- A run of the nodes that run, beside the run of the nodes on true numbers that it shows.
+-- A run of the wire nodes, beside the run of the nodes on true numbers that it shows.
 use Rattle.std.specs.Prelude.{◌≡◌, List}
 use Rattle.two_nodes.specs.Nodes.{World, Run, advance}
 use Rattle.two_nodes.specs.Cutting.{cut_outcome, cut_world}

@@ -1,4 +1,4 @@
--- One node as it runs: its station is the wire station, and of a unit it knows the bytes and the tag. Its step is that of `Node` made on
+-- One wire node: its station is the wire station, and of a unit it knows the bytes and the tag. Its step is that of `Node` made on
 -- that.
 use Rattle.std.specs.Prelude.{ℕ, ◌+◌, Bool, Option, Some, None, Result, Ok, Err, List, if◌then◌else◌, nat_lt, map}
 use Rattle.two_nodes.specs.Nodes.{Answer, Nodes, World, start_world}
@@ -42,8 +42,8 @@ module _ {L : Type 0} where
   wire_does n event (Some refusal) = Refuses (OfStation refusal)
 
   abbrev pub wire_user_step : WireNode L → Event → Answer (WireNode L) WireUnit StepRefusal
-  wire_user_step n events.Start = wire_does n Start (user_refusal n.station.kept.state Start)
-  wire_user_step n events.Halt = wire_does n Halt (user_refusal n.station.kept.state Halt)
+  wire_user_step n events.Start = wire_does n Start (user_refusal n.station.variables.state Start)
+  wire_user_step n events.Halt = wire_does n Halt (user_refusal n.station.variables.state Halt)
   wire_user_step n event = Goes n
 
   abbrev pub wire_tag : WireStation L → Tag
@@ -74,7 +74,7 @@ module _ {L : Type 0} where
   wire_step rule n (Received hint kept bytes) = Reads hint (wire_receives rule n hint kept bytes)
   wire_step rule n (User event) = wire_user_step n event
 
-  -- ---- what a node that runs sees of a node on true numbers; no packet has a label
+  -- ---- what a wire node sees of a node on true numbers; no packet has a label
 
   abbrev pub unlabelled : List (List ℕ) → List (HeldPacket L)
   unlabelled packets = map (λ (body : List ℕ). record { body = body; label = None }) packets
@@ -86,7 +86,7 @@ abbrev pub cut_unit : SentUnit → WireUnit
 cut_unit unit = record { bytes = unit.bytes; message = unit.message; known = unit.known.tag }
 
 module _ {L : Type 0} where
-  -- what a node that runs sees of the true one
+  -- what a wire node sees of the true one
   abbrev pub seen : Cut Node SentUnit (WireNode L) WireUnit
   seen = record { of_state = cut_node; of_unit = cut_unit }
 

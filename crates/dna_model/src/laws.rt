@@ -145,7 +145,7 @@ pub fn counts_rise_by_one<L>()
         → load (wire_after_arrival w arrival kept) ≤ load w + 1 }
 {}
 
-/// In a world within the bounds the same becomes of a record at a node that runs as at the node on true numbers, seen as the
+/// In a world within the bounds the same becomes of a record at a wire node as at the node on true numbers, seen as the
 /// former sees it. No packet has a label.
 pub fn cut_record<L>()
     ensures start { new_wire_node {L = L} ≡ cut_node new_node }
@@ -153,12 +153,12 @@ pub fn cut_record<L>()
         → advance (wire_step crossed) (cut_half (seen {L = L}) own) (cut_half seen other) r ≡ cut_outcome seen (advance (step crossed) own other r) }
 {}
 
-/// The runs of two nodes that run are just what they see of the runs of the two nodes on true numbers; and after such a run the same
+/// The runs of two wire nodes are just what they see of the runs of the two nodes on true numbers; and after such a run the same
 /// becomes of each record.
-pub fn running_nodes_see_right<L>()
+pub fn wire_nodes_see_right<L>()
     ensures of_true { (w : World Node SentUnit) (of_a of_b : List Record) → Run pair start of_a of_b w
         → Run wire_pair (wire_start {L = L}) of_a of_b (cut_world seen w) }
-    ensures of_running { (end : World (WireNode L) WireUnit) (of_a of_b : List Record) → Run wire_pair wire_start of_a of_b end
+    ensures of_wire { (end : World (WireNode L) WireUnit) (of_a of_b : List Record) → Run wire_pair wire_start of_a of_b end
         → IsSeen end of_a of_b }
 {
     simulation::<Brand>();

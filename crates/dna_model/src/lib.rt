@@ -1,6 +1,6 @@
 //! What a reader must believe of the protocols: one station, one node with its line, the run of two captures and the
 //! verdict on them, as definitions in `specs/`, with the few types that code and definitions share; the same station and node
-//! as they run, on numbers modulo 256; and laws of all these. It decides nothing, runs nothing and touches no file and no
+//! on numbers modulo 256 (the wire station, the wire node); and laws of all these. It decides nothing, runs nothing and touches no file and no
 //! memory: the machines above are proved to follow these definitions.
 #![tactic(auto)]
 
@@ -14,7 +14,7 @@ pub use finding::{Cause, Finding};
 pub use laws::{
     counts_rise_by_one, cut_arrival, cut_event, cut_label, cut_record, cut_sending,
     delivered_in_order, numbers_in_order, numbers_within_bounds, packets_at_their_places,
-    running_nodes_see_right,
+    wire_nodes_see_right,
 };
 pub use refusal::{StationRefusal, StepRefusal};
 pub use state::{State, StationEvent};

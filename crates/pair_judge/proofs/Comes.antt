@@ -15,7 +15,7 @@ use Rattle.dna_model.specs.Line.{damage, coming_by, coming}
 use Rattle.dna_model.specs.WireStation.{wire_arrival_refusal, wire_after_arrival}
 use Rattle.dna_model.specs.WireNode.{WireUnit, wire_met, wire_comes, wire_receives}
 use Rattle.pair_judge.specs.Unit.{IsSoundReading, message_of, unit_of}
-use Rattle.pair_judge.specs.Wire.{RunNode}
+use Rattle.pair_judge.specs.Wire.{JudgeNode}
 
 -- ---- what comes
 
@@ -40,20 +40,20 @@ coming_unsound unit bytes sound unsound = by_test (bytes_eq bytes unit.bytes) re
 -- ---- what a node makes of it
 
 -- the hint lies below the front
-pub receives_back : (n : RunNode) (hint : ℕ) (kept : Bool) (bytes : List ℕ) (unit : WireUnit) → hint < n.front → wire_receives crossed n hint kept bytes unit ≡ Err HintOrder
+pub receives_back : (n : JudgeNode) (hint : ℕ) (kept : Bool) (bytes : List ℕ) (unit : WireUnit) → hint < n.front → wire_receives crossed n hint kept bytes unit ≡ Err HintOrder
 receives_back n hint kept bytes unit below =
     ap (λ b. cond b (Err HintOrder) (wire_comes crossed n hint kept (coming unit bytes))) (lt-ltb hint n.front below)
 
 -- at or above the front it goes by what comes
-pub receives_at : (n : RunNode) (hint : ℕ) (kept : Bool) (bytes : List ℕ) (unit : WireUnit) (came : Option (ArrivalValue Tag)) → n.front ≤ hint → came ≡ coming unit bytes → wire_receives crossed n hint kept bytes unit ≡ wire_comes crossed n hint kept came
+pub receives_at : (n : JudgeNode) (hint : ℕ) (kept : Bool) (bytes : List ℕ) (unit : WireUnit) (came : Option (ArrivalValue Tag)) → n.front ≤ hint → came ≡ coming unit bytes → wire_receives crossed n hint kept bytes unit ≡ wire_comes crossed n hint kept came
 receives_at n hint kept bytes unit came at_least is =
     ap (λ b. cond b (Err HintOrder) (wire_comes crossed n hint kept (coming unit bytes))) (le-ltb hint n.front at_least)
     ∙ ap (wire_comes crossed n hint kept) (sym is)
 
 -- the station goes by it
-pub comes_met : (n : RunNode) (hint : ℕ) (kept : Bool) (arrival : ArrivalValue Tag) → wire_arrival_refusal crossed n.station arrival kept ≡ None → wire_comes crossed n hint kept (Some arrival) ≡ Ok (record { station = wire_after_arrival n.station arrival kept; front = hint + 1 })
+pub comes_met : (n : JudgeNode) (hint : ℕ) (kept : Bool) (arrival : ArrivalValue Tag) → wire_arrival_refusal crossed n.station arrival kept ≡ None → wire_comes crossed n hint kept (Some arrival) ≡ Ok (record { station = wire_after_arrival n.station arrival kept; front = hint + 1 })
 comes_met n hint kept arrival free = ap (wire_met n hint arrival kept) free
 
 -- the station refuses
-pub comes_refused : (n : RunNode) (hint : ℕ) (kept : Bool) (arrival : ArrivalValue Tag) (refusal : StationRefusal) → wire_arrival_refusal crossed n.station arrival kept ≡ Some refusal → wire_comes crossed n hint kept (Some arrival) ≡ Err (OfStation refusal)
+pub comes_refused : (n : JudgeNode) (hint : ℕ) (kept : Bool) (arrival : ArrivalValue Tag) (refusal : StationRefusal) → wire_arrival_refusal crossed n.station arrival kept ≡ Some refusal → wire_comes crossed n hint kept (Some arrival) ≡ Err (OfStation refusal)
 comes_refused n hint kept arrival refusal refused = ap (wire_met n hint arrival kept) refused

@@ -12,7 +12,7 @@ use Rattle.pair_judge.specs.Lines.{Shows}
 use Rattle.pair_judge.specs.Making.{StandsFor}
 use Rattle.pair_judge.specs.Reached.{IsUnderWay}
 use Rattle.pair_judge.specs.Opened.{OpensAt}
-use Rattle.pair_judge.specs.Wire.{run_start}
+use Rattle.pair_judge.specs.Wire.{judge_start}
 
 -- as many records are made as turns were taken, and no call of a reader failed
 pub record HasTaken (text_a text_b : Option (List ℕ)) (a b : Course) (come_a come_b : Option (List ℕ)) (turns : ℕ) : Type 0 where
@@ -44,7 +44,7 @@ started text_a text_b a b come_a come_b o p = record {
     read_a = o.read;
     read_b = p.read;
     reached = record {
-      world = run_start;
+      world = judge_start;
       run = Done;
       stands_a = stands text_a text_b a b come_a come_b o p;
       stands_b = stands text_b text_a b a come_b come_a p o;

@@ -14,7 +14,7 @@ use Rattle.pair_judge.specs.Lines.{Shows}
 use Rattle.pair_judge.specs.declared.course.Course.{Course}
 use Rattle.pair_judge.specs.Course.{MayRead, IsBlocked}
 use Rattle.pair_judge.specs.Reached.{HasReached, IsHeldUp}
-use Rattle.pair_judge.specs.Wire.{RunHalf, run_pair, run_start}
+use Rattle.pair_judge.specs.Wire.{JudgeHalf, judge_pair, judge_start}
 
 -- ---- counts
 
@@ -44,14 +44,14 @@ pub record IsSame (old new : End) (after : Line) : Type 0 where
   pub line : new.line ≡ after
 
 -- the other side stands for the same half
-pub stands_on : (own own' other other' : End) (after : Line) (r : Record) (mine theirs : RunHalf) → StandsFor other own.line theirs → IsMade own own' other.line after r mine theirs → IsSame other other' after → StandsFor other' own'.line theirs
+pub stands_on : (own own' other other' : End) (after : Line) (r : Record) (mine theirs : JudgeHalf) → StandsFor other own.line theirs → IsMade own own' other.line after r mine theirs → IsSame other other' after → StandsFor other' own'.line theirs
 stands_on own own' other other' after r mine theirs stands made same = record {
   station = stands.station ∙ sym same.station;
   front = stands.front ∙ sym made.same_front;
   sent = rw same.line made.incoming;
 }
 
-pub reached_by_a : (a a' b b' : End) (after : Line) (made_a made_b : List Record) (r : Record) → (h : HasReached a b made_a made_b) → (m : IsMade a a' b.line after r h.world.a h.world.b) → IsSame b b' after → Run run_pair run_start (made_a ++ r ∷ []) made_b (record { a = m.next; b = h.world.b }) → HasReached a' b' (made_a ++ r ∷ []) made_b
+pub reached_by_a : (a a' b b' : End) (after : Line) (made_a made_b : List Record) (r : Record) → (h : HasReached a b made_a made_b) → (m : IsMade a a' b.line after r h.world.a h.world.b) → IsSame b b' after → Run judge_pair judge_start (made_a ++ r ∷ []) made_b (record { a = m.next; b = h.world.b }) → HasReached a' b' (made_a ++ r ∷ []) made_b
 reached_by_a a a' b b' after made_a made_b r h m same run = record {
   world = record { a = m.next; b = h.world.b };
   run = run;
@@ -61,7 +61,7 @@ reached_by_a a a' b b' after made_a made_b r h m same run = record {
   counts_b = same.counts ∙ h.counts_b;
 }
 
-pub reached_by_b : (a a' b b' : End) (after : Line) (made_a made_b : List Record) (r : Record) → (h : HasReached a b made_a made_b) → (m : IsMade b b' a.line after r h.world.b h.world.a) → IsSame a a' after → Run run_pair run_start made_a (made_b ++ r ∷ []) (record { a = h.world.a; b = m.next }) → HasReached a' b' made_a (made_b ++ r ∷ [])
+pub reached_by_b : (a a' b b' : End) (after : Line) (made_a made_b : List Record) (r : Record) → (h : HasReached a b made_a made_b) → (m : IsMade b b' a.line after r h.world.b h.world.a) → IsSame a a' after → Run judge_pair judge_start made_a (made_b ++ r ∷ []) (record { a = h.world.a; b = m.next }) → HasReached a' b' made_a (made_b ++ r ∷ [])
 reached_by_b a a' b b' after made_a made_b r h m same run = record {
   world = record { a = h.world.a; b = m.next };
   run = run;

@@ -20,7 +20,7 @@ use Rattle.pair_judge.specs.declared.course.Course.{Course}
 use Rattle.pair_judge.specs.declared.course.Advance.{Advance}
 use Rattle.pair_judge.specs.declared.course.Advance.TheVariants as answers
 use Rattle.pair_judge.specs.Lines.{Shows}
-use Rattle.pair_judge.specs.Wire.{RunHalf}
+use Rattle.pair_judge.specs.Wire.{JudgeHalf}
 use Rattle.pair_judge.specs.Making.{StandsFor, IsMade}
 
 -- the reader has not failed, and has not come to the end unseen
@@ -67,14 +67,14 @@ pub record IsAdvanced (text : Option (List ℕ)) (old : End) (new : Course) (bef
   pub next : Record
   pub read : IsRead text new.capture new.ahead come (made ++ next ∷ [])
   pub unread : new.ahead ≡ Unread
-  pub made_it : (mine theirs : RunHalf) → StandsFor old before mine → Shows before theirs.sent → IsMade old new.end before after next mine theirs
+  pub made_it : (mine theirs : JudgeHalf) → StandsFor old before mine → Shows before theirs.sent → IsMade old new.end before after next mine theirs
 
 -- the next record waits
 pub record IsBlocked (text : Option (List ℕ)) (old : End) (new : Course) (before after : Line) (come : Option (List ℕ)) (made : List Record) : Type 0 where
   pub next : Record
   pub read : IsRead text new.capture new.ahead come made
   pub ahead : new.ahead ≡ Waits next
-  pub waits : (mine theirs : RunHalf) → StandsFor old before mine → Shows before theirs.sent → advance (wire_step crossed) mine theirs next ≡ any.Waits
+  pub waits : (mine theirs : JudgeHalf) → StandsFor old before mine → Shows before theirs.sent → advance (wire_step crossed) mine theirs next ≡ any.Waits
   pub same_end : new.end ≡ old
   pub same_line : after ≡ before
 
@@ -92,4 +92,4 @@ AdvanceIs answers.Ended text old new before after come made = HasEnded text old 
 -- the next record can't be made
 AdvanceIs (answers.Fails refusal) text old new before after come made =
     (next : Record) × IsRead text new.capture new.ahead come (made ++ next ∷ []) × (new.end.counts ≡ old.counts)
-    × ((mine theirs : RunHalf) → StandsFor old before mine → Shows before theirs.sent → advance (wire_step crossed) mine theirs next ≡ any.Refused refusal)
+    × ((mine theirs : JudgeHalf) → StandsFor old before mine → Shows before theirs.sent → advance (wire_step crossed) mine theirs next ≡ any.Refused refusal)

@@ -11,24 +11,24 @@ use Rattle.pair_judge.specs.declared.making.Made.{Made}
 use Rattle.pair_judge.specs.declared.making.Made.TheVariants.{Done, Waits, Fails}
 use Rattle.pair_judge.specs.Lines.{Shows}
 use Rattle.pair_judge.specs.Summary.{counted}
-use Rattle.pair_judge.specs.Wire.{RunHalf}
+use Rattle.pair_judge.specs.Wire.{JudgeHalf}
 
 -- this end of the judge, with the line from the other side, stands for that half of the run
-pub record StandsFor (own : End) (incoming : Line) (half : RunHalf) : Type 0 where
+pub record StandsFor (own : End) (incoming : Line) (half : JudgeHalf) : Type 0 where
   pub station : half.state.station ≡ own.station
   pub front : half.state.front ≡ incoming.gone
   pub sent : Shows own.line half.sent
 
 -- the record is made, and the end stands for the half after it
-pub record IsMade (old new : End) (before after : Line) (r : Record) (own other : RunHalf) : Type 0 where
-  pub next : RunHalf
+pub record IsMade (old new : End) (before after : Line) (r : Record) (own other : JudgeHalf) : Type 0 where
+  pub next : JudgeHalf
   pub step_is : advance (wire_step crossed) own other r ≡ any.Made next
   pub stands : StandsFor new after next
   pub incoming : Shows after other.sent
   pub same_front : new.line.gone ≡ old.line.gone
   pub counts : new.counts ≡ counted old.counts r
 
-abbrev pub MadeIs : Made → End → End → Line → Line → Record → RunHalf → RunHalf → Type 0
+abbrev pub MadeIs : Made → End → End → Line → Line → Record → JudgeHalf → JudgeHalf → Type 0
 MadeIs Done old new before after r own other = IsMade old new before after r own other
 -- the unit that the record names is not sent yet
 MadeIs (Waits back) old new before after r own other = advance (wire_step crossed) own other r ≡ any.Waits

@@ -14,15 +14,15 @@ use Rattle.pair_judge.specs.declared.course.Ahead.{Ahead}
 use Rattle.pair_judge.specs.declared.course.Ahead.TheVariants.{Unread, Waits, Ended}
 use Rattle.pair_judge.specs.declared.course.Course.{Course}
 use Rattle.pair_judge.specs.Lines.{Shows}
-use Rattle.pair_judge.specs.Wire.{RunHalf, RunWorld, run_pair, run_start}
+use Rattle.pair_judge.specs.Wire.{JudgeHalf, JudgeWorld, judge_pair, judge_start}
 use Rattle.pair_judge.specs.Making.{StandsFor}
 use Rattle.pair_judge.specs.Course.{IsRead, waiting}
 use Rattle.pair_judge.specs.Summary.{summary_of}
 
 -- some order of these records leads to a world that the two ends stand for
 pub record HasReached (a b : End) (made_a made_b : List Record) : Type 0 where
-  pub world : RunWorld
-  pub run : Run run_pair run_start made_a made_b world
+  pub world : JudgeWorld
+  pub run : Run judge_pair judge_start made_a made_b world
   pub stands_a : StandsFor a b.line world.a
   pub stands_b : StandsFor b a.line world.b
   pub counts_a : a.counts ≡ summary_of made_a
@@ -59,7 +59,7 @@ pub record IsFound (text_a text_b : Option (List ℕ)) (a b : Course) (come_a co
 pub record IsHeldUp (own : Course) (incoming : Line) : Type 0 where
   pub next : Record
   pub ahead : own.ahead ≡ Waits next
-  pub waits : (mine theirs : RunHalf) → StandsFor own.end incoming mine → Shows incoming theirs.sent → advance (wire_step crossed) mine theirs next ≡ any.Waits
+  pub waits : (mine theirs : JudgeHalf) → StandsFor own.end incoming mine → Shows incoming theirs.sent → advance (wire_step crossed) mine theirs next ≡ any.Waits
 
 -- one record more was made
 pub record HasGoneOn (text_a text_b : Option (List ℕ)) (a b : Course) (come_a come_b : Option (List ℕ)) (made : ℕ) : Type 0 where

@@ -13,10 +13,10 @@ use Rattle.pair_judge.specs.declared.sending.SendFault.TheVariants.{Refused, Out
 use Rattle.dna_model.specs.declared.refusal.StepRefusal.{StepRefusal}
 use Rattle.pair_judge.specs.Lines.{Shows}
 use Rattle.pair_judge.specs.Counting.{shows_damage}
-use Rattle.pair_judge.specs.Wire.{RunNode, RunStation}
+use Rattle.pair_judge.specs.Wire.{JudgeNode, JudgeStation}
 
 -- a node at this front
-abbrev pub node_at : RunStation → ℕ → RunNode
+abbrev pub node_at : JudgeStation → ℕ → JudgeNode
 node_at station front = record { station = station; front = front }
 
 -- a fact of the refusal, where a sending was refused
@@ -31,17 +31,17 @@ is_damage HeaderBad = true
 is_damage DataBad = true
 
 -- the node of a side whose other side's line is this
-abbrev pub node_of : RunStation → Line → RunNode
+abbrev pub node_of : JudgeStation → Line → JudgeNode
 node_of station line = node_at station line.gone
 
 -- the unit of the hint was sent, and the node goes by it: to this station and this line
-pub record IsReceived (old new : RunStation) (before after : Line) (hint : ℕ) (kept : Bool) (bytes : List ℕ) (sent : List WireUnit) : Type 0 where
+pub record IsReceived (old new : JudgeStation) (before after : Line) (hint : ℕ) (kept : Bool) (bytes : List ℕ) (sent : List WireUnit) : Type 0 where
   pub unit : WireUnit
   pub was_sent : slice_get sent hint ≡ Some unit
   pub step : wire_receives crossed (node_of old before) hint kept bytes unit ≡ Ok (node_of new after)
   pub shows : Shows after sent
 
-abbrev pub ReceiptIs : Receipt → RunStation → RunStation → Line → Line → ℕ → Bool → List ℕ → List WireUnit → Type 0
+abbrev pub ReceiptIs : Receipt → JudgeStation → JudgeStation → Line → Line → ℕ → Bool → List ℕ → List WireUnit → Type 0
 ReceiptIs (Done damaged) old new before after hint kept bytes sent =
     IsReceived old new before after hint kept bytes sent × (damaged ≡ shows_damage (reading bytes))
 -- the unit was not sent yet

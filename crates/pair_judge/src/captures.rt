@@ -13,9 +13,9 @@ ghost use Rattle.dna_model.specs.Pair.{pair};
 ghost use Rattle.dna_model.specs.Verdict.{IsVerdict};
 ghost use Rattle.dna_model.specs.WireNode.{WireUnit};
 ghost use Rattle.dna_model.proofs.Tells.{pair_tells, wire_pair_tells};
-ghost use Rattle.pair_judge.specs.Wire.{RunNode, RunWorld, run_pair, run_start};
+ghost use Rattle.pair_judge.specs.Wire.{JudgeNode, JudgeWorld, judge_pair, judge_start};
 
-use dna_model::running_nodes_see_right;
+use dna_model::wire_nodes_see_right;
 use two_nodes::{TwoNodes, both_waiting, one_waiting, refused_record};
 use wire_base::Side;
 
@@ -37,10 +37,10 @@ impl TwoNodes for Captures {
 }
 
 /// The two nodes as the judge runs them.
-pub struct Running;
+pub struct JudgeNodes;
 
-impl TwoNodes for Running {
-    ghost State = { RunNode };
+impl TwoNodes for JudgeNodes {
+    ghost State = { JudgeNode };
 
     ghost Record = { Record };
 
@@ -48,38 +48,38 @@ impl TwoNodes for Running {
 
     ghost Reason = { StepRefusal };
 
-    ghost nodes = { run_pair };
+    ghost nodes = { judge_pair };
 
     ghost tells = { wire_pair_tells (Unit {0}) };
 }
 
 /// Each way for the judge to end is a verdict on every pair of captures that begins with the records made so far.
 pub fn endings()
-    ensures accepted { (w : RunWorld) (of_a of_b : List Record)
-        → Run run_pair run_start of_a of_b w → IsVerdict of_a of_b findings.Accepted }
-    ensures a_refused { (w : RunWorld) (done_a rest_a done_b rest_b : List Record) (r : Record) (refusal : StepRefusal)
-        → Run run_pair run_start done_a done_b w
-        → advance run_pair.node_a w.a w.b r ≡ any.Refused refusal
+    ensures accepted { (w : JudgeWorld) (of_a of_b : List Record)
+        → Run judge_pair judge_start of_a of_b w → IsVerdict of_a of_b findings.Accepted }
+    ensures a_refused { (w : JudgeWorld) (done_a rest_a done_b rest_b : List Record) (r : Record) (refusal : StepRefusal)
+        → Run judge_pair judge_start done_a done_b w
+        → advance judge_pair.node_a w.a w.b r ≡ any.Refused refusal
         → IsVerdict (done_a ++ r ∷ rest_a) (done_b ++ rest_b) (findings.Refused Side.A (length done_a) (causes.Step refusal)) }
-    ensures b_refused { (w : RunWorld) (done_a rest_a done_b rest_b : List Record) (r : Record) (refusal : StepRefusal)
-        → Run run_pair run_start done_a done_b w
-        → advance run_pair.node_b w.b w.a r ≡ any.Refused refusal
+    ensures b_refused { (w : JudgeWorld) (done_a rest_a done_b rest_b : List Record) (r : Record) (refusal : StepRefusal)
+        → Run judge_pair judge_start done_a done_b w
+        → advance judge_pair.node_b w.b w.a r ≡ any.Refused refusal
         → IsVerdict (done_a ++ rest_a) (done_b ++ r ∷ rest_b) (findings.Refused Side.B (length done_b) (causes.Step refusal)) }
-    ensures stuck { (w : RunWorld) (done_a rest_a done_b rest_b : List Record) (r s : Record)
-        → Run run_pair run_start done_a done_b w
-        → advance run_pair.node_a w.a w.b r ≡ any.Waits
-        → advance run_pair.node_b w.b w.a s ≡ any.Waits
+    ensures stuck { (w : JudgeWorld) (done_a rest_a done_b rest_b : List Record) (r s : Record)
+        → Run judge_pair judge_start done_a done_b w
+        → advance judge_pair.node_a w.a w.b r ≡ any.Waits
+        → advance judge_pair.node_b w.b w.a s ≡ any.Waits
         → IsVerdict (done_a ++ r ∷ rest_a) (done_b ++ s ∷ rest_b) (findings.Refused Side.A (length done_a) causes.NoOrder) }
-    ensures a_lacks { (w : RunWorld) (done_a rest_a all_b : List Record) (r : Record)
-        → Run run_pair run_start done_a all_b w
-        → advance run_pair.node_a w.a w.b r ≡ any.Waits
+    ensures a_lacks { (w : JudgeWorld) (done_a rest_a all_b : List Record) (r : Record)
+        → Run judge_pair judge_start done_a all_b w
+        → advance judge_pair.node_a w.a w.b r ≡ any.Waits
         → IsVerdict (done_a ++ r ∷ rest_a) all_b (findings.Refused Side.A (length done_a) causes.NoSuchUnit) }
-    ensures b_lacks { (w : RunWorld) (all_a done_b rest_b : List Record) (r : Record)
-        → Run run_pair run_start all_a done_b w
-        → advance run_pair.node_b w.b w.a r ≡ any.Waits
+    ensures b_lacks { (w : JudgeWorld) (all_a done_b rest_b : List Record) (r : Record)
+        → Run judge_pair judge_start all_a done_b w
+        → advance judge_pair.node_b w.b w.a r ≡ any.Waits
         → IsVerdict all_a (done_b ++ r ∷ rest_b) (findings.Refused Side.B (length done_b) causes.NoSuchUnit) }
 {
-    running_nodes_see_right::<()>();
+    wire_nodes_see_right::<()>();
     refused_record::<Captures>();
     both_waiting::<Captures>();
     one_waiting::<Captures>();

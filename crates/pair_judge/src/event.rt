@@ -34,10 +34,10 @@ pub fn happen(station: &mut Station, event: &Event) -> Result<(), StepRefusal>
 fn ask(station: &mut Station, event: StationEvent) -> Result<(), StepRefusal>
     requires { load station.old < 2 ^ 63 }
     ensures ok { OnOk result ((front : ℕ) →
-        wire_does (node_at station.old front) event (user_refusal station.old.kept.state event) ≡ Goes (node_at station.new front)) }
+        wire_does (node_at station.old front) event (user_refusal station.old.variables.state event) ≡ Goes (node_at station.new front)) }
     ensures load { load station.new ≤ load station.old + 1 }
     ensures err { IfErr result (λ z. (front : ℕ) →
-        wire_does (node_at station.old front) event (user_refusal station.old.kept.state event) ≡ Refuses z) }
+        wire_does (node_at station.old front) event (user_refusal station.old.variables.state event) ≡ Refuses z) }
     ensures unchanged { OnErr result (station.new ≡ station.old) }
 {
     match station.user(event) {

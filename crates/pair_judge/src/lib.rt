@@ -10,7 +10,7 @@ mod course;
 mod end;
 mod event;
 mod fault;
-mod held;
+mod line_unit;
 mod judging;
 mod line;
 mod making;

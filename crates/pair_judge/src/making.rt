@@ -7,7 +7,7 @@ ghost use Rattle.pair_judge.specs.Lines.{Shows};
 ghost use Rattle.pair_judge.specs.Summary.{HasRoom};
 ghost use Rattle.pair_judge.specs.declared.line.Line.{Line};
 ghost use Rattle.pair_judge.specs.Making.{StandsFor, MadeIs, LeavesWaiting, NeverWaits, IfFails};
-ghost use Rattle.pair_judge.specs.Wire.{RunHalf};
+ghost use Rattle.pair_judge.specs.Wire.{JudgeHalf};
 
 use crate::end::End;
 use crate::event::happen;
@@ -34,7 +34,7 @@ pub enum Made {
 pub fn make(own: &mut End, incoming: &mut Line, entry: Record) -> Result<Made, AllocError>
     requires room { HasRoom own.old.counts }
     requires numbers { NumbersFit entry }
-    ensures made { IfOk result (λ made. (mine theirs : RunHalf) →
+    ensures made { IfOk result (λ made. (mine theirs : JudgeHalf) →
         StandsFor own.old incoming.old mine → Shows incoming.old theirs.sent →
         MadeIs made own.old own.new incoming.old incoming.new entry mine theirs) }
     ensures waits { IfOk result (λ made. LeavesWaiting made own.old own.new incoming.old incoming.new entry) }
@@ -51,7 +51,7 @@ pub fn make(own: &mut End, incoming: &mut Line, entry: Record) -> Result<Made, A
 
 fn make_sent(own: &mut End, bytes: Bytes) -> Result<Made, AllocError>
     requires { HasRoom own.old.counts }
-    ensures made { IfOk result (λ made. (incoming : Line) (mine theirs : RunHalf) →
+    ensures made { IfOk result (λ made. (incoming : Line) (mine theirs : JudgeHalf) →
         StandsFor own.old incoming mine → Shows incoming theirs.sent →
         MadeIs made own.old own.new incoming incoming (Record.Sent bytes) mine theirs) }
     ensures waits { IfOk result NeverWaits }
@@ -72,7 +72,7 @@ fn make_sent(own: &mut End, bytes: Bytes) -> Result<Made, AllocError>
 fn make_received(own: &mut End, incoming: &mut Line, hint: u64, kept: bool, bytes: Bytes) -> Made
     requires room { HasRoom own.old.counts }
     requires hint { hint ≤ MAX_HINT }
-    ensures made { (mine theirs : RunHalf) →
+    ensures made { (mine theirs : JudgeHalf) →
         StandsFor own.old incoming.old mine → Shows incoming.old theirs.sent →
         MadeIs result own.old own.new incoming.old incoming.new (Record.Received hint kept bytes) mine theirs }
     ensures waits { LeavesWaiting result own.old own.new incoming.old incoming.new (Record.Received hint kept bytes) }
@@ -90,7 +90,7 @@ fn make_received(own: &mut End, incoming: &mut Line, hint: u64, kept: bool, byte
 
 fn make_event(own: &mut End, event: Event) -> Made
     requires { HasRoom own.old.counts }
-    ensures made { (incoming : Line) (mine theirs : RunHalf) →
+    ensures made { (incoming : Line) (mine theirs : JudgeHalf) →
         StandsFor own.old incoming mine → Shows incoming theirs.sent →
         MadeIs result own.old own.new incoming incoming (Record.User event) mine theirs }
     ensures waits { NeverWaits result }

@@ -13,7 +13,7 @@ ghost use Rattle.pair_judge.specs.Lines.{Shows};
 ghost use Rattle.pair_judge.specs.Receipts.{ReceiptIs, is_damage};
 
 use crate::end::Station;
-use crate::held::Held;
+use crate::line_unit::LineUnit;
 use crate::line::Line;
 use ddcmp_msg::{Reading, read_unit};
 use ddcmp_station::{Arrival, StationFault};
@@ -76,7 +76,7 @@ pub fn receive(
 
 // What comes with these bytes for this unit: its message, or damage; or nothing that can come of it. Only bytes that read
 // as sound can be the unit's own.
-fn coming<'a>(unit: &Held, bytes: &'a [u8]) -> Option<Arrival<'a>>
+fn coming<'a>(unit: &LineUnit, bytes: &'a [u8]) -> Option<Arrival<'a>>
     ensures coming { option_map arrival_view result ≡ line.coming unit.now bytes.now }
     ensures damage { IfSome result (λ arrival. is_damage (arrival_view arrival) ≡ shows_damage (reading bytes.now)) }
 {

@@ -9,7 +9,7 @@ ghost use Rattle.pair_judge.specs.Receipts.{node_at, IfRefused};
 ghost use Rattle.pair_judge.specs.Unit.{unit_of, IsSoundReading};
 
 use crate::end::Station;
-use crate::held::Held;
+use crate::line_unit::LineUnit;
 use crate::line::Line;
 use capture::Bytes;
 use ddcmp_msg::{Reading, read_unit};
@@ -43,7 +43,7 @@ pub fn send(station: &mut Station, line: &mut Line, bytes: Bytes) -> Result<(), 
         Ok(tag) => tag,
         Err(fault) => return Err(fault),
     };
-    line.push(Held::new(bytes, tag))
+    line.push(LineUnit::new(bytes, tag))
         .map_err(|_| SendFault::OutOfMemory)
 }
 

@@ -12,7 +12,7 @@ ghost use Rattle.pair_judge.specs.Faulty.{IsJudgeFault, side_fault_of};
 ghost use Rattle.pair_judge.specs.Summary.{HasRoom};
 ghost use Rattle.pair_judge.specs.Reached.{IsUnderWay, TurnIs};
 
-use crate::captures::{Running, endings};
+use crate::captures::{JudgeNodes, endings};
 use crate::course::{Advance, Ahead, Course, CourseFault};
 use crate::fault::{JudgeFault, TextFault};
 use dna_model::{Cause, Finding};
@@ -54,7 +54,7 @@ pub fn turn<R: Read, S: Read>(
     ensures faults_b { OnOk result (tally_faults reader_b.new ≡ tally_faults reader_b.old) }
 {
     endings();
-    reading_on::<Running>();
+    reading_on::<JudgeNodes>();
     match a.advance(&mut b.end.line, reader_a) {
         Ok(Advance::Made) => Ok(None),
         Ok(Advance::Fails(refusal)) => Ok(Some(refused(Side::A, a, Cause::Step(refusal)))),
@@ -89,7 +89,7 @@ fn blocked_turn<S: Read>(
     ensures faults { OnOk result (tally_faults reader_b.new ≡ tally_faults reader_b.old) }
 {
     endings();
-    reading_on::<Running>();
+    reading_on::<JudgeNodes>();
     match b.advance(&mut a.end.line, reader_b) {
         Ok(Advance::Made) => Ok(None),
         Ok(Advance::Fails(refusal)) => Ok(Some(refused(Side::B, b, Cause::Step(refusal)))),
@@ -124,7 +124,7 @@ fn ended_turn<S: Read>(
     ensures faults { OnOk result (tally_faults reader_b.new ≡ tally_faults reader_b.old) }
 {
     endings();
-    reading_on::<Running>();
+    reading_on::<JudgeNodes>();
     match b.advance(&mut a.end.line, reader_b) {
         Ok(Advance::Made) => Ok(None),
         Ok(Advance::Fails(refusal)) => Ok(Some(refused(Side::B, b, Cause::Step(refusal)))),

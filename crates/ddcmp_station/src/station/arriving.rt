@@ -13,12 +13,12 @@ ghost use Rattle.ddcmp_station.specs.Arrival.{arrival_view};
 ghost use Rattle.ddcmp_station.specs.Fault.{IsRefused};
 
 use super::Station;
-use crate::{Arrival, Held, StationFault};
+use crate::{Arrival, HeldPacket, StationFault};
 use ddcmp_msg::{Message, NakReason};
 use dna_model::{State, StationRefusal, Tag};
 use wire_base::Window;
 
-impl<T: Copy, W: Window<Held<T>, 256>> Station<T, W> {
+impl<T: Copy, W: Window<HeldPacket<T>, 256>> Station<T, W> {
     /// This came, and the node kept its packet or did not (DDCMP 4.1, startup state table, data transfer). The answer is the
     /// packet that was taken, if one was. The counts that the station keeps are together below 2^63. Takes no memory.
     ///
@@ -105,21 +105,21 @@ impl<T: Copy, W: Window<Held<T>, 256>> Station<T, W> {
     {
         let fresh = is_period(tag.partner, self.period);
         let of_pair = is_period(self.partner, tag.period) && fresh;
-        crosses_in(self.kept.state(), message, fresh, of_pair)
+        crosses_in(self.variables.state(), message, fresh, of_pair)
     }
 
     // Whether the packet of a message can be taken: data with the next number, where data is acted on.
     fn takes(&self, message: &Message) -> bool
-        ensures { result ≡ wire_takes_in self.now.kept.state self.now.kept (view message.now) }
+        ensures { result ≡ wire_takes_in self.now.variables.state self.now.variables (view message.now) }
     {
-        match self.kept.state() {
+        match self.variables.state() {
             State::Halted | State::Istrt => false,
             State::Astrt => match message {
-                Message::Data { resp: 0, num, .. } => self.kept.is_next(*num),
+                Message::Data { resp: 0, num, .. } => self.variables.is_next(*num),
                 _ => false,
             },
             State::Running => match message {
-                Message::Data { num, .. } => self.kept.is_next(*num),
+                Message::Data { num, .. } => self.variables.is_next(*num),
                 _ => false,
             },
         }
@@ -131,17 +131,17 @@ impl<T: Copy, W: Window<Held<T>, 256>> Station<T, W> {
     fn take_step(&mut self, message: &Message, from: u64, kept: bool)
         requires { load self.old < 2 ^ 63 }
         ensures load { load self.new ≤ load self.old + 1 }
-        ensures step { self.new ≡ wire_arrived_in self.old.kept.state self.old (view message.now) from kept }
+        ensures step { self.new ≡ wire_arrived_in self.old.variables.state self.old (view message.now) from kept }
     {
-        match self.kept.state() {
+        match self.variables.state() {
             State::Halted => {}
             State::Istrt => match message {
                 Message::Strt { .. } => {
-                    self.kept.go_to(State::Astrt);
+                    self.variables.go_to(State::Astrt);
                     self.partner = Some(from);
                 }
                 Message::Stack { .. } => {
-                    self.kept.go_to(State::Running);
+                    self.variables.go_to(State::Running);
                     self.partner = Some(from);
                 }
                 _ => {}
@@ -149,26 +149,26 @@ impl<T: Copy, W: Window<Held<T>, 256>> Station<T, W> {
             State::Astrt => match message {
                 Message::Strt { .. } => self.partner = Some(from),
                 Message::Stack { .. } => {
-                    self.kept.go_to(State::Running);
+                    self.variables.go_to(State::Running);
                     self.partner = Some(from);
                 }
-                Message::Ack { resp: 0, .. } => self.kept.go_to(State::Running),
+                Message::Ack { resp: 0, .. } => self.variables.go_to(State::Running),
                 Message::Data { resp: 0, num, .. } => {
-                    self.kept.go_to(State::Running);
+                    self.variables.go_to(State::Running);
                     self.receive_data(0, *num, kept);
                 }
                 _ => {}
             },
             State::Running => match message {
-                Message::Strt { .. } => self.kept.go_to(State::Halted),
+                Message::Strt { .. } => self.variables.go_to(State::Halted),
                 Message::Stack { .. } => {}
-                Message::Ack { resp, .. } => self.kept.respond(*resp),
+                Message::Ack { resp, .. } => self.variables.respond(*resp),
                 Message::Nak { resp, .. } => {
-                    self.kept.respond(*resp);
-                    self.kept.set_back();
+                    self.variables.respond(*resp);
+                    self.variables.set_back();
                 }
                 Message::Rep { num, .. } => {
-                    if !self.kept.is_received(*num) {
+                    if !self.variables.is_received(*num) {
                         self.causes.add(NakReason::RepResponse);
                     }
                 }
@@ -183,13 +183,13 @@ impl<T: Copy, W: Window<Held<T>, 256>> Station<T, W> {
         ensures load { load self.new ≤ load self.old + 1 }
         ensures step { self.new ≡ wire_data_arrived self.old resp num kept }
     {
-        let next = self.kept.is_next(num);
-        self.kept.respond(resp);
+        let next = self.variables.is_next(num);
+        self.variables.respond(resp);
         if !next {
             return;
         }
         if kept {
-            self.kept.receive();
+            self.variables.receive();
         } else {
             self.causes.add(NakReason::NoBuffer);
         }
@@ -203,7 +203,7 @@ impl<T: Copy, W: Window<Held<T>, 256>> Station<T, W> {
     ) -> Result<Option<&'a [u8]>, StationFault>
         requires { load self.old < 2 ^ 63 }
         ensures allowed { OnOk result (keep_refusal false kept ≡ None) }
-        ensures ok { OnOk result (self.new ≡ wire_damaged_in self.old.kept.state reason self.old) }
+        ensures ok { OnOk result (self.new ≡ wire_damaged_in self.old.variables.state reason self.old) }
         ensures taken { IfOk result (λ taken. taken ≡ None) }
         ensures refused { IfErr result (λ fault. IsRefused (keep_refusal false kept) fault) }
         ensures alone { IfErr result (λ fault. fault ≡ StationFault.Refused StationRefusal.WrongKeep) }
@@ -213,7 +213,7 @@ impl<T: Copy, W: Window<Held<T>, 256>> Station<T, W> {
         if kept {
             return Err(StationFault::Refused(StationRefusal::WrongKeep));
         }
-        if let State::Running = self.kept.state() {
+        if let State::Running = self.variables.state() {
             self.causes.add(reason);
         }
         Ok(None)

@@ -5,7 +5,7 @@ use Rattle.std.proofs.lemmas.Option.{slice_get_within}
 use Rattle.ddcmp_station.specs.Arrival.{arrival_view}
 use Rattle.dna_model.specs.WireStation.{wire_after_arrival}
 use Rattle.dna_model.specs.Line.{coming}
-use Rattle.pair_judge.specs.Wire.{RunNode}
+use Rattle.pair_judge.specs.Wire.{JudgeNode}
 use Rattle.ddcmp_msg.specs.Reading.{reading}
 use Rattle.pair_judge.specs.Counting.{shows_damage}
 use Rattle.pair_judge.specs.Receipts.{node_of}
@@ -40,7 +40,7 @@ returns-in-Ok-clause-receipt c = λ sent shows.
     let arrival = arrival_view c.in-Some-coming.arrival in
     let was_sent : slice_get sent c.args.hint ≡ Some unit = sym (ap option_copied (sym c.in-Some.is) ∙ c.unit.ensures ∙ held_at c.args.line.now sent c.args.hint shows c.if-hint-line.false) in
     let comes : Some arrival ≡ coming unit c.args.bytes.now = ap (option_map arrival_view) (sym c.in-Some-coming.is) ∙ c.coming.ensures.coming in
-    let after : RunNode = node_of c.arrived.new.self c.release.new.self in
+    let after : JudgeNode = node_of c.arrived.new.self c.release.new.self in
     let stepped : record { station = wire_after_arrival n.station arrival c.args.kept; front = c.args.hint + 1 } ≡ after = cc (sym c.in-Ok.ensures.ok, sym c.release.ensures.gone) in
     let damaged : c.is_damaged-damaged.result ≡ shows_damage (reading c.args.bytes.now) = c.is_damaged-damaged.ensures ∙ c.in-Some-coming.ensures.damage in (
       record {

@@ -1,7 +1,7 @@
 use Rattle.std.proofs.Common.{◌≡◌, [], ◌∷◌, ◌++◌, length, refl, ◌∙◌, arith, length-append}
 use Rattle.wire_base.specs.declared.side.Side.TheVariants.{B}
 use Rattle.dna_model.specs.declared.finding.Cause.TheVariants.{Step, NoSuchUnit}
-use Rattle.pair_judge.specs.Wire.{run_start}
+use Rattle.pair_judge.specs.Wire.{judge_start}
 use Rattle.pair_judge.proofs.Turns.{reached_by_b, reached_still, same_end, next_place}
 use Rattle.pair_judge.proofs.Found.{at_place, b_fails, b_waits, both_ended}
 use Rattle.pair_judge.proofs.turn.ended_turn.Goals as goal
@@ -12,7 +12,7 @@ returns-in-Ok-Made-clause-turn g c = λ text_a text_b come_a made_a made_b under
     let m = advanced text_b made_b under.read_b in
     let h = under.reached in
     let made = m.made_it h.world.b h.world.a h.stands_b h.stands_a.sent in
-    let run = c.reading_on.ensures.of_b run_start h.world made.next m.next made_a made_b h.run made.step_is in
+    let run = c.reading_on.ensures.of_b judge_start h.world made.next m.next made_a made_b h.run made.step_is in
     record {
       made_a = made_a;
       made_b = made_b ++ m.next ∷ [];

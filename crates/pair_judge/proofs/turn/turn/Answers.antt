@@ -5,7 +5,7 @@ use Rattle.wire_base.specs.declared.side.Side.TheVariants.{A}
 use Rattle.capture.specs.Lines.{to_come}
 use Rattle.capture.specs.Reader.{CaptureState}
 use Rattle.dna_model.specs.declared.finding.Cause.TheVariants.{Step}
-use Rattle.pair_judge.specs.Wire.{run_start}
+use Rattle.pair_judge.specs.Wire.{judge_start}
 use Rattle.pair_judge.specs.Reached.{TurnIs}
 use Rattle.pair_judge.proofs.Turns.{reached_by_a, reached_still, same_end, next_place, held_up}
 use Rattle.pair_judge.proofs.Found.{at_place, a_fails}
@@ -17,7 +17,7 @@ returns-in-Ok-Made-clause-turn g c = λ text_a text_b made_a made_b under.
     let m = advanced text_a made_a under.read_a in
     let h = under.reached in
     let made = m.made_it h.world.a h.world.b h.stands_a h.stands_b.sent in
-    let run = c.reading_on.ensures.of_a run_start h.world made.next m.next made_a made_b h.run made.step_is in
+    let run = c.reading_on.ensures.of_a judge_start h.world made.next m.next made_a made_b h.run made.step_is in
     record {
       made_a = made_a ++ m.next ∷ [];
       made_b = made_b;

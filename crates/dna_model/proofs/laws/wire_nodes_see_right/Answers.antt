@@ -6,7 +6,7 @@ use Rattle.dna_model.specs.Pair.{pair, start}
 use Rattle.dna_model.specs.WireNode.{WireNode, WireUnit, wire_step, wire_pair, seen}
 use Rattle.dna_model.proofs.RunBounds.{sound_property, start_sound, sound_kept, sound_bounded}
 use Rattle.dna_model.proofs.CutNode.{record_same}
-use Rattle.dna_model.proofs.laws.running_nodes_see_right.Goals as goal
+use Rattle.dna_model.proofs.laws.wire_nodes_see_right.Goals as goal
 
 module _ (L : Type 0) where
   commutes : Commutes pair (wire_pair {L = L}) seen sound_property
@@ -18,7 +18,7 @@ module _ (L : Type 0) where
 pub returns : goal.returns
 returns g c = record {
   of_true = λ w of_a of_b run. c.simulation.ensures.seen start w [] [] of_a of_b sound_kept (commutes _) start_sound run;
-  of_running = λ end of_a of_b run.
+  of_wire = λ end of_a of_b run.
       let from = c.simulation.ensures.comes_of start end [] [] of_a of_b sound_kept (commutes _) start_sound run in
       record {
         world = from.end;

@@ -7,12 +7,12 @@ use std::marker::Model;
 /// A packet that a station has given a number and that is not acknowledged: its bytes, in memory of its own, and the label
 /// that the node put beside it, if it did. A contract sees it as the record of the two.
 #[derive(Drop)]
-pub struct Held<T: Copy> {
+pub struct HeldPacket<T: Copy> {
     body: Vec<u8>,
     label: Option<T>,
 }
 
-impl<T: Copy> Model for Held<T> {
+impl<T: Copy> Model for HeldPacket<T> {
     ghost use Rattle.dna_model.specs.WireStation.{HeldPacket};
 
     ghost Value = { HeldPacket T };
@@ -20,12 +20,12 @@ impl<T: Copy> Model for Held<T> {
     ghost view = { λ h. record { body = h.body.items; label = h.label } };
 }
 
-impl<T: Copy> Held<T> {
+impl<T: Copy> HeldPacket<T> {
     /// A packet of these bytes, in the memory that they have, with no label yet. Takes no memory.
-    pub(crate) fn new(body: Vec<u8>) -> Held<T>
+    pub(crate) fn new(body: Vec<u8>) -> HeldPacket<T>
         ensures { result ≡ record { body = body.items; label = None } }
     {
-        Held { body, label: None }
+        HeldPacket { body, label: None }
     }
 
     /// Its bytes.
@@ -43,11 +43,11 @@ impl<T: Copy> Held<T> {
     }
 
     /// The same packet with this label beside it.
-    pub(crate) fn labelled(self, label: T) -> Held<T>
+    pub(crate) fn labelled(self, label: T) -> HeldPacket<T>
         ensures { result ≡ record self { label = Some label } }
     {
-        let Held { body, label: _ } = self;
-        Held {
+        let HeldPacket { body, label: _ } = self;
+        HeldPacket {
             body,
             label: Some(label),
         }

@@ -10,12 +10,12 @@ use std::marker::Model;
 /// A unit that was sent: its bytes, which are a sound message, and its tag. A contract sees it as the unit of the
 /// definitions, whose message is what its bytes say.
 #[derive(Drop)]
-pub struct Held {
+pub struct LineUnit {
     bytes: Bytes,
     tag: Tag,
 }
 
-impl Model for Held {
+impl Model for LineUnit {
     ghost use Rattle.dna_model.specs.WireNode.{WireUnit};
     ghost use Rattle.ddcmp_msg.specs.Reading.{reading};
     ghost use Rattle.pair_judge.specs.Unit.{unit_of, IsSoundReading};
@@ -27,15 +27,15 @@ impl Model for Held {
     ghost invariant = { λ u. IsSoundReading (reading u.bytes) };
 }
 
-impl Held {
+impl LineUnit {
     ghost use Rattle.pair_judge.specs.Unit.{unit_of, IsSoundReading};
 
     /// These bytes with this tag.
-    pub fn new(bytes: Bytes, tag: Tag) -> Held
+    pub fn new(bytes: Bytes, tag: Tag) -> LineUnit
         requires { IsSoundReading (reading bytes) }
         ensures { result ≡ unit_of bytes tag }
     {
-        Held { bytes, tag }
+        LineUnit { bytes, tag }
     }
 
     /// Its bytes.

@@ -6,7 +6,7 @@ use Rattle.dna_model.specs.Node.{Node}
 use Rattle.dna_model.specs.Pair.{pair}
 use Rattle.dna_model.specs.WireNode.{WireNode, WireUnit, wire_pair, seen}
 use Rattle.dna_model.proofs.RunBounds.{sound_property}
-use Rattle.dna_model.proofs.laws.running_nodes_see_right.Given as goal
+use Rattle.dna_model.proofs.laws.wire_nodes_see_right.Given as goal
 
 abbrev pub ghosts-simulation : goal.ghosts-simulation
 ghosts-simulation g a = record {

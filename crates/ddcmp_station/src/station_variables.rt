@@ -3,9 +3,9 @@
 ghost use Rattle.std.specs.Prelude.{◌≡◌, ◌+◌, ◌<◌, ◌≤◌, ◌==◌, ◌&&◌, ◌++◌, ◌∷◌, [], true, not, nat_lt, nat_le, length, slice_get, option_and_then, None, IfOk, OnOk, OnErr};
 ghost use Rattle.dna_model.specs.Station.{wire};
 ghost use Rattle.dna_model.specs.Sending.{WINDOW};
-ghost use Rattle.dna_model.specs.WireStation.{HeldPacket, none_kept, with_label, with_new, is_held_packet, wire_is_next, wire_is_new, acknowledges, wire_acknowledged_by};
+ghost use Rattle.dna_model.specs.WireStation.{HeldPacket, no_numbers, with_label, with_new, is_held_packet, wire_is_next, wire_is_new, acknowledges, wire_acknowledged_by};
 
-use crate::Held;
+use crate::HeldPacket;
 use dna_model::State;
 use std::alloc::{AllocError, Global};
 use std::marker::{Model, PhantomData};
@@ -16,7 +16,7 @@ const MOST: u16 = 255;
 
 /// The state of a station, its numbers modulo 256, and the packets that are not acknowledged.
 #[derive(Drop)]
-pub struct Kept<T: Copy, W: Window<Held<T>, 256>> {
+pub struct StationVariables<T: Copy, W: Window<HeldPacket<T>, 256>> {
     // where its user and the startup have brought it
     state: State,
     // the last number received in order
@@ -28,11 +28,11 @@ pub struct Kept<T: Copy, W: Window<Held<T>, 256>> {
     label: PhantomData<T>,
 }
 
-impl<T: Copy, W: Window<Held<T>, 256>> Model for Kept<T, W> {
+impl<T: Copy, W: Window<HeldPacket<T>, 256>> Model for StationVariables<T, W> {
     ghost use Rattle.std.specs.Prelude.{◌≡◌, ◌≤◌, length};
-    ghost use Rattle.dna_model.specs.WireStation.{Kept};
+    ghost use Rattle.dna_model.specs.WireStation.{StationVariables};
 
-    ghost Value = { Kept T };
+    ghost Value = { StationVariables T };
 
     ghost view = { λ k. record {
       state = k.state;
@@ -45,12 +45,12 @@ impl<T: Copy, W: Window<Held<T>, 256>> Model for Kept<T, W> {
     ghost invariant = { λ k. ((W.window k.held).capacity ≡ 255) × (k.ahead ≤ length (W.window k.held).items) };
 }
 
-impl<T: Copy, W: Window<Held<T>, 256>> Kept<T, W> {
+impl<T: Copy, W: Window<HeldPacket<T>, 256>> StationVariables<T, W> {
     /// In this state, with no number received, given or acknowledged.
     pub fn new(alloc: Global, state: State) -> Result<Self, AllocError>
-        ensures { IfOk result (λ kept. kept ≡ none_kept state) }
+        ensures { IfOk result (λ variables. variables ≡ no_numbers state) }
     {
-        Ok(Kept {
+        Ok(StationVariables {
             state,
             received: Seq::of(0),
             ahead: 0,
@@ -151,7 +151,7 @@ impl<T: Copy, W: Window<Held<T>, 256>> Kept<T, W> {
 
     /// The user starts the station: nothing is received, given or acknowledged, and all packets are dropped. Takes no memory.
     pub fn start(&mut self)
-        ensures { self.new ≡ none_kept State.Istrt }
+        ensures { self.new ≡ no_numbers State.Istrt }
     {
         self.state = State::Istrt;
         self.received = Seq::of(0);
@@ -206,7 +206,7 @@ impl<T: Copy, W: Window<Held<T>, 256>> Kept<T, W> {
     }
 
     /// A new packet is sent: it gets the next number. Where its memory is refused nothing changes.
-    pub fn send_new(&mut self, packet: Held<T>) -> Result<(), AllocError>
+    pub fn send_new(&mut self, packet: HeldPacket<T>) -> Result<(), AllocError>
         requires new { wire_is_new self.old ≡ true }
         requires room { length self.old.held < 255 }
         ensures ok { OnOk result (self.new ≡ record self.old { ahead = self.old.ahead + 1; held = self.old.held ++ packet ∷ [] }) }
@@ -229,7 +229,7 @@ impl<T: Copy, W: Window<Held<T>, 256>> Kept<T, W> {
         ensures { self.new ≡ record self.old { held = with_label self.old.held label } }
     {
         let newest = self.held.len() - 1;
-        let Ok(packet) = self.held.replace(newest, Held::new(Vec::new(alloc))) else {
+        let Ok(packet) = self.held.replace(newest, HeldPacket::new(Vec::new(alloc))) else {
             unreachable!();
         };
         let Ok(_) = self.held.replace(newest, packet.labelled(label)) else {
