@@ -139,8 +139,8 @@ module _ {L : Type 0} where
   module _ (own other : Half Node SentUnit) (bounded : IsBounded own other) where
     -- the node steps and sends nothing
     stepped_same : (t : Station) (front : ℕ) (w : WireStation L) → station_seen t ≡ w →
-        ◌≡◌ {A = Outcome (WireNode L) WireUnit StepRefusal} (Made (stepped (cut_half (seen {L = L}) own) (record { station = w; front = front }))) (view_outcome (Made (stepped own (record { station = t; front = front }))))
-    stepped_same t front w same = ap (λ (x : WireStation L). Made (stepped (cut_half (seen {L = L}) own) (record { station = x; front = front }))) (sym same)
+        ◌≡◌ {A = Outcome (WireNode L) WireUnit StepRefusal} (Made (stepped (cut_half (seen {L = L}) own) (record { head = own.state.head; station = w; front = front }))) (view_outcome (Made (stepped own (record own.state { station = t; front = front }))))
+    stepped_same t front w same = ap (λ (x : WireStation L). Made (stepped (cut_half (seen {L = L}) own) (record { head = own.state.head; station = x; front = front }))) (sym same)
 
     does_same : (event : StationEvent) (o : Option StationRefusal) → answered (cut_half (seen {L = L}) own) (cut_half (seen {L = L}) other) (wire_does (cut_node own.state) event o) ≡ view_outcome (answered own other (does own.state event o))
     does_same event None = stepped_same (after_event own.state.station event) own.state.front (wire_after_event (station_seen own.state.station) event) (seen_event own.state.station event)
@@ -153,7 +153,7 @@ module _ {L : Type 0} where
 
     sends_same : (bytes : List ℕ) (m : MessageValue) (o : Option StationRefusal) → answered (cut_half (seen {L = L}) own) (cut_half (seen {L = L}) other) (wire_sends (cut_node own.state) bytes m o) ≡ view_outcome (answered own other (sends own.state bytes m o))
     sends_same bytes m None =
-        ap₂ (λ (x : WireStation L) (units : List WireUnit). Made (record { state = record { station = x; front = own.state.front }; sent = units }))
+        ap₂ (λ (x : WireStation L) (units : List WireUnit). Made (record { state = record { head = own.state.head; station = x; front = own.state.front }; sent = units }))
         (sym (seen_sending own.state.station m bounded.ordered))
         (sym (map-append cut_unit own.sent (record { bytes = bytes; message = m; known = truth_of own.state.station m } ∷ [])))
     sends_same bytes m (Some refusal) = refl

@@ -9,6 +9,7 @@ use Rattle.ddcmp_msg.specs.Reading.{reading}
 use Rattle.ddcmp_msg.specs.Reading as read_as
 use Rattle.capture.specs.declared.record.Record.{Record}
 use Rattle.capture.specs.declared.record.Record.TheVariants.{Received}
+use Rattle.dna_model.specs.declared.head.Head.{Head}
 use Rattle.dna_model.specs.declared.state.StationEvent.TheVariants.{Start, Halt}
 use Rattle.dna_model.specs.Station.{Station, PastPeriod, past, after_event}
 use Rattle.dna_model.specs.Delivery.{periods, taken_by_period, packet_in, in_last, with_period, delivered_by, delivered}
@@ -124,5 +125,5 @@ captured_kept = record {
   };
 }
 
-pub start_captured : BothCaptured start [] []
-start_captured = record { both = start_delivers; a_took = refl; b_took = refl }
+pub start_captured : (head_a head_b : Head) → BothCaptured (start head_a head_b) [] []
+start_captured head_a head_b = record { both = start_delivers head_a head_b; a_took = refl; b_took = refl }

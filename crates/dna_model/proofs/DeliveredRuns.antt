@@ -7,13 +7,14 @@ use Rattle.two_nodes.specs.Nodes.{Half, World}
 use Rattle.two_nodes.specs.Kept.{IsKept}
 use Rattle.ddcmp_msg.specs.Message.{MessageValue, Data}
 use Rattle.capture.specs.declared.record.Record.{Record}
-use Rattle.dna_model.specs.Station.{Station, PastPeriod, past}
+use Rattle.dna_model.specs.declared.head.Head.{Head}
+use Rattle.dna_model.specs.Station.{Station, PastPeriod, new_station, past}
 use Rattle.dna_model.specs.Delivery.{periods, BeginsWith, IsDelivered, DeliversFrom}
 use Rattle.dna_model.specs.Periods.{crossed}
 use Rattle.dna_model.specs.Truth.{Truth}
 use Rattle.dna_model.specs.Arriving.{after_arrival}
 use Rattle.dna_model.specs.Line.{SentUnit}
-use Rattle.dna_model.specs.Node.{Node, new_node}
+use Rattle.dna_model.specs.Node.{Node}
 use Rattle.dna_model.specs.Pair.{pair, start}
 use Rattle.dna_model.proofs.Happens.{Happens, Nothing, UserEvent, Sending, Receipt, happens}
 use Rattle.dna_model.proofs.NumberedSteps.{at_pushed}
@@ -142,14 +143,14 @@ delivery_kept = record {
       };
 }
 
-new_offers : Offers new_node.station []
+new_offers : Offers new_station []
 new_offers = record { count = refl; taken_count = refl; offered = λ i u at. absurd cc }
 
-new_delivers : Delivers new_node.station (periods new_node.station)
+new_delivers : Delivers new_station (periods new_station)
 new_delivers = record { earlier = λ q x at. absurd cc; present = refl }
 
-pub start_delivers : BothDeliver start
-start_delivers = record { sound = start_sound; a_offers = new_offers; b_offers = new_offers; a_delivers = new_delivers; b_delivers = new_delivers }
+pub start_delivers : (head_a head_b : Head) → BothDeliver (start head_a head_b)
+start_delivers head_a head_b = record { sound = start_sound head_a head_b; a_offers = new_offers; b_offers = new_offers; a_delivers = new_delivers; b_delivers = new_delivers }
 
 -- in all periods, the present one among them
 pub delivers_from : (own other : Station) → Delivers own (periods other) → DeliversFrom own other

@@ -45,7 +45,7 @@ pub data Happens (rule : PeriodRule) (own other : Half Node SentUnit) : Record �
       Happens rule own other (Sent bytes) (stepped_sending own (record own.state { station = after_sending own.state.station m }) (record { bytes = bytes; message = m; known = truth_of own.state.station m }))
   Receipt : (hint : ℕ) (kept : Bool) (bytes : List ℕ) (unit : SentUnit) (arrival : ArrivalValue Truth) → slice_get other.sent hint ≡ Some unit → own.state.front ≤ hint → ComesOf unit bytes arrival →
       arrival_refusal rule own.state.station arrival kept ≡ None →
-      Happens rule own other (Received hint kept bytes) (stepped own (record { station = after_arrival own.state.station arrival kept; front = hint + 1 }))
+      Happens rule own other (Received hint kept bytes) (stepped own (record own.state { station = after_arrival own.state.station arrival kept; front = hint + 1 }))
 
 module _ (rule : PeriodRule) (own other h : Half Node SentUnit) where
   left : (r : Record) (g : Half Node SentUnit) → Happens rule own other r g → ◌≡◌ {A = Outcome Node SentUnit StepRefusal} (Made g) (Made h) → Happens rule own other r h

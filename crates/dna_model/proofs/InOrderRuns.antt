@@ -7,8 +7,9 @@ use Rattle.two_nodes.specs.Kept.{IsKept}
 use Rattle.two_nodes.proofs.Order.{slice_get-append}
 use Rattle.ddcmp_msg.specs.Message.{MessageValue, Data, Ack, Nak, Rep, Strt, Stack}
 use Rattle.capture.specs.declared.record.Record.{Record}
+use Rattle.dna_model.specs.declared.head.Head.{Head}
 use Rattle.dna_model.specs.declared.state.StationEvent.TheVariants.{Start, Halt}
-use Rattle.dna_model.specs.Station.{Station, past, all_given}
+use Rattle.dna_model.specs.Station.{Station, new_station, past, all_given}
 use Rattle.dna_model.specs.Delivery.{AreAmong, all_taken}
 use Rattle.dna_model.specs.Periods.{crossed}
 use Rattle.dna_model.specs.Sending.{after_sending}
@@ -111,17 +112,17 @@ order_kept = record {
       };
 }
 
-new_takes : TakesInOrder new_node.station [] 0
+new_takes : TakesInOrder new_station [] 0
 new_takes = record {
-  from = all_from [] (past new_node.station) [] 0 (λ q x at. absurd cc) (λ q r x y less at_q at_r. absurd cc) (inl refl) (λ q x at. absurd cc);
-  rising = all_rising [] (past new_node.station) [] 0 (λ q x at. absurd cc) (λ q r x y less at_q at_r. absurd cc) (inl refl) (λ q x at. absurd cc);
+  from = all_from [] (past new_station) [] 0 (λ q x at. absurd cc) (λ q r x y less at_q at_r. absurd cc) (inl refl) (λ q x at. absurd cc);
+  rising = all_rising [] (past new_station) [] 0 (λ q x at. absurd cc) (λ q r x y less at_q at_r. absurd cc) (inl refl) (λ q x at. absurd cc);
 }
 
-new_order : OwnOrder new_node [] []
-new_order = record { partnered = new_partnered new_node.station; takes = new_takes }
+new_order : (head : Head) → OwnOrder (new_node head) [] []
+new_order head = record { partnered = new_partnered new_station; takes = new_takes }
 
-pub start_order : BothInOrder start [] []
-start_order = record { captured = start_captured; a_order = new_order; b_order = new_order }
+pub start_order : (head_a head_b : Head) → BothInOrder (start head_a head_b) [] []
+start_order head_a head_b = record { captured = start_captured head_a head_b; a_order = new_order head_a; b_order = new_order head_b }
 
 pub a_among : (w : World Node SentUnit) (of_a of_b : List Record) → BothInOrder w of_a of_b → AreAmong (all_taken w.a.state.station) (all_given w.b.state.station)
 a_among w of_a of_b h = taken_among_given w.a.state.station w.b.state.station (delivers_from w.a.state.station w.b.state.station h.captured.both.a_delivers) h.a_order.takes.rising

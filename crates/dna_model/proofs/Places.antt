@@ -7,6 +7,7 @@ use Rattle.two_nodes.specs.Kept.{IsKept}
 use Rattle.two_nodes.proofs.Order.{slice_get-append}
 use Rattle.ddcmp_msg.specs.Message.{MessageValue, Data, Ack, Nak, Rep, Strt, Stack}
 use Rattle.capture.specs.declared.record.Record.{Record}
+use Rattle.dna_model.specs.declared.head.Head.{Head}
 use Rattle.dna_model.specs.declared.state.State.{State}
 use Rattle.dna_model.specs.declared.state.State.TheVariants.{Halted, Istrt, Astrt, Running}
 use Rattle.dna_model.specs.declared.state.StationEvent.TheVariants.{Start, Halt}
@@ -127,5 +128,5 @@ places_kept = record {
   };
 }
 
-pub start_at_places : BothAtPlaces start
-start_at_places = record { sound = start_sound; of_a = λ i unit at. absurd cc; of_b = λ i unit at. absurd cc }
+pub start_at_places : (head_a head_b : Head) → BothAtPlaces (start head_a head_b)
+start_at_places head_a head_b = record { sound = start_sound head_a head_b; of_a = λ i unit at. absurd cc; of_b = λ i unit at. absurd cc }

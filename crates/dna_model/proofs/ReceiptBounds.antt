@@ -243,7 +243,7 @@ module _ (n : Node) (own other : List SentUnit) (h : IsSound n own other) (their
   arrival_met bytes HeaderBad kept BadHeader allowed = damaged_met n.station.state HeaderCheck refl
   arrival_met bytes DataBad kept BadData allowed = damaged_met n.station.state DataCheck refl
 
-  pub sound_receipt : (bytes : List ℕ) (arrival : ArrivalValue Truth) (kept : Bool) → ComesOf unit bytes arrival → arrival_refusal crossed n.station arrival kept ≡ None → IsSound (record { station = after_arrival n.station arrival kept; front = k + 1 }) own other
+  pub sound_receipt : (bytes : List ℕ) (arrival : ArrivalValue Truth) (kept : Bool) → ComesOf unit bytes arrival → arrival_refusal crossed n.station arrival kept ≡ None → IsSound (record n { station = after_arrival n.station arrival kept; front = k + 1 }) own other
   sound_receipt bytes arrival kept of_unit allowed =
       let m = arrival_met bytes arrival kept of_unit allowed in
       record {

@@ -3,9 +3,11 @@ use Rattle.std.proofs.Common.{List, [], refl, arith}
 use Rattle.two_nodes.specs.Nodes.{Half, World}
 use Rattle.two_nodes.specs.Kept.{IsKept}
 use Rattle.capture.specs.declared.record.Record.{Record}
+use Rattle.dna_model.specs.declared.head.Head.{Head}
 use Rattle.dna_model.specs.Periods.{crossed}
 use Rattle.dna_model.specs.Line.{SentUnit}
 use Rattle.dna_model.specs.Node.{Node, new_node}
+use Rattle.dna_model.specs.Station.{new_station}
 use Rattle.dna_model.specs.Bounds.{IsBounded}
 use Rattle.dna_model.specs.Pair.{pair, start}
 use Rattle.dna_model.proofs.Ordered.{new_ordered}
@@ -33,18 +35,18 @@ module _ (own other : Half Node SentUnit) (h : IsSound own.state own.sent other.
   sound_other r left (Sending bytes m read allowed) = sound_beside other.state other.sent own.sent (unit_of own.state.station bytes m) theirs
   sound_other r left (Receipt hint kept bytes unit arrival there ahead of_unit allowed) = theirs
 
-new_sound : IsSound new_node [] []
-new_sound = record {
+new_sound : (head : Head) → IsSound (new_node head) [] []
+new_sound head = record {
   ordered = new_ordered;
   none = λ e. absurd cc;
   met = omega arith;
   told = λ i u at. absurd cc;
   messages = none_numbered view limits [];
-  present = present_new view limits [] [] 0 (numbers_of new_node.station) refl refl (omega arith) (λ i u at same. absurd cc);
+  present = present_new view limits [] [] 0 (numbers_of new_station) refl refl (omega arith) (λ i u at same. absurd cc);
 }
 
-pub start_sound : BothSound start
-start_sound = record { of_a = new_sound; of_b = new_sound }
+pub start_sound : (head_a head_b : Head) → BothSound (start head_a head_b)
+start_sound head_a head_b = record { of_a = new_sound head_a; of_b = new_sound head_b }
 
 abbrev pub sound_property : World Node SentUnit → List Record → List Record → Type 0
 sound_property w of_a of_b = BothSound w

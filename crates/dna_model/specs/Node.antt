@@ -9,6 +9,7 @@ use Rattle.capture.specs.declared.record.Record.{Record}
 use Rattle.capture.specs.declared.record.Record.TheVariants.{Sent, Received, User}
 use Rattle.capture.specs.declared.event.Event.{Event}
 use Rattle.capture.specs.declared.event.Event.TheVariants as events
+use Rattle.dna_model.specs.declared.head.Head.{Head}
 use Rattle.dna_model.specs.declared.state.StationEvent.{StationEvent}
 use Rattle.dna_model.specs.declared.state.StationEvent.TheVariants.{Start, Halt}
 use Rattle.dna_model.specs.declared.refusal.StationRefusal.{StationRefusal}
@@ -22,12 +23,14 @@ use Rattle.dna_model.specs.Arriving.{ArrivalValue, arrival_refusal, after_arriva
 use Rattle.dna_model.specs.Line.{SentUnit, coming}
 
 pub record Node : Type 0 where
+  -- the addresses in the head of its capture. Nothing goes by them until links are judged
+  pub head : Head
   pub station : Station
   -- the other side's first unit that may still come: one more than the last hint received, and 0 before any
   pub front : ℕ
 
-abbrev pub new_node : Node
-new_node = record { station = new_station; front = 0 }
+abbrev pub new_node : Head → Node
+new_node head = record { head = head; station = new_station; front = 0 }
 
 abbrev pub NodeAnswer : Type 0
 NodeAnswer = Answer Node SentUnit StepRefusal
@@ -58,7 +61,7 @@ sent_step n bytes read = Refuses NotAMessage
 
 -- what comes is met by the station, and the front goes past the unit
 abbrev pub met : Node → ℕ → ArrivalValue Truth → Bool → Option StationRefusal → Result Node StepRefusal
-met n hint arrival kept None = Ok (record { station = after_arrival n.station arrival kept; front = hint + 1 })
+met n hint arrival kept None = Ok (record n { station = after_arrival n.station arrival kept; front = hint + 1 })
 met n hint arrival kept (Some refusal) = Err (OfStation refusal)
 
 abbrev pub comes : PeriodRule → Node → ℕ → Bool → Option (ArrivalValue Truth) → Result Node StepRefusal

@@ -4,6 +4,7 @@ use Rattle.two_nodes.specs.Nodes.{Nodes, World, start_world}
 use Rattle.two_nodes.specs.Nodes as any
 use Rattle.capture.specs.declared.record.Record.{Record}
 use Rattle.capture.specs.declared.record.Record.TheVariants.{Sent, Received, User}
+use Rattle.dna_model.specs.declared.head.Head.{Head}
 use Rattle.dna_model.specs.declared.refusal.StepRefusal.{StepRefusal}
 use Rattle.dna_model.specs.Periods.{crossed}
 use Rattle.dna_model.specs.Line.{SentUnit}
@@ -25,9 +26,10 @@ is_sent (User event) = false
 abbrev pub pair : Nodes Node Record SentUnit StepRefusal
 pair = record { node_a = step crossed; node_b = step crossed; named = named_unit; sends = is_sent }
 
-abbrev pub start : World Node SentUnit
-start = start_world new_node new_node
+-- each node begins with its own head
+abbrev pub start : (head_a head_b : Head) → World Node SentUnit
+start head_a head_b = start_world (new_node head_a) (new_node head_b)
 
 -- some order of all records of a and all of b, keeping the order of each, makes each of them
-abbrev pub IsRun : List Record → List Record → Type 0
-IsRun of_a of_b = any.IsRun pair start of_a of_b
+abbrev pub IsRun : (head_a head_b : Head) → (of_a of_b : List Record) → Type 0
+IsRun head_a head_b of_a of_b = any.IsRun pair (start head_a head_b) of_a of_b

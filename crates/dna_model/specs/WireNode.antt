@@ -10,6 +10,7 @@ use Rattle.capture.specs.declared.record.Record.{Record}
 use Rattle.capture.specs.declared.record.Record.TheVariants.{Sent, Received, User}
 use Rattle.capture.specs.declared.event.Event.{Event}
 use Rattle.capture.specs.declared.event.Event.TheVariants as events
+use Rattle.dna_model.specs.declared.head.Head.{Head}
 use Rattle.dna_model.specs.declared.tag.Tag.{Tag}
 use Rattle.dna_model.specs.declared.state.StationEvent.{StationEvent}
 use Rattle.dna_model.specs.declared.state.StationEvent.TheVariants.{Start, Halt}
@@ -26,6 +27,7 @@ use Rattle.dna_model.specs.Cut.{cut}
 use Rattle.dna_model.specs.Pair.{named_unit, is_sent}
 
 pub record WireNode (L : Type 0) : Type 0 where
+  pub head : Head
   pub station : WireStation L
   pub front : ℕ
 
@@ -34,8 +36,8 @@ abbrev pub WireUnit : Type 0
 WireUnit = UnitOf Tag
 
 module _ {L : Type 0} where
-  abbrev pub new_wire_node : WireNode L
-  new_wire_node = record { station = new_wire_station; front = 0 }
+  abbrev pub new_wire_node : Head → WireNode L
+  new_wire_node head = record { head = head; station = new_wire_station; front = 0 }
 
   abbrev pub wire_does : WireNode L → StationEvent → Option StationRefusal → Answer (WireNode L) WireUnit StepRefusal
   wire_does n event None = Goes (record n { station = wire_after_event n.station event })
@@ -58,7 +60,7 @@ module _ {L : Type 0} where
   wire_sent_step n bytes read = Refuses NotAMessage
 
   abbrev pub wire_met : WireNode L → ℕ → ArrivalValue Tag → Bool → Option StationRefusal → Result (WireNode L) StepRefusal
-  wire_met n hint arrival kept None = Ok (record { station = wire_after_arrival n.station arrival kept; front = hint + 1 })
+  wire_met n hint arrival kept None = Ok (record n { station = wire_after_arrival n.station arrival kept; front = hint + 1 })
   wire_met n hint arrival kept (Some refusal) = Err (OfStation refusal)
 
   abbrev pub wire_comes : PeriodRule → WireNode L → ℕ → Bool → Option (ArrivalValue Tag) → Result (WireNode L) StepRefusal
@@ -80,7 +82,7 @@ module _ {L : Type 0} where
   unlabelled packets = map (λ (body : List ℕ). record { body = body; label = None }) packets
 
   abbrev pub cut_node : Node → WireNode L
-  cut_node n = record { station = cut (unlabelled n.station.packets) n.station; front = n.front }
+  cut_node n = record { head = n.head; station = cut (unlabelled n.station.packets) n.station; front = n.front }
 
 abbrev pub cut_unit : SentUnit → WireUnit
 cut_unit unit = record { bytes = unit.bytes; message = unit.message; known = unit.known.tag }
@@ -94,5 +96,5 @@ module _ {L : Type 0} where
   abbrev pub wire_pair : Nodes (WireNode L) Record WireUnit StepRefusal
   wire_pair = record { node_a = wire_step crossed; node_b = wire_step crossed; named = named_unit; sends = is_sent }
 
-  abbrev pub wire_start : World (WireNode L) WireUnit
-  wire_start = start_world new_wire_node new_wire_node
+  abbrev pub wire_start : (head_a head_b : Head) → World (WireNode L) WireUnit
+  wire_start head_a head_b = start_world (new_wire_node head_a) (new_wire_node head_b)

@@ -5,12 +5,14 @@
 #![tactic(auto)]
 
 mod finding;
+mod head;
 pub mod laws;
 mod refusal;
 mod state;
 mod tag;
 
 pub use finding::{Cause, Finding};
+pub use head::Head;
 pub use laws::{
     counts_rise_by_one, cut_arrival, cut_event, cut_label, cut_record, cut_sending,
     delivered_in_order, numbers_in_order, numbers_within_bounds, packets_at_their_places,

@@ -17,9 +17,9 @@ module _ (L : Type 0) where
 
 pub returns : goal.returns
 returns g c = record {
-  of_true = λ w of_a of_b run. c.simulation.ensures.seen start w [] [] of_a of_b sound_kept (commutes _) start_sound run;
-  of_wire = λ end of_a of_b run.
-      let from = c.simulation.ensures.comes_of start end [] [] of_a of_b sound_kept (commutes _) start_sound run in
+  of_true = λ head_a head_b w of_a of_b run. c.simulation.ensures.seen (start head_a head_b) w [] [] of_a of_b sound_kept (commutes _) (start_sound head_a head_b) run;
+  of_wire = λ head_a head_b end of_a of_b run.
+      let from = c.simulation.ensures.comes_of (start head_a head_b) end [] [] of_a of_b sound_kept (commutes _) (start_sound head_a head_b) run in
       record {
         world = from.end;
         run = from.run;
