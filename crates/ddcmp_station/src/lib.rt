@@ -7,9 +7,9 @@ mod arrival;
 mod causes;
 mod fault;
 mod held_packet;
-mod station_variables;
 mod sent_as;
 mod station;
+mod station_variables;
 
 pub use arrival::Arrival;
 pub use dna_model::{State, StationEvent, StationRefusal, Tag};

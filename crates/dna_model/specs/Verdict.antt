@@ -3,7 +3,6 @@ use Rattle.std.specs.Prelude.{ℕ, List}
 use Rattle.two_nodes.specs.Nodes.{World}
 use Rattle.two_nodes.specs.Past.{Offends}
 use Rattle.two_nodes.specs.Endings.{LacksUnit, IsStuck}
-use Rattle.wire_base.specs.declared.side.Side.{Side}
 use Rattle.wire_base.specs.declared.side.Side.TheVariants.{A, B}
 use Rattle.capture.specs.declared.record.Record.{Record}
 use Rattle.dna_model.specs.declared.head.Head.{Head}

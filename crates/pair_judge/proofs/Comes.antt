@@ -51,7 +51,7 @@ receives_at n hint kept bytes unit came at_least is =
     ∙ ap (wire_comes crossed n hint kept) (sym is)
 
 -- the station goes by it
-pub comes_met : (n : JudgeNode) (hint : ℕ) (kept : Bool) (arrival : ArrivalValue Tag) → wire_arrival_refusal crossed n.station arrival kept ≡ None → wire_comes crossed n hint kept (Some arrival) ≡ Ok (record { station = wire_after_arrival n.station arrival kept; front = hint + 1 })
+pub comes_met : (n : JudgeNode) (hint : ℕ) (kept : Bool) (arrival : ArrivalValue Tag) → wire_arrival_refusal crossed n.station arrival kept ≡ None → wire_comes crossed n hint kept (Some arrival) ≡ Ok (record n { station = wire_after_arrival n.station arrival kept; front = hint + 1 })
 comes_met n hint kept arrival free = ap (wire_met n hint arrival kept) free
 
 -- the station refuses

@@ -29,8 +29,9 @@ nothing_sent line gone units = record {
   rest = units ∙ sym (subst (λ (n : ℕ). drop {A = WireUnit} n [] ≡ []) (sym gone) refl);
 }
 
-stands : (text_own text_other : Option (List ℕ)) (own other : Course) (come_own come_other : Option (List ℕ)) → OpensAt text_own own come_own → OpensAt text_other other come_other → StandsFor own.end other.end.line (record { state = new_wire_node; sent = [] })
+stands : (text_own text_other : Option (List ℕ)) (own other : Course) (come_own come_other : Option (List ℕ)) → OpensAt text_own own come_own → OpensAt text_other other come_other → StandsFor own.end other.end.line (record { state = new_wire_node own.end.head; sent = [] })
 stands text_own text_other own other come_own come_other o p = record {
+  head = refl;
   station = sym o.station;
   front = sym p.gone;
   sent = nothing_sent own.end.line o.gone o.units;
@@ -44,7 +45,7 @@ started text_a text_b a b come_a come_b o p = record {
     read_a = o.read;
     read_b = p.read;
     reached = record {
-      world = judge_start;
+      world = judge_start a.end.head b.end.head;
       run = Done;
       stands_a = stands text_a text_b a b come_a come_b o p;
       stands_b = stands text_b text_a b a come_b come_a p o;

@@ -1,5 +1,5 @@
 -- From what was read of two texts to the captures that they are.
-use Rattle.std.proofs.Common.{◌≡◌, ℕ, ◌≤◌, List, [], ◌∷◌, ◌++◌, length, Option, Some, None, refl, sym, ap, subst, ◌∙◌, arith, length-append, append-nil, append_assoc}
+use Rattle.std.proofs.Common.{◌≡◌, ℕ, ◌≤◌, List, [], ◌∷◌, ◌++◌, length, Option, Some, None, refl, sym, ap, ap₂, subst, ◌∙◌, arith, length-append, append-nil, append_assoc}
 use Rattle.std.specs.Option.{IfSome}
 use Rattle.std.specs.List.{AllByRecursion}
 use Rattle.std.proofs.lemmas.List.Sums.{count_by-le-length}
@@ -8,14 +8,18 @@ use Rattle.capture.specs.declared.record.Record.{Record}
 use Rattle.capture.specs.Text.{head_line, record_lines}
 use Rattle.capture.specs.Range.{IsNode, IsRecord, IsText}
 use Rattle.capture.specs.Reader.{CaptureState}
+use Rattle.dna_model.specs.declared.head.Head.{Head}
 use Rattle.dna_model.specs.declared.finding.Finding.{Finding}
 use Rattle.dna_model.specs.declared.finding.Finding.TheVariants.{Accepted, Refused}
+use Rattle.std.specs.Io.KnownBytes.{Consumes}
 use Rattle.two_nodes.specs.Nodes.{World, Run}
 use Rattle.dna_model.specs.Delivery.{AreAmong, DeliversFrom, all_taken, delivered, taken_by_period}
 use Rattle.dna_model.specs.Line.{SentUnit}
 use Rattle.dna_model.specs.Node.{Node}
 use Rattle.dna_model.specs.Pair.{IsRun, is_sent, pair, start}
 use Rattle.dna_model.specs.Station.{all_given}
+use Rattle.pair_judge.specs.Wire.{head_of}
+use Rattle.pair_judge.proofs.Found.{at_heads}
 use Rattle.pair_judge.specs.declared.course.Ahead.{Ahead}
 use Rattle.pair_judge.specs.declared.course.Ahead.TheVariants.{Unread, Waits, Ended}
 use Rattle.pair_judge.specs.declared.course.Course.{Course}
@@ -51,25 +55,25 @@ pub record TextLaws : Type 0 where
 
 -- the laws of what was taken in a run
 pub record RunLaws : Type 0 where
-  pub of_a : (w : World Node SentUnit) (of_a of_b : List Record) → Run pair start of_a of_b w → DeliversFrom w.a.state.station w.b.state.station
-  pub of_b : (w : World Node SentUnit) (of_a of_b : List Record) → Run pair start of_a of_b w → DeliversFrom w.b.state.station w.a.state.station
-  pub a_captured : (w : World Node SentUnit) (of_a of_b : List Record) → Run pair start of_a of_b w → delivered of_a ≡ taken_by_period w.a.state.station
-  pub b_captured : (w : World Node SentUnit) (of_a of_b : List Record) → Run pair start of_a of_b w → delivered of_b ≡ taken_by_period w.b.state.station
-  pub a_among : (w : World Node SentUnit) (of_a of_b : List Record) → Run pair start of_a of_b w → AreAmong (all_taken w.a.state.station) (all_given w.b.state.station)
-  pub b_among : (w : World Node SentUnit) (of_a of_b : List Record) → Run pair start of_a of_b w → AreAmong (all_taken w.b.state.station) (all_given w.a.state.station)
+  pub of_a : (head_a head_b : Head) (w : World Node SentUnit) (of_a of_b : List Record) → Run pair (start head_a head_b) of_a of_b w → DeliversFrom w.a.state.station w.b.state.station
+  pub of_b : (head_a head_b : Head) (w : World Node SentUnit) (of_a of_b : List Record) → Run pair (start head_a head_b) of_a of_b w → DeliversFrom w.b.state.station w.a.state.station
+  pub a_captured : (head_a head_b : Head) (w : World Node SentUnit) (of_a of_b : List Record) → Run pair (start head_a head_b) of_a of_b w → delivered of_a ≡ taken_by_period w.a.state.station
+  pub b_captured : (head_a head_b : Head) (w : World Node SentUnit) (of_a of_b : List Record) → Run pair (start head_a head_b) of_a of_b w → delivered of_b ≡ taken_by_period w.b.state.station
+  pub a_among : (head_a head_b : Head) (w : World Node SentUnit) (of_a of_b : List Record) → Run pair (start head_a head_b) of_a of_b w → AreAmong (all_taken w.a.state.station) (all_given w.b.state.station)
+  pub b_among : (head_a head_b : Head) (w : World Node SentUnit) (of_a of_b : List Record) → Run pair (start head_a head_b) of_a of_b w → AreAmong (all_taken w.b.state.station) (all_given w.a.state.station)
 
-delivers_a : (laws : RunLaws) (of_a of_b : List Record) (run : IsRun of_a of_b) → Delivers run.0.a.state.station run.0.b.state.station of_a
-delivers_a laws of_a of_b run = record {
-  in_order = laws.of_a run.0 of_a of_b run.1;
-  captured = laws.a_captured run.0 of_a of_b run.1;
-  among = laws.a_among run.0 of_a of_b run.1;
+delivers_a : (laws : RunLaws) (head_a head_b : Head) (of_a of_b : List Record) (run : IsRun head_a head_b of_a of_b) → Delivers run.0.a.state.station run.0.b.state.station of_a
+delivers_a laws head_a head_b of_a of_b run = record {
+  in_order = laws.of_a head_a head_b run.0 of_a of_b run.1;
+  captured = laws.a_captured head_a head_b run.0 of_a of_b run.1;
+  among = laws.a_among head_a head_b run.0 of_a of_b run.1;
 }
 
-delivers_b : (laws : RunLaws) (of_a of_b : List Record) (run : IsRun of_a of_b) → Delivers run.0.b.state.station run.0.a.state.station of_b
-delivers_b laws of_a of_b run = record {
-  in_order = laws.of_b run.0 of_a of_b run.1;
-  captured = laws.b_captured run.0 of_a of_b run.1;
-  among = laws.b_among run.0 of_a of_b run.1;
+delivers_b : (laws : RunLaws) (head_a head_b : Head) (of_a of_b : List Record) (run : IsRun head_a head_b of_a of_b) → Delivers run.0.b.state.station run.0.a.state.station of_b
+delivers_b laws head_a head_b of_a of_b run = record {
+  in_order = laws.of_b head_a head_b run.0 of_a of_b run.1;
+  captured = laws.b_captured head_a head_b run.0 of_a of_b run.1;
+  among = laws.b_among head_a head_b run.0 of_a of_b run.1;
 }
 
 -- a text that was read to its end
@@ -95,6 +99,20 @@ goes_on laws text capture (Waits r) come made all own peer h is_text = goes_behi
 goes_on laws text capture Ended come made all own peer h is_text =
     (laws.one own peer capture.own capture.peer all (made ++ []) text is_text (whole_text text capture come made h)).2
 
+-- a text has one head
+head_line_same : (laws : TextLaws) (text : List ℕ) (come : Option (List ℕ)) (own peer own' peer' : ℕ) (x y : List ℕ) → IsNode own → IsNode peer → IsNode own' → IsNode peer' → text ≡ head_line own peer ++ x → Consumes (Some text) come (head_line own' peer' ++ y) → ◌≡◌ {A = Head} (record { own = own; peer = peer }) (record { own = own'; peer = peer' })
+head_line_same laws text None own peer own' peer' x y a b c d is begins = absurd begins
+head_line_same laws text (Some left) own peer own' peer' x y a b c d is begins =
+    let same = laws.heads own peer own' peer' x (y ++ left) a b c d (sym is ∙ begins ∙ append_assoc (head_line own' peer') y left) in
+    ap₂ (λ (o p : ℕ). record { own = o; peer = p }) same.0 same.1
+
+pub head_same : (laws : TextLaws) (text : List ℕ) (capture : CaptureState) (ahead : Ahead) (come : Option (List ℕ)) (made all : List Record) (own peer : ℕ) → IsRead (Some text) capture ahead come made → IsText own peer all text → record { own = own; peer = peer } ≡ head_of capture
+head_same laws text capture Unread come made all own peer h is_text = head_line_same laws text come own peer capture.own capture.peer _ _ is_text.fits.own_fits is_text.fits.peer_fits h.own_fits h.peer_fits is_text.spelled h.beginning
+head_same laws text capture (Waits r) come made all own peer h is_text = head_line_same laws text come own peer capture.own capture.peer _ _ is_text.fits.own_fits is_text.fits.peer_fits h.own_fits h.peer_fits is_text.spelled h.beginning
+head_same laws text capture Ended come made all own peer h is_text =
+    let one = laws.one own peer capture.own capture.peer all (made ++ []) text is_text (whole_text text capture come made h) in
+    ap₂ (λ (o p : ℕ). record { own = o; peer = p }) one.0 one.1
+
 -- ---- what was found
 
 goes_nowhere : (ahead : Ahead) (read : List Record) → ahead ≡ Ended → GoesOn ahead read read
@@ -107,11 +125,11 @@ text_at_end : (text : List ℕ) (capture : CaptureState) (ahead : Ahead) (come :
 text_at_end text capture ahead come made is h =
     subst (λ (x : Ahead). IsText capture.own capture.peer (made ++ waiting x) text) (sym is) (whole_text text capture come made (subst (λ (x : Ahead). IsRead (Some text) capture x come made) is h))
 
-accepts : (laws : RunLaws) (text_a text_b : List ℕ) (a b : Course) (come_a come_b : Option (List ℕ)) (summary : Summary) (finding : Finding) → (f : IsFound (Some text_a) (Some text_b) a b come_a come_b finding) → summary.a ≡ a.end.counts → summary.b ≡ b.end.counts → IsRunWhere finding text_a text_b summary
-accepts laws text_a text_b a b come_a come_b summary Accepted f sum_a sum_b =
+accepts : (laws : RunLaws) (text_a text_b : List ℕ) (a b : Course) (come_a come_b : Option (List ℕ)) (summary : Summary) (finding : Finding) → (f : IsFound (Some text_a) (Some text_b) a b come_a come_b finding) → a.end.head ≡ head_of a.capture → b.end.head ≡ head_of b.capture → summary.a ≡ a.end.counts → summary.b ≡ b.end.counts → IsRunWhere finding text_a text_b summary
+accepts laws text_a text_b a b come_a come_b summary Accepted f own_a own_b sum_a sum_b =
     let of_a = f.made_a ++ waiting a.ahead in
     let of_b = f.made_b ++ waiting b.ahead in
-    let run : IsRun of_a of_b = f.verdict of_a of_b (goes_nowhere a.ahead _ f.whole.0) (goes_nowhere b.ahead _ f.whole.1) in
+    let run : IsRun (head_of a.capture) (head_of b.capture) of_a of_b = at_heads a.end.head b.end.head _ _ of_a of_b Accepted (sym own_a) (sym own_b) (f.verdict of_a of_b (goes_nowhere a.ahead _ f.whole.0) (goes_nowhere b.ahead _ f.whole.1)) in
     record {
       own_a = a.capture.own;
       peer_a = a.capture.peer;
@@ -122,21 +140,24 @@ accepts laws text_a text_b a b come_a come_b summary Accepted f sum_a sum_b =
       is_text_a = text_at_end text_a a.capture a.ahead come_a f.made_a f.whole.0 f.read_a;
       is_text_b = text_at_end text_b b.capture b.ahead come_b f.made_b f.whole.1 f.read_b;
       run = run;
-      delivers_a = delivers_a laws of_a of_b run;
-      delivers_b = delivers_b laws of_a of_b run;
+      delivers_a = delivers_a laws _ _ of_a of_b run;
+      delivers_b = delivers_b laws _ _ of_a of_b run;
       counts_a = sum_a ∙ (f.counts refl).0 ∙ ap summary_of (nothing_waits a.ahead f.made_a f.whole.0);
       counts_b = sum_b ∙ (f.counts refl).1 ∙ ap summary_of (nothing_waits b.ahead f.made_b f.whole.1);
     }
-accepts laws text_a text_b a b come_a come_b summary (Refused side place cause) f sum_a sum_b = tt
+accepts laws text_a text_b a b come_a come_b summary (Refused side place cause) f own_a own_b sum_a sum_b = tt
 
-pub found_in : (laws : TextLaws) (runs : RunLaws) (text_a text_b : List ℕ) (a b : Course) (come_a come_b : Option (List ℕ)) (summary : Summary) (finding : Finding) → IsFound (Some text_a) (Some text_b) a b come_a come_b finding → summary.a ≡ a.end.counts → summary.b ≡ b.end.counts → IsFoundIn finding summary text_a text_b
-found_in laws runs text_a text_b a b come_a come_b summary finding f sum_a sum_b = record {
-  accepted = accepts runs text_a text_b a b come_a come_b summary finding f sum_a sum_b;
-  verdict = λ own_a peer_a own_b peer_b of_a of_b is_a is_b. f.verdict of_a of_b (goes_on laws text_a a.capture a.ahead come_a f.made_a of_a own_a peer_a f.read_a is_a) (goes_on laws text_b b.capture b.ahead come_b f.made_b of_b own_b peer_b f.read_b is_b);
+pub found_in : (laws : TextLaws) (runs : RunLaws) (text_a text_b : List ℕ) (a b : Course) (come_a come_b : Option (List ℕ)) (summary : Summary) (finding : Finding) → IsFound (Some text_a) (Some text_b) a b come_a come_b finding → a.end.head ≡ head_of a.capture → b.end.head ≡ head_of b.capture → summary.a ≡ a.end.counts → summary.b ≡ b.end.counts → IsFoundIn finding summary text_a text_b
+found_in laws runs text_a text_b a b come_a come_b summary finding f own_a own_b sum_a sum_b = record {
+  accepted = accepts runs text_a text_b a b come_a come_b summary finding f own_a own_b sum_a sum_b;
+  verdict = λ addr_a peer_a addr_b peer_b of_a of_b is_a is_b.
+      let same_a = head_same laws text_a a.capture a.ahead come_a f.made_a of_a addr_a peer_a f.read_a is_a in
+      let same_b = head_same laws text_b b.capture b.ahead come_b f.made_b of_b addr_b peer_b f.read_b is_b in
+      at_heads a.end.head b.end.head _ _ of_a of_b finding (same_a ∙ sym own_a) (same_b ∙ sym own_b) (f.verdict of_a of_b (goes_on laws text_a a.capture a.ahead come_a f.made_a of_a addr_a peer_a f.read_a is_a) (goes_on laws text_b b.capture b.ahead come_b f.made_b of_b addr_b peer_b f.read_b is_b));
 }
 
 -- where the readers tell their bytes
-pub found_where : (laws : TextLaws) (runs : RunLaws) (text_a text_b : Option (List ℕ)) (a b : Course) (come_a come_b : Option (List ℕ)) (summary : Summary) (finding : Finding) → IsFound text_a text_b a b come_a come_b finding → summary.a ≡ a.end.counts → summary.b ≡ b.end.counts → IfSome text_a (λ bytes_a. IfSome text_b (λ bytes_b. IsFoundIn finding summary bytes_a bytes_b))
-found_where laws runs None text_b a b come_a come_b summary finding f sum_a sum_b = tt
-found_where laws runs (Some ta) None a b come_a come_b summary finding f sum_a sum_b = tt
-found_where laws runs (Some ta) (Some tb) a b come_a come_b summary finding f sum_a sum_b = found_in laws runs ta tb a b come_a come_b summary finding f sum_a sum_b
+pub found_where : (laws : TextLaws) (runs : RunLaws) (text_a text_b : Option (List ℕ)) (a b : Course) (come_a come_b : Option (List ℕ)) (summary : Summary) (finding : Finding) → IsFound text_a text_b a b come_a come_b finding → a.end.head ≡ head_of a.capture → b.end.head ≡ head_of b.capture → summary.a ≡ a.end.counts → summary.b ≡ b.end.counts → IfSome text_a (λ bytes_a. IfSome text_b (λ bytes_b. IsFoundIn finding summary bytes_a bytes_b))
+found_where laws runs None text_b a b come_a come_b summary finding f own_a own_b sum_a sum_b = tt
+found_where laws runs (Some ta) None a b come_a come_b summary finding f own_a own_b sum_a sum_b = tt
+found_where laws runs (Some ta) (Some tb) a b come_a come_b summary finding f own_a own_b sum_a sum_b = found_in laws runs ta tb a b come_a come_b summary finding f own_a own_b sum_a sum_b

@@ -20,7 +20,7 @@ use Rattle.pair_judge.specs.declared.course.Course.{Course}
 use Rattle.pair_judge.specs.declared.course.Advance.{Advance}
 use Rattle.pair_judge.specs.declared.course.Advance.TheVariants as answers
 use Rattle.pair_judge.specs.Lines.{Shows}
-use Rattle.pair_judge.specs.Wire.{JudgeHalf}
+use Rattle.pair_judge.specs.Wire.{JudgeHalf, head_of}
 use Rattle.pair_judge.specs.Making.{StandsFor, IsMade}
 
 -- the reader has not failed, and has not come to the end unseen
@@ -29,8 +29,10 @@ MayReadAhead Ended capture = Unit {0}
 MayReadAhead (Waits r) capture = (capture.phase ≡ Reading) × NumbersFit r
 MayReadAhead Unread capture = capture.phase ≡ Reading
 
-abbrev pub MayRead : Course → Type 0
-MayRead course = MayReadAhead course.ahead course.capture
+pub record MayRead (course : Course) : Type 0 where
+  pub ahead : MayReadAhead course.ahead course.capture
+  -- the end is that of the node whose capture it is
+  pub head : course.end.head ≡ head_of course.capture
 
 -- the record that was read and not made
 abbrev pub waiting : Ahead → List Record
@@ -91,5 +93,5 @@ AdvanceIs answers.Blocked text old new before after come made = IsBlocked text o
 AdvanceIs answers.Ended text old new before after come made = HasEnded text old new before after come made
 -- the next record can't be made
 AdvanceIs (answers.Fails refusal) text old new before after come made =
-    (next : Record) × IsRead text new.capture new.ahead come (made ++ next ∷ []) × (new.end.counts ≡ old.counts)
+    (next : Record) × IsRead text new.capture new.ahead come (made ++ next ∷ []) × (new.end.counts ≡ old.counts) × (new.end.head ≡ old.head)
     × ((mine theirs : JudgeHalf) → StandsFor old before mine → Shows before theirs.sent → advance (wire_step crossed) mine theirs next ≡ any.Refused refusal)

@@ -36,7 +36,7 @@ pub record AreARun (text_a text_b : List ℕ) (summary : Summary) : Type 0 where
   pub of_b : List Record
   pub is_text_a : IsText own_a peer_a of_a text_a
   pub is_text_b : IsText own_b peer_b of_b text_b
-  pub run : IsRun of_a of_b
+  pub run : IsRun (record { own = own_a; peer = peer_a }) (record { own = own_b; peer = peer_b }) of_a of_b
   pub delivers_a : Delivers run.0.a.state.station run.0.b.state.station of_a
   pub delivers_b : Delivers run.0.b.state.station run.0.a.state.station of_b
   pub counts_a : summary.a ≡ summary_of of_a
@@ -57,4 +57,4 @@ IsRunWhere (findings.Refused side place cause) text_a text_b summary = Unit {0}
 -- An acceptance finds the records of both texts; and of whatever captures these bytes are the texts, the finding is the verdict.
 pub record IsFoundIn (finding : Finding) (summary : Summary) (text_a text_b : List ℕ) : Type 0 where
   pub accepted : IsRunWhere finding text_a text_b summary
-  pub verdict : (own_a peer_a own_b peer_b : ℕ) (of_a of_b : List Record) → IsText own_a peer_a of_a text_a → IsText own_b peer_b of_b text_b → IsVerdict of_a of_b finding
+  pub verdict : (own_a peer_a own_b peer_b : ℕ) (of_a of_b : List Record) → IsText own_a peer_a of_a text_a → IsText own_b peer_b of_b text_b → IsVerdict (record { own = own_a; peer = peer_a }) (record { own = own_b; peer = peer_b }) of_a of_b finding

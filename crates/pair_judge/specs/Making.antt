@@ -15,6 +15,7 @@ use Rattle.pair_judge.specs.Wire.{JudgeHalf}
 
 -- this end of the judge, with the line from the other side, stands for that half of the run
 pub record StandsFor (own : End) (incoming : Line) (half : JudgeHalf) : Type 0 where
+  pub head : half.state.head ≡ own.head
   pub station : half.state.station ≡ own.station
   pub front : half.state.front ≡ incoming.gone
   pub sent : Shows own.line half.sent
@@ -25,6 +26,7 @@ pub record IsMade (old new : End) (before after : Line) (r : Record) (own other 
   pub step_is : advance (wire_step crossed) own other r ≡ any.Made next
   pub stands : StandsFor new after next
   pub incoming : Shows after other.sent
+  pub same_head : new.head ≡ old.head
   pub same_front : new.line.gone ≡ old.line.gone
   pub counts : new.counts ≡ counted old.counts r
 

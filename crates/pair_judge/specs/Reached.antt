@@ -22,7 +22,7 @@ use Rattle.pair_judge.specs.Summary.{summary_of}
 -- some order of these records leads to a world that the two ends stand for
 pub record HasReached (a b : End) (made_a made_b : List Record) : Type 0 where
   pub world : JudgeWorld
-  pub run : Run judge_pair judge_start made_a made_b world
+  pub run : Run judge_pair (judge_start a.head b.head) made_a made_b world
   pub stands_a : StandsFor a b.line world.a
   pub stands_b : StandsFor b a.line world.b
   pub counts_a : a.counts ≡ summary_of made_a
@@ -51,7 +51,7 @@ pub record IsFound (text_a text_b : Option (List ℕ)) (a b : Course) (come_a co
   pub made_b : List Record
   pub read_a : IsRead text_a a.capture a.ahead come_a made_a
   pub read_b : IsRead text_b b.capture b.ahead come_b made_b
-  pub verdict : (all_a all_b : List Record) → GoesOn a.ahead (made_a ++ waiting a.ahead) all_a → GoesOn b.ahead (made_b ++ waiting b.ahead) all_b → IsVerdict all_a all_b finding
+  pub verdict : (all_a all_b : List Record) → GoesOn a.ahead (made_a ++ waiting a.ahead) all_a → GoesOn b.ahead (made_b ++ waiting b.ahead) all_b → IsVerdict a.end.head b.end.head all_a all_b finding
   pub whole : IsWholeWhere finding a b
   pub counts : finding ≡ Accepted → (a.end.counts ≡ summary_of made_a) × (b.end.counts ≡ summary_of made_b)
 

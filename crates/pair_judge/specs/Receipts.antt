@@ -1,6 +1,7 @@
 -- What became of a receipt, beside all units that the other side sent.
 use Rattle.std.specs.Prelude.{◌≡◌, ℕ, Bool, true, false, Some, None, Ok, Err, List, slice_get}
 use Rattle.ddcmp_msg.specs.Reading.{reading}
+use Rattle.dna_model.specs.declared.head.Head.{Head}
 use Rattle.dna_model.specs.declared.tag.Tag.{Tag}
 use Rattle.dna_model.specs.Arriving.{ArrivalValue, Sound, HeaderBad, DataBad}
 use Rattle.dna_model.specs.Periods.{crossed}
@@ -16,8 +17,8 @@ use Rattle.pair_judge.specs.Counting.{shows_damage}
 use Rattle.pair_judge.specs.Wire.{JudgeNode, JudgeStation}
 
 -- a node at this front
-abbrev pub node_at : JudgeStation → ℕ → JudgeNode
-node_at station front = record { station = station; front = front }
+abbrev pub node_at : Head → JudgeStation → ℕ → JudgeNode
+node_at head station front = record { head = head; station = station; front = front }
 
 -- a fact of the refusal, where a sending was refused
 abbrev pub IfRefused : (StepRefusal → Type 0) → SendFault → Type 0
@@ -31,14 +32,14 @@ is_damage HeaderBad = true
 is_damage DataBad = true
 
 -- the node of a side whose other side's line is this
-abbrev pub node_of : JudgeStation → Line → JudgeNode
-node_of station line = node_at station line.gone
+abbrev pub node_of : Head → JudgeStation → Line → JudgeNode
+node_of head station line = node_at head station line.gone
 
 -- the unit of the hint was sent, and the node goes by it: to this station and this line
 pub record IsReceived (old new : JudgeStation) (before after : Line) (hint : ℕ) (kept : Bool) (bytes : List ℕ) (sent : List WireUnit) : Type 0 where
   pub unit : WireUnit
   pub was_sent : slice_get sent hint ≡ Some unit
-  pub step : wire_receives crossed (node_of old before) hint kept bytes unit ≡ Ok (node_of new after)
+  pub step : (head : Head) → wire_receives crossed (node_of head old before) hint kept bytes unit ≡ Ok (node_of head new after)
   pub shows : Shows after sent
 
 abbrev pub ReceiptIs : Receipt → JudgeStation → JudgeStation → Line → Line → ℕ → Bool → List ℕ → List WireUnit → Type 0
@@ -47,4 +48,4 @@ ReceiptIs (Done damaged) old new before after hint kept bytes sent =
 -- the unit was not sent yet
 ReceiptIs Waits old new before after hint kept bytes sent = slice_get sent hint ≡ None
 ReceiptIs (Fails refusal) old new before after hint kept bytes sent =
-    (unit : WireUnit) × (slice_get sent hint ≡ Some unit) × (wire_receives crossed (node_of old before) hint kept bytes unit ≡ Err refusal)
+    (unit : WireUnit) × (slice_get sent hint ≡ Some unit) × ((head : Head) → wire_receives crossed (node_of head old before) hint kept bytes unit ≡ Err refusal)

@@ -4,6 +4,7 @@ ghost use Rattle.std.specs.Prelude.{◌≡◌, ◌∷◌, ◌++◌, List, length
 ghost use Rattle.two_nodes.specs.Nodes.{Run, advance};
 ghost use Rattle.two_nodes.specs.Nodes as any;
 ghost use Rattle.capture.specs.declared.record.Record.{Record};
+ghost use Rattle.dna_model.specs.declared.head.Head.{Head};
 ghost use Rattle.dna_model.specs.declared.finding.Cause.TheVariants as causes;
 ghost use Rattle.dna_model.specs.declared.finding.Finding.TheVariants as findings;
 ghost use Rattle.dna_model.specs.declared.refusal.StepRefusal.{StepRefusal};
@@ -55,29 +56,29 @@ impl TwoNodes for JudgeNodes {
 
 /// Each way for the judge to end is a verdict on every pair of captures that begins with the records made so far.
 pub fn endings()
-    ensures accepted { (w : JudgeWorld) (of_a of_b : List Record)
-        → Run judge_pair judge_start of_a of_b w → IsVerdict of_a of_b findings.Accepted }
-    ensures a_refused { (w : JudgeWorld) (done_a rest_a done_b rest_b : List Record) (r : Record) (refusal : StepRefusal)
-        → Run judge_pair judge_start done_a done_b w
+    ensures accepted { (head_a head_b : Head) (w : JudgeWorld) (of_a of_b : List Record)
+        → Run judge_pair (judge_start head_a head_b) of_a of_b w → IsVerdict head_a head_b of_a of_b findings.Accepted }
+    ensures a_refused { (head_a head_b : Head) (w : JudgeWorld) (done_a rest_a done_b rest_b : List Record) (r : Record) (refusal : StepRefusal)
+        → Run judge_pair (judge_start head_a head_b) done_a done_b w
         → advance judge_pair.node_a w.a w.b r ≡ any.Refused refusal
-        → IsVerdict (done_a ++ r ∷ rest_a) (done_b ++ rest_b) (findings.Refused Side.A (length done_a) (causes.Step refusal)) }
-    ensures b_refused { (w : JudgeWorld) (done_a rest_a done_b rest_b : List Record) (r : Record) (refusal : StepRefusal)
-        → Run judge_pair judge_start done_a done_b w
+        → IsVerdict head_a head_b (done_a ++ r ∷ rest_a) (done_b ++ rest_b) (findings.Refused Side.A (length done_a) (causes.Step refusal)) }
+    ensures b_refused { (head_a head_b : Head) (w : JudgeWorld) (done_a rest_a done_b rest_b : List Record) (r : Record) (refusal : StepRefusal)
+        → Run judge_pair (judge_start head_a head_b) done_a done_b w
         → advance judge_pair.node_b w.b w.a r ≡ any.Refused refusal
-        → IsVerdict (done_a ++ rest_a) (done_b ++ r ∷ rest_b) (findings.Refused Side.B (length done_b) (causes.Step refusal)) }
-    ensures stuck { (w : JudgeWorld) (done_a rest_a done_b rest_b : List Record) (r s : Record)
-        → Run judge_pair judge_start done_a done_b w
+        → IsVerdict head_a head_b (done_a ++ rest_a) (done_b ++ r ∷ rest_b) (findings.Refused Side.B (length done_b) (causes.Step refusal)) }
+    ensures stuck { (head_a head_b : Head) (w : JudgeWorld) (done_a rest_a done_b rest_b : List Record) (r s : Record)
+        → Run judge_pair (judge_start head_a head_b) done_a done_b w
         → advance judge_pair.node_a w.a w.b r ≡ any.Waits
         → advance judge_pair.node_b w.b w.a s ≡ any.Waits
-        → IsVerdict (done_a ++ r ∷ rest_a) (done_b ++ s ∷ rest_b) (findings.Refused Side.A (length done_a) causes.NoOrder) }
-    ensures a_lacks { (w : JudgeWorld) (done_a rest_a all_b : List Record) (r : Record)
-        → Run judge_pair judge_start done_a all_b w
+        → IsVerdict head_a head_b (done_a ++ r ∷ rest_a) (done_b ++ s ∷ rest_b) (findings.Refused Side.A (length done_a) causes.NoOrder) }
+    ensures a_lacks { (head_a head_b : Head) (w : JudgeWorld) (done_a rest_a all_b : List Record) (r : Record)
+        → Run judge_pair (judge_start head_a head_b) done_a all_b w
         → advance judge_pair.node_a w.a w.b r ≡ any.Waits
-        → IsVerdict (done_a ++ r ∷ rest_a) all_b (findings.Refused Side.A (length done_a) causes.NoSuchUnit) }
-    ensures b_lacks { (w : JudgeWorld) (all_a done_b rest_b : List Record) (r : Record)
-        → Run judge_pair judge_start all_a done_b w
+        → IsVerdict head_a head_b (done_a ++ r ∷ rest_a) all_b (findings.Refused Side.A (length done_a) causes.NoSuchUnit) }
+    ensures b_lacks { (head_a head_b : Head) (w : JudgeWorld) (all_a done_b rest_b : List Record) (r : Record)
+        → Run judge_pair (judge_start head_a head_b) all_a done_b w
         → advance judge_pair.node_b w.b w.a r ≡ any.Waits
-        → IsVerdict all_a (done_b ++ r ∷ rest_b) (findings.Refused Side.B (length done_b) causes.NoSuchUnit) }
+        → IsVerdict head_a head_b all_a (done_b ++ r ∷ rest_b) (findings.Refused Side.B (length done_b) causes.NoSuchUnit) }
 {
     wire_nodes_see_right::<()>();
     refused_record::<Captures>();

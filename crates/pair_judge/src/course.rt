@@ -8,6 +8,7 @@ ghost use Rattle.capture.specs.Lines.{to_come};
 ghost use Rattle.capture.specs.declared.fault.CaptureFault.TheVariants as CaptureFault;
 ghost use Rattle.wire_base.specs.Tally.{CountedFault, tally_faults, tally_lent};
 ghost use Rattle.pair_judge.specs.Summary.{HasRoom};
+ghost use Rattle.pair_judge.specs.Wire.{head_of};
 ghost use Rattle.pair_judge.specs.Course.{MayRead, IsRead, IsReadyFor, NextIs, AdvanceIs};
 ghost use Rattle.pair_judge.specs.Faulty.{IsCourseFault, course_fault_of};
 
@@ -80,6 +81,7 @@ impl Course {
             AdvanceIs advance text self.old.end self.new incoming.old incoming.new
             (to_come self.new.capture.unread (R.remaining (tally_lent reader.new))) made) }
         ensures may_read { IfOk result (λ _. MayRead self.new) }
+        ensures head { self.new.end.head ≡ self.old.end.head }
         ensures fault { IfErr result (λ fault. (text : Option (List ℕ)) (made : List Record) →
             IsRead text self.old.capture self.old.ahead (to_come self.old.capture.unread (R.remaining (tally_lent reader.old))) made →
             IsCourseFault text fault) }
@@ -105,6 +107,7 @@ impl Course {
             IsRead text self.old.capture self.old.ahead (to_come self.old.capture.unread (R.remaining (tally_lent reader.old))) made →
             IsCourseFault text fault) }
         ensures end { self.new.end ≡ self.old.end }
+        ensures head { head_of self.new.capture ≡ head_of self.old.capture }
         ensures read { result ≡ Err (CourseFault.Text TextFault.Read) →
             CountedFault (tally_faults reader.old) (tally_faults reader.new) }
         ensures faults { OnOk result (tally_faults reader.new ≡ tally_faults reader.old) }
@@ -131,12 +134,14 @@ impl Course {
         requires unread { self.old.ahead ≡ Ahead.Unread }
         requires reading { self.old.capture.phase ≡ Phase.Reading }
         requires numbers { NumbersFit next }
+        requires own_head { self.old.end.head ≡ head_of self.old.capture }
         requires room { HasRoom self.old.end.counts }
         ensures advance { IfOk result (λ advance. (text come : Option (List ℕ)) (made : List Record) →
             IsRead text self.old.capture self.old.ahead come (made ++ next ∷ []) →
             AdvanceIs advance text self.old.end self.new incoming.old incoming.new come made) }
         ensures may_read { IfOk result (λ _. MayRead self.new) }
         ensures capture { self.new.capture ≡ self.old.capture }
+        ensures head { self.new.end.head ≡ self.old.end.head }
         ensures fault { IfErr result (λ fault. fault ≡ CourseFault.OutOfMemory) }
     {
         match make(&mut self.end, incoming, next) {

@@ -2,6 +2,7 @@
 
 ghost use Rattle.std.specs.Prelude.{◌≡◌, ◌+◌, ◌^◌, ◌<◌, ◌≤◌, ℕ, OnOk, OnErr, IfErr};
 ghost use Rattle.two_nodes.specs.Nodes.Answer.{Goes, Refuses};
+ghost use Rattle.dna_model.specs.declared.head.Head.{Head};
 ghost use Rattle.dna_model.specs.Station.{user_refusal};
 ghost use Rattle.dna_model.specs.WireNode.{wire_does, wire_user_step};
 ghost use Rattle.dna_model.specs.WireStation.{load};
@@ -16,11 +17,11 @@ use dna_model::StepRefusal;
 /// changes nothing. Provisional: the events of links change nothing.
 pub fn happen(station: &mut Station, event: &Event) -> Result<(), StepRefusal>
     requires { load station.old < 2 ^ 63 }
-    ensures ok { OnOk result ((front : ℕ) →
-        wire_user_step (node_at station.old front) event.now ≡ Goes (node_at station.new front)) }
+    ensures ok { OnOk result ((head : Head) (front : ℕ) →
+        wire_user_step (node_at head station.old front) event.now ≡ Goes (node_at head station.new front)) }
     ensures load { load station.new ≤ load station.old + 1 }
-    ensures err { IfErr result (λ z. (front : ℕ) →
-        wire_user_step (node_at station.old front) event.now ≡ Refuses z) }
+    ensures err { IfErr result (λ z. (head : Head) (front : ℕ) →
+        wire_user_step (node_at head station.old front) event.now ≡ Refuses z) }
     ensures unchanged { OnErr result (station.new ≡ station.old) }
 {
     match event {
@@ -33,11 +34,11 @@ pub fn happen(station: &mut Station, event: &Event) -> Result<(), StepRefusal>
 // The station is asked.
 fn ask(station: &mut Station, event: StationEvent) -> Result<(), StepRefusal>
     requires { load station.old < 2 ^ 63 }
-    ensures ok { OnOk result ((front : ℕ) →
-        wire_does (node_at station.old front) event (user_refusal station.old.variables.state event) ≡ Goes (node_at station.new front)) }
+    ensures ok { OnOk result ((head : Head) (front : ℕ) →
+        wire_does (node_at head station.old front) event (user_refusal station.old.variables.state event) ≡ Goes (node_at head station.new front)) }
     ensures load { load station.new ≤ load station.old + 1 }
-    ensures err { IfErr result (λ z. (front : ℕ) →
-        wire_does (node_at station.old front) event (user_refusal station.old.variables.state event) ≡ Refuses z) }
+    ensures err { IfErr result (λ z. (head : Head) (front : ℕ) →
+        wire_does (node_at head station.old front) event (user_refusal station.old.variables.state event) ≡ Refuses z) }
     ensures unchanged { OnErr result (station.new ≡ station.old) }
 {
     match station.user(event) {

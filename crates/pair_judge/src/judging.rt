@@ -19,7 +19,7 @@ use crate::summary::{SideSummary, Summary};
 use crate::turn::{side_fault, turn};
 use crate::verdict::Verdict;
 use capture::{CaptureReader, MAX_RECORDS, begun_list, no_head_begins_another, one_head_and_list};
-use dna_model::{Finding, delivered_in_order};
+use dna_model::{Finding, Head, delivered_in_order};
 use std::alloc::Global;
 use std::io::Read;
 use wire_base::{Side, Tally};
@@ -135,7 +135,12 @@ fn open<R: Read>(alloc: Global, side: Side, reader: &mut Tally<R>) -> Result<Cou
     let Ok(station) = Station::new(alloc) else {
         return Err(JudgeFault::OutOfMemory);
     };
+    let head = Head {
+        own: capture.own(),
+        peer: capture.peer(),
+    };
     let end = End {
+        head,
         station,
         line: Line::new(alloc),
         counts: SideSummary::new(),

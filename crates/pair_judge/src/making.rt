@@ -39,6 +39,7 @@ pub fn make(own: &mut End, incoming: &mut Line, entry: Record) -> Result<Made, A
         MadeIs made own.old own.new incoming.old incoming.new entry mine theirs) }
     ensures waits { IfOk result (λ made. LeavesWaiting made own.old own.new incoming.old incoming.new entry) }
     ensures counts { IfOk result (λ made. IfFails made (own.new.counts ≡ own.old.counts)) }
+    ensures head { own.new.head ≡ own.old.head }
 {
     match entry {
         Record::Sent(bytes) => make_sent(own, bytes),
@@ -56,6 +57,7 @@ fn make_sent(own: &mut End, bytes: Bytes) -> Result<Made, AllocError>
         MadeIs made own.old own.new incoming incoming (Record.Sent bytes) mine theirs) }
     ensures waits { IfOk result NeverWaits }
     ensures counts { IfOk result (λ made. IfFails made (own.new.counts ≡ own.old.counts)) }
+    ensures head { own.new.head ≡ own.old.head }
 {
     match send(&mut own.station, &mut own.line, bytes) {
         Ok(()) => {
@@ -77,6 +79,7 @@ fn make_received(own: &mut End, incoming: &mut Line, hint: u64, kept: bool, byte
         MadeIs result own.old own.new incoming.old incoming.new (Record.Received hint kept bytes) mine theirs }
     ensures waits { LeavesWaiting result own.old own.new incoming.old incoming.new (Record.Received hint kept bytes) }
     ensures counts { IfFails result (own.new.counts ≡ own.old.counts) }
+    ensures head { own.new.head ≡ own.old.head }
 {
     match receive(&mut own.station, incoming, hint, kept, bytes.as_slice()) {
         Receipt::Done { damaged } => {
@@ -95,6 +98,7 @@ fn make_event(own: &mut End, event: Event) -> Made
         MadeIs result own.old own.new incoming incoming (Record.User event) mine theirs }
     ensures waits { NeverWaits result }
     ensures counts { IfFails result (own.new.counts ≡ own.old.counts) }
+    ensures head { own.new.head ≡ own.old.head }
 {
     match happen(&mut own.station, &event) {
         Ok(()) => {

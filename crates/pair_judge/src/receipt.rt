@@ -13,8 +13,8 @@ ghost use Rattle.pair_judge.specs.Lines.{Shows};
 ghost use Rattle.pair_judge.specs.Receipts.{ReceiptIs, is_damage};
 
 use crate::end::Station;
-use crate::line_unit::LineUnit;
 use crate::line::Line;
+use crate::line_unit::LineUnit;
 use ddcmp_msg::{Reading, read_unit};
 use ddcmp_station::{Arrival, StationFault};
 use dna_model::StepRefusal;

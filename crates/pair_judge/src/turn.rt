@@ -78,7 +78,7 @@ fn blocked_turn<S: Read>(
         IsHeldUp a.old b.old.end.line →
         TurnIs turn text_a text_b a.new b.new come_a
         (to_come b.new.capture.unread (S.remaining (tally_lent reader_b.new))) (length made_a + length made_b)) }
-    ensures same { (a.new.capture ≡ a.old.capture) × (a.new.ahead ≡ a.old.ahead) }
+    ensures same { (a.new.capture ≡ a.old.capture) × (a.new.ahead ≡ a.old.ahead) × (a.new.end.head ≡ a.old.end.head) }
     ensures may_read { IfOk result (λ _. MayRead b.new) }
     ensures fault { IfErr result (λ fault. (text_a text_b : Option (List ℕ)) (made_b : List Record) →
         IsRead text_b b.old.capture b.old.ahead (to_come b.old.capture.unread (S.remaining (tally_lent reader_b.old))) made_b →
@@ -113,7 +113,7 @@ fn ended_turn<S: Read>(
         a.old.ahead ≡ Ahead.Ended →
         TurnIs turn text_a text_b a.new b.new come_a
         (to_come b.new.capture.unread (S.remaining (tally_lent reader_b.new))) (length made_a + length made_b)) }
-    ensures same { (a.new.capture ≡ a.old.capture) × (a.new.ahead ≡ a.old.ahead) }
+    ensures same { (a.new.capture ≡ a.old.capture) × (a.new.ahead ≡ a.old.ahead) × (a.new.end.head ≡ a.old.end.head) }
     ensures may_read { IfOk result (λ _. MayRead b.new) }
     ensures fault { IfErr result (λ fault. (text_a text_b : Option (List ℕ)) (made_b : List Record) →
         IsRead text_b b.old.capture b.old.ahead (to_come b.old.capture.unread (S.remaining (tally_lent reader_b.old))) made_b →

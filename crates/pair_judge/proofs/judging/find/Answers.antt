@@ -33,7 +33,7 @@ returns-in-Ok-Some-clause-found g c =
     let runs : RunLaws = record { of_a = d.of_a; of_b = d.of_b; a_captured = d.a_captured; b_captured = d.b_captured; a_among = d.a_among; b_among = d.b_among } in
     let turned = rw c.in-Ok-Some.field-0-is at c.in-Ok-Some.ensures.turn in
     let found = turned (g.R.Read.remaining c.args.a.now.lent) (g.S.Read.remaining c.args.b.now.lent) h.made_a h.made_b h.under_way in
-    found_where laws runs _ _ c.turn.new.a c.turn.new.b _ _ _ _ found refl refl
+    found_where laws runs _ _ c.turn.new.a c.turn.new.b _ _ _ _ found c.in-Ok-Some.ensures.may_read.0.head c.in-Ok-Some.ensures.may_read.1.head refl refl
 
 pub returns-in_err-course_a-clause-fault : goal.returns-in_err-course_a-clause-fault
 returns-in_err-course_a-clause-fault g c =

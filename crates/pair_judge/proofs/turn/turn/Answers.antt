@@ -5,10 +5,11 @@ use Rattle.wire_base.specs.declared.side.Side.TheVariants.{A}
 use Rattle.capture.specs.Lines.{to_come}
 use Rattle.capture.specs.Reader.{CaptureState}
 use Rattle.dna_model.specs.declared.finding.Cause.TheVariants.{Step}
+use Rattle.dna_model.specs.declared.finding.Finding.TheVariants.{Refused}
 use Rattle.pair_judge.specs.Wire.{judge_start}
 use Rattle.pair_judge.specs.Reached.{TurnIs}
 use Rattle.pair_judge.proofs.Turns.{reached_by_a, reached_still, same_end, next_place, held_up}
-use Rattle.pair_judge.proofs.Found.{at_place, a_fails}
+use Rattle.pair_judge.proofs.Found.{at_heads, at_place, a_fails}
 use Rattle.pair_judge.proofs.turn.turn.Goals as goal
 
 pub returns-in-Ok-Made-clause-turn : goal.returns-in-Ok-Made-clause-turn
@@ -17,14 +18,14 @@ returns-in-Ok-Made-clause-turn g c = λ text_a text_b made_a made_b under.
     let m = advanced text_a made_a under.read_a in
     let h = under.reached in
     let made = m.made_it h.world.a h.world.b h.stands_a h.stands_b.sent in
-    let run = c.reading_on.ensures.of_a judge_start h.world made.next m.next made_a made_b h.run made.step_is in
+    let run = c.reading_on.ensures.of_a (judge_start c.args.a.now.end.head c.args.b.now.end.head) h.world made.next m.next made_a made_b h.run made.step_is in
     record {
       made_a = made_a ++ m.next ∷ [];
       made_b = made_b;
       under_way = record {
         read_a = m.read;
         read_b = under.read_b;
-        reached = reached_by_a c.args.a.now.end c.advance.new.self.end c.args.b.now.end _ c.advance.new.incoming made_a made_b m.next h made (record { station = refl; counts = refl; line = refl }) run;
+        reached = reached_by_a c.args.a.now.end c.advance.new.self.end c.args.b.now.end _ c.advance.new.incoming made_a made_b m.next h made (record { head = refl; station = refl; counts = refl; line = refl }) run;
       };
       one_more = omega (arith, length-append made_a (m.next ∷ []));
     }
@@ -34,10 +35,10 @@ returns-in-Ok-Fails-clause-turn g c = λ text_a text_b made_a made_b under.
     let fails = rw c.in-Ok-Fails.field-0-is at c.in-Ok-Fails.ensures.advance in
     let f = fails text_a made_a under.read_a in
     let h = under.reached in
-    let refused = f.3 h.world.a h.world.b h.stands_a h.stands_b.sent in
+    let refused = f.4 h.world.a h.world.b h.stands_a h.stands_b.sent in
     let place : c.advance.new.self.end.counts.records ≡ length made_a =
     next_place c.advance.new.self.end.counts made_a (f.2 ∙ h.counts_a) in
-    rw c.refused.ensures (at_place text_a text_b _ _ _ _ A (Step c.in-Ok-Fails.refusal) _ _ place (a_fails text_a text_b _ _ _ _ made_a made_b A (length made_a) (Step c.in-Ok-Fails.refusal) f.0 f.1 under.read_b (λ rest_a rest_b. c.endings.ensures.a_refused h.world made_a rest_a made_b rest_b f.0 c.in-Ok-Fails.refusal h.run refused)))
+    rw c.refused.ensures (at_place text_a text_b _ _ _ _ A (Step c.in-Ok-Fails.refusal) _ _ place (a_fails text_a text_b _ _ _ _ made_a made_b A (length made_a) (Step c.in-Ok-Fails.refusal) f.0 f.1 under.read_b (λ rest_a rest_b. at_heads c.args.a.now.end.head c.args.b.now.end.head _ _ (made_a ++ f.0 ∷ rest_a) (made_b ++ rest_b) (Refused A (length made_a) (Step c.in-Ok-Fails.refusal)) c.advance.ensures.head refl (c.endings.ensures.a_refused _ _ h.world made_a rest_a made_b rest_b f.0 c.in-Ok-Fails.refusal h.run refused))))
 
 pub returns-in-Ok-Blocked-clause-turn : goal.returns-in-Ok-Blocked-clause-turn
 returns-in-Ok-Blocked-clause-turn g c =
@@ -51,7 +52,7 @@ returns-in-Ok-Blocked-clause-turn g c =
     (t text_a text_b come_a made_a made_b (record {
       read_a = m.read;
       read_b = under.read_b;
-      reached = reached_still c.args.a.now.end c.advance.new.self.end c.args.b.now.end _ made_a made_b under.reached (same_end c.args.a.now.end c.advance.new.self.end m.same_end) (record { station = refl; counts = refl; line = m.same_line });
+      reached = reached_still c.args.a.now.end c.advance.new.self.end c.args.b.now.end _ made_a made_b under.reached (same_end c.args.a.now.end c.advance.new.self.end m.same_end) (record { head = refl; station = refl; counts = refl; line = m.same_line });
     }) (held_up text_a c.args.a.now.end c.advance.new.self c.args.b.now.end.line c.advance.new.incoming come_a made_a m))) c.blocked_turn.ensures.turn
 
 pub returns-in-Ok-Ended-clause-turn : goal.returns-in-Ok-Ended-clause-turn
@@ -66,5 +67,5 @@ returns-in-Ok-Ended-clause-turn g c =
     (t text_a text_b come_a made_a made_b (record {
       read_a = m.read;
       read_b = under.read_b;
-      reached = reached_still c.args.a.now.end c.advance.new.self.end c.args.b.now.end _ made_a made_b under.reached (same_end c.args.a.now.end c.advance.new.self.end m.same_end) (record { station = refl; counts = refl; line = m.same_line });
+      reached = reached_still c.args.a.now.end c.advance.new.self.end c.args.b.now.end _ made_a made_b under.reached (same_end c.args.a.now.end c.advance.new.self.end m.same_end) (record { head = refl; station = refl; counts = refl; line = m.same_line });
     }) m.ahead)) c.ended_turn.ensures.turn

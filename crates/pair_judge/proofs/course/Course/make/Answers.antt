@@ -1,4 +1,4 @@
-use Rattle.std.proofs.Common.{sym, ap, subst, [], ◌∷◌, ◌++◌}
+use Rattle.std.proofs.Common.{sym, ap, subst, ◌∙◌, [], ◌∷◌, ◌++◌}
 use Rattle.capture.specs.declared.record.Record.{Record}
 use Rattle.capture.specs.Range.{NumbersFit}
 use Rattle.pair_judge.specs.declared.course.Ahead.{Ahead}
@@ -33,7 +33,7 @@ returns-in-Ok-Waits-clause-advance c = λ text come made read.
 pub returns-in-Ok-Waits-clause-may_read : goal.returns-in-Ok-Waits-clause-may_read
 returns-in-Ok-Waits-clause-may_read c =
     let left = rw c.in-Ok-Waits.field-0-is at c.in-Ok-Waits.ensures.waits in
-    (c.requires.reading, subst NumbersFit (sym left.0) c.requires.numbers)
+    record { ahead = (c.requires.reading, subst NumbersFit (sym left.0) c.requires.numbers); head = c.make.ensures.head ∙ c.requires.own_head }
 
 pub returns-in-Ok-Fails-clause-advance : goal.returns-in-Ok-Fails-clause-advance
-returns-in-Ok-Fails-clause-advance c = λ text come made read. (c.args.next, read, rw c.in-Ok-Fails.field-0-is at c.in-Ok-Fails.ensures.counts, rw c.in-Ok-Fails.field-0-is at c.in-Ok-Fails.ensures.made)
+returns-in-Ok-Fails-clause-advance c = λ text come made read. (c.args.next, read, rw c.in-Ok-Fails.field-0-is at c.in-Ok-Fails.ensures.counts, c.make.ensures.head, rw c.in-Ok-Fails.field-0-is at c.in-Ok-Fails.ensures.made)

@@ -13,6 +13,6 @@ returns-in-Err-clause-fault g c = λ text made read.
     let own = c.args.self.now in
     let come = to_come own.capture.unread (g.R.Read.remaining (tally_lent c.args.reader.now)) in
     let here = subst (λ (ahead : Ahead). IsRead text own.capture ahead come made) (sym c.in-Unread.ensures.value) read in
-    let may_read = subst (λ (ahead : Ahead). MayReadAhead ahead own.capture) (sym c.in-Unread.ensures.value) c.requires in
+    let may_read = subst (λ (ahead : Ahead). MayReadAhead ahead own.capture) (sym c.in-Unread.ensures.value) c.requires.ahead in
     let gives = c.in-Err.ensures.gives may_read in
     subst (λ (fault : CourseFault). IsCourseFault text fault) (sym c.course_fault.ensures.value) (record_faulty text come own.capture made c.in-Err.fault here gives.0)
