@@ -28,7 +28,7 @@ use Rattle.dna_model.proofs.DeliveredRuns.{BothDeliver, delivery_kept, start_del
 abbrev taken : PastPeriod → List (List ℕ)
 taken period = period.taken
 
-in_last-append : (packets : List (List ℕ)) (ps : List (List (List ℕ))) (p : List (List ℕ)) → in_last packets (ps ++ p ∷ []) ≡ ps ++ (p ++ packets) ∷ []
+pub in_last-append : (packets : List (List ℕ)) (ps : List (List (List ℕ))) (p : List (List ℕ)) → in_last packets (ps ++ p ∷ []) ≡ ps ++ (p ++ packets) ∷ []
 in_last-append packets [] p = refl
 in_last-append packets (q ∷ []) p = refl
 in_last-append packets (q ∷ r ∷ ps) p = ap (λ (x : List (List (List ℕ))). q ∷ x) (in_last-append packets (r ∷ ps) p)

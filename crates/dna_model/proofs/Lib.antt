@@ -28,8 +28,10 @@ mod DeliveredSteps
 mod CutTaken
 mod DeliveredRuns
 mod Places
-mod DeliveredCaptures
+pub mod DeliveredCaptures
+mod Offered
 mod Partnered
 mod InOrder
 mod Among
 mod InOrderRuns
+mod OfferedRuns

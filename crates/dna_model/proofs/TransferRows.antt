@@ -1,13 +1,14 @@
 -- Worked rows of data transfer, computed from the definitions like those of startup.
-use Rattle.std.proofs.Common.{true, false, List, [], ◌∷◌, ◌++◌, refl}
+use Rattle.std.proofs.Common.{◌≡◌, true, false, List, [], ◌∷◌, ◌++◌, refl}
 use Rattle.two_nodes.specs.Nodes.{Done, OfA, OfB, Refused}
 use Rattle.wire_base.specs.BlockCheck.{is_good, check_of, after_byte, shift}
 use Rattle.ddcmp_msg.specs.Reading.{reading}
 use Rattle.capture.specs.declared.record.Record.{Record}
 use Rattle.capture.specs.declared.record.Record.TheVariants.{Sent, Received, User}
-use Rattle.capture.specs.declared.event.Event.TheVariants.{Start}
+use Rattle.capture.specs.declared.event.Event.TheVariants.{Start, Halt}
 use Rattle.dna_model.specs.declared.refusal.StationRefusal.TheVariants.{WrongState, WrongNumber, WrongResponse, Changed, NoCause, WrongKeep, WrongUserEvent}
 use Rattle.dna_model.specs.declared.refusal.StepRefusal.TheVariants.{Station as OfStation}
+use Rattle.dna_model.specs.Offered.{offered}
 use Rattle.dna_model.proofs.RowUnits.{STRT, STACK, ACK0, ACK1, DATA1, DATA2, damaged_DATA1, other_DATA1, NAK_DATA0, NAK_DATA1, REP0, REP1, DATA1_RESP1, NAK_REP0, NAK_REP1, NAK_BUFFER0, NAK_OVERRUN1, EndsAt, EndsAtA, IsRowRun}
 
 -- a starts, b answers; nothing of a is sent yet
@@ -104,3 +105,8 @@ asks_for_nothing = record { world = _; run = OfA refl (OfA refl (OfB refl (OfB r
 asks_for_more : EndsAtA (started_a ++ Sent DATA1 ∷ Sent DATA2 ∷ []) started_b (Sent REP1) (Refused (OfStation WrongNumber))
 unfolding reading is_good check_of after_byte shift
 asks_for_more = record { world = _; run = OfA refl (OfA refl (OfB refl (OfB refl (OfB refl (OfA refl (OfA refl (OfA refl (OfA refl Done)))))))); becomes = refl }
+
+-- a packet that is sent again is offered once, and a start begins a period
+offered_once : offered (User Start ∷ Sent DATA1 ∷ Sent DATA1 ∷ Sent DATA2 ∷ User Halt ∷ User Start ∷ Sent DATA1 ∷ []) ≡ [] ∷ ((5 ∷ []) ∷ (5 ∷ []) ∷ []) ∷ ((5 ∷ []) ∷ []) ∷ []
+unfolding reading is_good check_of after_byte shift
+offered_once = refl

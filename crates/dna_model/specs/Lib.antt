@@ -5,6 +5,7 @@ pub mod Periods
 pub mod Sending
 pub mod Truth
 pub mod Delivery
+pub mod Offered
 pub mod Arriving
 pub mod Line
 pub mod Node

@@ -10,6 +10,7 @@ ghost use Rattle.dna_model.specs.declared.head.Head.{Head};
 ghost use Rattle.dna_model.specs.declared.tag.Tag.{Tag};
 ghost use Rattle.dna_model.specs.Station.{Station, new_station, given, all_given, after_event};
 ghost use Rattle.dna_model.specs.Delivery.{AreAmong, CarriesItsPacket, DeliversFrom, all_taken, delivered, taken_by_period};
+ghost use Rattle.dna_model.specs.Offered.{Delivers, given_by_period, offered};
 ghost use Rattle.dna_model.specs.Periods.{PeriodRule, crossed};
 ghost use Rattle.dna_model.specs.Sending.{sending_refusal, after_sending, gives_number};
 ghost use Rattle.dna_model.specs.Truth.{Truth};
@@ -58,6 +59,22 @@ pub fn delivered_in_order()
     ensures b_among { (head_a head_b : Head) (w : World Node SentUnit) (of_a of_b : List Record)
         → Run pair (start head_a head_b) of_a of_b w → AreAmong (all_taken w.b.state.station) (all_given w.a.state.station) }
 {
+    always::<Brand>();
+}
+
+/// In every run, what the units of a capture offer in each period is what its station gave. So what was delivered is a beginning of
+/// what was offered, both read off the captures alone; the run tells which period goes with which.
+pub fn captures_deliver_in_order()
+    ensures a_offered { (head_a head_b : Head) (w : World Node SentUnit) (of_a of_b : List Record)
+        → Run pair (start head_a head_b) of_a of_b w → offered of_a ≡ given_by_period w.a.state.station }
+    ensures b_offered { (head_a head_b : Head) (w : World Node SentUnit) (of_a of_b : List Record)
+        → Run pair (start head_a head_b) of_a of_b w → offered of_b ≡ given_by_period w.b.state.station }
+    ensures a_delivers { (head_a head_b : Head) (w : World Node SentUnit) (of_a of_b : List Record)
+        → Run pair (start head_a head_b) of_a of_b w → Delivers w.a.state.station of_a of_b }
+    ensures b_delivers { (head_a head_b : Head) (w : World Node SentUnit) (of_a of_b : List Record)
+        → Run pair (start head_a head_b) of_a of_b w → Delivers w.b.state.station of_b of_a }
+{
+    delivered_in_order();
     always::<Brand>();
 }
 

@@ -14,9 +14,9 @@ mod tag;
 pub use finding::{Cause, Finding};
 pub use head::Head;
 pub use laws::{
-    counts_rise_by_one, cut_arrival, cut_event, cut_label, cut_record, cut_sending,
-    delivered_in_order, numbers_in_order, numbers_within_bounds, packets_at_their_places,
-    wire_nodes_see_right,
+    captures_deliver_in_order, counts_rise_by_one, cut_arrival, cut_event, cut_label, cut_record,
+    cut_sending, delivered_in_order, numbers_in_order, numbers_within_bounds,
+    packets_at_their_places, wire_nodes_see_right,
 };
 pub use refusal::{StationRefusal, StepRefusal};
 pub use state::{State, StationEvent};
