@@ -1,6 +1,8 @@
 //! Tests of what no contract says: the worked rows of the protocols from outside, words, and devices that fail.
 
+mod contradictory;
 mod devices;
+mod limits;
 mod pair;
 mod reasons;
 mod rows;

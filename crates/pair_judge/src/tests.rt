@@ -1,5 +1,7 @@
 //! The judge on small pairs of texts, with answers told beforehand.
 
+mod reasons;
+
 use crate::{JudgeFault, Reason, SideSummary, Summary, TextFault, Verdict, judge};
 use std::test::Fail;
 use wire_base::{Side, Tally};
@@ -161,27 +163,4 @@ fn a_faulty_text_is_named_by_side_and_line(rt: HostRuntime) {
             "{text_a}{text_b}"
         );
     }
-}
-
-#[test]
-fn a_reason_has_a_number_and_a_name(rt: HostRuntime) -> Result<(), Fail> {
-    let rows = [
-        (Reason::NotAMessage, 1, "NotAMessage"),
-        (Reason::HintOrder, 2, "HintOrder"),
-        (Reason::NoSuchUnit, 3, "NoSuchUnit"),
-        (Reason::NoOrder, 4, "NoOrder"),
-        (Reason::Undetected, 5, "Undetected"),
-        (Reason::WrongState, 6, "WrongState"),
-        (Reason::WrongResponse, 8, "WrongResponse"),
-        (Reason::WrongKeep, 12, "WrongKeep"),
-        (Reason::CrossedPeriod, 13, "CrossedPeriod"),
-        (Reason::WrongUserEvent, 14, "WrongUserEvent"),
-        (Reason::AddressInUse, 26, "AddressInUse"),
-    ];
-    for (reason, number, name) in rows {
-        assert_eq!(rt; reason.number(), number, "the number of {reason:?}");
-        let printed = format!(in rt.alloc(); "{reason}")?;
-        assert_eq!(rt; printed.as_str(), name);
-    }
-    Ok(())
 }
