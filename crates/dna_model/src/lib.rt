@@ -7,6 +7,10 @@
 mod finding;
 mod head;
 pub mod laws;
+mod link_event;
+mod link_refusal;
+mod link_tag;
+mod port;
 mod refusal;
 mod state;
 mod tag;
@@ -18,6 +22,10 @@ pub use laws::{
     cut_sending, delivered_in_order, numbers_in_order, numbers_within_bounds,
     packets_at_their_places, wire_nodes_see_right,
 };
+pub use link_event::LinkEvent;
+pub use link_refusal::LinkRefusal;
+pub use link_tag::LinkTag;
+pub use port::{LinkTest, Phase, Port};
 pub use refusal::{StationRefusal, StepRefusal};
 pub use state::{State, StationEvent};
 pub use tag::Tag;
