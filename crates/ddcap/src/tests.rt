@@ -8,6 +8,7 @@ mod reasons;
 mod rows;
 mod show;
 mod show_devices;
+mod station_pairs;
 mod texts;
 mod transfer;
 mod units;
