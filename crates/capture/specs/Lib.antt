@@ -6,5 +6,6 @@ pub mod Lines
 pub mod Block
 pub mod Faulty
 pub mod Reader
+pub mod SoFar
 pub mod Captured
 pub mod Writing

@@ -22,6 +22,7 @@ mod phase;
 mod reader;
 mod record;
 mod record_words;
+mod so_far;
 mod writer;
 
 pub use address::{address_of, is_node};
@@ -43,6 +44,7 @@ pub use phase::Phase;
 pub use reader::CaptureReader;
 pub use record::Record;
 pub use record_words::{head_of, record_of};
+pub use so_far::{text_read_on, whole_text};
 pub use writer::{write_head, write_record};
 
 #[cfg(test)]

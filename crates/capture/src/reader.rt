@@ -1,9 +1,10 @@
 //! Reading a capture, record by record.
 
 ghost use Rattle.std.specs.Prelude.{OnOk, ◌≡◌, ◌≤◌, ◌+◌, Ok, Err, None};
-ghost use Rattle.wire_base.specs.Tally.{CountedFault, tally_faults, tally_lent};
+ghost use Rattle.wire_base.specs.Tally.{tally_faults, tally_lent};
 ghost use Rattle.capture.specs.declared.limit.TheConstants.{MAX_RECORDS};
 ghost use Rattle.capture.specs.Lines.{to_come};
+ghost use Rattle.capture.specs.Faulty.{CountsReads, is_failed_read};
 ghost use Rattle.capture.specs.Reader.{NextGives, Opens, TakesRecord};
 
 use crate::fault::{CaptureFault, Departure, LineFault, PartFault};
@@ -17,6 +18,12 @@ use std::alloc::Global;
 use std::io::Read;
 use std::marker::Model;
 use wire_base::Tally;
+
+// A first line that is no head.
+const NO_HEAD: CaptureFault = CaptureFault::Departs {
+    kind: Departure::Syntax,
+    line: 1,
+};
 
 /// Reads the head of a capture and then its records, one a call, from a reader that each call is
 /// lent, the same throughout.
@@ -55,8 +62,7 @@ fn take_record<R: Read>(
     ensures takes { TakesRecord lines.old lines.new
         (to_come lines.old.unread (R.remaining (tally_lent reader.old)))
         (to_come lines.new.unread (R.remaining (tally_lent reader.new))) result }
-    ensures read { result ≡ Err CaptureFault.Read → CountedFault (tally_faults reader.old) (tally_faults reader.new) }
-    ensures faults { OnOk result (tally_faults reader.new ≡ tally_faults reader.old) }
+    ensures reads { CountsReads (is_failed_read result) (tally_faults reader.old) (tally_faults reader.new) }
 {
     let number = lines.taken() + 1;
     match lines.next(MAX_RECORDS + 1, reader) {
@@ -65,11 +71,11 @@ fn take_record<R: Read>(
                 lines.skip(len);
                 Ok(Some(record))
             }
-            Err(PartFault::Departs(kind)) => Err(CaptureFault::of_line(kind, number)),
+            Err(PartFault::Departs(kind)) => Err(CaptureFault::Departs { kind, line: number }),
             Err(PartFault::OutOfMemory) => Err(CaptureFault::OutOfMemory),
         },
         Ok(None) => Ok(None),
-        Err(LineFault::Departs(kind)) => Err(CaptureFault::of_line(kind, number)),
+        Err(LineFault::Departs(kind)) => Err(CaptureFault::Departs { kind, line: number }),
         Err(LineFault::Read) => Err(CaptureFault::Read),
     }
 }
@@ -77,16 +83,16 @@ fn take_record<R: Read>(
 impl CaptureReader {
     /// Reads the head, `ddcap 1 OWN PEER`.
     ///
-    /// Faults: `TooLong { line: 1 }` where more than 131,081 bytes stand before the first LF or the
-    /// end; `Syntax { line: 1 }` where the first line has no LF, as in an empty text, or is no head;
-    /// `Read` where the reader failed; `OutOfMemory` where there is no memory for the reader's block.
+    /// Faults: `Departs` at line 1, with `TooLong` where more than 131,081 bytes stand before the first
+    /// LF or the end, and with `Syntax` where the first line has no LF, as in an empty text, or is no
+    /// head; `Read` where a call of the reader failed, and at no other answer did one fail;
+    /// `OutOfMemory` where there is no memory for the reader's block.
     pub fn open<R: Read>(
         alloc: Global,
         reader: &mut Tally<R>,
     ) -> Result<CaptureReader, CaptureFault>
         ensures opens { Opens (R.remaining (tally_lent reader.old)) (R.remaining (tally_lent reader.new)) result }
-        ensures read { result ≡ Err CaptureFault.Read → CountedFault (tally_faults reader.old) (tally_faults reader.new) }
-        ensures faults { OnOk result (tally_faults reader.new ≡ tally_faults reader.old) }
+        ensures reads { CountsReads (is_failed_read result) (tally_faults reader.old) (tally_faults reader.new) }
     {
         let Ok(mut lines) = LineReader::new(alloc) else {
             return Err(CaptureFault::OutOfMemory);
@@ -103,10 +109,10 @@ impl CaptureReader {
                         phase: Phase::Reading,
                     })
                 }
-                None => Err(CaptureFault::Syntax { line: 1 }),
+                None => Err(NO_HEAD),
             },
-            Ok(None) => Err(CaptureFault::Syntax { line: 1 }),
-            Err(LineFault::Departs(kind)) => Err(CaptureFault::of_line(kind, 1)),
+            Ok(None) => Err(NO_HEAD),
+            Err(LineFault::Departs(kind)) => Err(CaptureFault::Departs { kind, line: 1 }),
             Err(LineFault::Read) => Err(CaptureFault::Read),
         }
     }
@@ -127,11 +133,12 @@ impl CaptureReader {
 
     /// Reads the next record, or finds that none is left.
     ///
-    /// Record i, counted from 0, stands on line i + 2. Faults of a line, in the order in which they
-    /// are tested: `TooMany` after 1,000,000,000,000 records, whatever the line holds; `TooLong` at
+    /// Record i, counted from 0, stands on line i + 2. `Departs` names that line, with the first of
+    /// these kinds: `TooMany` after 1,000,000,000,000 records, whatever the line holds; `TooLong` at
     /// more than 131,081 bytes before its LF or the end; `Syntax` where it has no LF; `Syntax` where
     /// it is no record's; `TooLong` where it is one but for too many bytes. `OutOfMemory` comes where
-    /// there is no memory for the bytes of the record, and `Read` where the reader failed.
+    /// there is no memory for the bytes of the record, and `Read` where a call of the reader failed;
+    /// at no other answer did one fail.
     pub fn next<R: Read>(&mut self, reader: &mut Tally<R>) -> Result<Option<Record>, CaptureFault>
         ensures gives { self.old.phase ≡ Phase.Reading → NextGives self.old self.new
             (to_come self.old.unread (R.remaining (tally_lent reader.old)))
@@ -139,8 +146,7 @@ impl CaptureReader {
         ensures ended { self.old.phase ≡ Phase.Ended → (result ≡ Ok None) × (self.new ≡ self.old) }
         ensures failed { self.old.phase ≡ Phase.Failed → (result ≡ Err CaptureFault.Failed) × (self.new ≡ self.old) }
         ensures head { (self.new.own ≡ self.old.own) × (self.new.peer ≡ self.old.peer) }
-        ensures read { result ≡ Err CaptureFault.Read → CountedFault (tally_faults reader.old) (tally_faults reader.new) }
-        ensures faults { OnOk result (tally_faults reader.new ≡ tally_faults reader.old) }
+        ensures reads { CountsReads (is_failed_read result) (tally_faults reader.old) (tally_faults reader.new) }
     {
         match self.phase {
             Phase::Reading => {}
