@@ -1,5 +1,4 @@
 -- what a record alone tells
-pub mod Tells
 -- worked rows
 mod RowUnits
 mod Rows

@@ -28,3 +28,4 @@ pub mod TrueFlow
 pub mod WireFlow
 pub mod TrueLinks
 pub mod WireLinks
+pub mod Tells

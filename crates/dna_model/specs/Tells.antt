@@ -1,5 +1,5 @@
--- What a record alone tells of its step: the unit that it names, and whether it sends one.
-use Rattle.std.proofs.Common.{ℕ, true, false, Option, Some, None, List, refl}
+-- What a record alone tells of its step, in any state of its node: the unit that it names, and whether it sends one. The terms say that it is so.
+use Rattle.std.specs.Prelude.{ℕ, true, false, Option, Some, None, List, refl}
 use Rattle.two_nodes.specs.Past.{AgreesWith, Tells, BothTell}
 use Rattle.ddcmp_msg.specs.Message.{MessageValue}
 use Rattle.ddcmp_msg.specs.Reading.{ReadingValue, reading, Sound, HeaderBad, DataBad, Malformed}
