@@ -13,9 +13,9 @@ use Rattle.pair_judge.specs.Summary.{summary_of, counted}
 use Rattle.pair_judge.specs.Making.{StandsFor, IsMade}
 use Rattle.pair_judge.specs.Lines.{Shows}
 use Rattle.pair_judge.specs.declared.course.Course.{Course}
-use Rattle.pair_judge.specs.Course.{MayRead, IsBlocked}
+use Rattle.pair_judge.specs.Course.{IsBlocked, IsRead, MayRead, Move, Track, WaitsAt, along}
 use Rattle.pair_judge.specs.Reached.{HasReached, IsHeldUp}
-use Rattle.pair_judge.specs.Wire.{JudgeWorld, JudgeHalf, head_of, judge_pair, judge_start}
+use Rattle.pair_judge.specs.Wire.{JudgeWorld, JudgeHalf, judge_pair, judge_start}
 
 -- ---- counts
 
@@ -104,12 +104,20 @@ same_end old new same = record {
 }
 
 -- a side that is blocked is held up
-pub held_up : (text : Option (List ℕ)) (old : End) (new : Course) (before after : Line) (come : Option (List ℕ)) (made : List Record) → IsBlocked text old new before after come made → IsHeldUp new after
-held_up text old new before after come made m = record {
-  next = m.next;
-  ahead = m.ahead;
-  waits = λ mine theirs stands shows. m.waits mine theirs (subst (λ (e : End). StandsFor e before mine) m.same_end (subst (λ (l : Line). StandsFor new.end l mine) m.same_line stands)) (subst (λ (l : Line). Shows l theirs.sent) m.same_line shows);
+pub held_up : (m : Move) (t : Track) → IsBlocked m t → m.new ≡ t.course.end → IsHeldUp t.course m.after
+held_up m t blocked is = record {
+  next = blocked.next;
+  ahead = blocked.ahead;
+  waits = subst (λ (e : End). WaitsAt e m.after blocked.next) (sym blocked.still.same_end ∙ is) (subst (λ (l : Line). WaitsAt m.old l blocked.next) (sym blocked.still.same_line) blocked.waits);
 }
 
-pub may_read_still : (old new : Course) → new.capture ≡ old.capture → new.ahead ≡ old.ahead → new.end.head ≡ old.end.head → MayRead old → MayRead new
-may_read_still old new capture ahead head may = record { ahead = rw (capture, ahead) may.ahead; head = head ∙ may.head ∙ ap head_of (sym capture) }
+pub may_read_still : (old new : Course) → new.capture ≡ old.capture → new.ahead ≡ old.ahead → MayRead old → MayRead new
+may_read_still old new capture ahead may = rw (capture, ahead) may
+
+-- of a side of which nothing moved but its line the same was read
+pub same_read : (text : Option (List ℕ)) (old new : Course) (come : Option (List ℕ)) (made : List Record) → new.capture ≡ old.capture → new.ahead ≡ old.ahead → new.end.head ≡ old.end.head → IsRead (along text old come made) → IsRead (along text new come made)
+same_read text old new come made capture ahead head h = record {
+  so_far = rw (capture, ahead) h.so_far;
+  count = rw (capture, ahead) h.count;
+  head = head ∙ rw capture h.head;
+}

@@ -1,15 +1,10 @@
 -- The nodes that the judge runs: the wire nodes of `dna_model`, with no label beside a packet.
 use Rattle.two_nodes.specs.Nodes.{Half, Nodes, World}
 use Rattle.capture.specs.declared.record.Record.{Record}
-use Rattle.capture.specs.Reader.{CaptureState}
 use Rattle.dna_model.specs.declared.head.Head.{Head}
 use Rattle.dna_model.specs.declared.refusal.StepRefusal.{StepRefusal}
 use Rattle.dna_model.specs.WireStation.{WireStation}
 use Rattle.dna_model.specs.WireNode.{WireNode, WireUnit, wire_pair, wire_start}
-
--- the head that was read
-abbrev pub head_of : CaptureState → Head
-head_of capture = record { own = capture.own; peer = capture.peer }
 
 abbrev pub JudgeStation : Type 0
 JudgeStation = WireStation (Unit {0})

@@ -8,51 +8,12 @@ ghost use Rattle.dna_model.specs.declared.head.Head.{Head};
 ghost use Rattle.dna_model.specs.declared.finding.Cause.TheVariants as causes;
 ghost use Rattle.dna_model.specs.declared.finding.Finding.TheVariants as findings;
 ghost use Rattle.dna_model.specs.declared.refusal.StepRefusal.{StepRefusal};
-ghost use Rattle.dna_model.specs.Line.{SentUnit};
-ghost use Rattle.dna_model.specs.Node.{Node};
-ghost use Rattle.dna_model.specs.Pair.{pair};
 ghost use Rattle.dna_model.specs.Verdict.{IsVerdict};
-ghost use Rattle.dna_model.specs.WireNode.{WireUnit};
-ghost use Rattle.dna_model.proofs.Tells.{pair_tells, wire_pair_tells};
 ghost use Rattle.pair_judge.specs.Wire.{JudgeNode, JudgeWorld, judge_pair, judge_start};
 
-use dna_model::wire_nodes_see_right;
-use two_nodes::{TwoNodes, both_waiting, one_waiting, refused_record};
+use dna_model::{TrueNodes, wire_nodes_see_right};
+use two_nodes::{both_waiting, one_waiting, refused_record};
 use wire_base::Side;
-
-/// The two nodes of a pair of captures, for the laws of any two nodes.
-pub struct Captures;
-
-impl TwoNodes for Captures {
-    ghost State = { Node };
-
-    ghost Record = { Record };
-
-    ghost Sent = { SentUnit };
-
-    ghost Reason = { StepRefusal };
-
-    ghost nodes = { pair };
-
-    ghost tells = { pair_tells };
-}
-
-/// The two nodes as the judge runs them.
-pub struct JudgeNodes;
-
-impl TwoNodes for JudgeNodes {
-    ghost State = { JudgeNode };
-
-    ghost Record = { Record };
-
-    ghost Sent = { WireUnit };
-
-    ghost Reason = { StepRefusal };
-
-    ghost nodes = { judge_pair };
-
-    ghost tells = { wire_pair_tells (Unit {0}) };
-}
 
 /// Each way for the judge to end is a verdict on every pair of captures that begins with the records made so far.
 pub fn endings()
@@ -81,7 +42,7 @@ pub fn endings()
         → IsVerdict head_a head_b all_a (done_b ++ r ∷ rest_b) (findings.Refused Side.B (length done_b) causes.NoSuchUnit) }
 {
     wire_nodes_see_right::<()>();
-    refused_record::<Captures>();
-    both_waiting::<Captures>();
-    one_waiting::<Captures>();
+    refused_record::<TrueNodes>();
+    both_waiting::<TrueNodes>();
+    one_waiting::<TrueNodes>();
 }

@@ -16,6 +16,7 @@ mod line_unit;
 mod making;
 mod reason;
 mod receipt;
+mod refusal;
 mod sending;
 mod summary;
 #[cfg(test)]
@@ -26,5 +27,6 @@ mod verdict;
 pub use fault::{JudgeFault, TextFault};
 pub use judging::judge;
 pub use reason::Reason;
+pub use refusal::refused_captures;
 pub use summary::{SideSummary, Summary};
 pub use verdict::Verdict;

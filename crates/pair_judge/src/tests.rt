@@ -3,6 +3,7 @@
 mod reasons;
 
 use crate::{JudgeFault, Reason, SideSummary, Summary, TextFault, Verdict, judge};
+use capture::Departure;
 use std::test::Fail;
 use wire_base::{Side, Tally};
 
@@ -156,7 +157,10 @@ fn a_faulty_text_is_named_by_side_and_line(rt: HostRuntime) {
         let mut reader_a = Tally::new(text_a.as_bytes());
         let mut reader_b = Tally::new(text_b.as_bytes());
         let answer = judge(rt.alloc(), &mut reader_a, &mut reader_b);
-        let fault = TextFault::Syntax { line };
+        let fault = TextFault::Departs {
+            kind: Departure::Syntax,
+            line,
+        };
         assert_eq!(rt;
             answer,
             Err(JudgeFault::Capture { side, fault }),
