@@ -14,6 +14,7 @@ pub mod WireStation
 pub mod Cut
 pub mod Pair
 pub mod WireNode
+pub mod Tells
 pub mod Seen
 pub mod Verdict
 -- The logical links of one node: what look-ups and segments are; the tables, over any flow; the true flow and the one that a node keeps
@@ -28,4 +29,3 @@ pub mod TrueFlow
 pub mod WireFlow
 pub mod TrueLinks
 pub mod WireLinks
-pub mod Tells
