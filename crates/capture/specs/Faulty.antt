@@ -26,12 +26,15 @@ is_failed_line_read (Ok x) = false
 is_failed_line_read (Err (lines.Departs kind)) = false
 is_failed_line_read (Err lines.Read) = true
 
+abbrev pub is_read_fault : CaptureFault → Bool
+is_read_fault (Departs kind line) = false
+is_read_fault Read = true
+is_read_fault OutOfMemory = false
+is_read_fault Failed = false
+
 abbrev pub is_failed_read : {A : Type 0} → Result A CaptureFault → Bool
 is_failed_read (Ok x) = false
-is_failed_read (Err (Departs kind line)) = false
-is_failed_read (Err Read) = true
-is_failed_read (Err OutOfMemory) = false
-is_failed_read (Err Failed) = false
+is_failed_read (Err fault) = is_read_fault fault
 
 -- The count of a reader's failed calls, before and after a call: where a failed read is answered, one failed in that call,
 -- and at every other answer the count stands as it stood.

@@ -1,6 +1,6 @@
 //! Why a text is no capture, or could not be read or written.
 
-ghost use Rattle.std.specs.Prelude.{◌≡◌};
+ghost use Rattle.std.specs.Prelude.{◌≡◌, ◌≤◌, length};
 
 use std::fmt;
 use thiserror::Error;
@@ -19,9 +19,10 @@ pub enum Departure {
 impl Departure {
     ghost use Rattle.capture.specs.Faulty.{kind_words};
 
-    /// The words that a departure of this kind is told by. Takes no memory.
+    /// The words that a departure of this kind is told by, of at most 8 bytes. Takes no memory.
     pub fn words<'a>(self) -> &'a [u8]
-        ensures { result.now ≡ kind_words self }
+        ensures words { result.now ≡ kind_words self }
+        ensures short { length result.now ≤ 8 }
     {
         match self {
             Departure::Syntax => b"syntax",

@@ -16,11 +16,10 @@ use Rattle.dna_model.specs.declared.finding.Finding.{Finding}
 use Rattle.dna_model.specs.declared.finding.Finding.TheVariants as findings
 use Rattle.dna_model.specs.declared.head.Head.{Head}
 use Rattle.dna_model.specs.declared.refusal.StationRefusal.{StationRefusal}
-use Rattle.dna_model.specs.Delivery.{AreAmong, DeliversFrom, all_taken, delivered, taken_by_period}
+use Rattle.dna_model.specs.Offered.{Delivers}
 use Rattle.dna_model.specs.Line.{SentUnit}
 use Rattle.dna_model.specs.Node.{Node}
 use Rattle.dna_model.specs.Pair.{IsRun, pair, start}
-use Rattle.dna_model.specs.Station.{all_given}
 use Rattle.dna_model.specs.Verdict.{IsVerdict, IsWrong, IsWrongOfB}
 use Rattle.pair_judge.specs.declared.judging.Found.{Found}
 use Rattle.pair_judge.specs.declared.summary.Summary.{Summary}
@@ -35,7 +34,7 @@ use Rattle.pair_judge.specs.Finding.{EndsFor, EndsWhere, IsFoundIn, IsVerdictBeh
 use Rattle.pair_judge.specs.Faulty.{IsFaultyText, IsFaultyBehind, IsJudgeFault}
 use Rattle.pair_judge.specs.Reason.{reason_of}
 use Rattle.pair_judge.specs.Refusal.{AreRefused, IsRefusal, OffendsFor, WholeCapture}
-use Rattle.pair_judge.specs.Judged.{AcceptsOrFails, AreARun, Delivers, IfTold, IsAcceptance, IsExact, IsFaultyWhere, IsRefusalWhere}
+use Rattle.pair_judge.specs.Judged.{AcceptsOrFails, AreARun, IfTold, IsAcceptance, IsExact, IsFaultyWhere, IsRefusalWhere}
 use Rattle.pair_judge.specs.Summary.{summary_of}
 use Rattle.pair_judge.proofs.Found.{at_heads}
 
@@ -46,14 +45,10 @@ pub record WholeLaws : Type 0 where
   pub departs_nowhere : (bytes : List ℕ) (own peer : ℕ) (rs : List Record) (read : ReadSoFar) (kind : Departure) (line : ℕ) → IsText own peer rs bytes → IsReadSoFar (Some bytes) read → DepartsBehind read kind line → ⊥
   pub head_stands : (bytes : List ℕ) (own peer : ℕ) (rs : List Record) (kind : Departure) (line : ℕ) → IsText own peer rs bytes → HeadDepartsAt (Some bytes) kind line → ⊥
 
--- the laws of what was taken in a run
+-- the laws of what was delivered in a run
 pub record RunLaws : Type 0 where
-  pub of_a : (head_a head_b : Head) (w : World Node SentUnit) (of_a of_b : List Record) → Run pair (start head_a head_b) of_a of_b w → DeliversFrom w.a.state.station w.b.state.station
-  pub of_b : (head_a head_b : Head) (w : World Node SentUnit) (of_a of_b : List Record) → Run pair (start head_a head_b) of_a of_b w → DeliversFrom w.b.state.station w.a.state.station
-  pub a_captured : (head_a head_b : Head) (w : World Node SentUnit) (of_a of_b : List Record) → Run pair (start head_a head_b) of_a of_b w → delivered of_a ≡ taken_by_period w.a.state.station
-  pub b_captured : (head_a head_b : Head) (w : World Node SentUnit) (of_a of_b : List Record) → Run pair (start head_a head_b) of_a of_b w → delivered of_b ≡ taken_by_period w.b.state.station
-  pub a_among : (head_a head_b : Head) (w : World Node SentUnit) (of_a of_b : List Record) → Run pair (start head_a head_b) of_a of_b w → AreAmong (all_taken w.a.state.station) (all_given w.b.state.station)
-  pub b_among : (head_a head_b : Head) (w : World Node SentUnit) (of_a of_b : List Record) → Run pair (start head_a head_b) of_a of_b w → AreAmong (all_taken w.b.state.station) (all_given w.a.state.station)
+  pub a_delivers : (head_a head_b : Head) (w : World Node SentUnit) (of_a of_b : List Record) → Run pair (start head_a head_b) of_a of_b w → Delivers w.a.state.station of_a of_b
+  pub b_delivers : (head_a head_b : Head) (w : World Node SentUnit) (of_a of_b : List Record) → Run pair (start head_a head_b) of_a of_b w → Delivers w.b.state.station of_b of_a
 
 -- ---- of two known texts of captures
 
@@ -102,20 +97,6 @@ exact_of_fault laws (Some bytes_a) (Some bytes_b) OutOfMemory f = λ head_a head
 
 -- ---- accepted
 
-delivers_a : (laws : RunLaws) (head_a head_b : Head) (of_a of_b : List Record) (run : IsRun head_a head_b of_a of_b) → Delivers run.0.a.state.station run.0.b.state.station of_a
-delivers_a laws head_a head_b of_a of_b run = record {
-  in_order = laws.of_a head_a head_b run.0 of_a of_b run.1;
-  captured = laws.a_captured head_a head_b run.0 of_a of_b run.1;
-  among = laws.a_among head_a head_b run.0 of_a of_b run.1;
-}
-
-delivers_b : (laws : RunLaws) (head_a head_b : Head) (of_a of_b : List Record) (run : IsRun head_a head_b of_a of_b) → Delivers run.0.b.state.station run.0.a.state.station of_b
-delivers_b laws head_a head_b of_a of_b run = record {
-  in_order = laws.of_b head_a head_b run.0 of_a of_b run.1;
-  captured = laws.b_captured head_a head_b run.0 of_a of_b run.1;
-  among = laws.b_among head_a head_b run.0 of_a of_b run.1;
-}
-
 -- what was read goes on by nothing
 goes_nowhere : (read : ReadSoFar) → GoesOn read read.records
 goes_nowhere read = by_rest read.behind
@@ -143,8 +124,8 @@ module _ (laws : WholeLaws) (runs : RunLaws) (bytes_a bytes_b : List ℕ) (read_
         is_text_a = read_whole laws bytes_a read_a from_a end_a;
         is_text_b = read_whole laws bytes_b read_b from_b end_b;
         run = run;
-        delivers_a = delivers_a runs (head_of read_a) (head_of read_b) read_a.records read_b.records run;
-        delivers_b = delivers_b runs (head_of read_a) (head_of read_b) read_a.records read_b.records run;
+        delivers_a = runs.a_delivers (head_of read_a) (head_of read_b) run.0 read_a.records read_b.records run.1;
+        delivers_b = runs.b_delivers (head_of read_a) (head_of read_b) run.0 read_a.records read_b.records run.1;
         counts_a = counts_a;
         counts_b = counts_b;
       }

@@ -3,9 +3,8 @@ use Rattle.std.specs.Prelude.{◌≡◌, ℕ, List, Option, Result, Ok, Err, IfS
 use Rattle.capture.specs.declared.record.Record.{Record}
 use Rattle.capture.specs.Range.{IsText}
 use Rattle.dna_model.specs.declared.head.Head.{Head}
-use Rattle.dna_model.specs.Delivery.{AreAmong, DeliversFrom, all_taken, delivered, taken_by_period}
+use Rattle.dna_model.specs.Offered.{Delivers}
 use Rattle.dna_model.specs.Pair.{IsRun}
-use Rattle.dna_model.specs.Station.{Station, all_given}
 use Rattle.pair_judge.specs.declared.summary.Summary.{Summary}
 use Rattle.pair_judge.specs.declared.verdict.Verdict.{Verdict}
 use Rattle.pair_judge.specs.declared.verdict.Verdict.TheVariants.{Accepted, Refused}
@@ -16,17 +15,8 @@ use Rattle.pair_judge.specs.Faulty.{IsFaultyText}
 use Rattle.pair_judge.specs.Refusal.{IsRefusal}
 use Rattle.pair_judge.specs.Summary.{summary_of}
 
--- What a station took of the other one in a run, where these are the records of its capture.
-pub record Delivers (own other : Station) (of_own : List Record) : Type 0 where
-  -- in every period a beginning of what its partner period gave, and nothing where it has no partner
-  pub in_order : DeliversFrom own other
-  -- in every period the data of the kept receipts
-  pub captured : delivered of_own ≡ taken_by_period own
-  -- over all periods it stands, in order, among what the other one ever first sent
-  pub among : AreAmong (all_taken own) (all_given other)
-
--- The bytes are the texts of two captures, all of whose records are one run of the two specified stations; what each took was sent, in
--- order; and the summary counts the records.
+-- The bytes are the texts of two captures, all of whose records are one run of the two specified stations; what was delivered to each is,
+-- in order, of what the other side was offered; and the summary counts the records.
 pub record AreARun (text_a text_b : List ℕ) (summary : Summary) : Type 0 where
   pub own_a : ℕ
   pub peer_a : ℕ
@@ -37,8 +27,8 @@ pub record AreARun (text_a text_b : List ℕ) (summary : Summary) : Type 0 where
   pub is_text_a : IsText own_a peer_a of_a text_a
   pub is_text_b : IsText own_b peer_b of_b text_b
   pub run : IsRun (record { own = own_a; peer = peer_a }) (record { own = own_b; peer = peer_b }) of_a of_b
-  pub delivers_a : Delivers run.0.a.state.station run.0.b.state.station of_a
-  pub delivers_b : Delivers run.0.b.state.station run.0.a.state.station of_b
+  pub delivers_a : Delivers run.0.a.state.station of_a of_b
+  pub delivers_b : Delivers run.0.b.state.station of_b of_a
   pub counts_a : summary.a ≡ summary_of of_a
   pub counts_b : summary.b ≡ summary_of of_b
 

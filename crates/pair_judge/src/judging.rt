@@ -21,7 +21,7 @@ use crate::summary::{SideSummary, Summary};
 use crate::turn::{side_fault, turn};
 use crate::verdict::Verdict;
 use capture::{CaptureReader, MAX_RECORDS, text_read_on, whole_text};
-use dna_model::{Finding, Head, delivered_in_order};
+use dna_model::{Finding, Head, captures_deliver_in_order};
 use std::alloc::Global;
 use std::io::Read;
 use wire_base::{Side, Tally};
@@ -45,7 +45,7 @@ pub struct Found {
 /// hint received are held.
 ///
 /// `Accepted`: both texts are texts of captures, all records of both are one run of two stations whose numbers have no bound, what
-/// each station took was sent, in order, and the summary is the counts of the records. Of two such texts nothing else is answered,
+/// was delivered to each side is, in order, of what the other was offered, and the summary is the counts of the records. Of two such texts nothing else is answered,
 /// but for want of memory and a failed read.
 ///
 /// `Refused`: however the texts go on behind what was read of them by then, they are no run, and the named record is the place:
@@ -73,7 +73,7 @@ pub fn judge<R: Read, S: Read>(
     ensures reads_b { CountsReads (is_failed_read_of Side.B result) (tally_faults b.old) (tally_faults b.new) }
 {
     whole_text();
-    delivered_in_order();
+    captures_deliver_in_order();
     match find(alloc, a, b) {
         Ok(found) => Ok(verdict(found)),
         Err(fault) => Err(fault),

@@ -80,25 +80,17 @@ fn coming<'a>(unit: &LineUnit, bytes: &'a [u8]) -> Option<Arrival<'a>>
     ensures coming { option_map arrival_view result ≡ line.coming unit.now bytes.now }
     ensures damage { IfSome result (λ arrival. is_damage (arrival_view arrival) ≡ shows_damage (reading bytes.now)) }
 {
+    let own = unit.bytes();
     match read_unit(bytes) {
         Reading::Sound(message) => {
-            if bytes == unit.bytes() {
+            if bytes == own {
                 return Some(Arrival::Sound(message, unit.tag()));
             }
             None
         }
-        Reading::HeaderBad => {
-            let _own = unit.bytes();
-            Some(Arrival::HeaderBad)
-        }
-        Reading::DataBad => {
-            let _own = unit.bytes();
-            Some(Arrival::DataBad)
-        }
-        Reading::Malformed(_) => {
-            let _own = unit.bytes();
-            None
-        }
+        Reading::HeaderBad => Some(Arrival::HeaderBad),
+        Reading::DataBad => Some(Arrival::DataBad),
+        Reading::Malformed(_) => None,
     }
 }
 

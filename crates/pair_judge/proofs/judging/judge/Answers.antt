@@ -17,8 +17,8 @@ pub returns-in-Ok-clause-accepted : goal.returns-in-Ok-clause-accepted
 returns-in-Ok-clause-accepted g c =
     let w = c.whole_text.ensures in
     let laws : WholeLaws = record { ended = w.ended; goes_on = w.goes_on; departs_nowhere = w.departs_nowhere; head_stands = w.head_stands } in
-    let d = c.delivered_in_order.ensures in
-    let runs : RunLaws = record { of_a = d.of_a; of_b = d.of_b; a_captured = d.a_captured; b_captured = d.b_captured; a_among = d.a_among; b_among = d.b_among } in
+    let d = c.captures_deliver_in_order.ensures in
+    let runs : RunLaws = record { a_delivers = d.a_delivers; b_delivers = d.b_delivers } in
     let text_a = g.R.Read.remaining (tally_lent c.args.a.now) in
     let text_b = g.S.Read.remaining (tally_lent c.args.b.now) in
     subst (λ (v : Verdict). IfTold text_a text_b (λ bytes_a bytes_b. IsAcceptance bytes_a bytes_b (Ok v))) (sym c.verdict.ensures) (accepted_of_found laws runs text_a text_b c.in-Ok.found c.in-Ok.ensures.found)
