@@ -29,3 +29,4 @@ pub mod TrueFlow
 pub mod WireFlow
 pub mod TrueLinks
 pub mod WireLinks
+pub mod CutFlow

@@ -8,6 +8,7 @@ mod finding;
 mod head;
 pub mod laws;
 mod link_event;
+pub mod link_laws;
 mod link_refusal;
 mod link_tag;
 mod nodes;
@@ -24,6 +25,7 @@ pub use laws::{
     packets_at_their_places, wire_nodes_see_right,
 };
 pub use link_event::LinkEvent;
+pub use link_laws::cut_flow;
 pub use link_refusal::LinkRefusal;
 pub use link_tag::LinkTag;
 pub use nodes::{TrueNodes, WireNodes};
