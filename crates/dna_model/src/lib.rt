@@ -25,7 +25,7 @@ pub use laws::{
     packets_at_their_places, wire_nodes_see_right,
 };
 pub use link_event::LinkEvent;
-pub use link_laws::cut_flow;
+pub use link_laws::{cut_flow, cut_link_steps};
 pub use link_refusal::LinkRefusal;
 pub use link_tag::LinkTag;
 pub use nodes::{TrueNodes, WireNodes};
