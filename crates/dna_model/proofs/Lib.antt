@@ -5,6 +5,14 @@ mod Rows
 mod TransferRows
 mod OrderRows
 mod StationRows
+-- a pair for each rule of the station
+mod PairUnits
+mod PairRowsUser
+mod PairRowsSending
+mod PairRowsHalted
+mod PairRowsIstrt
+mod PairRowsAstrt
+mod PairRowsRunning
 -- worked rows of links
 mod LinkRowMessages
 mod LinkRowSteps
