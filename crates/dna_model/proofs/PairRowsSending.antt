@@ -144,9 +144,9 @@ running_sends_ack : EndsAtA started answered (Sent ACK1) (Refused (OfStation Wro
 unfolding reading is_good check_of after_byte shift
 running_sends_ack = record { world = _; run = OfA refl (OfA refl (OfB refl (OfB refl (OfB refl (OfA refl Done))))); becomes = refl }
 
-running_sends_ack_with_raise_next : IsRowRun (started ++ Sent ACK0 ∷ Sent DATA1 ∷ []) answered
+running_sends_ack_with_send_packet : IsRowRun (started ++ Sent ACK0 ∷ Sent DATA1 ∷ []) answered
 unfolding reading is_good check_of after_byte shift
-running_sends_ack_with_raise_next = (_, OfA refl (OfA refl (OfB refl (OfB refl (OfB refl (OfA refl (OfA refl (OfA refl Done))))))))
+running_sends_ack_with_send_packet = (_, OfA refl (OfA refl (OfB refl (OfB refl (OfB refl (OfA refl (OfA refl (OfA refl Done))))))))
 
 -- ---- RUNNING, NAK 1 2 3 8 is sent
 
@@ -158,9 +158,9 @@ running_sends_nak_with_cause_without_resp_is_last : EndsAtA started answered (Se
 unfolding reading is_good check_of after_byte shift
 running_sends_nak_with_cause_without_resp_is_last = record { world = _; run = OfA refl (OfA refl (OfB refl (OfB refl (OfB refl (OfA refl Done))))); becomes = refl }
 
-running_sends_nak_with_cause_with_raise_next : IsRowRun (started ++ Sent DATA1 ∷ []) (answered ++ Received 1 false DATA1 ∷ Sent NAK_BUFFER0 ∷ Sent DATA1 ∷ [])
+running_sends_nak_with_cause_with_send_packet : IsRowRun (started ++ Sent DATA1 ∷ []) (answered ++ Received 1 false DATA1 ∷ Sent NAK_BUFFER0 ∷ Sent DATA1 ∷ [])
 unfolding reading is_good check_of after_byte shift
-running_sends_nak_with_cause_with_raise_next = (_, OfA refl (OfA refl (OfB refl (OfB refl (OfB refl (OfA refl (OfA refl (OfB refl (OfB refl (OfB refl Done))))))))))
+running_sends_nak_with_cause_with_send_packet = (_, OfA refl (OfA refl (OfB refl (OfB refl (OfB refl (OfA refl (OfA refl (OfB refl (OfB refl (OfB refl Done))))))))))
 
 running_sends_nak_with_cause_without_use_cause_1 : EndsAtA (started ++ Received 1 false damaged_STRT ∷ Sent NAK_HEADER0 ∷ []) (answered ++ Sent STACK ∷ []) (Sent NAK_HEADER0) (Refused (OfStation NoCause))
 unfolding reading is_good check_of after_byte shift
@@ -200,9 +200,9 @@ running_sends_nak_without_cause_without_resp_is_last : EndsAtA started answered 
 unfolding reading is_good check_of after_byte shift
 running_sends_nak_without_cause_without_resp_is_last = record { world = _; run = OfA refl (OfA refl (OfB refl (OfB refl (OfB refl (OfA refl Done))))); becomes = refl }
 
-running_sends_nak_without_cause_with_raise_next : IsRowRun (started ++ Sent NAK_OVERRUN0 ∷ Sent DATA1 ∷ []) answered
+running_sends_nak_without_cause_with_send_packet : IsRowRun (started ++ Sent NAK_OVERRUN0 ∷ Sent DATA1 ∷ []) answered
 unfolding reading is_good check_of after_byte shift
-running_sends_nak_without_cause_with_raise_next = (_, OfA refl (OfA refl (OfB refl (OfB refl (OfB refl (OfA refl (OfA refl (OfA refl Done))))))))
+running_sends_nak_without_cause_with_send_packet = (_, OfA refl (OfA refl (OfB refl (OfB refl (OfB refl (OfA refl (OfA refl (OfA refl Done))))))))
 
 running_sends_nak_without_cause_with_use_cause_9 : IsRowRun (started ++ Sent DATA1 ∷ []) (answered ++ Received 1 false DATA1 ∷ Sent NAK_OVERRUN0 ∷ Sent NAK_BUFFER0 ∷ [])
 unfolding reading is_good check_of after_byte shift
@@ -234,9 +234,9 @@ running_sends_rep_without_some_outstanding : EndsAtA started answered (Sent REP0
 unfolding reading is_good check_of after_byte shift
 running_sends_rep_without_some_outstanding = record { world = _; run = OfA refl (OfA refl (OfB refl (OfB refl (OfB refl (OfA refl Done))))); becomes = refl }
 
-running_sends_rep_with_raise_next : IsRowRun (started ++ Sent DATA1 ∷ Sent REP1 ∷ Sent DATA2 ∷ []) answered
+running_sends_rep_with_send_packet : IsRowRun (started ++ Sent DATA1 ∷ Sent REP1 ∷ Sent DATA2 ∷ []) answered
 unfolding reading is_good check_of after_byte shift
-running_sends_rep_with_raise_next = (_, OfA refl (OfA refl (OfB refl (OfB refl (OfB refl (OfA refl (OfA refl (OfA refl (OfA refl Done)))))))))
+running_sends_rep_with_send_packet = (_, OfA refl (OfA refl (OfB refl (OfB refl (OfB refl (OfA refl (OfA refl (OfA refl (OfA refl Done)))))))))
 
 -- ---- RUNNING, data is sent
 
@@ -252,10 +252,10 @@ running_sends_data_without_as_first_given : EndsAtA (started ++ Sent DATA1 ∷ R
 unfolding reading is_good check_of after_byte shift
 running_sends_data_without_as_first_given = record { world = _; run = OfA refl (OfA refl (OfB refl (OfB refl (OfB refl (OfA refl (OfA refl (OfB refl (OfB refl (OfA refl Done))))))))); becomes = refl }
 
-running_sends_data_without_give_number : IsRowRun (started ++ Sent DATA1 ∷ Sent DATA2 ∷ []) answered
+running_sends_data_send_packet_gives_no_number : IsRowRun (started ++ Sent DATA1 ∷ Sent DATA2 ∷ []) answered
 unfolding reading is_good check_of after_byte shift
-running_sends_data_without_give_number = (_, OfA refl (OfA refl (OfB refl (OfB refl (OfB refl (OfA refl (OfA refl (OfA refl Done))))))))
+running_sends_data_send_packet_gives_no_number = (_, OfA refl (OfA refl (OfB refl (OfB refl (OfB refl (OfA refl (OfA refl (OfA refl Done))))))))
 
-running_sends_data_raise_next_if_new : EndsAtA (started ++ Sent DATA1 ∷ Received 1 false NAK_BUFFER0 ∷ Sent DATA1 ∷ []) (answered ++ Received 1 false DATA1 ∷ Sent NAK_BUFFER0 ∷ []) (Sent DATA1) (Refused (OfStation WrongNumber))
+running_sends_data_send_packet_leaves_t_if_sent_again : EndsAtA (started ++ Sent DATA1 ∷ Received 1 false NAK_BUFFER0 ∷ Sent DATA1 ∷ []) (answered ++ Received 1 false DATA1 ∷ Sent NAK_BUFFER0 ∷ []) (Sent DATA1) (Refused (OfStation WrongNumber))
 unfolding reading is_good check_of after_byte shift
-running_sends_data_raise_next_if_new = record { world = _; run = OfA refl (OfA refl (OfB refl (OfB refl (OfB refl (OfA refl (OfA refl (OfB refl (OfB refl (OfA refl (OfA refl Done)))))))))); becomes = refl }
+running_sends_data_send_packet_leaves_t_if_sent_again = record { world = _; run = OfA refl (OfA refl (OfB refl (OfB refl (OfB refl (OfA refl (OfA refl (OfB refl (OfB refl (OfA refl (OfA refl Done)))))))))); becomes = refl }

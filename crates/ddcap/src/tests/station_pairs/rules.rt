@@ -37,10 +37,10 @@ pub const RULES: [&str; 10] = [
     "without TakePacket, without AnswerRep, without OpenCause 1, without OpenCause 2",
     "with GoTo HALTED, with GoTo ASTRT, with GoTo RUNNING, with TakePartner, with Respond, with SetBack",
     "with TakePacket, with AnswerRep, with OpenCause 1, with OpenCause 2",
-    "Respond if next, Respond leaves T, Respond sets T, SetBack if RESP moved, AnswerRep for any, RaiseNext if new",
+    "Respond if next, Respond leaves T, Respond sets T, SetBack if RESP moved, AnswerRep for any",
     "TakePacket opens cause 8 for any, TakePacket opens no cause 8, TakePacket leaves R, TakePacket raises R unkept",
     "without RespIsLast, without SomeOutstanding, without NumIsHighest, without NumIsNext, without RoomIfNew, without AsFirstGiven",
-    "without GiveNumber, without RaiseNext, with RaiseNext",
+    "SendPacket gives no number, SendPacket leaves T, SendPacket leaves T if sent again, with SendPacket",
     "keeps the period, keeps the partner, keeps R, keeps A, keeps T, keeps the packets, keeps the causes",
 ];
 
@@ -88,19 +88,19 @@ pub fn is_of_sending(state: &str, message: &str, rule: &str) -> bool {
 // Of the rows of RUNNING: each check and each effect left out, and those of a neighbour added.
 fn turns_of_sending(message: &str) -> &'static str {
     match message {
-        "ACK" => "without RespIsLast, with RaiseNext",
+        "ACK" => "without RespIsLast, with SendPacket",
         "NAK 1 2 3 8" => {
             "without RespIsLast, without CauseIsOpen 1, without CauseIsOpen 2, without CauseIsOpen 3, without CauseIsOpen 8, \
-             without UseCause 1, without UseCause 2, without UseCause 3, without UseCause 8, with RaiseNext"
+             without UseCause 1, without UseCause 2, without UseCause 3, without UseCause 8, with SendPacket"
         }
         "NAK 9 16 17" => {
             "without RespIsLast, with CauseIsOpen 9, with CauseIsOpen 16, with CauseIsOpen 17, \
-             with UseCause 9, with UseCause 16, with UseCause 17, with RaiseNext"
+             with UseCause 9, with UseCause 16, with UseCause 17, with SendPacket"
         }
-        "REP" => "without SomeOutstanding, without NumIsHighest, with RaiseNext",
+        "REP" => "without SomeOutstanding, without NumIsHighest, with SendPacket",
         "data" => {
-            "without NumIsNext, without RespIsLast, without RoomIfNew, without AsFirstGiven, without GiveNumber, \
-             without RaiseNext, RaiseNext if new"
+            "without NumIsNext, without RespIsLast, without RoomIfNew, without AsFirstGiven, SendPacket gives no number, \
+             SendPacket leaves T, SendPacket leaves T if sent again"
         }
         _ => "",
     }
