@@ -12,9 +12,9 @@ use Rattle.dna_model.proofs.PairUnits.{NAK_HEADER0, NAK_OVERRUN0, damaged_STRT, 
 
 -- ---- ASTRT, STRT comes
 
-astrt_strt_needs_fresh : EndsAt (User Start ∷ Sent STRT ∷ Sent STRT ∷ []) (User Start ∷ Received 0 false STRT ∷ []) (Received 1 true STRT) (Refused (OfStation WrongKeep))
+astrt_strt_kept : EndsAt (User Start ∷ Sent STRT ∷ Sent STRT ∷ []) (User Start ∷ Received 0 false STRT ∷ []) (Received 1 true STRT) (Refused (OfStation WrongKeep))
 unfolding reading is_good check_of after_byte shift
-astrt_strt_needs_fresh = record { world = _; run = OfA refl (OfA refl (OfA refl (OfB refl (OfB refl Done)))); becomes = refl }
+astrt_strt_kept = record { world = _; run = OfA refl (OfA refl (OfA refl (OfB refl (OfB refl Done)))); becomes = refl }
 
 astrt_strt_without_take_partner : IsRowRun (User Start ∷ Sent STRT ∷ User Halt ∷ User Start ∷ Sent STRT ∷ Received 0 false STACK ∷ []) (User Start ∷ Received 0 false STRT ∷ Received 1 false STRT ∷ Sent STACK ∷ [])
 unfolding reading is_good check_of after_byte shift
@@ -98,9 +98,9 @@ astrt_data_needs_anything : EndsAt (User Start ∷ Sent STRT ∷ Sent STRT ∷ R
 unfolding reading is_good check_of after_byte shift
 astrt_data_needs_anything = record { world = _; run = OfA refl (OfA refl (OfA refl (OfB refl (OfB refl (OfB refl (OfA refl (OfA refl (OfB refl (OfB refl (OfB refl Done)))))))))); becomes = refl }
 
-astrt_data_without_go_to_running : IsRowRun (started ++ Sent DATA1 ∷ []) (answered ++ Received 1 false DATA1 ∷ Sent NAK_BUFFER0 ∷ [])
+astrt_data_take_packet_opens_no_cause_8 : IsRowRun (started ++ Sent DATA1 ∷ []) (answered ++ Received 1 false DATA1 ∷ Sent NAK_BUFFER0 ∷ [])
 unfolding reading is_good check_of after_byte shift
-astrt_data_without_go_to_running = (_, OfA refl (OfA refl (OfB refl (OfB refl (OfB refl (OfA refl (OfA refl (OfB refl (OfB refl Done)))))))))
+astrt_data_take_packet_opens_no_cause_8 = (_, OfA refl (OfA refl (OfB refl (OfB refl (OfB refl (OfA refl (OfA refl (OfB refl (OfB refl Done)))))))))
 
 astrt_data_without_take_packet : IsRowRun (started ++ Sent DATA1 ∷ []) (answered ++ Received 1 true DATA1 ∷ [])
 unfolding reading is_good check_of after_byte shift

@@ -13,9 +13,9 @@ use Rattle.dna_model.proofs.PairUnits.{NAK_OVERRUN0, damaged_STRT, started, answ
 
 -- ---- HALTED, STRT comes
 
-halted_strt_needs_fresh : EndsAt (User Start ∷ Sent STRT ∷ []) [] (Received 0 true STRT) (Refused (OfStation WrongKeep))
+halted_strt_kept : EndsAt (User Start ∷ Sent STRT ∷ []) [] (Received 0 true STRT) (Refused (OfStation WrongKeep))
 unfolding reading is_good check_of after_byte shift
-halted_strt_needs_fresh = record { world = _; run = OfA refl (OfA refl Done); becomes = refl }
+halted_strt_kept = record { world = _; run = OfA refl (OfA refl Done); becomes = refl }
 
 halted_strt_with_go_to_astrt : IsRowRun (User Start ∷ Sent STRT ∷ []) (Received 0 false STRT ∷ User Start ∷ [])
 unfolding reading is_good check_of after_byte shift
@@ -27,9 +27,9 @@ halted_stack_needs_fresh : IsRowRun (User Start ∷ Sent STRT ∷ User Halt ∷ 
 unfolding reading is_good check_of after_byte shift
 halted_stack_needs_fresh = (_, OfA refl (OfA refl (OfA refl (OfA refl (OfA refl (OfB refl (OfB refl (OfB refl (OfA refl Done)))))))))
 
-halted_stack_needs_of_pair : EndsAtA (User Start ∷ Sent STRT ∷ User Halt ∷ []) answered (Received 0 true STACK) (Refused (OfStation WrongKeep))
+halted_stack_kept : EndsAtA (User Start ∷ Sent STRT ∷ User Halt ∷ []) answered (Received 0 true STACK) (Refused (OfStation WrongKeep))
 unfolding reading is_good check_of after_byte shift
-halted_stack_needs_of_pair = record { world = _; run = OfA refl (OfA refl (OfA refl (OfB refl (OfB refl (OfB refl Done))))); becomes = refl }
+halted_stack_kept = record { world = _; run = OfA refl (OfA refl (OfA refl (OfB refl (OfB refl (OfB refl Done))))); becomes = refl }
 
 halted_stack_with_go_to_running : IsRowRun (User Start ∷ Sent STRT ∷ User Halt ∷ Received 0 false STACK ∷ User Start ∷ []) answered
 unfolding reading is_good check_of after_byte shift

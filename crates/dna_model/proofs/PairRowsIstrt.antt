@@ -12,9 +12,9 @@ use Rattle.dna_model.proofs.PairUnits.{NAK_HEADER0, NAK_OVERRUN0, damaged_STRT, 
 
 -- ---- ISTRT, STRT comes
 
-istrt_strt_needs_fresh : EndsAt (User Start ∷ Sent STRT ∷ []) (User Start ∷ []) (Received 0 true STRT) (Refused (OfStation WrongKeep))
+istrt_strt_kept : EndsAt (User Start ∷ Sent STRT ∷ []) (User Start ∷ []) (Received 0 true STRT) (Refused (OfStation WrongKeep))
 unfolding reading is_good check_of after_byte shift
-istrt_strt_needs_fresh = record { world = _; run = OfA refl (OfA refl (OfB refl Done)); becomes = refl }
+istrt_strt_kept = record { world = _; run = OfA refl (OfA refl (OfB refl Done)); becomes = refl }
 
 istrt_strt_without_go_to_astrt : IsRowRun (User Start ∷ Sent STRT ∷ []) answered
 unfolding reading is_good check_of after_byte shift
@@ -30,9 +30,9 @@ istrt_stack_needs_anything : EndsAtA (User Start ∷ Sent STRT ∷ User Halt ∷
 unfolding reading is_good check_of after_byte shift
 istrt_stack_needs_anything = record { world = _; run = OfA refl (OfA refl (OfA refl (OfA refl (OfB refl (OfB refl (OfB refl Done)))))); becomes = refl }
 
-istrt_stack_needs_of_pair : EndsAtA (User Start ∷ Sent STRT ∷ []) answered (Received 0 true STACK) (Refused (OfStation WrongKeep))
+istrt_stack_kept : EndsAtA (User Start ∷ Sent STRT ∷ []) answered (Received 0 true STACK) (Refused (OfStation WrongKeep))
 unfolding reading is_good check_of after_byte shift
-istrt_stack_needs_of_pair = record { world = _; run = OfA refl (OfA refl (OfB refl (OfB refl (OfB refl Done)))); becomes = refl }
+istrt_stack_kept = record { world = _; run = OfA refl (OfA refl (OfB refl (OfB refl (OfB refl Done)))); becomes = refl }
 
 istrt_stack_without_go_to_running : IsRowRun (started ++ Sent ACK0 ∷ []) answered
 unfolding reading is_good check_of after_byte shift
@@ -44,9 +44,9 @@ istrt_stack_without_take_partner = record { world = _; run = OfA refl (OfA refl 
 
 -- ---- ISTRT, ACK comes
 
-istrt_ack_needs_fresh : EndsAt (started ++ Sent ACK0 ∷ []) (answered ++ User Halt ∷ User Start ∷ []) (Received 1 true ACK0) (Refused (OfStation WrongKeep))
+istrt_ack_kept : EndsAt (started ++ Sent ACK0 ∷ []) (answered ++ User Halt ∷ User Start ∷ []) (Received 1 true ACK0) (Refused (OfStation WrongKeep))
 unfolding reading is_good check_of after_byte shift
-istrt_ack_needs_fresh = record { world = _; run = OfA refl (OfA refl (OfB refl (OfB refl (OfB refl (OfA refl (OfA refl (OfB refl (OfB refl Done)))))))); becomes = refl }
+istrt_ack_kept = record { world = _; run = OfA refl (OfA refl (OfB refl (OfB refl (OfB refl (OfA refl (OfA refl (OfB refl (OfB refl Done)))))))); becomes = refl }
 
 istrt_ack_with_go_to_astrt : IsRowRun (started ++ Sent ACK0 ∷ []) (answered ++ User Halt ∷ User Start ∷ Received 1 false ACK0 ∷ Sent STRT ∷ [])
 unfolding reading is_good check_of after_byte shift
@@ -54,9 +54,9 @@ istrt_ack_with_go_to_astrt = (_, OfA refl (OfA refl (OfB refl (OfB refl (OfB ref
 
 -- ---- ISTRT, NAK comes
 
-istrt_nak_needs_fresh : EndsAt (started ++ Sent NAK_OVERRUN0 ∷ []) (answered ++ User Halt ∷ User Start ∷ []) (Received 1 true NAK_OVERRUN0) (Refused (OfStation WrongKeep))
+istrt_nak_kept : EndsAt (started ++ Sent NAK_OVERRUN0 ∷ []) (answered ++ User Halt ∷ User Start ∷ []) (Received 1 true NAK_OVERRUN0) (Refused (OfStation WrongKeep))
 unfolding reading is_good check_of after_byte shift
-istrt_nak_needs_fresh = record { world = _; run = OfA refl (OfA refl (OfB refl (OfB refl (OfB refl (OfA refl (OfA refl (OfB refl (OfB refl Done)))))))); becomes = refl }
+istrt_nak_kept = record { world = _; run = OfA refl (OfA refl (OfB refl (OfB refl (OfB refl (OfA refl (OfA refl (OfB refl (OfB refl Done)))))))); becomes = refl }
 
 istrt_nak_with_go_to_astrt : IsRowRun (started ++ Sent NAK_OVERRUN0 ∷ []) (answered ++ User Halt ∷ User Start ∷ Received 1 false NAK_OVERRUN0 ∷ Sent STRT ∷ [])
 unfolding reading is_good check_of after_byte shift
@@ -64,9 +64,9 @@ istrt_nak_with_go_to_astrt = (_, OfA refl (OfA refl (OfB refl (OfB refl (OfB ref
 
 -- ---- ISTRT, REP comes
 
-istrt_rep_needs_fresh : EndsAt (started ++ Sent DATA1 ∷ Sent REP1 ∷ []) (answered ++ User Halt ∷ User Start ∷ []) (Received 2 true REP1) (Refused (OfStation WrongKeep))
+istrt_rep_kept : EndsAt (started ++ Sent DATA1 ∷ Sent REP1 ∷ []) (answered ++ User Halt ∷ User Start ∷ []) (Received 2 true REP1) (Refused (OfStation WrongKeep))
 unfolding reading is_good check_of after_byte shift
-istrt_rep_needs_fresh = record { world = _; run = OfA refl (OfA refl (OfB refl (OfB refl (OfB refl (OfA refl (OfA refl (OfA refl (OfB refl (OfB refl Done))))))))); becomes = refl }
+istrt_rep_kept = record { world = _; run = OfA refl (OfA refl (OfB refl (OfB refl (OfB refl (OfA refl (OfA refl (OfA refl (OfB refl (OfB refl Done))))))))); becomes = refl }
 
 istrt_rep_with_go_to_astrt : IsRowRun (started ++ Sent DATA1 ∷ Sent REP1 ∷ []) (answered ++ User Halt ∷ User Start ∷ Received 2 false REP1 ∷ Sent STRT ∷ [])
 unfolding reading is_good check_of after_byte shift
@@ -78,9 +78,9 @@ istrt_rep_with_answer_rep = record { world = _; run = OfA refl (OfA refl (OfB re
 
 -- ---- ISTRT, data comes
 
-istrt_data_needs_fresh : EndsAt (started ++ Sent DATA1 ∷ []) (answered ++ User Halt ∷ User Start ∷ []) (Received 1 true DATA1) (Refused (OfStation WrongKeep))
+istrt_data_with_take_packet : EndsAt (started ++ Sent DATA1 ∷ []) (answered ++ User Halt ∷ User Start ∷ []) (Received 1 true DATA1) (Refused (OfStation WrongKeep))
 unfolding reading is_good check_of after_byte shift
-istrt_data_needs_fresh = record { world = _; run = OfA refl (OfA refl (OfB refl (OfB refl (OfB refl (OfA refl (OfA refl (OfB refl (OfB refl Done)))))))); becomes = refl }
+istrt_data_with_take_packet = record { world = _; run = OfA refl (OfA refl (OfB refl (OfB refl (OfB refl (OfA refl (OfA refl (OfB refl (OfB refl Done)))))))); becomes = refl }
 
 istrt_data_with_go_to_astrt : IsRowRun (started ++ Sent DATA1 ∷ []) (answered ++ User Halt ∷ User Start ∷ Received 1 false DATA1 ∷ Sent STRT ∷ [])
 unfolding reading is_good check_of after_byte shift

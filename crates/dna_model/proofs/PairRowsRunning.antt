@@ -12,9 +12,9 @@ use Rattle.dna_model.proofs.PairUnits.{NAK_HEADER0, NAK_OVERRUN0, DATA2_RESP1, d
 
 -- ---- RUNNING, STRT comes
 
-running_strt_needs_fresh : EndsAtA started (answered ++ User Halt ∷ User Start ∷ Sent STRT ∷ []) (Received 1 true STRT) (Refused (OfStation WrongKeep))
+running_strt_kept : EndsAtA started (answered ++ User Halt ∷ User Start ∷ Sent STRT ∷ []) (Received 1 true STRT) (Refused (OfStation WrongKeep))
 unfolding reading is_good check_of after_byte shift
-running_strt_needs_fresh = record { world = _; run = OfA refl (OfA refl (OfB refl (OfB refl (OfB refl (OfA refl (OfB refl (OfB refl (OfB refl Done)))))))); becomes = refl }
+running_strt_kept = record { world = _; run = OfA refl (OfA refl (OfB refl (OfB refl (OfB refl (OfA refl (OfB refl (OfB refl (OfB refl Done)))))))); becomes = refl }
 
 running_strt_without_go_to_halted : IsRowRun (started ++ Received 1 false STRT ∷ User Start ∷ []) (answered ++ User Halt ∷ User Start ∷ Sent STRT ∷ [])
 unfolding reading is_good check_of after_byte shift
@@ -44,9 +44,9 @@ running_ack_without_respond : EndsAtA (started ++ Sent DATA1 ∷ Received 1 fals
 unfolding reading is_good check_of after_byte shift
 running_ack_without_respond = record { world = _; run = OfA refl (OfA refl (OfB refl (OfB refl (OfB refl (OfA refl (OfA refl (OfB refl (OfB refl (OfA refl Done))))))))); becomes = refl }
 
-running_ack_with_go_to_halted : EndsAtA (started ++ Sent DATA1 ∷ Received 1 false ACK0 ∷ []) (answered ++ Received 1 false DATA1 ∷ Sent ACK0 ∷ []) (Sent DATA1) (Refused (OfStation WrongNumber))
+running_ack_with_set_back : EndsAtA (started ++ Sent DATA1 ∷ Received 1 false ACK0 ∷ []) (answered ++ Received 1 false DATA1 ∷ Sent ACK0 ∷ []) (Sent DATA1) (Refused (OfStation WrongNumber))
 unfolding reading is_good check_of after_byte shift
-running_ack_with_go_to_halted = record { world = _; run = OfA refl (OfA refl (OfB refl (OfB refl (OfB refl (OfA refl (OfA refl (OfB refl (OfB refl (OfA refl Done))))))))); becomes = refl }
+running_ack_with_set_back = record { world = _; run = OfA refl (OfA refl (OfB refl (OfB refl (OfB refl (OfA refl (OfA refl (OfB refl (OfB refl (OfA refl Done))))))))); becomes = refl }
 
 running_ack_kept : EndsAt (started ++ Sent ACK0 ∷ Sent ACK0 ∷ []) (answered ++ Received 1 false ACK0 ∷ []) (Received 2 true ACK0) (Refused (OfStation WrongKeep))
 unfolding reading is_good check_of after_byte shift
@@ -80,9 +80,9 @@ running_rep_without_answer_rep : IsRowRun (started ++ Sent DATA1 ∷ Sent REP1 �
 unfolding reading is_good check_of after_byte shift
 running_rep_without_answer_rep = (_, OfA refl (OfA refl (OfB refl (OfB refl (OfB refl (OfA refl (OfA refl (OfA refl (OfB refl (OfB refl (OfB refl Done)))))))))))
 
-running_rep_with_go_to_halted : EndsAt (started ++ Sent DATA1 ∷ Sent REP1 ∷ []) (answered ++ Received 1 true DATA1 ∷ Received 2 false REP1 ∷ []) (Sent NAK_REP1) (Refused (OfStation NoCause))
+running_rep_answer_rep_for_any : EndsAt (started ++ Sent DATA1 ∷ Sent REP1 ∷ []) (answered ++ Received 1 true DATA1 ∷ Received 2 false REP1 ∷ []) (Sent NAK_REP1) (Refused (OfStation NoCause))
 unfolding reading is_good check_of after_byte shift
-running_rep_with_go_to_halted = record { world = _; run = OfA refl (OfA refl (OfB refl (OfB refl (OfB refl (OfA refl (OfA refl (OfA refl (OfB refl (OfB refl Done))))))))); becomes = refl }
+running_rep_answer_rep_for_any = record { world = _; run = OfA refl (OfA refl (OfB refl (OfB refl (OfB refl (OfA refl (OfA refl (OfA refl (OfB refl (OfB refl Done))))))))); becomes = refl }
 
 running_rep_with_set_back : EndsAt (started ++ Sent DATA1 ∷ Sent REP1 ∷ []) (answered ++ Received 1 false DATA1 ∷ Sent DATA1 ∷ Received 2 false REP1 ∷ []) (Sent DATA1) (Refused (OfStation WrongNumber))
 unfolding reading is_good check_of after_byte shift
@@ -102,9 +102,9 @@ running_data_without_take_packet : IsRowRun (started ++ Sent ACK0 ∷ Sent DATA1
 unfolding reading is_good check_of after_byte shift
 running_data_without_take_packet = (_, OfA refl (OfA refl (OfB refl (OfB refl (OfB refl (OfA refl (OfA refl (OfA refl (OfB refl (OfB refl Done))))))))))
 
-running_data_with_go_to_halted : EndsAt (started ++ Sent ACK0 ∷ Sent DATA1 ∷ []) (answered ++ Received 1 false ACK0 ∷ Received 2 false DATA1 ∷ []) (Sent NAK_REP0) (Refused (OfStation NoCause))
+running_data_take_packet_raises_r_unkept : EndsAt (started ++ Sent ACK0 ∷ Sent DATA1 ∷ []) (answered ++ Received 1 false ACK0 ∷ Received 2 false DATA1 ∷ []) (Sent NAK_REP0) (Refused (OfStation NoCause))
 unfolding reading is_good check_of after_byte shift
-running_data_with_go_to_halted = record { world = _; run = OfA refl (OfA refl (OfB refl (OfB refl (OfB refl (OfA refl (OfA refl (OfA refl (OfB refl (OfB refl Done))))))))); becomes = refl }
+running_data_take_packet_raises_r_unkept = record { world = _; run = OfA refl (OfA refl (OfB refl (OfB refl (OfB refl (OfA refl (OfA refl (OfA refl (OfB refl (OfB refl Done))))))))); becomes = refl }
 
 running_data_with_set_back : EndsAtA (started ++ Sent DATA1 ∷ Received 1 false DATA1 ∷ []) (answered ++ Received 1 false DATA1 ∷ Sent DATA1 ∷ []) (Sent DATA1) (Refused (OfStation WrongNumber))
 unfolding reading is_good check_of after_byte shift
@@ -162,9 +162,9 @@ running_bad_data_without_open_cause_2 : IsRowRun (started ++ Received 1 false da
 unfolding reading is_good check_of after_byte shift
 running_bad_data_without_open_cause_2 = (_, OfA refl (OfA refl (OfB refl (OfB refl (OfB refl (OfA refl (OfB refl (OfA refl (OfA refl Done)))))))))
 
-running_bad_data_with_go_to_halted : EndsAtA (started ++ Received 1 false damaged_DATA1 ∷ []) (answered ++ Sent STACK ∷ []) (Sent NAK_HEADER0) (Refused (OfStation NoCause))
+running_bad_data_with_open_cause_1 : EndsAtA (started ++ Received 1 false damaged_DATA1 ∷ []) (answered ++ Sent STACK ∷ []) (Sent NAK_HEADER0) (Refused (OfStation NoCause))
 unfolding reading is_good check_of after_byte shift
-running_bad_data_with_go_to_halted = record { world = _; run = OfA refl (OfA refl (OfB refl (OfB refl (OfB refl (OfA refl (OfB refl (OfA refl Done))))))); becomes = refl }
+running_bad_data_with_open_cause_1 = record { world = _; run = OfA refl (OfA refl (OfB refl (OfB refl (OfB refl (OfA refl (OfB refl (OfA refl Done))))))); becomes = refl }
 
 running_bad_data_with_set_back : EndsAtA (started ++ Sent DATA1 ∷ Received 1 false damaged_DATA1 ∷ []) (answered ++ Sent STACK ∷ []) (Sent DATA1) (Refused (OfStation WrongNumber))
 unfolding reading is_good check_of after_byte shift

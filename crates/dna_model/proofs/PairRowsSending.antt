@@ -1,6 +1,6 @@
 -- Pairs of captures that tell a rule from its turn, computed from the definitions: what is sent. A row is named for the state, the message,
 -- and the turn whose answer is another: a check or an effect left out or added. One that is named for state and message alone tells whether
--- the message is allowed. The row of the full window stands in `StationRows`.
+-- the message is allowed. A caused NAK has reason 1, 2, 3 or 8, a free one 9, 16 or 17. The full window stands in `StationRows`.
 use Rattle.std.proofs.Common.{false, [], ◌∷◌, ◌++◌, refl}
 use Rattle.two_nodes.specs.Nodes.{Done, OfA, OfB, Refused}
 use Rattle.wire_base.specs.BlockCheck.{is_good, check_of, after_byte, shift}
@@ -32,15 +32,15 @@ halted_sends_ack = record { world = start_of_rows; run = Done; becomes = refl }
 
 -- ---- HALTED, NAK 1 2 3 8 is sent
 
-halted_sends_nak_with_cause : EndsAtA [] [] (Sent NAK_HEADER0) (Refused (OfStation WrongState))
+halted_sends_caused_nak : EndsAtA [] [] (Sent NAK_HEADER0) (Refused (OfStation WrongState))
 unfolding reading is_good check_of after_byte shift
-halted_sends_nak_with_cause = record { world = start_of_rows; run = Done; becomes = refl }
+halted_sends_caused_nak = record { world = start_of_rows; run = Done; becomes = refl }
 
 -- ---- HALTED, NAK 9 16 17 is sent
 
-halted_sends_nak_without_cause : EndsAtA [] [] (Sent NAK_OVERRUN0) (Refused (OfStation WrongState))
+halted_sends_free_nak : EndsAtA [] [] (Sent NAK_OVERRUN0) (Refused (OfStation WrongState))
 unfolding reading is_good check_of after_byte shift
-halted_sends_nak_without_cause = record { world = start_of_rows; run = Done; becomes = refl }
+halted_sends_free_nak = record { world = start_of_rows; run = Done; becomes = refl }
 
 -- ---- HALTED, REP is sent
 
@@ -74,15 +74,15 @@ istrt_sends_ack = record { world = _; run = OfA refl Done; becomes = refl }
 
 -- ---- ISTRT, NAK 1 2 3 8 is sent
 
-istrt_sends_nak_with_cause : EndsAtA (User Start ∷ []) [] (Sent NAK_HEADER0) (Refused (OfStation WrongState))
+istrt_sends_caused_nak : EndsAtA (User Start ∷ []) [] (Sent NAK_HEADER0) (Refused (OfStation WrongState))
 unfolding reading is_good check_of after_byte shift
-istrt_sends_nak_with_cause = record { world = _; run = OfA refl Done; becomes = refl }
+istrt_sends_caused_nak = record { world = _; run = OfA refl Done; becomes = refl }
 
 -- ---- ISTRT, NAK 9 16 17 is sent
 
-istrt_sends_nak_without_cause : EndsAtA (User Start ∷ []) [] (Sent NAK_OVERRUN0) (Refused (OfStation WrongState))
+istrt_sends_free_nak : EndsAtA (User Start ∷ []) [] (Sent NAK_OVERRUN0) (Refused (OfStation WrongState))
 unfolding reading is_good check_of after_byte shift
-istrt_sends_nak_without_cause = record { world = _; run = OfA refl Done; becomes = refl }
+istrt_sends_free_nak = record { world = _; run = OfA refl Done; becomes = refl }
 
 -- ---- ISTRT, data is sent
 
@@ -110,15 +110,15 @@ astrt_sends_ack = record { world = _; run = OfA refl (OfA refl (OfB refl (OfB re
 
 -- ---- ASTRT, NAK 1 2 3 8 is sent
 
-astrt_sends_nak_with_cause : EndsAt (User Start ∷ Sent STRT ∷ []) (User Start ∷ Received 0 false STRT ∷ []) (Sent NAK_HEADER0) (Refused (OfStation WrongState))
+astrt_sends_caused_nak : EndsAt (User Start ∷ Sent STRT ∷ []) (User Start ∷ Received 0 false STRT ∷ []) (Sent NAK_HEADER0) (Refused (OfStation WrongState))
 unfolding reading is_good check_of after_byte shift
-astrt_sends_nak_with_cause = record { world = _; run = OfA refl (OfA refl (OfB refl (OfB refl Done))); becomes = refl }
+astrt_sends_caused_nak = record { world = _; run = OfA refl (OfA refl (OfB refl (OfB refl Done))); becomes = refl }
 
 -- ---- ASTRT, NAK 9 16 17 is sent
 
-astrt_sends_nak_without_cause : EndsAt (User Start ∷ Sent STRT ∷ []) (User Start ∷ Received 0 false STRT ∷ []) (Sent NAK_OVERRUN0) (Refused (OfStation WrongState))
+astrt_sends_free_nak : EndsAt (User Start ∷ Sent STRT ∷ []) (User Start ∷ Received 0 false STRT ∷ []) (Sent NAK_OVERRUN0) (Refused (OfStation WrongState))
 unfolding reading is_good check_of after_byte shift
-astrt_sends_nak_without_cause = record { world = _; run = OfA refl (OfA refl (OfB refl (OfB refl Done))); becomes = refl }
+astrt_sends_free_nak = record { world = _; run = OfA refl (OfA refl (OfB refl (OfB refl Done))); becomes = refl }
 
 -- ---- ASTRT, data is sent
 
@@ -140,9 +140,9 @@ running_sends_stack = record { world = _; run = OfA refl (OfA refl (OfB refl (Of
 
 -- ---- RUNNING, ACK is sent
 
-running_sends_ack : EndsAtA started answered (Sent ACK1) (Refused (OfStation WrongResponse))
+running_sends_ack_without_resp_is_last : EndsAtA started answered (Sent ACK1) (Refused (OfStation WrongResponse))
 unfolding reading is_good check_of after_byte shift
-running_sends_ack = record { world = _; run = OfA refl (OfA refl (OfB refl (OfB refl (OfB refl (OfA refl Done))))); becomes = refl }
+running_sends_ack_without_resp_is_last = record { world = _; run = OfA refl (OfA refl (OfB refl (OfB refl (OfB refl (OfA refl Done))))); becomes = refl }
 
 running_sends_ack_with_send_packet : IsRowRun (started ++ Sent ACK0 ∷ Sent DATA1 ∷ []) answered
 unfolding reading is_good check_of after_byte shift
@@ -150,85 +150,85 @@ running_sends_ack_with_send_packet = (_, OfA refl (OfA refl (OfB refl (OfB refl 
 
 -- ---- RUNNING, NAK 1 2 3 8 is sent
 
-running_sends_nak_with_cause : EndsAtA started answered (Sent NAK_HEADER0) (Refused (OfStation NoCause))
+running_sends_caused_nak_without_cause_is_open_1 : EndsAtA started answered (Sent NAK_HEADER0) (Refused (OfStation NoCause))
 unfolding reading is_good check_of after_byte shift
-running_sends_nak_with_cause = record { world = _; run = OfA refl (OfA refl (OfB refl (OfB refl (OfB refl (OfA refl Done))))); becomes = refl }
+running_sends_caused_nak_without_cause_is_open_1 = record { world = _; run = OfA refl (OfA refl (OfB refl (OfB refl (OfB refl (OfA refl Done))))); becomes = refl }
 
-running_sends_nak_with_cause_without_resp_is_last : EndsAtA started answered (Sent NAK_HEADER1) (Refused (OfStation WrongResponse))
+running_sends_caused_nak_without_resp_is_last : EndsAtA started answered (Sent NAK_HEADER1) (Refused (OfStation WrongResponse))
 unfolding reading is_good check_of after_byte shift
-running_sends_nak_with_cause_without_resp_is_last = record { world = _; run = OfA refl (OfA refl (OfB refl (OfB refl (OfB refl (OfA refl Done))))); becomes = refl }
+running_sends_caused_nak_without_resp_is_last = record { world = _; run = OfA refl (OfA refl (OfB refl (OfB refl (OfB refl (OfA refl Done))))); becomes = refl }
 
-running_sends_nak_with_cause_with_send_packet : IsRowRun (started ++ Sent DATA1 ∷ []) (answered ++ Received 1 false DATA1 ∷ Sent NAK_BUFFER0 ∷ Sent DATA1 ∷ [])
+running_sends_caused_nak_with_send_packet : IsRowRun (started ++ Sent DATA1 ∷ []) (answered ++ Received 1 false DATA1 ∷ Sent NAK_BUFFER0 ∷ Sent DATA1 ∷ [])
 unfolding reading is_good check_of after_byte shift
-running_sends_nak_with_cause_with_send_packet = (_, OfA refl (OfA refl (OfB refl (OfB refl (OfB refl (OfA refl (OfA refl (OfB refl (OfB refl (OfB refl Done))))))))))
+running_sends_caused_nak_with_send_packet = (_, OfA refl (OfA refl (OfB refl (OfB refl (OfB refl (OfA refl (OfA refl (OfB refl (OfB refl (OfB refl Done))))))))))
 
-running_sends_nak_with_cause_without_use_cause_1 : EndsAtA (started ++ Received 1 false damaged_STRT ∷ Sent NAK_HEADER0 ∷ []) (answered ++ Sent STACK ∷ []) (Sent NAK_HEADER0) (Refused (OfStation NoCause))
+running_sends_caused_nak_without_use_cause_1 : EndsAtA (started ++ Received 1 false damaged_STRT ∷ Sent NAK_HEADER0 ∷ []) (answered ++ Sent STACK ∷ []) (Sent NAK_HEADER0) (Refused (OfStation NoCause))
 unfolding reading is_good check_of after_byte shift
-running_sends_nak_with_cause_without_use_cause_1 = record { world = _; run = OfA refl (OfA refl (OfB refl (OfB refl (OfB refl (OfA refl (OfB refl (OfA refl (OfA refl Done)))))))); becomes = refl }
+running_sends_caused_nak_without_use_cause_1 = record { world = _; run = OfA refl (OfA refl (OfB refl (OfB refl (OfB refl (OfA refl (OfB refl (OfA refl (OfA refl Done)))))))); becomes = refl }
 
-running_sends_nak_with_cause_without_cause_is_open_2 : EndsAtA started answered (Sent NAK_DATA0) (Refused (OfStation NoCause))
+running_sends_caused_nak_without_cause_is_open_2 : EndsAtA started answered (Sent NAK_DATA0) (Refused (OfStation NoCause))
 unfolding reading is_good check_of after_byte shift
-running_sends_nak_with_cause_without_cause_is_open_2 = record { world = _; run = OfA refl (OfA refl (OfB refl (OfB refl (OfB refl (OfA refl Done))))); becomes = refl }
+running_sends_caused_nak_without_cause_is_open_2 = record { world = _; run = OfA refl (OfA refl (OfB refl (OfB refl (OfB refl (OfA refl Done))))); becomes = refl }
 
-running_sends_nak_with_cause_without_use_cause_2 : EndsAtA (started ++ Received 1 false damaged_DATA1 ∷ Sent NAK_DATA0 ∷ []) (answered ++ Sent STACK ∷ []) (Sent NAK_DATA0) (Refused (OfStation NoCause))
+running_sends_caused_nak_without_use_cause_2 : EndsAtA (started ++ Received 1 false damaged_DATA1 ∷ Sent NAK_DATA0 ∷ []) (answered ++ Sent STACK ∷ []) (Sent NAK_DATA0) (Refused (OfStation NoCause))
 unfolding reading is_good check_of after_byte shift
-running_sends_nak_with_cause_without_use_cause_2 = record { world = _; run = OfA refl (OfA refl (OfB refl (OfB refl (OfB refl (OfA refl (OfB refl (OfA refl (OfA refl Done)))))))); becomes = refl }
+running_sends_caused_nak_without_use_cause_2 = record { world = _; run = OfA refl (OfA refl (OfB refl (OfB refl (OfB refl (OfA refl (OfB refl (OfA refl (OfA refl Done)))))))); becomes = refl }
 
-running_sends_nak_with_cause_without_cause_is_open_3 : EndsAtA started answered (Sent NAK_REP0) (Refused (OfStation NoCause))
+running_sends_caused_nak_without_cause_is_open_3 : EndsAtA started answered (Sent NAK_REP0) (Refused (OfStation NoCause))
 unfolding reading is_good check_of after_byte shift
-running_sends_nak_with_cause_without_cause_is_open_3 = record { world = _; run = OfA refl (OfA refl (OfB refl (OfB refl (OfB refl (OfA refl Done))))); becomes = refl }
+running_sends_caused_nak_without_cause_is_open_3 = record { world = _; run = OfA refl (OfA refl (OfB refl (OfB refl (OfB refl (OfA refl Done))))); becomes = refl }
 
-running_sends_nak_with_cause_without_use_cause_3 : EndsAt (started ++ Sent DATA1 ∷ Sent REP1 ∷ []) (answered ++ Received 1 false DATA1 ∷ Received 2 false REP1 ∷ Sent NAK_REP0 ∷ []) (Sent NAK_REP0) (Refused (OfStation NoCause))
+running_sends_caused_nak_without_use_cause_3 : EndsAt (started ++ Sent DATA1 ∷ Sent REP1 ∷ []) (answered ++ Received 1 false DATA1 ∷ Received 2 false REP1 ∷ Sent NAK_REP0 ∷ []) (Sent NAK_REP0) (Refused (OfStation NoCause))
 unfolding reading is_good check_of after_byte shift
-running_sends_nak_with_cause_without_use_cause_3 = record { world = _; run = OfA refl (OfA refl (OfB refl (OfB refl (OfB refl (OfA refl (OfA refl (OfA refl (OfB refl (OfB refl (OfB refl Done)))))))))); becomes = refl }
+running_sends_caused_nak_without_use_cause_3 = record { world = _; run = OfA refl (OfA refl (OfB refl (OfB refl (OfB refl (OfA refl (OfA refl (OfA refl (OfB refl (OfB refl (OfB refl Done)))))))))); becomes = refl }
 
-running_sends_nak_with_cause_without_cause_is_open_8 : EndsAtA started answered (Sent NAK_BUFFER0) (Refused (OfStation NoCause))
+running_sends_caused_nak_without_cause_is_open_8 : EndsAtA started answered (Sent NAK_BUFFER0) (Refused (OfStation NoCause))
 unfolding reading is_good check_of after_byte shift
-running_sends_nak_with_cause_without_cause_is_open_8 = record { world = _; run = OfA refl (OfA refl (OfB refl (OfB refl (OfB refl (OfA refl Done))))); becomes = refl }
+running_sends_caused_nak_without_cause_is_open_8 = record { world = _; run = OfA refl (OfA refl (OfB refl (OfB refl (OfB refl (OfA refl Done))))); becomes = refl }
 
-running_sends_nak_with_cause_without_use_cause_8 : EndsAt (started ++ Sent DATA1 ∷ []) (answered ++ Received 1 false DATA1 ∷ Sent NAK_BUFFER0 ∷ []) (Sent NAK_BUFFER0) (Refused (OfStation NoCause))
+running_sends_caused_nak_without_use_cause_8 : EndsAt (started ++ Sent DATA1 ∷ []) (answered ++ Received 1 false DATA1 ∷ Sent NAK_BUFFER0 ∷ []) (Sent NAK_BUFFER0) (Refused (OfStation NoCause))
 unfolding reading is_good check_of after_byte shift
-running_sends_nak_with_cause_without_use_cause_8 = record { world = _; run = OfA refl (OfA refl (OfB refl (OfB refl (OfB refl (OfA refl (OfA refl (OfB refl (OfB refl Done)))))))); becomes = refl }
+running_sends_caused_nak_without_use_cause_8 = record { world = _; run = OfA refl (OfA refl (OfB refl (OfB refl (OfB refl (OfA refl (OfA refl (OfB refl (OfB refl Done)))))))); becomes = refl }
 
 -- ---- RUNNING, NAK 9 16 17 is sent
 
-running_sends_nak_without_cause : IsRowRun (started ++ Sent NAK_LENGTH0 ∷ []) answered
+running_sends_free_nak_with_cause_is_open_16 : IsRowRun (started ++ Sent NAK_LENGTH0 ∷ []) answered
 unfolding reading is_good check_of after_byte shift
-running_sends_nak_without_cause = (_, OfA refl (OfA refl (OfB refl (OfB refl (OfB refl (OfA refl (OfA refl Done)))))))
+running_sends_free_nak_with_cause_is_open_16 = (_, OfA refl (OfA refl (OfB refl (OfB refl (OfB refl (OfA refl (OfA refl Done)))))))
 
-running_sends_nak_without_cause_without_resp_is_last : EndsAtA started answered (Sent NAK_OVERRUN1) (Refused (OfStation WrongResponse))
+running_sends_free_nak_without_resp_is_last : EndsAtA started answered (Sent NAK_OVERRUN1) (Refused (OfStation WrongResponse))
 unfolding reading is_good check_of after_byte shift
-running_sends_nak_without_cause_without_resp_is_last = record { world = _; run = OfA refl (OfA refl (OfB refl (OfB refl (OfB refl (OfA refl Done))))); becomes = refl }
+running_sends_free_nak_without_resp_is_last = record { world = _; run = OfA refl (OfA refl (OfB refl (OfB refl (OfB refl (OfA refl Done))))); becomes = refl }
 
-running_sends_nak_without_cause_with_send_packet : IsRowRun (started ++ Sent NAK_OVERRUN0 ∷ Sent DATA1 ∷ []) answered
+running_sends_free_nak_with_send_packet : IsRowRun (started ++ Sent NAK_OVERRUN0 ∷ Sent DATA1 ∷ []) answered
 unfolding reading is_good check_of after_byte shift
-running_sends_nak_without_cause_with_send_packet = (_, OfA refl (OfA refl (OfB refl (OfB refl (OfB refl (OfA refl (OfA refl (OfA refl Done))))))))
+running_sends_free_nak_with_send_packet = (_, OfA refl (OfA refl (OfB refl (OfB refl (OfB refl (OfA refl (OfA refl (OfA refl Done))))))))
 
-running_sends_nak_without_cause_with_use_cause_9 : IsRowRun (started ++ Sent DATA1 ∷ []) (answered ++ Received 1 false DATA1 ∷ Sent NAK_OVERRUN0 ∷ Sent NAK_BUFFER0 ∷ [])
+running_sends_free_nak_with_use_cause_9 : IsRowRun (started ++ Sent DATA1 ∷ []) (answered ++ Received 1 false DATA1 ∷ Sent NAK_OVERRUN0 ∷ Sent NAK_BUFFER0 ∷ [])
 unfolding reading is_good check_of after_byte shift
-running_sends_nak_without_cause_with_use_cause_9 = (_, OfA refl (OfA refl (OfB refl (OfB refl (OfB refl (OfA refl (OfA refl (OfB refl (OfB refl (OfB refl Done))))))))))
+running_sends_free_nak_with_use_cause_9 = (_, OfA refl (OfA refl (OfB refl (OfB refl (OfB refl (OfA refl (OfA refl (OfB refl (OfB refl (OfB refl Done))))))))))
 
-running_sends_nak_without_cause_with_cause_is_open_9 : IsRowRun (started ++ Sent NAK_OVERRUN0 ∷ []) answered
+running_sends_free_nak_with_cause_is_open_9 : IsRowRun (started ++ Sent NAK_OVERRUN0 ∷ []) answered
 unfolding reading is_good check_of after_byte shift
-running_sends_nak_without_cause_with_cause_is_open_9 = (_, OfA refl (OfA refl (OfB refl (OfB refl (OfB refl (OfA refl (OfA refl Done)))))))
+running_sends_free_nak_with_cause_is_open_9 = (_, OfA refl (OfA refl (OfB refl (OfB refl (OfB refl (OfA refl (OfA refl Done)))))))
 
-running_sends_nak_without_cause_with_use_cause_16 : IsRowRun (started ++ Sent DATA1 ∷ []) (answered ++ Received 1 false DATA1 ∷ Sent NAK_LENGTH0 ∷ Sent NAK_BUFFER0 ∷ [])
+running_sends_free_nak_with_use_cause_16 : IsRowRun (started ++ Sent DATA1 ∷ []) (answered ++ Received 1 false DATA1 ∷ Sent NAK_LENGTH0 ∷ Sent NAK_BUFFER0 ∷ [])
 unfolding reading is_good check_of after_byte shift
-running_sends_nak_without_cause_with_use_cause_16 = (_, OfA refl (OfA refl (OfB refl (OfB refl (OfB refl (OfA refl (OfA refl (OfB refl (OfB refl (OfB refl Done))))))))))
+running_sends_free_nak_with_use_cause_16 = (_, OfA refl (OfA refl (OfB refl (OfB refl (OfB refl (OfA refl (OfA refl (OfB refl (OfB refl (OfB refl Done))))))))))
 
-running_sends_nak_without_cause_with_use_cause_17 : IsRowRun (started ++ Sent DATA1 ∷ []) (answered ++ Received 1 false DATA1 ∷ Sent NAK_FORMAT0 ∷ Sent NAK_BUFFER0 ∷ [])
+running_sends_free_nak_with_use_cause_17 : IsRowRun (started ++ Sent DATA1 ∷ []) (answered ++ Received 1 false DATA1 ∷ Sent NAK_FORMAT0 ∷ Sent NAK_BUFFER0 ∷ [])
 unfolding reading is_good check_of after_byte shift
-running_sends_nak_without_cause_with_use_cause_17 = (_, OfA refl (OfA refl (OfB refl (OfB refl (OfB refl (OfA refl (OfA refl (OfB refl (OfB refl (OfB refl Done))))))))))
+running_sends_free_nak_with_use_cause_17 = (_, OfA refl (OfA refl (OfB refl (OfB refl (OfB refl (OfA refl (OfA refl (OfB refl (OfB refl (OfB refl Done))))))))))
 
-running_sends_nak_without_cause_with_cause_is_open_17 : IsRowRun (started ++ Sent NAK_FORMAT0 ∷ []) answered
+running_sends_free_nak_with_cause_is_open_17 : IsRowRun (started ++ Sent NAK_FORMAT0 ∷ []) answered
 unfolding reading is_good check_of after_byte shift
-running_sends_nak_without_cause_with_cause_is_open_17 = (_, OfA refl (OfA refl (OfB refl (OfB refl (OfB refl (OfA refl (OfA refl Done)))))))
+running_sends_free_nak_with_cause_is_open_17 = (_, OfA refl (OfA refl (OfB refl (OfB refl (OfB refl (OfA refl (OfA refl Done)))))))
 
 -- ---- RUNNING, REP is sent
 
-running_sends_rep : EndsAtA (started ++ Sent DATA1 ∷ []) answered (Sent REP0) (Refused (OfStation WrongNumber))
+running_sends_rep_without_num_is_highest : EndsAtA (started ++ Sent DATA1 ∷ []) answered (Sent REP0) (Refused (OfStation WrongNumber))
 unfolding reading is_good check_of after_byte shift
-running_sends_rep = record { world = _; run = OfA refl (OfA refl (OfB refl (OfB refl (OfB refl (OfA refl (OfA refl Done)))))); becomes = refl }
+running_sends_rep_without_num_is_highest = record { world = _; run = OfA refl (OfA refl (OfB refl (OfB refl (OfB refl (OfA refl (OfA refl Done)))))); becomes = refl }
 
 running_sends_rep_without_some_outstanding : EndsAtA started answered (Sent REP0) (Refused (OfStation WrongState))
 unfolding reading is_good check_of after_byte shift
@@ -240,9 +240,9 @@ running_sends_rep_with_send_packet = (_, OfA refl (OfA refl (OfB refl (OfB refl 
 
 -- ---- RUNNING, data is sent
 
-running_sends_data : EndsAtA started answered (Sent DATA1_RESP1) (Refused (OfStation WrongResponse))
+running_sends_data_without_resp_is_last : EndsAtA started answered (Sent DATA1_RESP1) (Refused (OfStation WrongResponse))
 unfolding reading is_good check_of after_byte shift
-running_sends_data = record { world = _; run = OfA refl (OfA refl (OfB refl (OfB refl (OfB refl (OfA refl Done))))); becomes = refl }
+running_sends_data_without_resp_is_last = record { world = _; run = OfA refl (OfA refl (OfB refl (OfB refl (OfB refl (OfA refl Done))))); becomes = refl }
 
 running_sends_data_without_num_is_next : EndsAtA started answered (Sent DATA2) (Refused (OfStation WrongNumber))
 unfolding reading is_good check_of after_byte shift

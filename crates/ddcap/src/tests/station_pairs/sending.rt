@@ -100,11 +100,11 @@ RUNNING sends STACK
 row | started; s STACK | answered | a 3: 6 WrongState
 
 RUNNING sends ACK
-row, without RespIsLast | started; s ACK1 | answered | a 3: 8 WrongResponse
+without RespIsLast, row | started; s ACK1 | answered | a 3: 8 WrongResponse
 with SendPacket | started; s ACK0; s DATA1 | answered | accepted
 
 RUNNING sends NAK 1 2 3 8
-row, without CauseIsOpen 1 | started; s NAK1 | answered | a 3: 11 NoCause
+without CauseIsOpen 1, row | started; s NAK1 | answered | a 3: 11 NoCause
 without RespIsLast | started; s NAK1R1 | answered | a 3: 8 WrongResponse
 with SendPacket | started; s DATA1 | answered; r 1 DATA1; s NAK8; s DATA1 | accepted
 without UseCause 1 | started; r 1 BAD_HEADER; s NAK1; s NAK1 | answered; s STACK | a 5: 11 NoCause
@@ -116,7 +116,7 @@ without CauseIsOpen 8 | started; s NAK8 | answered | a 3: 11 NoCause
 without UseCause 8 | started; s DATA1 | answered; r 1 DATA1; s NAK8; s NAK8 | b 5: 11 NoCause
 
 RUNNING sends NAK 9 16 17
-row, with CauseIsOpen 16 | started; s NAK16 | answered | accepted
+with CauseIsOpen 16, row | started; s NAK16 | answered | accepted
 without RespIsLast | started; s NAK9R1 | answered | a 3: 8 WrongResponse
 with SendPacket | started; s NAK9; s DATA1 | answered | accepted
 with UseCause 9 | started; s DATA1 | answered; r 1 DATA1; s NAK9; s NAK8 | accepted
@@ -126,12 +126,12 @@ with UseCause 17 | started; s DATA1 | answered; r 1 DATA1; s NAK17; s NAK8 | acc
 with CauseIsOpen 17 | started; s NAK17 | answered | accepted
 
 RUNNING sends REP
-row, without NumIsHighest | started; s DATA1; s REP0 | answered | a 4: 7 WrongNumber
+without NumIsHighest, row | started; s DATA1; s REP0 | answered | a 4: 7 WrongNumber
 without SomeOutstanding | started; s REP0 | answered | a 3: 6 WrongState
 with SendPacket | started; s DATA1; s REP1; s DATA2 | answered | accepted
 
 RUNNING sends data
-row, without RespIsLast | started; s DATA1R1 | answered | a 3: 8 WrongResponse
+without RespIsLast, row | started; s DATA1R1 | answered | a 3: 8 WrongResponse
 without NumIsNext | started; s DATA2 | answered | a 3: 7 WrongNumber
 without AsFirstGiven | started; s DATA1; r 1 NAK8; s OTHER1 | answered; r 1 DATA1; s NAK8 | a 5: 10 Changed
 SendPacket gives no number, SendPacket leaves T | started; s DATA1; s DATA2 | answered | accepted
