@@ -1,8 +1,9 @@
-//! A pair of captures for each rule of the station: a smallest one whose answer changes where that rule alone is turned.
+//! A pair of captures for each rule of the station, whose answer is another where that rule alone is turned. They were searched for
+//! over turned rules, the shortest first; the same pairs are rows of `dna_model`, computed from the definitions.
 //!
-//! The lists have a heading for each row of the tables, and below it lines of the form `RULES | A | B | ANSWER`: the turns that the pair
+//! The lists have a heading for each row of the tables, and below it lines of the form `TURNS | A | B | ANSWER`: the turns that the pair
 //! tells from the rule, the records of both sides, and the answer. `b 3: 12 WrongKeep` is the refusal of record 3 of b. Where no two
-//! captures tell a turn from the rule, the line says why: `RULES | no pair: REASON`.
+//! captures tell a turn from the rule, the line says why: `TURNS | no pair: REASON`.
 
 mod before_running;
 mod rules;
