@@ -13,10 +13,11 @@ use Rattle.dna_model.specs.declared.head.Head.{Head}
 use Rattle.dna_model.specs.declared.state.StationEvent.TheVariants.{Start, Halt}
 use Rattle.dna_model.specs.Station.{Station, PastPeriod, past, after_event}
 use Rattle.dna_model.specs.Delivery.{periods, taken_by_period, packet_in, in_last, with_period, delivered_by, delivered}
-use Rattle.dna_model.specs.Periods.{crossed}
-use Rattle.dna_model.specs.Sending.{after_sending}
+use Rattle.dna_model.specs.Rules.{judged}
+use Rattle.dna_model.specs.StationBook.{after_sending}
 use Rattle.dna_model.specs.Truth.{Truth}
-use Rattle.dna_model.specs.Arriving.{ArrivalValue, HeaderBad, DataBad, Sound, arrival_refusal, after_arrival}
+use Rattle.dna_model.specs.Book.{ArrivalValue, HeaderBad, DataBad, Sound}
+use Rattle.dna_model.specs.StationBook.{arrival_refusal, after_arrival}
 use Rattle.dna_model.specs.Line.{SentUnit}
 use Rattle.dna_model.specs.Node.{Node}
 use Rattle.dna_model.specs.Pair.{pair, start}
@@ -81,7 +82,7 @@ module _ (s t : Station) (hint : ℕ) (kept : Bool) (bytes : List ℕ) (unit : S
   damage_taken none (inr (inl (p, e))) = same_taken s t stays.earlier p.taken ∙ not_kept (taken_by_period s) hint kept bytes none
   damage_taken none (inr (inr (p, was))) = absurd cc
 
-receipt_taken : (s : Station) (hint : ℕ) (kept : Bool) (bytes : List ℕ) (unit : SentUnit) (arrival : ArrivalValue Truth) → reading unit.bytes ≡ read_as.Sound unit.message → ComesOf unit bytes arrival → arrival_refusal crossed s arrival kept ≡ None →
+receipt_taken : (s : Station) (hint : ℕ) (kept : Bool) (bytes : List ℕ) (unit : SentUnit) (arrival : ArrivalValue Truth) → reading unit.bytes ≡ read_as.Sound unit.message → ComesOf unit bytes arrival → arrival_refusal judged s arrival kept ≡ None →
     Took s (after_arrival s arrival kept) unit.message unit.known kept → taken_by_period (after_arrival s arrival kept) ≡ delivered_by (taken_by_period s) (Received hint kept bytes)
 receipt_taken s hint kept bytes unit (Sound m u) reads (Itself same) allowed took = sound_taken s _ hint kept bytes unit took.0 (ap reading same ∙ reads) took.1
 receipt_taken s hint kept bytes unit HeaderBad reads BadHeader allowed took = damage_taken s _ hint kept bytes unit took.0 (unkept kept (claim_allowed false kept allowed)) took.1
@@ -90,7 +91,7 @@ receipt_taken s hint kept bytes unit DataBad reads BadData allowed took = damage
 -- ---- any record
 
 module _ (own other : Half Node SentUnit) (h : IsSound own.state own.sent other.sent) (theirs : IsSound other.state other.sent own.sent) where
-  record_taken : (r : Record) (left : Half Node SentUnit) → Happens crossed own other r left → taken_by_period left.state.station ≡ delivered_by (taken_by_period own.state.station) r
+  record_taken : (r : Record) (left : Half Node SentUnit) → Happens judged own other r left → taken_by_period left.state.station ≡ delivered_by (taken_by_period own.state.station) r
   record_taken r left (Nothing event none) = ap (λ (b : Bool). with_period b (taken_by_period own.state.station)) (sym none)
   record_taken r left (UserEvent Start allowed) = map-append taken (periods own.state.station) (past (after_event own.state.station Start) ∷ [])
   record_taken r left (UserEvent Halt allowed) = refl
@@ -107,7 +108,7 @@ pub record BothCaptured (w : World Node SentUnit) (of_a of_b : List Record) : Ty
   pub b_took : delivered of_b ≡ taken_by_period w.b.state.station
 
 one_more : (own other : Half Node SentUnit) (h : IsSound own.state own.sent other.sent) (theirs : IsSound other.state other.sent own.sent) (made : List Record) (r : Record) (left : Half Node SentUnit) →
-    Happens crossed own other r left → delivered made ≡ taken_by_period own.state.station → delivered (made ++ r ∷ []) ≡ taken_by_period left.state.station
+    Happens judged own other r left → delivered made ≡ taken_by_period own.state.station → delivered (made ++ r ∷ []) ≡ taken_by_period left.state.station
 one_more own other h theirs made r left what e =
     fold-append delivered_by ([] ∷ []) made (r ∷ []) ∙ ap (λ (ps : List (List (List ℕ))). delivered_by ps r) e ∙ sym (record_taken own other h theirs r left what)
 
@@ -115,13 +116,13 @@ pub captured_kept : IsKept pair BothCaptured
 captured_kept = record {
   by_a = λ w made_a made_b r h c made. record {
     both = delivery_kept.by_a w made_a made_b r h c.both made;
-    a_took = one_more w.a w.b c.both.sound.of_a c.both.sound.of_b made_a r h (happens crossed w.a w.b h r made) c.a_took;
+    a_took = one_more w.a w.b c.both.sound.of_a c.both.sound.of_b made_a r h (happens judged w.a w.b h r made) c.a_took;
     b_took = c.b_took;
   };
   by_b = λ w made_a made_b r h c made. record {
     both = delivery_kept.by_b w made_a made_b r h c.both made;
     a_took = c.a_took;
-    b_took = one_more w.b w.a c.both.sound.of_b c.both.sound.of_a made_b r h (happens crossed w.b w.a h r made) c.b_took;
+    b_took = one_more w.b w.a c.both.sound.of_b c.both.sound.of_a made_b r h (happens judged w.b w.a h r made) c.b_took;
   };
 }
 

@@ -10,9 +10,9 @@ use Rattle.capture.specs.declared.record.Record.{Record}
 use Rattle.dna_model.specs.declared.head.Head.{Head}
 use Rattle.dna_model.specs.Station.{Station, PastPeriod, new_station, past}
 use Rattle.dna_model.specs.Delivery.{periods, BeginsWith, IsDelivered, DeliversFrom}
-use Rattle.dna_model.specs.Periods.{crossed}
+use Rattle.dna_model.specs.Rules.{judged}
 use Rattle.dna_model.specs.Truth.{Truth}
-use Rattle.dna_model.specs.Arriving.{after_arrival}
+use Rattle.dna_model.specs.StationBook.{after_arrival}
 use Rattle.dna_model.specs.Line.{SentUnit}
 use Rattle.dna_model.specs.Node.{Node}
 use Rattle.dna_model.specs.Pair.{pair, start}
@@ -95,7 +95,7 @@ record Left (own left other : Half Node SentUnit) : Type 0 where
 
 module _ (own other : Half Node SentUnit) (h : IsSound own.state own.sent other.sent) (theirs : IsSound other.state other.sent own.sent)
     (o : Offers own.state.station own.sent) (p : Offers other.state.station other.sent) (d : Delivers own.state.station (periods other.state.station)) where
-  left_by : (r : Record) (left : Half Node SentUnit) → Happens crossed own other r left → Left own left other
+  left_by : (r : Record) (left : Half Node SentUnit) → Happens judged own other r left → Left own left other
   left_by r left (Nothing event none) = record { offers = o; delivers = d; grows = grow_present own.state.station own.state.station refl (begins_same own.state.station.packets) }
   left_by r left (UserEvent event allowed) = record {
     offers = event_offers own.state.station own.sent event o;
@@ -124,7 +124,7 @@ delivery_property w of_a of_b = BothDeliver w
 pub delivery_kept : IsKept pair delivery_property
 delivery_kept = record {
   by_a = λ w made_a made_b r h both made.
-      let left = left_by w.a w.b both.sound.of_a both.sound.of_b both.a_offers both.b_offers both.a_delivers r h (happens crossed w.a w.b h r made) in
+      let left = left_by w.a w.b both.sound.of_a both.sound.of_b both.a_offers both.b_offers both.a_delivers r h (happens judged w.a w.b h r made) in
       record {
         sound = sound_kept.by_a w made_a made_b r h both.sound made;
         a_offers = left.offers;
@@ -133,7 +133,7 @@ delivery_kept = record {
         b_delivers = delivers_beside w.b.state.station (periods w.a.state.station) (periods h.state.station) left.grows both.b_delivers;
       };
   by_b = λ w made_a made_b r h both made.
-      let left = left_by w.b w.a both.sound.of_b both.sound.of_a both.b_offers both.a_offers both.b_delivers r h (happens crossed w.b w.a h r made) in
+      let left = left_by w.b w.a both.sound.of_b both.sound.of_a both.b_offers both.a_offers both.b_delivers r h (happens judged w.b w.a h r made) in
       record {
         sound = sound_kept.by_b w made_a made_b r h both.sound made;
         a_offers = both.a_offers;

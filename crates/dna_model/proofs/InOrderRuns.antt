@@ -11,9 +11,9 @@ use Rattle.dna_model.specs.declared.head.Head.{Head}
 use Rattle.dna_model.specs.declared.state.StationEvent.TheVariants.{Start, Halt}
 use Rattle.dna_model.specs.Station.{Station, new_station, past, all_given}
 use Rattle.dna_model.specs.Delivery.{AreAmong, all_taken}
-use Rattle.dna_model.specs.Periods.{crossed}
-use Rattle.dna_model.specs.Sending.{after_sending}
-use Rattle.dna_model.specs.Arriving.{after_arrival}
+use Rattle.dna_model.specs.Rules.{judged}
+use Rattle.dna_model.specs.StationBook.{after_sending}
+use Rattle.dna_model.specs.StationBook.{after_arrival}
 use Rattle.dna_model.specs.Line.{SentUnit}
 use Rattle.dna_model.specs.Node.{Node, new_node}
 use Rattle.dna_model.specs.Pair.{pair, start}
@@ -56,7 +56,7 @@ module _ (own other : Half Node SentUnit) (h : IsSound own.state own.sent other.
   receipt_takes hint kept unit t there ahead stays (inr (inr (x, e))) =
       takes_packet own.state.station t other.sent own.sent own.state.front hint unit there ahead o.count other.state.station theirs p.takes stays x
 
-  order_own : (r : Record) (left : Half Node SentUnit) → Happens crossed own other r left → OwnOrder left.state left.sent other.sent
+  order_own : (r : Record) (left : Half Node SentUnit) → Happens judged own other r left → OwnOrder left.state left.sent other.sent
   order_own r left (Nothing event none) = p
   order_own r left (UserEvent Start allowed) = record { partnered = event_partnered own.state own.sent other.sent Start h p.partnered; takes = takes_start own.state.station other.sent own.state.front p.takes }
   order_own r left (UserEvent Halt allowed) = record {
@@ -78,7 +78,7 @@ module _ (own other : Half Node SentUnit) (h : IsSound own.state own.sent other.
 
 module _ (own other : Half Node SentUnit) (p : OwnOrder other.state other.sent own.sent) where
   -- the other side, beside what this record left
-  order_other : (r : Record) (left : Half Node SentUnit) → Happens crossed own other r left → OwnOrder other.state other.sent left.sent
+  order_other : (r : Record) (left : Half Node SentUnit) → Happens judged own other r left → OwnOrder other.state other.sent left.sent
   order_other r left (Nothing event none) = p
   order_other r left (UserEvent event allowed) = p
   order_other r left (Sending bytes m read allowed) = record {
@@ -97,14 +97,14 @@ pub record BothInOrder (w : World Node SentUnit) (of_a of_b : List Record) : Typ
 pub order_kept : IsKept pair BothInOrder
 order_kept = record {
   by_a = λ w made_a made_b r h c made.
-      let what = happens crossed w.a w.b h r made in
+      let what = happens judged w.a w.b h r made in
       record {
         captured = captured_kept.by_a w made_a made_b r h c.captured made;
         a_order = order_own w.a w.b c.captured.both.sound.of_a c.captured.both.a_offers c.b_order.partnered c.a_order r h what;
         b_order = order_other w.a w.b c.b_order r h what;
       };
   by_b = λ w made_a made_b r h c made.
-      let what = happens crossed w.b w.a h r made in
+      let what = happens judged w.b w.a h r made in
       record {
         captured = captured_kept.by_b w made_a made_b r h c.captured made;
         a_order = order_other w.b w.a c.a_order r h what;

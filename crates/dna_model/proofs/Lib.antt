@@ -29,6 +29,7 @@ mod Ordered
 mod CutSending
 mod CutArriving
 mod CutLabel
+mod MachineSame
 mod CutNode
 mod Loads
 -- what holds of one flow, and its cut to what a node keeps
@@ -47,12 +48,12 @@ mod NumberedSteps
 mod Happens
 mod StationNumbers
 mod StationBounds
+mod Lawful
 mod ReceiptBounds
 mod RunBounds
 -- what is delivered, in every run
 mod Delivered
 mod DeliveredSteps
-mod CutTaken
 mod DeliveredRuns
 mod Places
 pub mod DeliveredCaptures

@@ -12,22 +12,19 @@ use Rattle.ddcmp_msg.specs.Reading as read_as
 use Rattle.capture.specs.declared.record.Record.{Record}
 use Rattle.capture.specs.declared.record.Record.TheVariants.{Sent}
 use Rattle.dna_model.specs.declared.head.Head.{Head}
-use Rattle.dna_model.specs.declared.state.State.{State}
-use Rattle.dna_model.specs.declared.state.State.TheVariants.{Halted, Istrt, Astrt, Running}
 use Rattle.dna_model.specs.declared.state.StationEvent.TheVariants.{Start, Halt}
-use Rattle.dna_model.specs.declared.refusal.StationRefusal.{StationRefusal}
-use Rattle.dna_model.specs.declared.refusal.StationRefusal.TheVariants.{WrongNumber}
 use Rattle.dna_model.specs.Station.{Station, PastPeriod, past, given, wire, after_event}
 use Rattle.dna_model.specs.Delivery.{periods, in_last, with_period}
 use Rattle.dna_model.specs.Offered.{offers, present, offered_by, offered, given_by_period}
-use Rattle.dna_model.specs.Periods.{crossed}
-use Rattle.dna_model.specs.Sending.{WINDOW, check, is_new, sending_refusal, sending_refusal_in, after_sending, with_packet}
-use Rattle.dna_model.specs.Arriving.{after_arrival}
+use Rattle.dna_model.specs.Table.{WINDOW}
+use Rattle.dna_model.specs.Rules.{judged}
+use Rattle.dna_model.specs.StationBook.{is_new, sending_refusal, after_sending, with_packet, after_arrival}
 use Rattle.dna_model.specs.Bounds.{IsOrdered}
 use Rattle.dna_model.specs.Line.{SentUnit}
 use Rattle.dna_model.specs.Node.{Node}
 use Rattle.dna_model.specs.Pair.{pair, start}
 use Rattle.dna_model.proofs.Modulo.{same_test}
+use Rattle.dna_model.proofs.Ordered.{checks_passed}
 use Rattle.dna_model.proofs.Happens.{Happens, Nothing, UserEvent, Sending, Receipt, happens}
 use Rattle.dna_model.proofs.StationBounds.{IsSound}
 use Rattle.dna_model.proofs.DeliveredSteps.{arrival_took}
@@ -62,17 +59,6 @@ more_given s t read earlier more =
 
 -- ---- a sending
 
--- data that may be sent has the next number to send
-data_number : (state : State) (s : Station) (flags : Flags) (resp num : ℕ) (body : List ℕ) → sending_refusal_in state s (Data flags resp num body) ≡ None → num ≡ wire s.next_to_send
-data_number Halted s flags resp num body allowed = absurd cc
-data_number Istrt s flags resp num body allowed = absurd cc
-data_number Astrt s flags resp num body allowed = absurd cc
-data_number Running s flags resp num body allowed = eqb-true num (wire s.next_to_send) (first (num == wire s.next_to_send) _ allowed)
-  where
-    first : (b : Bool) (next : Option StationRefusal) → check b WrongNumber next ≡ None → b ≡ true
-    first true next allowed = refl
-    first false next allowed = absurd cc
-
 -- it is new exactly where it is the number after those given
 number_tells : (s : Station) (num : ℕ) → IsOrdered s → num ≡ wire s.next_to_send → eqb num (wire (given s + 1)) ≡ is_new s
 number_tells s num ordered is =
@@ -87,7 +73,7 @@ packets_after false packets body = sym (append-nil packets)
 sending_given : (s : Station) (m : MessageValue) → IsOrdered s → sending_refusal s m ≡ None → given_by_period (after_sending s m) ≡ in_last (offers (read_as.Sound m) (present (given_by_period s))) (given_by_period s)
 sending_given s (Data flags resp num body) ordered allowed =
     more_given s (after_sending s (Data flags resp num body)) (read_as.Sound (Data flags resp num body)) refl
-    (packets_after (is_new s) s.packets body ∙ ap (λ (b : Bool). s.packets ++ cond b (body ∷ []) []) (sym (number_tells s num ordered (data_number s.state s flags resp num body allowed))))
+    (packets_after (is_new s) s.packets body ∙ ap (λ (b : Bool). s.packets ++ cond b (body ∷ []) []) (sym (number_tells s num ordered (eqb-true num (wire s.next_to_send) (checks_passed s (Data flags resp num body) refl allowed).0))))
 sending_given s (Nak flags reason resp) ordered allowed = more_given s (after_sending s (Nak flags reason resp)) (read_as.Sound (Nak flags reason resp)) refl (sym (append-nil s.packets))
 sending_given s (Ack flags resp) ordered allowed = more_given s s (read_as.Sound (Ack flags resp)) refl (sym (append-nil s.packets))
 sending_given s (Rep flags num) ordered allowed = more_given s s (read_as.Sound (Rep flags num)) refl (sym (append-nil s.packets))
@@ -97,7 +83,7 @@ sending_given s (Stack flags) ordered allowed = more_given s s (read_as.Sound (S
 -- ---- any record
 
 module _ (own other : Half Node SentUnit) (h : IsSound own.state own.sent other.sent) where
-  record_given : (r : Record) (left : Half Node SentUnit) → Happens crossed own other r left → given_by_period left.state.station ≡ offered_by (given_by_period own.state.station) r
+  record_given : (r : Record) (left : Half Node SentUnit) → Happens judged own other r left → given_by_period left.state.station ≡ offered_by (given_by_period own.state.station) r
   record_given r left (Nothing event none) = ap (λ (b : Bool). with_period b (given_by_period own.state.station)) (sym none)
   record_given r left (UserEvent Start allowed) = map-append given_in (periods own.state.station) (past (after_event own.state.station Start) ∷ [])
   record_given r left (UserEvent Halt allowed) = refl
@@ -117,7 +103,7 @@ pub record BothOffered (w : World Node SentUnit) (of_a of_b : List Record) : Typ
   pub b_gave : offered of_b ≡ given_by_period w.b.state.station
 
 one_more : (own other : Half Node SentUnit) (h : IsSound own.state own.sent other.sent) (made : List Record) (r : Record) (left : Half Node SentUnit) →
-    Happens crossed own other r left → offered made ≡ given_by_period own.state.station → offered (made ++ r ∷ []) ≡ given_by_period left.state.station
+    Happens judged own other r left → offered made ≡ given_by_period own.state.station → offered (made ++ r ∷ []) ≡ given_by_period left.state.station
 one_more own other h made r left what e =
     fold-append offered_by ([] ∷ []) made (r ∷ []) ∙ ap (λ (ps : List (List (List ℕ))). offered_by ps r) e ∙ sym (record_given own other h r left what)
 
@@ -125,13 +111,13 @@ pub offered_kept : IsKept pair BothOffered
 offered_kept = record {
   by_a = λ w made_a made_b r h c made. record {
     captured = captured_kept.by_a w made_a made_b r h c.captured made;
-    a_gave = one_more w.a w.b c.captured.both.sound.of_a made_a r h (happens crossed w.a w.b h r made) c.a_gave;
+    a_gave = one_more w.a w.b c.captured.both.sound.of_a made_a r h (happens judged w.a w.b h r made) c.a_gave;
     b_gave = c.b_gave;
   };
   by_b = λ w made_a made_b r h c made. record {
     captured = captured_kept.by_b w made_a made_b r h c.captured made;
     a_gave = c.a_gave;
-    b_gave = one_more w.b w.a c.captured.both.sound.of_b made_b r h (happens crossed w.b w.a h r made) c.b_gave;
+    b_gave = one_more w.b w.a c.captured.both.sound.of_b made_b r h (happens judged w.b w.a h r made) c.b_gave;
   };
 }
 

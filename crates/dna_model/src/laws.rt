@@ -1,7 +1,7 @@
 //! What holds of the definitions in `specs/`, whatever the code does, for the proofs of callers to cite. `L` is the type of the
 //! labels that a node puts beside packets.
 
-ghost use Rattle.std.specs.Prelude.{◌≡◌, ℕ, ◌+◌, ◌<◌, ◌≤◌, Bool, false, Some, None, List, slice_get};
+ghost use Rattle.std.specs.Prelude.{◌≡◌, ℕ, ◌+◌, ◌<◌, ◌≤◌, Bool, true, false, Some, None, List, slice_get};
 ghost use Rattle.two_nodes.specs.Nodes.{Half, World, Run, advance};
 ghost use Rattle.ddcmp_msg.specs.Message.{MessageValue};
 ghost use Rattle.capture.specs.declared.record.Record.{Record};
@@ -11,12 +11,13 @@ ghost use Rattle.dna_model.specs.declared.tag.Tag.{Tag};
 ghost use Rattle.dna_model.specs.Station.{Station, new_station, given, all_given, after_event};
 ghost use Rattle.dna_model.specs.Delivery.{AreAmong, CarriesItsPacket, DeliversFrom, all_taken, delivered, taken_by_period};
 ghost use Rattle.dna_model.specs.Offered.{Delivers, given_by_period, offered};
-ghost use Rattle.dna_model.specs.Periods.{PeriodRule, crossed};
-ghost use Rattle.dna_model.specs.Sending.{sending_refusal, after_sending, gives_number};
+ghost use Rattle.dna_model.specs.Rules.{Rules, judged};
 ghost use Rattle.dna_model.specs.Truth.{Truth};
-ghost use Rattle.dna_model.specs.Arriving.{ArrivalValue, standing, arrival_refusal, after_arrival};
-ghost use Rattle.dna_model.specs.Arriving as arriving;
-ghost use Rattle.dna_model.specs.WireStation.{HeldPacket, WireStation, load, with_label, wire_after_event, wire_after_label, wire_sending_refusal, wire_after_sending, gives_new, label_again, wire_arrival_refusal, wire_after_arrival, wire_taken};
+ghost use Rattle.dna_model.specs.Book.{ArrivalValue};
+ghost use Rattle.dna_model.specs.Book as arriving;
+ghost use Rattle.dna_model.specs.StationBook.{sending_refusal, after_sending, gives_number, meets_needs, arrival_refusal, after_arrival};
+ghost use Rattle.dna_model.specs.WireStation.{HeldPacket, WireStation, load, with_label, wire_after_event, wire_after_label};
+ghost use Rattle.dna_model.specs.WireBook.{wire_sending_refusal, wire_after_sending, gives_new, label_again, wire_arrival_refusal, wire_after_arrival, wire_taken};
 ghost use Rattle.dna_model.specs.Bounds.{IsBounded, IsOrdered, IsWithin};
 ghost use Rattle.dna_model.specs.Line.{SentUnit};
 ghost use Rattle.dna_model.specs.Node.{Node, new_node, step};
@@ -140,10 +141,10 @@ pub fn cut_label<L>()
 /// From what is kept, a sound message that comes within the bounds is refused for the same reasons, and changes it as it
 /// changes the station; and so does damage. The packet that is answered is the one that the station takes.
 pub fn cut_arrival<L>()
-    ensures refusal { (all : List (HeldPacket L)) (s : Station) (rule : PeriodRule) (m : MessageValue) (u : Truth) (kept : Bool)
-        → AreLabelled all s → IsOrdered s → (rule (standing s) m u.tag ≡ false → IsWithin s m u)
-        → arrival_refusal rule s (arriving.Sound m u) kept
-        ≡ wire_arrival_refusal rule (cut all s) (arriving.Sound m u.tag) kept }
+    ensures refusal { (all : List (HeldPacket L)) (s : Station) (rules : Rules) (m : MessageValue) (u : Truth) (kept : Bool)
+        → AreLabelled all s → IsOrdered s → (meets_needs rules s m u ≡ true → IsWithin s m u)
+        → arrival_refusal rules s (arriving.Sound m u) kept
+        ≡ wire_arrival_refusal rules (cut all s) (arriving.Sound m u.tag) kept }
     ensures step { (all : List (HeldPacket L)) (s : Station) (m : MessageValue) (u : Truth) (kept : Bool)
         → AreLabelled all s → IsOrdered s → IsWithin s m u
         → cut all (after_arrival s (arriving.Sound m u) kept)
@@ -172,7 +173,7 @@ pub fn counts_rise_by_one<L>()
 pub fn cut_record<L>()
     ensures start { (head : Head) → new_wire_node {L = L} head ≡ cut_node (new_node head) }
     ensures outcome { (own other : Half Node SentUnit) (r : Record) → IsBounded own other
-        → advance (wire_step crossed) (cut_half (seen {L = L}) own) (cut_half seen other) r ≡ cut_outcome seen (advance (step crossed) own other r) }
+        → advance (wire_step judged) (cut_half (seen {L = L}) own) (cut_half seen other) r ≡ cut_outcome seen (advance (step judged) own other r) }
 {}
 
 /// The runs of two wire nodes are just what they see of the runs of the two nodes on true numbers; and after such a run the same

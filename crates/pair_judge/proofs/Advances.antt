@@ -10,8 +10,9 @@ use Rattle.capture.specs.declared.event.Event.{Event}
 use Rattle.ddcmp_msg.specs.Reading.{reading}
 use Rattle.dna_model.specs.declared.head.Head.{Head}
 use Rattle.dna_model.specs.declared.refusal.StepRefusal.{StepRefusal}
-use Rattle.dna_model.specs.Periods.{crossed}
-use Rattle.dna_model.specs.WireNode.{WireUnit, wire_sent_step, wire_user_step, wire_receives, wire_step, wire_tag}
+use Rattle.dna_model.specs.Rules.{judged}
+use Rattle.dna_model.specs.WireNode.{WireUnit, wire_sent_step, wire_user_step, wire_receives, wire_step}
+use Rattle.dna_model.specs.WireBook.{wire_tag}
 use Rattle.pair_judge.specs.declared.line.Line.{Line}
 use Rattle.pair_judge.specs.declared.end.End.{End}
 use Rattle.pair_judge.specs.Unit.{unit_of}
@@ -62,7 +63,7 @@ sending_made old new incoming bytes mine theirs stands shows sends units gone he
   counts = counts;
 }
 
-pub sending_refused : (old : End) (incoming : Line) (bytes : List ℕ) (mine theirs : JudgeHalf) (refusal : StepRefusal) → StandsFor old incoming mine → ((head : Head) (front : ℕ) → wire_sent_step (node_at head old.station front) bytes (reading bytes) ≡ Refuses refusal) → advance (wire_step crossed) mine theirs (Sent bytes) ≡ Refused refusal
+pub sending_refused : (old : End) (incoming : Line) (bytes : List ℕ) (mine theirs : JudgeHalf) (refusal : StepRefusal) → StandsFor old incoming mine → ((head : Head) (front : ℕ) → wire_sent_step (node_at head old.station front) bytes (reading bytes) ≡ Refuses refusal) → advance (wire_step judged) mine theirs (Sent bytes) ≡ Refused refusal
 sending_refused old incoming bytes mine theirs refusal stands refuses =
     ap (λ (n : JudgeNode). answered mine theirs (wire_sent_step n bytes (reading bytes))) (state_is old incoming mine stands)
     ∙ ap (answered mine theirs) (refuses old.head incoming.gone)
@@ -82,7 +83,7 @@ event_made old new incoming event mine theirs stands shows goes line head counts
   counts = counts;
 }
 
-pub event_refused : (old : End) (incoming : Line) (event : Event) (mine theirs : JudgeHalf) (refusal : StepRefusal) → StandsFor old incoming mine → ((head : Head) (front : ℕ) → wire_user_step (node_at head old.station front) event ≡ Refuses refusal) → advance (wire_step crossed) mine theirs (User event) ≡ Refused refusal
+pub event_refused : (old : End) (incoming : Line) (event : Event) (mine theirs : JudgeHalf) (refusal : StepRefusal) → StandsFor old incoming mine → ((head : Head) (front : ℕ) → wire_user_step (node_at head old.station front) event ≡ Refuses refusal) → advance (wire_step judged) mine theirs (User event) ≡ Refused refusal
 event_refused old incoming event mine theirs refusal stands refuses =
     ap (λ (n : JudgeNode). answered mine theirs (wire_user_step n event)) (state_is old incoming mine stands)
     ∙ ap (answered mine theirs) (refuses old.head incoming.gone)
@@ -90,10 +91,10 @@ event_refused old incoming event mine theirs refusal stands refuses =
 -- ---- a receipt
 
 -- a receipt of a unit that was sent
-reads_unit : (mine theirs : JudgeHalf) (n : JudgeNode) (hint : ℕ) (kept : Bool) (bytes : List ℕ) (unit : WireUnit) (r : Result JudgeNode StepRefusal) → mine.state ≡ n → slice_get theirs.sent hint ≡ Some unit → wire_receives crossed n hint kept bytes unit ≡ r → advance (wire_step crossed) mine theirs (Received hint kept bytes) ≡ concluded mine r
+reads_unit : (mine theirs : JudgeHalf) (n : JudgeNode) (hint : ℕ) (kept : Bool) (bytes : List ℕ) (unit : WireUnit) (r : Result JudgeNode StepRefusal) → mine.state ≡ n → slice_get theirs.sent hint ≡ Some unit → wire_receives judged n hint kept bytes unit ≡ r → advance (wire_step judged) mine theirs (Received hint kept bytes) ≡ concluded mine r
 reads_unit mine theirs n hint kept bytes unit r state was_sent receives_is =
-    ap (any.read mine (wire_receives crossed mine.state hint kept bytes)) was_sent
-    ∙ ap (λ (s : JudgeNode). concluded mine (wire_receives crossed s hint kept bytes unit)) state
+    ap (any.read mine (wire_receives judged mine.state hint kept bytes)) was_sent
+    ∙ ap (λ (s : JudgeNode). concluded mine (wire_receives judged s hint kept bytes unit)) state
     ∙ ap (concluded mine) receives_is
 
 pub receipt_made : (old new : End) (before after : Line) (hint : ℕ) (kept : Bool) (bytes : List ℕ) (mine theirs : JudgeHalf) → StandsFor old before mine → IsReceived old.station new.station before after hint kept bytes theirs.sent → new.line ≡ old.line → new.head ≡ old.head → new.counts ≡ counted old.counts (Received hint kept bytes) → IsMade old new before after (Received hint kept bytes) mine theirs
@@ -107,9 +108,9 @@ receipt_made old new before after hint kept bytes mine theirs stands received li
   counts = counts;
 }
 
-pub receipt_refused : (old : End) (before : Line) (hint : ℕ) (kept : Bool) (bytes : List ℕ) (mine theirs : JudgeHalf) (refusal : StepRefusal) → StandsFor old before mine → (unit : WireUnit) × (slice_get theirs.sent hint ≡ Some unit) × ((head : Head) → wire_receives crossed (node_of head old.station before) hint kept bytes unit ≡ Err refusal) → advance (wire_step crossed) mine theirs (Received hint kept bytes) ≡ Refused refusal
+pub receipt_refused : (old : End) (before : Line) (hint : ℕ) (kept : Bool) (bytes : List ℕ) (mine theirs : JudgeHalf) (refusal : StepRefusal) → StandsFor old before mine → (unit : WireUnit) × (slice_get theirs.sent hint ≡ Some unit) × ((head : Head) → wire_receives judged (node_of head old.station before) hint kept bytes unit ≡ Err refusal) → advance (wire_step judged) mine theirs (Received hint kept bytes) ≡ Refused refusal
 receipt_refused old before hint kept bytes mine theirs refusal stands fails =
     reads_unit mine theirs (node_of old.head old.station before) hint kept bytes fails.0 (Err refusal) (state_is old before mine stands) fails.1 (fails.2 old.head)
 
-pub receipt_waits : (hint : ℕ) (kept : Bool) (bytes : List ℕ) (mine theirs : JudgeHalf) → slice_get theirs.sent hint ≡ None → advance (wire_step crossed) mine theirs (Received hint kept bytes) ≡ Waits
-receipt_waits hint kept bytes mine theirs not_sent = ap (any.read mine (wire_receives crossed mine.state hint kept bytes)) not_sent
+pub receipt_waits : (hint : ℕ) (kept : Bool) (bytes : List ℕ) (mine theirs : JudgeHalf) → slice_get theirs.sent hint ≡ None → advance (wire_step judged) mine theirs (Received hint kept bytes) ≡ Waits
+receipt_waits hint kept bytes mine theirs not_sent = ap (any.read mine (wire_receives judged mine.state hint kept bytes)) not_sent

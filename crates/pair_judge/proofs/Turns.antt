@@ -4,7 +4,7 @@ use Rattle.std.proofs.lemmas.List.Sums.{sum_by_push}
 use Rattle.two_nodes.specs.Nodes.{Run}
 use Rattle.capture.specs.declared.record.Record.{Record}
 use Rattle.dna_model.specs.declared.head.Head.{Head}
-use Rattle.dna_model.specs.Pair.{is_sent}
+use Rattle.dna_model.specs.Machine.{is_sent}
 use Rattle.pair_judge.specs.declared.line.Line.{Line}
 use Rattle.pair_judge.specs.declared.end.End.{End}
 use Rattle.pair_judge.specs.declared.summary.SideSummary.{SideSummary}

@@ -10,7 +10,7 @@ use Rattle.capture.specs.Reader.{CaptureState}
 use Rattle.capture.specs.Range.{NumbersFit}
 use Rattle.capture.specs.SoFar.{Behind, ToCome, TheEnd, ReadSoFar, so_far, IsReadSoFar, DepartsBehind}
 use Rattle.dna_model.specs.declared.refusal.StepRefusal.{StepRefusal}
-use Rattle.dna_model.specs.Periods.{crossed}
+use Rattle.dna_model.specs.Rules.{judged}
 use Rattle.dna_model.specs.WireNode.{wire_step}
 use Rattle.pair_judge.specs.declared.line.Line.{Line}
 use Rattle.pair_judge.specs.declared.end.End.{End}
@@ -102,7 +102,7 @@ pub record IsStill (m : Move) : Type 0 where
 
 -- the record waits for its unit, whatever the halves are that the two sides stand for
 abbrev pub WaitsAt : End → Line → Record → Type 0
-WaitsAt own incoming r = (mine theirs : JudgeHalf) → StandsFor own incoming mine → Shows incoming theirs.sent → advance (wire_step crossed) mine theirs r ≡ any.Waits
+WaitsAt own incoming r = (mine theirs : JudgeHalf) → StandsFor own incoming mine → Shows incoming theirs.sent → advance (wire_step judged) mine theirs r ≡ any.Waits
 
 -- the next record was made
 pub record IsAdvanced (m : Move) (t : Track) : Type 0 where
@@ -130,7 +130,7 @@ pub record IsRefused (m : Move) (t : Track) (refusal : StepRefusal) : Type 0 whe
   pub next : Record
   pub read : IsRead (having_made t (t.made ++ next ∷ []))
   pub counts : m.new.counts ≡ m.old.counts
-  pub refused : (mine theirs : JudgeHalf) → StandsFor m.old m.before mine → Shows m.before theirs.sent → advance (wire_step crossed) mine theirs next ≡ any.Refused refusal
+  pub refused : (mine theirs : JudgeHalf) → StandsFor m.old m.before mine → Shows m.before theirs.sent → advance (wire_step judged) mine theirs next ≡ any.Refused refusal
 
 abbrev pub AdvanceIs : Advance → Move → Track → Type 0
 AdvanceIs answers.Made m t = IsAdvanced m t

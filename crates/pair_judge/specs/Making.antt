@@ -3,7 +3,7 @@ use Rattle.std.specs.Prelude.{◌≡◌}
 use Rattle.two_nodes.specs.Nodes.{Outcome, advance}
 use Rattle.two_nodes.specs.Nodes as any
 use Rattle.capture.specs.declared.record.Record.{Record}
-use Rattle.dna_model.specs.Periods.{crossed}
+use Rattle.dna_model.specs.Rules.{judged}
 use Rattle.dna_model.specs.WireNode.{wire_step}
 use Rattle.pair_judge.specs.declared.line.Line.{Line}
 use Rattle.pair_judge.specs.declared.end.End.{End}
@@ -23,7 +23,7 @@ pub record StandsFor (own : End) (incoming : Line) (half : JudgeHalf) : Type 0 w
 -- the record is made, and the end stands for the half after it
 pub record IsMade (old new : End) (before after : Line) (r : Record) (own other : JudgeHalf) : Type 0 where
   pub next : JudgeHalf
-  pub step_is : advance (wire_step crossed) own other r ≡ any.Made next
+  pub step_is : advance (wire_step judged) own other r ≡ any.Made next
   pub stands : StandsFor new after next
   pub incoming : Shows after other.sent
   pub same_head : new.head ≡ old.head
@@ -33,8 +33,8 @@ pub record IsMade (old new : End) (before after : Line) (r : Record) (own other 
 abbrev pub MadeIs : Made → End → End → Line → Line → Record → JudgeHalf → JudgeHalf → Type 0
 MadeIs Done old new before after r own other = IsMade old new before after r own other
 -- the unit that the record names is not sent yet
-MadeIs (Waits back) old new before after r own other = advance (wire_step crossed) own other r ≡ any.Waits
-MadeIs (Fails refusal) old new before after r own other = advance (wire_step crossed) own other r ≡ any.Refused refusal
+MadeIs (Waits back) old new before after r own other = advance (wire_step judged) own other r ≡ any.Waits
+MadeIs (Fails refusal) old new before after r own other = advance (wire_step judged) own other r ≡ any.Refused refusal
 
 -- a record that waits is handed back, and leaves all as it was
 abbrev pub LeavesWaiting : Made → End → End → Line → Line → Record → Type 0

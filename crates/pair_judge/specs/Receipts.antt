@@ -3,8 +3,8 @@ use Rattle.std.specs.Prelude.{◌≡◌, ℕ, Bool, true, false, Some, None, Ok,
 use Rattle.ddcmp_msg.specs.Reading.{reading}
 use Rattle.dna_model.specs.declared.head.Head.{Head}
 use Rattle.dna_model.specs.declared.tag.Tag.{Tag}
-use Rattle.dna_model.specs.Arriving.{ArrivalValue, Sound, HeaderBad, DataBad}
-use Rattle.dna_model.specs.Periods.{crossed}
+use Rattle.dna_model.specs.Book.{ArrivalValue, Sound, HeaderBad, DataBad}
+use Rattle.dna_model.specs.Rules.{judged}
 use Rattle.dna_model.specs.WireNode.{WireUnit, wire_receives}
 use Rattle.pair_judge.specs.declared.line.Line.{Line}
 use Rattle.pair_judge.specs.declared.receipt.Receipt.{Receipt}
@@ -39,7 +39,7 @@ node_of head station line = node_at head station line.gone
 pub record IsReceived (old new : JudgeStation) (before after : Line) (hint : ℕ) (kept : Bool) (bytes : List ℕ) (sent : List WireUnit) : Type 0 where
   pub unit : WireUnit
   pub was_sent : slice_get sent hint ≡ Some unit
-  pub step : (head : Head) → wire_receives crossed (node_of head old before) hint kept bytes unit ≡ Ok (node_of head new after)
+  pub step : (head : Head) → wire_receives judged (node_of head old before) hint kept bytes unit ≡ Ok (node_of head new after)
   pub shows : Shows after sent
 
 abbrev pub ReceiptIs : Receipt → JudgeStation → JudgeStation → Line → Line → ℕ → Bool → List ℕ → List WireUnit → Type 0
@@ -48,4 +48,4 @@ ReceiptIs (Done damaged) old new before after hint kept bytes sent =
 -- the unit was not sent yet
 ReceiptIs Waits old new before after hint kept bytes sent = slice_get sent hint ≡ None
 ReceiptIs (Fails refusal) old new before after hint kept bytes sent =
-    (unit : WireUnit) × (slice_get sent hint ≡ Some unit) × ((head : Head) → wire_receives crossed (node_of head old before) hint kept bytes unit ≡ Err refusal)
+    (unit : WireUnit) × (slice_get sent hint ≡ Some unit) × ((head : Head) → wire_receives judged (node_of head old before) hint kept bytes unit ≡ Err refusal)

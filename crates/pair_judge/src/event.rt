@@ -3,9 +3,10 @@
 ghost use Rattle.std.specs.Prelude.{◌≡◌, ◌+◌, ◌^◌, ◌<◌, ◌≤◌, ℕ, OnOk, OnErr, IfErr};
 ghost use Rattle.two_nodes.specs.Nodes.Answer.{Goes, Refuses};
 ghost use Rattle.dna_model.specs.declared.head.Head.{Head};
-ghost use Rattle.dna_model.specs.Station.{user_refusal};
-ghost use Rattle.dna_model.specs.WireNode.{wire_does, wire_user_step};
-ghost use Rattle.dna_model.specs.WireStation.{load};
+ghost use Rattle.dna_model.specs.Table.{user_refusal};
+ghost use Rattle.dna_model.specs.Machine.{does, unless_refused};
+ghost use Rattle.dna_model.specs.WireNode.{wire_user_step};
+ghost use Rattle.dna_model.specs.WireStation.{load, wire_after_event};
 ghost use Rattle.pair_judge.specs.Receipts.{node_at};
 
 use crate::end::Station;
@@ -35,10 +36,10 @@ pub fn happen(station: &mut Station, event: &Event) -> Result<(), StepRefusal>
 fn ask(station: &mut Station, event: StationEvent) -> Result<(), StepRefusal>
     requires { load station.old < 2 ^ 63 }
     ensures ok { OnOk result ((head : Head) (front : ℕ) →
-        wire_does (node_at head station.old front) event (user_refusal station.old.variables.state event) ≡ Goes (node_at head station.new front)) }
+        does (node_at head station.old front) (unless_refused (user_refusal station.old.variables.state event) (wire_after_event station.old event)) ≡ Goes (node_at head station.new front)) }
     ensures load { load station.new ≤ load station.old + 1 }
     ensures err { IfErr result (λ z. (head : Head) (front : ℕ) →
-        wire_does (node_at head station.old front) event (user_refusal station.old.variables.state event) ≡ Refuses z) }
+        does (node_at head station.old front) (unless_refused (user_refusal station.old.variables.state event) (wire_after_event station.old event)) ≡ Refuses z) }
     ensures unchanged { OnErr result (station.new ≡ station.old) }
 {
     match station.user(event) {

@@ -4,7 +4,8 @@ ghost use Rattle.std.specs.Prelude.{◌≡◌, ℕ, ◌≤◌, [], ◌∷◌, �
 ghost use Rattle.two_nodes.specs.Nodes.Answer.{Sends, Refuses};
 ghost use Rattle.ddcmp_msg.specs.Reading.{reading};
 ghost use Rattle.dna_model.specs.declared.head.Head.{Head};
-ghost use Rattle.dna_model.specs.WireNode.{wire_sent_step, wire_tag};
+ghost use Rattle.dna_model.specs.WireNode.{wire_sent_step};
+ghost use Rattle.dna_model.specs.WireBook.{wire_tag};
 ghost use Rattle.dna_model.specs.WireStation.{load};
 ghost use Rattle.pair_judge.specs.Receipts.{node_at, IfRefused};
 ghost use Rattle.pair_judge.specs.Unit.{unit_of, IsSoundReading};

@@ -1,7 +1,7 @@
 use Rattle.std.proofs.Common.{[], ap, ◌∙◌}
 use Rattle.two_nodes.specs.Nodes.{World, advance}
 use Rattle.two_nodes.specs.Cutting.{Commutes}
-use Rattle.dna_model.specs.Periods.{crossed}
+use Rattle.dna_model.specs.Rules.{judged}
 use Rattle.dna_model.specs.Pair.{pair, start}
 use Rattle.dna_model.specs.WireNode.{WireNode, WireUnit, wire_step, wire_pair, seen}
 use Rattle.dna_model.proofs.RunBounds.{sound_property, start_sound, sound_kept, sound_bounded}
@@ -24,7 +24,7 @@ returns g c = record {
         world = from.end;
         run = from.run;
         is_cut = from.is_cut;
-        same_a = λ r. ap (λ (w : World (WireNode g.row.L.Denot) WireUnit). advance (wire_step crossed) w.a w.b r) from.is_cut ∙ record_same from.end.a from.end.b (sound_bounded from.end.a from.end.b from.holds_there.of_a from.holds_there.of_b) r;
-        same_b = λ r. ap (λ (w : World (WireNode g.row.L.Denot) WireUnit). advance (wire_step crossed) w.b w.a r) from.is_cut ∙ record_same from.end.b from.end.a (sound_bounded from.end.b from.end.a from.holds_there.of_b from.holds_there.of_a) r;
+        same_a = λ r. ap (λ (w : World (WireNode g.row.L.Denot) WireUnit). advance (wire_step judged) w.a w.b r) from.is_cut ∙ record_same from.end.a from.end.b (sound_bounded from.end.a from.end.b from.holds_there.of_a from.holds_there.of_b) r;
+        same_b = λ r. ap (λ (w : World (WireNode g.row.L.Denot) WireUnit). advance (wire_step judged) w.b w.a r) from.is_cut ∙ record_same from.end.b from.end.a (sound_bounded from.end.b from.end.a from.holds_there.of_b from.holds_there.of_a) r;
       };
 }

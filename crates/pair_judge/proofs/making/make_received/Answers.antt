@@ -2,7 +2,7 @@ use Rattle.std.proofs.Common.{◌≡◌, ◌+◌, List, ℕ, Err, refl, ap, subs
 use Rattle.ddcmp_msg.specs.Reading.{reading}
 use Rattle.capture.specs.declared.record.Record.TheVariants.{Received}
 use Rattle.dna_model.specs.declared.head.Head.{Head}
-use Rattle.dna_model.specs.Periods.{crossed}
+use Rattle.dna_model.specs.Rules.{judged}
 use Rattle.dna_model.specs.WireNode.{wire_receives}
 use Rattle.pair_judge.specs.Counting.{shows_damage, more_if}
 use Rattle.pair_judge.specs.Receipts.{IsReceived, node_of}
@@ -26,4 +26,4 @@ pub returns-in-Fails-clause-made : goal.returns-in-Fails-clause-made
 returns-in-Fails-clause-made c = λ mine theirs stands shows.
     let fails = c.in-Fails.ensures.receipt theirs.sent shows in
     receipt_refused c.args.own.now c.args.incoming.now c.args.hint c.args.kept c.args.bytes mine theirs c.in-Fails.refusal stands
-    (fails.0, fails.1, subst (λ (bytes : List ℕ). (head : Head) → wire_receives crossed (node_of head c.args.own.now.station c.args.incoming.now) c.args.hint c.args.kept bytes fails.0 ≡ Err c.in-Fails.refusal) c.as_slice.ensures.value fails.2)
+    (fails.0, fails.1, subst (λ (bytes : List ℕ). (head : Head) → wire_receives judged (node_of head c.args.own.now.station c.args.incoming.now) c.args.hint c.args.kept bytes fails.0 ≡ Err c.in-Fails.refusal) c.as_slice.ensures.value fails.2)

@@ -4,7 +4,7 @@ use Rattle.std.specs.Option.{option_copied, option_map}
 use Rattle.std.proofs.lemmas.Option.{slice_get_within}
 use Rattle.ddcmp_station.specs.Arrival.{arrival_view}
 use Rattle.dna_model.specs.declared.head.Head.{Head}
-use Rattle.dna_model.specs.WireStation.{wire_after_arrival}
+use Rattle.dna_model.specs.WireBook.{wire_after_arrival}
 use Rattle.dna_model.specs.Line.{coming}
 use Rattle.pair_judge.specs.Wire.{JudgeNode}
 use Rattle.ddcmp_msg.specs.Reading.{reading}
