@@ -1,7 +1,7 @@
 //! The station, and what its user does.
 
 ghost use Rattle.std.specs.Prelude.{◌≡◌, ◌+◌, ◌^◌, ◌<◌, ◌≤◌, length, IfOk, OnOk, OnErr, IfErr};
-ghost use Rattle.dna_model.specs.Station.{user_refusal};
+ghost use Rattle.dna_model.specs.Table.{user_refusal};
 ghost use Rattle.dna_model.specs.WireStation.{new_wire_station, wire_after_event, wire_after_label, load};
 ghost use Rattle.ddcmp_station.specs.Fault.{IsRefused};
 

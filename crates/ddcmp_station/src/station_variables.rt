@@ -2,8 +2,9 @@
 
 ghost use Rattle.std.specs.Prelude.{◌≡◌, ◌+◌, ◌<◌, ◌≤◌, ◌==◌, ◌&&◌, ◌++◌, ◌∷◌, [], true, not, nat_lt, nat_le, length, slice_get, option_and_then, None, IfOk, OnOk, OnErr};
 ghost use Rattle.dna_model.specs.Station.{wire};
-ghost use Rattle.dna_model.specs.Sending.{WINDOW};
-ghost use Rattle.dna_model.specs.WireStation.{HeldPacket, no_numbers, with_label, with_new, is_held_packet, wire_is_next, wire_is_new, acknowledges, wire_acknowledged_by};
+ghost use Rattle.dna_model.specs.Table.{WINDOW};
+ghost use Rattle.dna_model.specs.WireStation.{HeldPacket, no_numbers, with_label};
+ghost use Rattle.dna_model.specs.WireBook.{is_held_packet, wire_is_next, wire_is_new, wire_responded};
 
 use crate::HeldPacket;
 use dna_model::State;
@@ -30,6 +31,7 @@ pub struct StationVariables<T: Copy, W: Window<HeldPacket<T>, 256>> {
 
 impl<T: Copy, W: Window<HeldPacket<T>, 256>> Model for StationVariables<T, W> {
     ghost use Rattle.std.specs.Prelude.{◌≡◌, ◌≤◌, length};
+    ghost use Rattle.dna_model.specs.Table.{WINDOW};
     ghost use Rattle.dna_model.specs.WireStation.{StationVariables};
 
     ghost Value = { StationVariables T };
@@ -42,7 +44,7 @@ impl<T: Copy, W: Window<HeldPacket<T>, 256>> Model for StationVariables<T, W> {
       held = (W.window k.held).items;
     } };
 
-    ghost invariant = { λ k. ((W.window k.held).capacity ≡ 255) × (k.ahead ≤ length (W.window k.held).items) };
+    ghost invariant = { λ k. ((W.window k.held).capacity ≡ WINDOW) × (k.ahead ≤ length (W.window k.held).items) };
 }
 
 impl<T: Copy, W: Window<HeldPacket<T>, 256>> StationVariables<T, W> {
@@ -176,8 +178,7 @@ impl<T: Copy, W: Window<HeldPacket<T>, 256>> StationVariables<T, W> {
     /// All packets through the number `resp` are acknowledged, where it lies above the acknowledged number and at most at the
     /// highest given; otherwise nothing changes. Takes no memory.
     pub fn respond(&mut self, resp: u8)
-        ensures { self.new ≡ wire_acknowledged_by (nat_lt 0 (acknowledges self.old resp)
-            && nat_le (acknowledges self.old resp) (length self.old.held)) self.old resp }
+        ensures { self.new ≡ wire_responded self.old resp }
     {
         let count = usize::from(Seq::distance(self.held.first(), Seq::of(u64::from(resp))));
         if count == 0 {
@@ -208,7 +209,7 @@ impl<T: Copy, W: Window<HeldPacket<T>, 256>> StationVariables<T, W> {
     /// A new packet is sent: it gets the next number. Where its memory is refused nothing changes.
     pub fn send_new(&mut self, packet: HeldPacket<T>) -> Result<(), AllocError>
         requires new { wire_is_new self.old ≡ true }
-        requires room { length self.old.held < 255 }
+        requires room { length self.old.held < WINDOW }
         ensures ok { OnOk result (self.new ≡ record self.old { ahead = self.old.ahead + 1; held = self.old.held ++ packet ∷ [] }) }
         ensures err { OnErr result (self.new ≡ self.old) }
     {

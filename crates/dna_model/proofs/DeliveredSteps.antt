@@ -21,7 +21,8 @@ use Rattle.dna_model.specs.Book.{ArrivalValue, Sound, HeaderBad, DataBad, body_o
 use Rattle.dna_model.specs.StationBook.{is_new, is_packet, as_first_given, sending_refusal, after_sending, truth_of, with_packet, is_next, acknowledged_by, with_data, asked, does, takes, meets_needs, station_book, arrival_refusal, after_arrival}
 use Rattle.dna_model.specs.Bounds.{IsOrdered}
 use Rattle.dna_model.specs.Line.{SentUnit}
-use Rattle.dna_model.proofs.Ordered.{checks_passed, kept_by_all}
+use Rattle.dna_model.proofs.Ordered.{kept_by_all}
+use Rattle.dna_model.proofs.Checks.{sending_passed}
 use Rattle.dna_model.proofs.CutArriving.{does_stays, TakesBy, taken_by}
 use Rattle.dna_model.proofs.CutNode.{not_crossed}
 use Rattle.dna_model.proofs.Happens.{ComesOf, Itself, BadHeader, BadData}
@@ -110,7 +111,7 @@ message_offered : (s : Station) (o : IsOrdered s) (m : MessageValue) → length 
 message_offered s o (Data flags resp num body) count e =
     let after = after_sending s (Data flags resp num body) in
     let a = o.above in
-    (past after, ap (slice_get (periods after)) (sym count) ∙ next_at after.earlier [] (past after), omega arith, packet_there s (is_new s) body refl (checks_passed s (Data flags resp num body) refl e).1.1.1.0)
+    (past after, ap (slice_get (periods after)) (sym count) ∙ next_at after.earlier [] (past after), omega arith, packet_there s (is_new s) body refl (sending_passed s (Data flags resp num body) refl e).1.1.1.0)
 message_offered s o (Ack flags resp) count e = tt
 message_offered s o (Nak flags reason resp) count e = tt
 message_offered s o (Rep flags num) count e = tt

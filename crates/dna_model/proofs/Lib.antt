@@ -25,6 +25,8 @@ mod LinkRequestRows
 mod LinkWindowRows
 -- what holds of one station, and its cut to what a node keeps
 mod Modulo
+-- what is tested of a message that may be sent
+pub mod Checks
 mod Ordered
 mod CutSending
 mod CutArriving

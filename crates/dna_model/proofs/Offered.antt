@@ -24,7 +24,7 @@ use Rattle.dna_model.specs.Line.{SentUnit}
 use Rattle.dna_model.specs.Node.{Node}
 use Rattle.dna_model.specs.Pair.{pair, start}
 use Rattle.dna_model.proofs.Modulo.{same_test}
-use Rattle.dna_model.proofs.Ordered.{checks_passed}
+use Rattle.dna_model.proofs.Checks.{sending_passed}
 use Rattle.dna_model.proofs.Happens.{Happens, Nothing, UserEvent, Sending, Receipt, happens}
 use Rattle.dna_model.proofs.StationBounds.{IsSound}
 use Rattle.dna_model.proofs.DeliveredSteps.{arrival_took}
@@ -73,7 +73,7 @@ packets_after false packets body = sym (append-nil packets)
 sending_given : (s : Station) (m : MessageValue) → IsOrdered s → sending_refusal s m ≡ None → given_by_period (after_sending s m) ≡ in_last (offers (read_as.Sound m) (present (given_by_period s))) (given_by_period s)
 sending_given s (Data flags resp num body) ordered allowed =
     more_given s (after_sending s (Data flags resp num body)) (read_as.Sound (Data flags resp num body)) refl
-    (packets_after (is_new s) s.packets body ∙ ap (λ (b : Bool). s.packets ++ cond b (body ∷ []) []) (sym (number_tells s num ordered (eqb-true num (wire s.next_to_send) (checks_passed s (Data flags resp num body) refl allowed).0))))
+    (packets_after (is_new s) s.packets body ∙ ap (λ (b : Bool). s.packets ++ cond b (body ∷ []) []) (sym (number_tells s num ordered (eqb-true num (wire s.next_to_send) (sending_passed s (Data flags resp num body) refl allowed).0))))
 sending_given s (Nak flags reason resp) ordered allowed = more_given s (after_sending s (Nak flags reason resp)) (read_as.Sound (Nak flags reason resp)) refl (sym (append-nil s.packets))
 sending_given s (Ack flags resp) ordered allowed = more_given s s (read_as.Sound (Ack flags resp)) refl (sym (append-nil s.packets))
 sending_given s (Rep flags num) ordered allowed = more_given s s (read_as.Sound (Rep flags num)) refl (sym (append-nil s.packets))

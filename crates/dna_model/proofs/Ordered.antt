@@ -1,62 +1,21 @@
--- What holds of a station after any records: its own numbers are in order. And what is tested of a message that is sent.
-use Rattle.std.proofs.Common.{◌≡◌, ℕ, ◌+◌, ◌-◌, ◌≤◌, Bool, true, false, ◌&&◌, eqb, ltb, leb, cond, Option, Some, None, List, [], ◌∷◌, fold, length, refl, ap, arith, eqb-true, ltb-true, leb-true}
+-- What holds of a station after any records: its own numbers are in order.
+use Rattle.std.proofs.Common.{◌≡◌, ℕ, ◌+◌, ◌-◌, ◌≤◌, Bool, true, false, ◌&&◌, eqb, ltb, leb, cond, None, List, [], ◌∷◌, fold, length, refl, ap, arith, eqb-true, ltb-true, leb-true}
 use Rattle.std.proofs.lemmas.Bool.{and_parts}
 use Rattle.std.proofs.lemmas.List.{length_push}
 use Rattle.ddcmp_msg.specs.Message.{MessageValue, Data, Ack, Nak, Rep, Strt, Stack}
-use Rattle.ddcmp_msg.specs.declared.flags.Flags.{Flags}
 use Rattle.ddcmp_msg.specs.declared.nak_reason.NakReason.{NakReason}
 use Rattle.ddcmp_msg.specs.declared.nak_reason.NakReason.TheVariants.{HeaderCheck, DataCheck}
 use Rattle.dna_model.specs.declared.state.State.{State}
 use Rattle.dna_model.specs.declared.state.State.TheVariants.{Halted, Istrt, Astrt, Running}
 use Rattle.dna_model.specs.declared.state.StationEvent.{StationEvent}
 use Rattle.dna_model.specs.declared.state.StationEvent.TheVariants.{Start, Halt}
-use Rattle.dna_model.specs.Table.{WINDOW, Check, refusal_of, checks, Effect, GoTo, TakePartner, Respond, SetBack, TakePacket, AnswerRep, row, counts_damage}
-use Rattle.dna_model.specs.Book.{ArrivalValue, Sound, HeaderBad, DataBad, body_of, first_failed, failed}
+use Rattle.dna_model.specs.Table.{WINDOW, Effect, GoTo, TakePartner, Respond, SetBack, TakePacket, AnswerRep, row, counts_damage}
+use Rattle.dna_model.specs.Book.{ArrivalValue, Sound, HeaderBad, DataBad, body_of}
 use Rattle.dna_model.specs.Station.{Station, new_station, given, after_event}
 use Rattle.dna_model.specs.Truth.{Truth}
-use Rattle.dna_model.specs.StationBook.{passes, is_new, has_room, with_packet, acknowledged_by, responded, is_next, with_data, asked, does, station_book, sending_refusal, after_sending, after_arrival}
+use Rattle.dna_model.specs.StationBook.{is_new, has_room, with_packet, acknowledged_by, responded, is_next, with_data, asked, does, station_book, sending_refusal, after_sending, after_arrival}
 use Rattle.dna_model.specs.Bounds.{IsOrdered}
-
--- ---- checks that are passed
-
-abbrev pub ArePassed : (Check → Bool) → List Check → Type 0
-ArePassed passes [] = Unit {0}
-ArePassed passes (check ∷ next) = (passes check ≡ true) × ArePassed passes next
-
-pub passed : (passes : Check → Bool) (list : List Check) → first_failed passes list ≡ None → ArePassed passes list
-passed passes [] e = tt
-passed passes (check ∷ next) e = go (passed passes next) (passes check) refl e
-  where
-    go : (first_failed passes next ≡ None → ArePassed passes next) → (b : Bool) → passes check ≡ b → cond b (first_failed passes next) (Some (refusal_of check)) ≡ None → ArePassed passes (check ∷ next)
-    go behind true is e = (is, behind e)
-    go behind false is e = absurd cc
-
--- whether a message's RESP or NUM is looked at
-abbrev pub is_numbered : MessageValue → Bool
-is_numbered (Strt flags) = false
-is_numbered (Stack flags) = false
-is_numbered m = true
-
-abbrev pub listed : Option (List Check) → List Check
-listed None = []
-listed (Some list) = list
-
-module _ (passes : Check → Bool) where
-  all_passed : (list : Option (List Check)) → failed passes list ≡ None → ArePassed passes (listed list)
-  all_passed None e = tt
-  all_passed (Some list) e = passed passes list e
-
-  -- a message with a number is sent in RUNNING alone
-  in_running : (state : State) (m : MessageValue) → is_numbered m ≡ true → failed passes (checks state m) ≡ None → failed passes (checks Running m) ≡ None
-  in_running Running m numbered e = e
-  in_running Halted m numbered e = absurd cc
-  in_running Istrt (Strt flags) numbered e = absurd cc
-  in_running Istrt m numbered e = absurd cc
-  in_running Astrt (Stack flags) numbered e = absurd cc
-  in_running Astrt m numbered e = absurd cc
-
-pub checks_passed : (s : Station) (m : MessageValue) → is_numbered m ≡ true → sending_refusal s m ≡ None → ArePassed (passes s m) (listed (checks Running m))
-checks_passed s m numbered e = all_passed (passes s m) (checks Running m) (in_running (passes s m) s.state m numbered e)
+use Rattle.dna_model.proofs.Checks.{sending_passed}
 
 -- ---- effects, one after another
 
@@ -96,7 +55,7 @@ module _ (s : Station) (o : IsOrdered s) where
       record { above = omega arith; below = omega arith; few = omega arith }
 
   pub sending_ordered : (m : MessageValue) → sending_refusal s m ≡ None → IsOrdered (after_sending s m)
-  sending_ordered (Data flags resp num body) e = data_ordered (is_new s) body refl (checks_passed s (Data flags resp num body) refl e).1.1.0
+  sending_ordered (Data flags resp num body) e = data_ordered (is_new s) body refl (sending_passed s (Data flags resp num body) refl e).1.1.0
   sending_ordered (Nak flags reason resp) e = same_ordered (after_sending s (Nak flags reason resp)) refl refl refl
   sending_ordered (Ack flags resp) e = o
   sending_ordered (Rep flags num) e = o

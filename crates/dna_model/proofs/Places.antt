@@ -18,7 +18,7 @@ use Rattle.dna_model.specs.StationBook.{after_arrival}
 use Rattle.dna_model.specs.Line.{SentUnit}
 use Rattle.dna_model.specs.Node.{Node}
 use Rattle.dna_model.specs.Pair.{pair, start}
-use Rattle.dna_model.proofs.Ordered.{checks_passed}
+use Rattle.dna_model.proofs.Checks.{sending_passed}
 use Rattle.dna_model.proofs.Happens.{Happens, Nothing, UserEvent, Sending, Receipt, happens}
 use Rattle.dna_model.proofs.NumberedSteps.{at_pushed}
 use Rattle.dna_model.proofs.StationNumbers.{unit_of}
@@ -75,7 +75,7 @@ given_sending s (Stack flags) = begins_same (all_given s)
 sent_at_place : (s : Station) (m : MessageValue) → sending_refusal s m ≡ None → CarriesItsPacket (all_given (after_sending s m)) m (truth_of s m)
 sent_at_place s (Data flags resp num body) e =
     item_behind (packets_of s.earlier) (with_packet (is_new s) s.packets body) (s.next_to_send - 1)
-    ∙ packet_there s (is_new s) body refl (checks_passed s (Data flags resp num body) refl e).1.1.1.0
+    ∙ packet_there s (is_new s) body refl (sending_passed s (Data flags resp num body) refl e).1.1.1.0
 sent_at_place s (Ack flags resp) e = tt
 sent_at_place s (Nak flags reason resp) e = tt
 sent_at_place s (Rep flags num) e = tt

@@ -8,7 +8,8 @@ use Rattle.dna_model.specs.Truth.{Truth}
 use Rattle.dna_model.specs.StationBook.{is_new, sending_refusal, after_sending, truth_of, with_packet}
 use Rattle.dna_model.specs.Bounds.{IsOrdered, HasWireNumbers}
 use Rattle.dna_model.specs.Line.{SentUnit}
-use Rattle.dna_model.proofs.Ordered.{checks_passed, sending_ordered}
+use Rattle.dna_model.proofs.Ordered.{sending_ordered}
+use Rattle.dna_model.proofs.Checks.{sending_passed}
 use Rattle.dna_model.proofs.Numbered.{Limits, Numbers, Numbered}
 use Rattle.dna_model.proofs.NumberedSteps.{IsSending}
 
@@ -62,11 +63,11 @@ module _ (s : Station) (o : IsOrdered s) (bytes : List ℕ) where
   -- the bytes of what is sent are the wire values of its numbers
   pub sent_spelled : (m : MessageValue) → sending_refusal s m ≡ None → HasWireNumbers m (truth_of s m)
   sent_spelled (Data flags resp num body) e =
-      let p = checks_passed s (Data flags resp num body) refl e in
+      let p = sending_passed s (Data flags resp num body) refl e in
       record { response = eqb-true resp (wire s.received) p.1.0; number = eqb-true num (wire s.next_to_send) p.0 }
-  sent_spelled (Ack flags resp) e = record { response = eqb-true resp (wire s.received) (checks_passed s (Ack flags resp) refl e).0; number = refl }
-  sent_spelled (Nak flags reason resp) e = record { response = eqb-true resp (wire s.received) (checks_passed s (Nak flags reason resp) refl e).0; number = refl }
-  sent_spelled (Rep flags num) e = record { response = refl; number = eqb-true num (wire (given s)) (checks_passed s (Rep flags num) refl e).1.0 }
+  sent_spelled (Ack flags resp) e = record { response = eqb-true resp (wire s.received) (sending_passed s (Ack flags resp) refl e).0; number = refl }
+  sent_spelled (Nak flags reason resp) e = record { response = eqb-true resp (wire s.received) (sending_passed s (Nak flags reason resp) refl e).0; number = refl }
+  sent_spelled (Rep flags num) e = record { response = refl; number = eqb-true num (wire (given s)) (sending_passed s (Rep flags num) refl e).1.0 }
   sent_spelled (Strt flags) e = record { response = refl; number = refl }
   sent_spelled (Stack flags) e = record { response = refl; number = refl }
 
