@@ -1,11 +1,13 @@
 //! What a station's node may send, and what sending changes.
 
-ghost use Rattle.std.specs.Prelude.{◌≡◌, ◌<◌, ◌≤◌, ◌==◌, ◌+◌, IsTrue, true, false, None, length, not, nat_lt, IfOk, OnOk, OnErr, IfErr};
+ghost use Rattle.std.specs.Prelude.{◌≡◌, ◌<◌, ◌≤◌, ◌==◌, ◌+◌, ◌∷◌, [], IsTrue, true, false, None, Some, if◌then◌else◌, length, not, nat_lt, slice_get, IfOk, OnOk, OnErr, IfErr};
 ghost use Rattle.ddcmp_msg.specs.Message.{view};
 ghost use Rattle.dna_model.specs.Causes.{has_cause};
+ghost use Rattle.dna_model.specs.Table.{WINDOW, checks};
+ghost use Rattle.dna_model.specs.Book.{failed};
 ghost use Rattle.dna_model.specs.Station.{wire};
-ghost use Rattle.dna_model.specs.Sending.{WINDOW, check};
-ghost use Rattle.dna_model.specs.WireStation.{wire_refusal_in, wire_data_refusal, wire_is_new, wire_sending_refusal, wire_after_sending, load, gives_new, with_new};
+ghost use Rattle.dna_model.specs.WireStation.{load};
+ghost use Rattle.dna_model.specs.WireBook.{is_held_packet, wire_is_new, wire_passes, sends_packet, wire_sending_refusal, wire_after_sending, gives_new};
 ghost use Rattle.ddcmp_station.specs.Fault.{IsFault, is_of_repeats};
 ghost use Rattle.ddcmp_station.specs.Sent.{sent_as};
 
@@ -104,13 +106,8 @@ impl<T: Copy, W: Window<HeldPacket<T>, 256>> Station<T, W> {
     // A packet of these bytes gets the next number. Where memory for it is refused, nothing changes.
     fn give(&mut self, body: &[u8]) -> Result<(), AllocError>
         requires new { wire_is_new self.old.variables ≡ true }
-        requires room { length self.old.variables.held < 255 }
-        ensures ok { OnOk result (self.new ≡ record self.old {
-          variables = record self.old.variables {
-            ahead = self.old.variables.ahead + 1;
-            held = with_new true self.old.variables.held body.now;
-          };
-        }) }
+        requires room { length self.old.variables.held < WINDOW }
+        ensures ok { OnOk result (self.new ≡ record self.old { variables = sends_packet self.old.variables body.now }) }
         ensures err { OnErr result (self.new ≡ self.old) }
     {
         let mut copy = Vec::new(self.alloc);
@@ -140,7 +137,7 @@ impl<T: Copy, W: Window<HeldPacket<T>, 256>> Station<T, W> {
     }
 
     fn refusal_in_running(&self, message: &Message) -> Option<StationRefusal>
-        ensures { result ≡ wire_refusal_in State.Running self.now.variables self.now.causes (view message.now) }
+        ensures { result ≡ failed (wire_passes self.now (view message.now)) (checks State.Running (view message.now)) }
     {
         match message {
             Message::Ack { resp, .. } => self.refusal_of_response(*resp),
@@ -158,7 +155,7 @@ impl<T: Copy, W: Window<HeldPacket<T>, 256>> Station<T, W> {
 
     // RESP is the last number received.
     fn refusal_of_response(&self, resp: u8) -> Option<StationRefusal>
-        ensures { result ≡ check (resp == self.now.variables.received) StationRefusal.WrongResponse None }
+        ensures { result ≡ if resp == self.now.variables.received then None else Some StationRefusal.WrongResponse }
     {
         if self.variables.is_received(resp) {
             None
@@ -169,8 +166,9 @@ impl<T: Copy, W: Window<HeldPacket<T>, 256>> Station<T, W> {
 
     // A NAK of a reason that needs a cause has an open one.
     fn refusal_of_nak(&self, reason: NakReason, resp: u8) -> Option<StationRefusal>
-        ensures { result ≡ check (resp == self.now.variables.received) StationRefusal.WrongResponse
-            (check (has_cause reason self.now.causes) StationRefusal.NoCause None) }
+        ensures { result ≡ if resp == self.now.variables.received
+            then (if has_cause reason self.now.causes then None else Some StationRefusal.NoCause)
+            else Some StationRefusal.WrongResponse }
     {
         if !self.variables.is_received(resp) {
             return Some(StationRefusal::WrongResponse);
@@ -183,8 +181,9 @@ impl<T: Copy, W: Window<HeldPacket<T>, 256>> Station<T, W> {
 
     // A REP asks for the answer to the highest number given, while one is outstanding.
     fn refusal_of_rep(&self, num: u8) -> Option<StationRefusal>
-        ensures { result ≡ check (not (length self.now.variables.held == 0)) StationRefusal.WrongState
-            (check (num == wire (self.now.variables.acknowledged + length self.now.variables.held)) StationRefusal.WrongNumber None) }
+        ensures { result ≡ if not (length self.now.variables.held == 0)
+            then (if num == wire (self.now.variables.acknowledged + length self.now.variables.held) then None else Some StationRefusal.WrongNumber)
+            else Some StationRefusal.WrongState }
     {
         if !self.variables.is_outstanding() {
             return Some(StationRefusal::WrongState);
@@ -197,9 +196,16 @@ impl<T: Copy, W: Window<HeldPacket<T>, 256>> Station<T, W> {
 
     // Data have the next number to send. A new packet has room in the window; one that is sent again is as first given.
     fn refusal_of_data(&self, resp: u8, num: u8, body: &[u8]) -> Option<StationRefusal>
-        ensures { result ≡ check (num == wire (self.now.variables.acknowledged + 1 + self.now.variables.ahead)) StationRefusal.WrongNumber
-            (check (resp == self.now.variables.received) StationRefusal.WrongResponse
-            (wire_data_refusal (wire_is_new self.now.variables) self.now.variables body.now)) }
+        ensures { result ≡ if num == wire (self.now.variables.acknowledged + 1 + self.now.variables.ahead)
+            then (if resp == self.now.variables.received
+            then (if (if wire_is_new self.now.variables then nat_lt (length self.now.variables.held) WINDOW else true)
+            then (if (if wire_is_new self.now.variables then true
+                else is_held_packet (slice_get self.now.variables.held self.now.variables.ahead) body.now)
+            then None
+            else Some StationRefusal.Changed)
+            else Some StationRefusal.WindowFull)
+            else Some StationRefusal.WrongResponse)
+            else Some StationRefusal.WrongNumber }
     {
         if !self.variables.is_to_send(num) {
             return Some(StationRefusal::WrongNumber);
@@ -208,22 +214,14 @@ impl<T: Copy, W: Window<HeldPacket<T>, 256>> Station<T, W> {
             return Some(StationRefusal::WrongResponse);
         }
         if self.variables.is_new() {
-            return self.refusal_of_new();
+            if !self.variables.has_room() {
+                return Some(StationRefusal::WindowFull);
+            }
+            return None;
         }
         if !self.variables.is_first_given(body) {
             return Some(StationRefusal::Changed);
         }
         None
-    }
-
-    // Fewer packets are outstanding than may be.
-    fn refusal_of_new(&self) -> Option<StationRefusal>
-        ensures { result ≡ check (nat_lt (length self.now.variables.held) WINDOW) StationRefusal.WindowFull None }
-    {
-        if self.variables.has_room() {
-            None
-        } else {
-            Some(StationRefusal::WindowFull)
-        }
     }
 }
