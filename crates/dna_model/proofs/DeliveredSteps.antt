@@ -292,12 +292,15 @@ module _ (s : Station) (u : Truth) (m : MessageValue) (kept : Bool) where
         no_packet : (b : Bool) → has_partner effects ≡ b → kept ≡ false → TookBy s left m u kept
         no_packet true e none_kept =
             let k = unpacked none_kept in let r = k.received in
-            inr (inl (record {
-              partner = partner_by effects s ∙ ap (λ (b : Bool). cond b (Some u.tag.period) s.partner) e;
-              taken = k.taken;
-              received = omega arith;
-              none = none (partner_lawful s m u.tag effects s.state lawful e);
-            }, none_kept))
+            inr (inl (
+              record {
+                partner = partner_by effects s ∙ ap (λ (b : Bool). cond b (Some u.tag.period) s.partner) e;
+                taken = k.taken;
+                received = omega arith;
+                none = none (partner_lawful s m u.tag effects s.state lawful e);
+              },
+              none_kept,
+            ))
         no_packet false e none_kept =
             let k = unpacked none_kept in let r = k.received in
             inl (record { partner = partner_by effects s ∙ ap (λ (b : Bool). cond b (Some u.tag.period) s.partner) e; taken = k.taken; received = omega arith }, none_kept)
@@ -324,8 +327,9 @@ sound_claim s m u kept = go (meets_needs judged s m u)
     go false allowed = absurd cc
 
 pub arrival_took : (s : Station) (unit : SentUnit) (bytes : List ℕ) (arrival : ArrivalValue Truth) (kept : Bool) → ComesOf unit bytes arrival → (is_starting s.state ≡ true → HasNone s) → arrival_refusal judged s arrival kept ≡ None → Took s (after_arrival s arrival kept) unit.message unit.known kept
-arrival_took s unit bytes (Sound m u) kept (Itself same) none allowed =
-    (effects_stay s unit.known unit.message kept (row s.state unit.message).effects,
-    of_row s unit.known unit.message kept (row s.state unit.message).effects (rows_lawful s unit.known.tag s.state unit.message (not_crossed s unit.message unit.known kept allowed)) none (sound_claim s unit.message unit.known kept allowed))
+arrival_took s unit bytes (Sound m u) kept (Itself same) none allowed = (
+  effects_stay s unit.known unit.message kept (row s.state unit.message).effects,
+  of_row s unit.known unit.message kept (row s.state unit.message).effects (rows_lawful s unit.known.tag s.state unit.message (not_crossed s unit.message unit.known kept allowed)) none (sound_claim s unit.message unit.known kept allowed),
+)
 arrival_took s unit bytes HeaderBad kept BadHeader none allowed = damaged_took s unit.known unit.message kept (counts_damage s.state) HeaderCheck (unkept kept (claim_allowed false kept allowed))
 arrival_took s unit bytes DataBad kept BadData none allowed = damaged_took s unit.known unit.message kept (counts_damage s.state) DataCheck (unkept kept (claim_allowed false kept allowed))
