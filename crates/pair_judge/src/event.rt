@@ -4,6 +4,7 @@ ghost use Rattle.std.specs.Prelude.{◌≡◌, ◌+◌, ◌^◌, ◌<◌, ◌≤
 ghost use Rattle.two_nodes.specs.Nodes.Answer.{Goes, Refuses};
 ghost use Rattle.dna_model.specs.declared.head.Head.{Head};
 ghost use Rattle.dna_model.specs.Table.{user_refusal};
+ghost use Rattle.dna_model.specs.declared.tag.Tag.{Tag};
 ghost use Rattle.dna_model.specs.Machine.{does, unless_refused};
 ghost use Rattle.dna_model.specs.WireNode.{wire_user_step};
 ghost use Rattle.dna_model.specs.WireStation.{load, wire_after_event};
@@ -36,10 +37,10 @@ pub fn happen(station: &mut Station, event: &Event) -> Result<(), StepRefusal>
 fn ask(station: &mut Station, event: StationEvent) -> Result<(), StepRefusal>
     requires { load station.old < 2 ^ 63 }
     ensures ok { OnOk result ((head : Head) (front : ℕ) →
-        does (node_at head station.old front) (unless_refused (user_refusal station.old.variables.state event) (wire_after_event station.old event)) ≡ Goes (node_at head station.new front)) }
+        does {K = Tag} (node_at head station.old front) (unless_refused (user_refusal station.old.variables.state event) (wire_after_event station.old event)) ≡ Goes (node_at head station.new front)) }
     ensures load { load station.new ≤ load station.old + 1 }
     ensures err { IfErr result (λ z. (head : Head) (front : ℕ) →
-        does (node_at head station.old front) (unless_refused (user_refusal station.old.variables.state event) (wire_after_event station.old event)) ≡ Refuses z) }
+        does {K = Tag} (node_at head station.old front) (unless_refused (user_refusal station.old.variables.state event) (wire_after_event station.old event)) ≡ Refuses z) }
     ensures unchanged { OnErr result (station.new ≡ station.old) }
 {
     match station.user(event) {
