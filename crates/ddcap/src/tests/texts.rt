@@ -2,8 +2,9 @@
 
 use super::pair::{NEVER, Shown};
 use crate::check::{print, print_out_of_memory};
-use crate::text::{FAILED, fault_status, fault_text, verdict_status, verdict_text};
-use pair_judge::{Reason, SideSummary, Summary, TextFault, Verdict};
+use crate::text::{FAILED, line_fault_text, verdict_status, verdict_text};
+use capture::Departure;
+use pair_judge::{Reason, SideSummary, Summary, Verdict};
 use std::test::Fail;
 use wire_base::{Side, Tally};
 
