@@ -32,20 +32,13 @@ state_after Halt = Halted
 
 -- What is asked of a message that is to be sent
 pub data Check : Type 0 where
-  -- RESP is R, else (8)
-  RespIsLast : Check
-  -- a NAK of reason 1, 2, 3 or 8 has an open cause of that reason, else (11); the others need none
-  CauseIsOpen : Check
-  -- A is not N, else (6)
-  SomeOutstanding : Check
-  -- NUM is N, else (7)
-  NumIsHighest : Check
-  -- NUM is T, else (7)
-  NumIsNext : Check
-  -- where T is N + 1 fewer than 255 are outstanding, else (9)
-  RoomIfNew : Check
-  -- where T is at most N the data are those of the first sending, else (10)
-  AsFirstGiven : Check
+  RespIsLast : Check  -- RESP is R, else (8)
+  CauseIsOpen : Check  -- a NAK of reason 1, 2, 3 or 8 has an open cause of that reason, else (11); the others need none
+  SomeOutstanding : Check  -- A is not N, else (6)
+  NumIsHighest : Check  -- NUM is N, else (7)
+  NumIsNext : Check  -- NUM is T, else (7)
+  RoomIfNew : Check  -- where T is N + 1 fewer than 255 are outstanding, else (9)
+  AsFirstGiven : Check  -- where T is at most N the data are those of the first sending, else (10)
 
 abbrev pub refusal_of : Check → StationRefusal
 refusal_of RespIsLast = WrongResponse
@@ -89,16 +82,11 @@ pub data Needs : Type 0 where
 
 pub data Effect : Type 0 where
   GoTo : State → Effect
-  -- the partner is the message's period
-  TakePartner : Effect
-  -- RESP, if it lies above A and at most N, sets A = RESP and T to the greater of T and A + 1
-  Respond : Effect
-  -- T = A + 1
-  SetBack : Effect
-  -- NUM = R + 1: where the packet was kept it is taken and R rises, where it was not there is one more cause 8
-  TakePacket : Effect
-  -- NUM is not R: one more cause 3
-  AnswerRep : Effect
+  TakePartner : Effect  -- the partner is the message's period
+  Respond : Effect  -- RESP, if it lies above A and at most N, sets A = RESP and T to the greater of T and A + 1
+  SetBack : Effect  -- T = A + 1
+  TakePacket : Effect  -- NUM = R + 1: where the packet was kept it is taken and R rises, where it was not there is one more cause 8
+  AnswerRep : Effect  -- NUM is not R: one more cause 3
 
 pub record Row : Type 0 where
   pub needs : Needs
