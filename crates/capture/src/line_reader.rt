@@ -102,6 +102,7 @@ impl LineReader {
     /// behind and a byte is to come; `Departs(TooLong)` at more than 131,081 bytes before the LF or the
     /// end; `Departs(Syntax)` where the text ends without an LF. `Read` comes only where the reader
     /// failed, and may come before any of them.
+    #[inline(always)]
     pub fn next<R: Read>(
         &mut self,
         most: u64,
@@ -185,6 +186,7 @@ impl LineReader {
     }
 
     // Where the first LF stands among the bytes read ahead, from `searched` on.
+    #[inline(always)]
     fn find_lf(&self, searched: usize) -> Option<usize>
         requires { searched ≤ length self.now.unread }
         ensures { FindsLf searched self.now.unread result }

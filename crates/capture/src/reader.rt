@@ -52,6 +52,7 @@ impl Model for CaptureReader {
 }
 
 // One record's turn.
+#[inline(always)]
 fn take_record<R: Read>(
     alloc: Global,
     lines: &mut LineReader,
@@ -139,6 +140,7 @@ impl CaptureReader {
     /// it is no record's; `TooLong` where it is one but for too many bytes. `OutOfMemory` comes where
     /// there is no memory for the bytes of the record, and `Read` where a call of the reader failed;
     /// at no other answer did one fail.
+    #[inline(always)]
     pub fn next<R: Read>(&mut self, reader: &mut Tally<R>) -> Result<Option<Record>, CaptureFault>
         ensures gives { self.old.phase ≡ Phase.Reading → NextGives self.old self.new
             (to_come self.old.unread (R.remaining (tally_lent reader.old)))

@@ -25,6 +25,7 @@ fn hint_of(form: HintForm, text: &[u8]) -> Option<u64>
 }
 
 #[tactic(auto, unfolding(crate::specs::Reading::receipt_at))]
+#[inline(always)]
 fn receipt_of(alloc: Global, form: HintForm, kept: bool, text: &[u8]) -> Result<Record, PartFault>
     ensures { Gives result (receipt_at form kept text.now) }
 {
@@ -43,6 +44,7 @@ fn receipt_of(alloc: Global, form: HintForm, kept: bool, text: &[u8]) -> Result<
 /// Faults: `Departs(Syntax)` where it spells none; `Departs(TooLong)` where it would but for too
 /// many bytes; `OutOfMemory`. `r 0 -` is a record, `r 01 -` is none.
 #[tactic(auto, unfolding(crate::specs::Reading::record_at))]
+#[inline(always)]
 pub fn record_of(alloc: Global, form: HintForm, line: &[u8]) -> Result<Record, PartFault>
     ensures { Gives result (record_at form line.now) }
 {

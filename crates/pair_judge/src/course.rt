@@ -84,6 +84,7 @@ impl Course {
     }
 
     // The record that waits, or else the next one of the text; `None` at its end.
+    #[inline(always)]
     fn next<R: Read>(&mut self, reader: &mut Tally<R>) -> Result<Option<Record>, CaptureFault>
         requires { MayRead self.old }
         ensures next { IfOk result (λ next. (text : Option (List ℕ)) (made : List Record) →
@@ -116,6 +117,7 @@ impl Course {
     }
 
     // Makes this record, which was read.
+    #[inline(always)]
     fn make(&mut self, incoming: &mut Line, next: Record) -> Result<Advance, CaptureFault>
         requires unread { self.old.ahead ≡ Ahead.Unread }
         requires reading { self.old.capture.phase ≡ Phase.Reading }

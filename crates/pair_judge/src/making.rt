@@ -31,6 +31,7 @@ pub enum Made {
 
 /// Makes one record of a side, to which this line leads from the other side. An error: there is no room for the unit that
 /// the record sends.
+#[inline(always)]
 pub fn make(own: &mut End, incoming: &mut Line, entry: Record) -> Result<Made, AllocError>
     requires room { HasRoom own.old.counts }
     requires numbers { NumbersFit entry }
@@ -50,6 +51,7 @@ pub fn make(own: &mut End, incoming: &mut Line, entry: Record) -> Result<Made, A
     }
 }
 
+#[inline(always)]
 fn make_sent(own: &mut End, bytes: Bytes) -> Result<Made, AllocError>
     requires { HasRoom own.old.counts }
     ensures made { IfOk result (λ made. (incoming : Line) (mine theirs : JudgeHalf) →
@@ -71,6 +73,7 @@ fn make_sent(own: &mut End, bytes: Bytes) -> Result<Made, AllocError>
     }
 }
 
+#[inline(always)]
 fn make_received(own: &mut End, incoming: &mut Line, hint: u64, kept: bool, bytes: Bytes) -> Made
     requires room { HasRoom own.old.counts }
     requires hint { hint ≤ MAX_HINT }
@@ -91,6 +94,7 @@ fn make_received(own: &mut End, incoming: &mut Line, hint: u64, kept: bool, byte
     }
 }
 
+#[inline(always)]
 fn make_event(own: &mut End, event: Event) -> Made
     requires { HasRoom own.old.counts }
     ensures made { (incoming : Line) (mine theirs : JudgeHalf) →

@@ -35,6 +35,7 @@ pub enum Receipt {
 ///
 /// It fails in this order: `HintOrder` where the unit or a later one came before; it waits where the unit is not sent yet;
 /// `Undetected` where the bytes are not the unit's and show no damage; and as the station refuses the arrival.
+#[inline(always)]
 pub fn receive(
     station: &mut Station,
     line: &mut Line,
@@ -76,6 +77,7 @@ pub fn receive(
 
 // What comes with these bytes for this unit: its message, or damage; or nothing that can come of it. Only bytes that read
 // as sound can be the unit's own.
+#[inline(always)]
 fn coming<'a>(unit: &LineUnit, bytes: &'a [u8]) -> Option<Arrival<'a>>
     ensures coming { option_map arrival_view result ≡ line.coming unit.now bytes.now }
     ensures damage { IfSome result (λ arrival. is_damage (arrival_view arrival) ≡ shows_damage (reading bytes.now)) }

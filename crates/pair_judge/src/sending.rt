@@ -31,6 +31,7 @@ pub enum SendFault {
 ///
 /// `Refused`: they are no sound message, or the station may not send it now. `OutOfMemory`: there is no room on the line, or
 /// for a new packet in the station. After it the station may have gone on without its unit, so that no record can follow.
+#[inline(always)]
 pub fn send(station: &mut Station, line: &mut Line, bytes: Bytes) -> Result<(), SendFault>
     ensures ok { OnOk result ((head : Head) (front : ℕ) → wire_sent_step (node_at head station.old front) bytes (reading bytes)
         ≡ Sends (node_at head station.new front) (unit_of bytes (wire_tag station.old))) }
@@ -50,6 +51,7 @@ pub fn send(station: &mut Station, line: &mut Line, bytes: Bytes) -> Result<(), 
 }
 
 // The station lets its node send the unit: the tag that it goes with.
+#[inline(always)]
 fn sent(station: &mut Station, bytes: &[u8]) -> Result<Tag, SendFault>
     ensures sound { OnOk result (IsSoundReading (reading bytes.now)) }
     ensures tag { IfOk result (λ tag. tag ≡ wire_tag station.old) }
