@@ -9,3 +9,5 @@ pub mod Reader
 pub mod SoFar
 pub mod Captured
 pub mod Writing
+pub mod Entries
+pub mod Worded

@@ -13,13 +13,14 @@ use Rattle.capture.specs.Range.{IsNode, IsRecord}
 use Rattle.capture.specs.Departing.{HeadDeparts, RecordDeparts}
 use Rattle.capture.specs.Lines.{LineState, to_come}
 
--- the head, the count of records so far, whether more may come, and the bytes read ahead
+-- the head, the count of records so far, whether more may come, the bytes read ahead, and those of the record that `advance` read last
 pub record CaptureState : Type 0 where
   pub own : ℕ
   pub peer : ℕ
   pub records : ℕ
   pub phase : Phase
   pub unread : List ℕ
+  pub bytes : List ℕ
 
 -- A fault names the line at hand, by its number, and says how the first line of what was to come departs.
 abbrev pub FaultShows : (Departure → List ℕ → Type 0) → ℕ → Option (List ℕ) → CaptureFault → Type 0

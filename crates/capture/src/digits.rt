@@ -1,9 +1,10 @@
 //! BYTES: the bytes of a unit or of a message, as digits.
 
-ghost use Rattle.std.specs.Prelude.{◌≡◌, ◌↔◌, ◌+◌, ◌*◌, ◌≤◌, ◌<◌, ◌%◌, length, take, IsTrue, Some, None, Err, if◌then◌else◌};
+ghost use Rattle.std.specs.Prelude.{◌≡◌, ◌↔◌, ◌+◌, ◌*◌, ◌≤◌, ◌<◌, ◌%◌, ◌/◌, min, length, take, IsTrue, Some, None, Err, IfOk, if◌then◌else◌};
 ghost use Rattle.std.specs.Option.{is_some};
 ghost use Rattle.std.specs.List.{list_all};
 ghost use Rattle.hex.specs.Hex.{IsBytes, encode_lower};
+ghost use Rattle.capture.specs.Entries.{front_of};
 ghost use Rattle.capture.specs.Reading.{Gives, bytes_at, is_digit, pairs_at};
 
 use crate::bytes::Bytes;
@@ -83,30 +84,44 @@ fn pairs_into(text: &[u8], bytes: &mut [u8]) -> bool
 ///
 /// Faults: `Departs(Syntax)` where it is no BYTES, so at an odd number of digits, another digit or
 /// an empty text; `Departs(TooLong)` where there are more than `most` bytes; `OutOfMemory`.
-#[tactic(auto, unfolding(crate::specs::Reading::bytes_at, crate::specs::Reading::any_bytes_at))]
 pub fn bytes_of(alloc: Global, text: &[u8], most: usize) -> Result<Bytes, PartFault>
     ensures { Gives result (bytes_at most text.now) }
 {
+    let Ok(mut room) = vec![in alloc; 0u8; most.min(text.len() / 2)] else {
+        return Err(PartFault::OutOfMemory);
+    };
+    match bytes_into(text, most, &mut room) {
+        Ok(_) => Ok(Bytes::new(room)),
+        Err(kind) => Err(PartFault::Departs(kind)),
+    }
+}
+
+/// Writes the bytes that the text spells, at most `most`, to the front of the room, which has room for them, and answers how many they are. It spells
+/// and departs as for [`bytes_of`]; a departure may leave anything in the room. Takes no memory.
+#[tactic(auto, unfolding(crate::specs::Reading::bytes_at, crate::specs::Reading::any_bytes_at))]
+pub fn bytes_into(text: &[u8], most: usize, room: &mut [u8]) -> Result<usize, Departure>
+    requires { min most (length text.now / 2) ≤ length room.old }
+    ensures bytes { bytes_at most text.now ≡ front_of room.new result }
+    ensures len { IfOk result (λ len. (len ≤ most) × (len ≡ length text.now / 2)) }
+    ensures room { length room.new ≡ length room.old }
+{
     if text == b"-".as_slice() {
-        return Ok(Bytes::new(Vec::new(alloc)));
+        return Ok(0);
     }
     if text.is_empty() {
-        return Err(PartFault::Departs(Departure::Syntax));
+        return Err(Departure::Syntax);
     }
     if text.len() % 2 != 0 {
-        return Err(PartFault::Departs(Departure::Syntax));
+        return Err(Departure::Syntax);
     }
     let len = text.len() / 2;
     if len > most {
-        return Err(PartFault::Departs(long_departure(most, text)));
+        return Err(long_departure(most, text));
     }
-    let Ok(mut bytes) = vec![in alloc; 0u8; len] else {
-        return Err(PartFault::OutOfMemory);
-    };
-    if !pairs_into(text, &mut bytes) {
-        return Err(PartFault::Departs(Departure::Syntax));
+    if !pairs_into(text, &mut room[..len]) {
+        return Err(Departure::Syntax);
     }
-    Ok(Bytes::new(bytes))
+    Ok(len)
 }
 
 // How a text of more bytes than it may have departs.

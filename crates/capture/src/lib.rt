@@ -8,6 +8,7 @@
 mod address;
 mod bytes;
 mod digits;
+mod entry;
 mod event;
 mod event_words;
 mod fault;
@@ -28,8 +29,8 @@ mod writer;
 pub use address::{address_of, is_node};
 pub use bytes::Bytes;
 pub use digits::bytes_of;
+pub use entry::Entry;
 pub use event::Event;
-pub use event_words::event_of;
 pub use fault::{CaptureFault, Departure, LineFault, PartFault, WriteFault};
 pub use hint::HintForm;
 pub use laws::{
