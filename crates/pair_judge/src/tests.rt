@@ -1,6 +1,7 @@
 //! The judge on small pairs of texts, with answers told beforehand.
 
 mod reasons;
+mod refusals;
 
 use crate::{JudgeFault, Reason, SideSummary, Summary, TextFault, Verdict, judge};
 use capture::Departure;
