@@ -1,5 +1,5 @@
 -- The rules of a DDCMP station, as tables to be laid beside the standard (DDCMP 4.1, startup state table, data transfer). What a check and an
--- effect mean stands in `StationBook` on true numbers and in `WireStation` on numbers modulo 256; how the rows are gone by stands in `Book`. R is the
+-- effect mean stands in `StationBook` on true numbers and in `WireBook` on numbers modulo 256; how the rows are gone by stands in `Book`. R is the
 -- last number received in order, N the highest given, A the highest acknowledged, T the next to send. Numbers in brackets are those of
 -- reasons.
 use Rattle.std.specs.Prelude.{ℕ, Bool, true, false, ◌==◌, if◌then◌else◌, Option, Some, None, List, [], ◌∷◌}
