@@ -46,7 +46,8 @@ pub record WholeCapture : Type 0 where
 pub record OffendsFor (a b : WholeCapture) (side : Side) (place : ℕ) (reason : Reason) : Type 0 where
   pub refusal : StepRefusal
   pub is_reason : reason ≡ reason_of (Step refusal)
-  pub offends : Offends pair (start (of_side side a.head b.head) (of_side side b.head a.head)) (of_side side a.records b.records) (of_side side b.records a.records) place refusal
+  pub offends : Offends pair (start (of_side side a.head b.head) (of_side side b.head a.head))
+      (of_side side a.records b.records) (of_side side b.records a.records) place refusal
 
 -- the captures are no run; a cause of this reason is the verdict; and but for two reasons the record offends
 pub record AreRefused (a b : WholeCapture) (side : Side) (place : ℕ) (reason : Reason) : Type 0 where

@@ -45,8 +45,8 @@ pub struct Found {
 /// hint received are held.
 ///
 /// `Accepted`: both texts are texts of captures, all records of both are one run of two stations whose numbers have no bound, what
-/// was delivered to each side is, in order, of what the other was offered, and the summary is the counts of the records. Of two such texts nothing else is answered,
-/// but for want of memory and a failed read.
+/// was delivered to each side is, in order, of what the other was offered, and the summary is the counts of the records. Of two
+/// texts of captures that are a run nothing else is answered, but for want of memory and a failed read.
 ///
 /// `Refused`: however the texts go on behind what was read of them by then, they are no run, and the named record is the place:
 /// it can't be made for this reason though all that it rests on can; or it waits for a unit that is never sent (`NoSuchUnit`); or
