@@ -1,5 +1,5 @@
 -- Cutting a station to what a node keeps commutes with each effect of an arrival, where its numbers are near; and so with all of a row.
-use Rattle.std.proofs.Common.{◌≡◌, ℕ, ◌+◌, ◌-◌, ◌<◌, ◌≤◌, max, Bool, true, false, ◌&&◌, not, eqb, ltb, leb, cond, Some, None, List, [], ◌∷◌, ◌++◌, fold, length, drop, refl, sym, ap, ap₂, ◌∙◌, arith, drop-drop, lt-ltb, le-ltb, le-leb, eqb-true, leb-true, ne_eqb, subst, ◌⊎◌, inl, inr}
+use Rattle.std.proofs.Common.{◌≡◌, ℕ, ◌+◌, ◌-◌, ◌<◌, ◌≤◌, max, Bool, true, false, ◌&&◌, not, eqb, ltb, leb, cond, Some, None, List, [], ◌∷◌, fold, length, drop, refl, sym, ap, ap₂, ◌∙◌, arith, drop-drop, lt-ltb, le-ltb, le-leb, eqb-true, leb-true, ne_eqb, subst, ◌⊎◌, inl, inr}
 use Rattle.std.proofs.lemmas.Bool.{cases_lt, and_parts, and_left, and_right}
 use Rattle.ddcmp_msg.specs.Message.{MessageValue}
 use Rattle.ddcmp_msg.specs.declared.nak_reason.NakReason.{NakReason}
@@ -8,7 +8,7 @@ use Rattle.dna_model.specs.declared.refusal.StationRefusal.TheVariants.{CrossedP
 use Rattle.dna_model.specs.Causes.{with_cause}
 use Rattle.dna_model.specs.Table.{Effect, GoTo, TakePartner, Respond, SetBack, TakePacket, AnswerRep, row, counts_damage}
 use Rattle.dna_model.specs.Rules.{Rules}
-use Rattle.dna_model.specs.Book.{Sound, HeaderBad, DataBad, resp_of, num_of, body_of, has_packet, keep_refusal}
+use Rattle.dna_model.specs.Book.{Sound, HeaderBad, DataBad, num_of, body_of, has_packet, keep_refusal}
 use Rattle.dna_model.specs.Station.{Station, given, wire}
 use Rattle.dna_model.specs.Truth.{Truth}
 use Rattle.dna_model.specs.StationBook.{meets_needs, takes, arrival_refusal, after_arrival, is_next, acknowledged_by, responded, with_data, asked, does, station_book}

@@ -1,6 +1,5 @@
 -- In a world within the bounds the wire station does the same as the station on true numbers, and so the same becomes of a record at its node.
-use Rattle.std.proofs.Common.{◌≡◌, ℕ, ◌≤◌, Bool, true, false, cond, Option, Some, None, Result, Ok, Err, List, [], ◌∷◌, fold, map, refl, sym, ap, ap₂, ◌∙◌}
-use Rattle.std.specs.Prelude.{slice_get}
+use Rattle.std.proofs.Common.{◌≡◌, ℕ, Bool, true, false, cond, Option, Some, None, Ok, List, [], ◌∷◌, map, refl, sym, ap, ap₂, ◌∙◌}
 use Rattle.std.proofs.lemmas.List.{map-append}
 use Rattle.two_nodes.specs.Nodes.{Half, advance}
 use Rattle.two_nodes.specs.Cutting.{cut_half, cut_outcome}
@@ -14,22 +13,20 @@ use Rattle.dna_model.specs.declared.state.StationEvent.{StationEvent}
 use Rattle.dna_model.specs.declared.state.StationEvent.TheVariants.{Start, Halt}
 use Rattle.dna_model.specs.declared.refusal.StationRefusal.{StationRefusal}
 use Rattle.dna_model.specs.declared.refusal.StationRefusal.TheVariants.{CrossedPeriod}
-use Rattle.dna_model.specs.declared.refusal.StepRefusal.{StepRefusal}
-use Rattle.dna_model.specs.declared.tag.Tag.{Tag}
-use Rattle.dna_model.specs.Table.{user_refusal, Change, Nothing, UseCause, SendPacket, change_of, Effect, row, counts_damage}
-use Rattle.dna_model.specs.Rules.{Rules, judged}
+use Rattle.dna_model.specs.Table.{user_refusal, Change, Nothing, UseCause, SendPacket, change_of, row, counts_damage}
+use Rattle.dna_model.specs.Rules.{judged}
 use Rattle.dna_model.specs.Book.{ArrivalValue, Sound, HeaderBad, DataBad, body_of, keep_refusal}
 use Rattle.dna_model.specs.Station.{Station, after_event}
 use Rattle.dna_model.specs.Truth.{Truth, tag_of}
 use Rattle.dna_model.specs.StationBook.{is_new, with_packet, sends, does, station_book, sending_refusal, after_sending, truth_of, takes, meets_needs, arrival_refusal, after_arrival}
 use Rattle.dna_model.specs.WireStation.{HeldPacket, WireStation, with_new, wire_after_event}
-use Rattle.dna_model.specs.WireBook.{wire_sending_refusal, wire_after_sending, wire_arrival_refusal, wire_after_arrival}
+use Rattle.dna_model.specs.WireBook.{wire_after_sending, wire_after_arrival}
 use Rattle.dna_model.specs.Line.{SentUnit}
 use Rattle.dna_model.specs.Machine.{unless_refused}
 use Rattle.dna_model.specs.Node.{Node, station_machine, step}
 use Rattle.dna_model.specs.Bounds.{IsOrdered, IsWithin, IsBounded}
-use Rattle.dna_model.specs.Cut.{cut, all_with, all_after}
-use Rattle.dna_model.specs.WireNode.{WireNode, WireUnit, wire_machine, wire_step, unlabelled, seen}
+use Rattle.dna_model.specs.Cut.{cut, all_with}
+use Rattle.dna_model.specs.WireNode.{wire_machine, wire_step, unlabelled, seen}
 use Rattle.dna_model.proofs.Ordered.{kept_by_all}
 use Rattle.dna_model.proofs.CutSending.{body_at, sending_refusal_same, sending_same}
 use Rattle.dna_model.proofs.CutArriving.{does_stays, arrival_refusal_same, arrival_same, header_same, data_bad_same}

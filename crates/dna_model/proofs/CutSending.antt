@@ -3,13 +3,13 @@ use Rattle.std.proofs.Common.{◌≡◌, ℕ, zero, suc, ◌+◌, ◌-◌, ◌�
 use Rattle.std.specs.Prelude.{slice_get, option_and_then}
 use Rattle.std.proofs.lemmas.List.{length-map, map-append, drop-append-le}
 use Rattle.std.proofs.lemmas.Option.{slice_get-map}
-use Rattle.ddcmp_msg.specs.Message.{MessageValue, Data, Ack, Nak, Rep, Strt, Stack}
+use Rattle.ddcmp_msg.specs.Message.{MessageValue}
 use Rattle.dna_model.specs.Table.{WINDOW, Check, refusal_of, checks, RespIsLast, CauseIsOpen, SomeOutstanding, NumIsHighest, NumIsNext, RoomIfNew, AsFirstGiven, Change, Nothing, UseCause, SendPacket, change_of}
 use Rattle.dna_model.specs.declared.refusal.StationRefusal.{StationRefusal}
 use Rattle.dna_model.specs.Book.{body_of, num_of, first_failed, failed}
 use Rattle.dna_model.specs.Station.{Station, given, wire}
 use Rattle.dna_model.specs.StationBook.{is_new, is_packet, passes, sends, sending_refusal, after_sending, with_packet, gives_by, gives_number}
-use Rattle.dna_model.specs.WireStation.{HeldPacket, WireStation, with_new}
+use Rattle.dna_model.specs.WireStation.{HeldPacket, with_new}
 use Rattle.dna_model.specs.WireBook.{wire_is_new, is_held_packet, wire_passes, wire_sends, wire_sending_refusal, wire_after_sending, gives_by as wire_gives_by, gives_new, label_by, label_again}
 use Rattle.dna_model.specs.Bounds.{IsOrdered}
 use Rattle.dna_model.specs.Cut.{AreLabelled, cut, all_with, all_after, label_at, label_of_next}

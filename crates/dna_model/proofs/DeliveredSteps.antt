@@ -29,7 +29,7 @@ use Rattle.dna_model.proofs.Happens.{ComesOf, Itself, BadHeader, BadData}
 use Rattle.dna_model.proofs.NumberedSteps.{at_pushed}
 use Rattle.dna_model.proofs.StationNumbers.{is_data, unit_of}
 use Rattle.dna_model.proofs.StationBounds.{is_starting, HasNone}
-use Rattle.dna_model.proofs.Lawful.{IsOfPair, AreLawful, has_partner, packet_lawful, partner_lawful, rows_lawful}
+use Rattle.dna_model.proofs.Lawful.{AreLawful, has_partner, packet_lawful, partner_lawful, rows_lawful}
 use Rattle.dna_model.proofs.Delivered.{GrowTo, begins_same, grow_present, grow_start, delivered_grown, IsOffered, offered_grown}
 
 -- of a station, with the units that it sent

@@ -3,7 +3,7 @@ use Rattle.std.proofs.Common.{◌≡◌, ℕ, ◌+◌, ◌≤◌, Bool, true, fa
 use Rattle.std.specs.Prelude.{slice_get, bytes_eq}
 use Rattle.std.proofs.lemmas.List.{map-append}
 use Rattle.std.proofs.lemmas.Option.{slice_get-map}
-use Rattle.two_nodes.specs.Nodes.{Half, Outcome, answered, concluded, read, stepped, advance}
+use Rattle.two_nodes.specs.Nodes.{Half, answered, concluded, read, advance}
 use Rattle.two_nodes.specs.Nodes.Outcome.{Made}
 use Rattle.two_nodes.specs.Cutting.{Cut, cut_half, cut_outcome}
 use Rattle.ddcmp_msg.specs.Message.{MessageValue}

@@ -13,7 +13,7 @@ use Rattle.dna_model.specs.Table.{WINDOW, Effect, GoTo, TakePartner, Respond, Se
 use Rattle.dna_model.specs.Book.{ArrivalValue, Sound, HeaderBad, DataBad, body_of}
 use Rattle.dna_model.specs.Station.{Station, new_station, given, after_event}
 use Rattle.dna_model.specs.Truth.{Truth}
-use Rattle.dna_model.specs.StationBook.{is_new, has_room, with_packet, acknowledged_by, responded, is_next, with_data, asked, does, station_book, sending_refusal, after_sending, after_arrival}
+use Rattle.dna_model.specs.StationBook.{is_new, has_room, with_packet, acknowledged_by, is_next, with_data, asked, does, station_book, sending_refusal, after_sending, after_arrival}
 use Rattle.dna_model.specs.Bounds.{IsOrdered}
 use Rattle.dna_model.proofs.Checks.{sending_passed}
 

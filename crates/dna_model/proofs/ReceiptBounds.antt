@@ -1,9 +1,8 @@
 -- The bounds of DDCMP are kept by a receipt, effect by effect; and a message that is acted on comes within them.
-use Rattle.std.proofs.Common.{◌≡◌, ℕ, ◌+◌, ◌-◌, ◌≤◌, Bool, true, false, ◌&&◌, eqb, ltb, leb, cond, Option, Some, None, List, [], ◌∷◌, fold, length, refl, sym, ap, ◌∙◌, subst, arith, eqb-true, ltb-true}
+use Rattle.std.proofs.Common.{◌≡◌, ℕ, ◌+◌, ◌-◌, ◌≤◌, Bool, true, false, ◌&&◌, eqb, ltb, leb, cond, Some, None, List, [], ◌∷◌, fold, length, refl, sym, ap, ◌∙◌, arith, eqb-true, ltb-true}
 use Rattle.std.specs.Prelude.{slice_get}
 use Rattle.std.proofs.lemmas.Bool.{and_parts}
 use Rattle.std.proofs.lemmas.Option.{slice_get_within}
-use Rattle.ddcmp_msg.specs.Message.{MessageValue}
 use Rattle.ddcmp_msg.specs.declared.nak_reason.NakReason.{NakReason}
 use Rattle.ddcmp_msg.specs.declared.nak_reason.NakReason.TheVariants.{HeaderCheck, DataCheck}
 use Rattle.dna_model.specs.declared.state.State.{State}
@@ -17,12 +16,11 @@ use Rattle.dna_model.specs.Bounds.{IsNear as IsNearEffect, AreNear, IsWithin}
 use Rattle.dna_model.specs.Line.{SentUnit}
 use Rattle.dna_model.specs.Node.{Node}
 use Rattle.dna_model.proofs.Ordered.{arrival_ordered}
-use Rattle.dna_model.proofs.CutArriving.{does_stays}
 use Rattle.dna_model.proofs.CutNode.{not_crossed}
 use Rattle.dna_model.proofs.Happens.{ComesOf, Itself, BadHeader, BadData}
-use Rattle.dna_model.proofs.Numbered.{Numbers, IsNear, AreNumbered, IsPresent, AcksFrom, IsGiven, NumberNear, near}
+use Rattle.dna_model.proofs.Numbered.{IsNear, AreNumbered, IsPresent, AcksFrom, IsGiven, NumberNear, near}
 use Rattle.dna_model.proofs.NumberedSteps.{present_further, present_received, present_acknowledged, present_new}
-use Rattle.dna_model.proofs.StationNumbers.{limits, numbers_of, view, AsksForHighest, has_response, is_data, is_rep}
+use Rattle.dna_model.proofs.StationNumbers.{limits, numbers_of, view, AsksForHighest, has_response, is_data}
 use Rattle.dna_model.proofs.StationBounds.{is_starting, HasNone, IsTold, IsSound}
 use Rattle.dna_model.proofs.Lawful.{IsOfPair, goes, IsLawfulEffect, AreLawful, rows_lawful}
 

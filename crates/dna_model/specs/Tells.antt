@@ -1,13 +1,12 @@
 -- What a record alone tells of its step, over any machine and in any state of its node: the unit that it names, and whether it sends one. The terms
 -- say that it is so.
-use Rattle.std.specs.Prelude.{ℕ, true, false, Option, Some, None, Result, Ok, Err, List, refl}
+use Rattle.std.specs.Prelude.{ℕ, true, false, None, Result, Ok, Err, List, refl}
 use Rattle.two_nodes.specs.Past.{AgreesWith, Tells, BothTell}
 use Rattle.ddcmp_msg.specs.Message.{MessageValue}
 use Rattle.ddcmp_msg.specs.Reading.{ReadingValue, reading, Sound, HeaderBad, DataBad, Malformed}
 use Rattle.capture.specs.declared.record.Record.TheVariants.{Sent, Received, User}
 use Rattle.dna_model.specs.declared.refusal.StepRefusal.{StepRefusal}
 use Rattle.dna_model.specs.Rules.{judged}
-use Rattle.dna_model.specs.Line.{UnitOf}
 use Rattle.dna_model.specs.Machine.{Machine, NodeOf, does, sends, sent_step, step, named_unit, is_sent, pair_of}
 use Rattle.dna_model.specs.Node.{station_machine}
 use Rattle.dna_model.specs.Pair.{pair}
