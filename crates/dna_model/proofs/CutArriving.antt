@@ -18,6 +18,7 @@ use Rattle.dna_model.specs.Bounds.{IsOrdered, HasWireNumbers, ResponseIsNear, Nu
 use Rattle.dna_model.specs.Cut.{AreLabelled, cut, with_taken}
 use Rattle.dna_model.proofs.Modulo.{wire-one, distance_near, next_near, rep_near}
 use Rattle.dna_model.proofs.Ordered.{does_ordered}
+use Rattle.dna_model.proofs.Effects.{by_response, by_packet, by_rep, does_stays}
 use Rattle.dna_model.proofs.CutSending.{outstanding}
 
 -- RESP moves the acknowledged number where the distance is above 0
@@ -30,38 +31,9 @@ response_test a n r h d least most held distance = go (cases_lt a r)
         let p' = lt-ltb 0 d (omega arith) in let q' = le-leb d h (omega arith) in cc
     go (inr m) = let p = le-ltb a r m in let p' = le-ltb 0 d (omega arith) in cc
 
--- ---- what an effect leaves as it is
+-- ---- what is near stays near
 
 module _ (m : MessageValue) (u : Truth) (kept : Bool) (s : Station) where
-  -- what an effect can change but the state, the partner and what is taken
-  pub record StaysGiven (t : Station) : Type 0 where
-    pub period : t.period ≡ s.period
-    pub earlier : t.earlier ≡ s.earlier
-    pub packets : t.packets ≡ s.packets
-
-  pub does_stays : (effect : Effect) → StaysGiven (does m u kept s effect)
-  does_stays (GoTo state) = record { period = refl; earlier = refl; packets = refl }
-  does_stays TakePartner = record { period = refl; earlier = refl; packets = refl }
-  does_stays SetBack = record { period = refl; earlier = refl; packets = refl }
-  does_stays Respond = go (ltb s.acknowledged u.response && leb u.response (given s))
-    where
-      go : (b : Bool) → StaysGiven (acknowledged_by b s u.response)
-      go true = record { period = refl; earlier = refl; packets = refl }
-      go false = record { period = refl; earlier = refl; packets = refl }
-  does_stays TakePacket = go (is_next s u) kept
-    where
-      go : (next kept : Bool) → StaysGiven (with_data next kept s (body_of m))
-      go true true = record { period = refl; earlier = refl; packets = refl }
-      go true false = record { period = refl; earlier = refl; packets = refl }
-      go false kept = record { period = refl; earlier = refl; packets = refl }
-  does_stays AnswerRep = go (eqb u.number s.received)
-    where
-      go : (b : Bool) → StaysGiven (asked b s)
-      go true = record { period = refl; earlier = refl; packets = refl }
-      go false = record { period = refl; earlier = refl; packets = refl }
-
-  -- ---- what is near stays near
-
   same_near : (t : Station) → t.received ≡ s.received → t.acknowledged ≡ s.acknowledged → t.packets ≡ s.packets → (effect : Effect) → IsNear s u effect → IsNear t u effect
   same_near t r a p Respond near = let g = ap length p in let l = near.least in let n = near.most in record { least = omega arith; most = omega arith }
   same_near t r a p TakePacket near = let l = near.least in let n = near.most in record { least = omega arith; most = omega arith }
@@ -90,22 +62,11 @@ module _ (m : MessageValue) (u : Truth) (kept : Bool) (s : Station) where
   near_stays (GoTo state) next near = same_near _ refl refl refl next near
   near_stays TakePartner next near = same_near (does m u kept s TakePartner) refl refl refl next near
   near_stays SetBack next near = same_near (does m u kept s SetBack) refl refl refl next near
-  near_stays Respond next near = go (ltb s.acknowledged u.response && leb u.response (given s)) refl
-    where
-      go : (b : Bool) → (ltb s.acknowledged u.response && leb u.response (given s)) ≡ b → IsNear (acknowledged_by b s u.response) u next
-      go true e = acknowledged_near next (leb-true u.response (given s) (and_parts (ltb s.acknowledged u.response) (leb u.response (given s)) e).1) near
-      go false e = near
-  near_stays TakePacket next near = go (is_next s u) kept refl
-    where
-      go : (b kept : Bool) → is_next s u ≡ b → IsNear (with_data b kept s (body_of m)) u next
-      go true true e = received_near next (eqb-true u.number (s.received + 1) e) near
-      go true false e = same_near (with_data true false s (body_of m)) refl refl refl next near
-      go false kept e = near
-  near_stays AnswerRep next near = go (eqb u.number s.received)
-    where
-      go : (b : Bool) → IsNear (asked b s) u next
-      go true = near
-      go false = same_near (asked false s) refl refl refl next near
+  near_stays Respond next near =
+      by_response m u kept s (λ (t : Station). IsNear t u next) near (λ e. acknowledged_near next (leb-true u.response (given s) (and_parts (ltb s.acknowledged u.response) (leb u.response (given s)) e).1) near)
+  near_stays TakePacket next near =
+      by_packet m u kept s (λ (t : Station). IsNear t u next) near (λ e. received_near next (eqb-true u.number (s.received + 1) e) near) (same_near (with_data true false s (body_of m)) refl refl refl next near)
+  near_stays AnswerRep next near = by_rep m u kept s (λ (t : Station). IsNear t u next) near (same_near (asked false s) refl refl refl next near)
 
   nears_stay : (done : Effect) (effects : List Effect) → AreNear s u effects → AreNear (does m u kept s done) u effects
   nears_stay done [] near = tt
@@ -247,13 +208,8 @@ module _ (m : MessageValue) (u : Truth) (kept : Bool) where
       go true false e f = let r = without (with_data true false s (body_of m)) (and_right _ kept f) in record { taken = r.taken; received = r.received }
       go false k e f = without s (and_left (has_packet next && is_next s u) kept (and_right (has_packet next) (is_next s u) e))
 
-  responded_takes : (s : Station) (b : Bool) → ((acknowledged_by b s u.response).taken ≡ s.taken) × ((acknowledged_by b s u.response).received ≡ s.received)
-  responded_takes s true = (refl, refl)
-  responded_takes s false = (refl, refl)
-
-  asked_takes : (s : Station) (b : Bool) → ((asked b s).taken ≡ s.taken) × ((asked b s).received ≡ s.received)
-  asked_takes s true = (refl, refl)
-  asked_takes s false = (refl, refl)
+  abbrev TakesNone : (s t : Station) → Type 0
+  TakesNone s t = (t.taken ≡ s.taken) × (t.received ≡ s.received)
 
   pub taken_by : (effects : List Effect) (s : Station) → TakesBy s (fold (does m u kept) s effects) ((has_packet effects && is_next s u) && kept)
   taken_by [] s = record { taken = refl; received = omega arith }
@@ -261,8 +217,8 @@ module _ (m : MessageValue) (u : Truth) (kept : Bool) where
   taken_by (GoTo state ∷ next) s = carried s (record s { state = state }) _ (has_packet next) refl refl (taken_by next (record s { state = state }))
   taken_by (TakePartner ∷ next) s = carried s (does m u kept s TakePartner) _ (has_packet next) refl refl (taken_by next (does m u kept s TakePartner))
   taken_by (SetBack ∷ next) s = carried s (does m u kept s SetBack) _ (has_packet next) refl refl (taken_by next (does m u kept s SetBack))
-  taken_by (Respond ∷ next) s = let t = responded_takes s (ltb s.acknowledged u.response && leb u.response (given s)) in carried s (responded s u.response) _ (has_packet next) t.0 t.1 (taken_by next (responded s u.response))
-  taken_by (AnswerRep ∷ next) s = let t = asked_takes s (eqb u.number s.received) in carried s (does m u kept s AnswerRep) _ (has_packet next) t.0 t.1 (taken_by next (does m u kept s AnswerRep))
+  taken_by (Respond ∷ next) s = let t = by_response m u kept s (TakesNone s) (refl, refl) (λ e. (refl, refl)) in carried s (responded s u.response) _ (has_packet next) t.0 t.1 (taken_by next (responded s u.response))
+  taken_by (AnswerRep ∷ next) s = let t = by_rep m u kept s (TakesNone s) (refl, refl) (refl, refl) in carried s (does m u kept s AnswerRep) _ (has_packet next) t.0 t.1 (taken_by next (does m u kept s AnswerRep))
 
 module _ {L : Type 0} where
   pub taken_same : (all : List (HeldPacket L)) (s : Station) (m : MessageValue) (u : Truth) (kept : Bool) → IsWithin s m u →

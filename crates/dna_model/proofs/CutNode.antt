@@ -27,9 +27,9 @@ use Rattle.dna_model.specs.Node.{Node, station_machine, step}
 use Rattle.dna_model.specs.Bounds.{IsOrdered, IsWithin, IsBounded}
 use Rattle.dna_model.specs.Cut.{cut, all_with}
 use Rattle.dna_model.specs.WireNode.{wire_machine, wire_step, unlabelled, seen}
-use Rattle.dna_model.proofs.Ordered.{kept_by_all}
+use Rattle.dna_model.proofs.Effects.{kept_by_all, does_stays}
 use Rattle.dna_model.proofs.CutSending.{body_at, sending_refusal_same, sending_same}
-use Rattle.dna_model.proofs.CutArriving.{does_stays, arrival_refusal_same, arrival_same, header_same, data_bad_same}
+use Rattle.dna_model.proofs.CutArriving.{arrival_refusal_same, arrival_same, header_same, data_bad_same}
 use Rattle.dna_model.proofs.MachineSame.{cut_result, cut_sent, DoTheSame, record_same as made_same}
 
 -- what is not refused is what its row needs

@@ -23,7 +23,8 @@ use Rattle.dna_model.specs.Node.{Node}
 use Rattle.dna_model.specs.Pair.{pair, start}
 use Rattle.dna_model.proofs.Happens.{Happens, Nothing, UserEvent, Sending, Receipt, ComesOf, Itself, BadHeader, BadData, happens}
 use Rattle.dna_model.proofs.StationBounds.{IsSound}
-use Rattle.dna_model.proofs.DeliveredSteps.{Stays, TookBy, Took, arrival_took, unkept, claim_allowed}
+use Rattle.dna_model.proofs.Effects.{Stays, sending_stays}
+use Rattle.dna_model.proofs.DeliveredSteps.{TookBy, Took, arrival_took, unkept, claim_allowed}
 use Rattle.dna_model.proofs.DeliveredRuns.{BothDeliver, delivery_kept, start_delivers}
 
 abbrev taken : PastPeriod → List (List ℕ)
@@ -48,12 +49,7 @@ more_taken s t packets earlier more =
     ∙ sym (in_last-append packets (map taken s.earlier) s.taken) ∙ ap (in_last packets) (sym (periods_taken s))
 
 sending_taken : (s : Station) (m : MessageValue) → taken_by_period (after_sending s m) ≡ taken_by_period s
-sending_taken s (Data flags resp num body) = same_taken s (after_sending s (Data flags resp num body)) refl refl
-sending_taken s (Nak flags reason resp) = same_taken s (after_sending s (Nak flags reason resp)) refl refl
-sending_taken s (Ack flags resp) = refl
-sending_taken s (Rep flags num) = refl
-sending_taken s (Strt flags) = refl
-sending_taken s (Stack flags) = refl
+sending_taken s m = same_taken s (after_sending s m) (sending_stays s m).earlier (sending_stays s m).taken
 
 -- ---- a receipt
 

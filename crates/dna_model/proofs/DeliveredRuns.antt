@@ -21,7 +21,8 @@ use Rattle.dna_model.proofs.NumberedSteps.{at_pushed}
 use Rattle.dna_model.proofs.StationBounds.{IsSound}
 use Rattle.dna_model.proofs.RunBounds.{BothSound, sound_kept, start_sound}
 use Rattle.dna_model.proofs.Delivered.{GrowTo, begins_same, grow_present, IsOffered, offered_grown, begins_next}
-use Rattle.dna_model.proofs.DeliveredSteps.{Offers, Delivers, Stays, TookPacket, TookBy, Took, delivers_beside, event_grows, event_offers, event_delivers, sending_grows, sending_offers, sending_delivers, arrival_took}
+use Rattle.dna_model.proofs.Effects.{Stays}
+use Rattle.dna_model.proofs.DeliveredSteps.{Offers, Delivers, TookPacket, TookBy, Took, delivers_beside, event_grows, event_offers, event_delivers, sending_grows, sending_offers, sending_delivers, arrival_took}
 
 item_within : {X : Type 0} (xs : List X) (i : ℕ) → i < length xs → (x : X) × (slice_get xs i ≡ Some x)
 item_within [] i within = absurd (omega arith)

@@ -12,18 +12,18 @@ use Rattle.ddcmp_msg.specs.declared.nak_reason.NakReason.TheVariants.{HeaderChec
 use Rattle.dna_model.specs.declared.state.StationEvent.{StationEvent}
 use Rattle.dna_model.specs.declared.state.StationEvent.TheVariants.{Start, Halt}
 use Rattle.dna_model.specs.declared.refusal.StationRefusal.TheVariants.{CrossedPeriod}
-use Rattle.dna_model.specs.Table.{Effect, GoTo, TakePartner, Respond, SetBack, TakePacket, AnswerRep, row, counts_damage}
+use Rattle.dna_model.specs.Table.{Change, Nothing, UseCause, SendPacket, change_of, Effect, GoTo, TakePartner, Respond, SetBack, TakePacket, AnswerRep, row, counts_damage}
 use Rattle.dna_model.specs.Rules.{judged}
 use Rattle.dna_model.specs.Station.{Station, PastPeriod, past, given, after_event}
 use Rattle.dna_model.specs.Delivery.{periods, BeginsWith, IsDelivered}
 use Rattle.dna_model.specs.Truth.{Truth}
 use Rattle.dna_model.specs.Book.{ArrivalValue, Sound, HeaderBad, DataBad, body_of, has_packet, keep_refusal}
-use Rattle.dna_model.specs.StationBook.{is_new, is_packet, as_first_given, sending_refusal, after_sending, truth_of, with_packet, is_next, acknowledged_by, with_data, asked, does, takes, meets_needs, station_book, arrival_refusal, after_arrival}
+use Rattle.dna_model.specs.StationBook.{sends, is_new, is_packet, as_first_given, sending_refusal, after_sending, truth_of, with_packet, is_next, acknowledged_by, with_data, asked, does, takes, meets_needs, station_book, arrival_refusal, after_arrival}
 use Rattle.dna_model.specs.Bounds.{IsOrdered}
 use Rattle.dna_model.specs.Line.{SentUnit}
-use Rattle.dna_model.proofs.Ordered.{kept_by_all}
+use Rattle.dna_model.proofs.Effects.{kept_by_all, by_response, by_packet, by_rep, Stays, does_stays, sending_stays}
 use Rattle.dna_model.proofs.Checks.{sending_passed}
-use Rattle.dna_model.proofs.CutArriving.{does_stays, TakesBy, taken_by}
+use Rattle.dna_model.proofs.CutArriving.{TakesBy, taken_by}
 use Rattle.dna_model.proofs.CutNode.{not_crossed}
 use Rattle.dna_model.proofs.Happens.{ComesOf, Itself, BadHeader, BadData}
 use Rattle.dna_model.proofs.NumberedSteps.{at_pushed}
@@ -79,21 +79,24 @@ pub packets_begin : (new : Bool) (packets : List (List ℕ)) (body : List ℕ) �
 packets_begin true packets body = record { rest = body ∷ []; whole = refl }
 packets_begin false packets body = begins_same packets
 
+pub sending_begins : (s : Station) (m : MessageValue) → BeginsWith (after_sending s m).packets s.packets
+sending_begins s m = go (change_of m)
+  where
+    go : (change : Change) → BeginsWith (sends s m change).packets s.packets
+    go SendPacket = packets_begin (is_new s) s.packets (body_of m)
+    go UseCause = begins_same s.packets
+    go Nothing = begins_same s.packets
+
 pub sending_grows : (s : Station) (m : MessageValue) → GrowTo (periods s) (periods (after_sending s m))
-sending_grows s (Data flags resp num body) = grow_present s (after_sending s (Data flags resp num body)) refl (packets_begin (is_new s) s.packets body)
-sending_grows s (Ack flags resp) = grow_present s s refl (begins_same s.packets)
-sending_grows s (Nak flags reason resp) = grow_present s (after_sending s (Nak flags reason resp)) refl (begins_same s.packets)
-sending_grows s (Rep flags num) = grow_present s s refl (begins_same s.packets)
-sending_grows s (Strt flags) = grow_present s s refl (begins_same s.packets)
-sending_grows s (Stack flags) = grow_present s s refl (begins_same s.packets)
+sending_grows s m = grow_present s (after_sending s m) (sending_stays s m).earlier (sending_begins s m)
 
 pub sending_delivers : (s : Station) (ps : List PastPeriod) (m : MessageValue) → Delivers s ps → Delivers (after_sending s m) ps
-sending_delivers s ps (Data flags resp num body) d = record { earlier = d.earlier; present = d.present }
-sending_delivers s ps (Ack flags resp) d = d
-sending_delivers s ps (Nak flags reason resp) d = record { earlier = d.earlier; present = d.present }
-sending_delivers s ps (Rep flags num) d = d
-sending_delivers s ps (Strt flags) d = d
-sending_delivers s ps (Stack flags) d = d
+sending_delivers s ps m d = go (change_of m)
+  where
+    go : (change : Change) → Delivers (sends s m change) ps
+    go SendPacket = record { earlier = d.earlier; present = d.present }
+    go UseCause = record { earlier = d.earlier; present = d.present }
+    go Nothing = d
 
 is_the_packet : (o : Option (List ℕ)) (body : List ℕ) → is_packet o body ≡ true → o ≡ Some body
 is_the_packet None body e = absurd cc
@@ -118,26 +121,10 @@ message_offered s o (Rep flags num) count e = tt
 message_offered s o (Strt flags) count e = tt
 message_offered s o (Stack flags) count e = tt
 
-sending_count : (s : Station) (m : MessageValue) → length s.earlier ≡ s.period → length (after_sending s m).earlier ≡ (after_sending s m).period
-sending_count s (Data flags resp num body) c = c
-sending_count s (Ack flags resp) c = c
-sending_count s (Nak flags reason resp) c = c
-sending_count s (Rep flags num) c = c
-sending_count s (Strt flags) c = c
-sending_count s (Stack flags) c = c
-
-sending_taken : (s : Station) (m : MessageValue) → length s.taken ≡ s.received → length (after_sending s m).taken ≡ (after_sending s m).received
-sending_taken s (Data flags resp num body) c = c
-sending_taken s (Ack flags resp) c = c
-sending_taken s (Nak flags reason resp) c = c
-sending_taken s (Rep flags num) c = c
-sending_taken s (Strt flags) c = c
-sending_taken s (Stack flags) c = c
-
 pub sending_offers : (s : Station) (own : List SentUnit) (bytes : List ℕ) (m : MessageValue) → IsOrdered s → sending_refusal s m ≡ None → Offers s own → Offers (after_sending s m) (own ++ unit_of s bytes m ∷ [])
 sending_offers s own bytes m ordered allowed o = record {
-  count = sending_count s m o.count;
-  taken_count = sending_taken s m o.taken_count;
+  count = let t = sending_stays s m in ap length t.earlier ∙ o.count ∙ sym t.period;
+  taken_count = let t = sending_stays s m in ap length t.taken ∙ o.taken_count ∙ sym t.received;
   offered = λ i u at. go u (at_pushed own (unit_of s bytes m) u i at);
 }
   where
@@ -146,12 +133,6 @@ sending_offers s own bytes m ordered allowed o = record {
     go u (inr e) = subst (λ (x : SentUnit). IsOffered x.message x.known (periods (after_sending s m))) e.1 (message_offered s ordered m o.count allowed)
 
 -- ---- a receipt
-
--- what a station keeps at every receipt
-pub record Stays (s t : Station) : Type 0 where
-  pub earlier : t.earlier ≡ s.earlier
-  pub period : t.period ≡ s.period
-  pub packets : t.packets ≡ s.packets
 
 -- Nothing was taken; or nothing was ever taken in the period, and the partner is the message's period; or the packet of this message
 -- was taken, which is the next one of the pair
@@ -219,22 +200,9 @@ module _ (s : Station) (u : Truth) (m : MessageValue) (kept : Bool) where
   partner_stays t (GoTo state) e = refl
   partner_stays t TakePartner e = absurd cc
   partner_stays t SetBack e = refl
-  partner_stays t Respond e = go (ltb t.acknowledged u.response && leb u.response (given t))
-    where
-      go : (b : Bool) → (acknowledged_by b t u.response).partner ≡ t.partner
-      go true = refl
-      go false = refl
-  partner_stays t TakePacket e = go (is_next t u) kept
-    where
-      go : (next kept : Bool) → (with_data next kept t (body_of m)).partner ≡ t.partner
-      go true true = refl
-      go true false = refl
-      go false kept = refl
-  partner_stays t AnswerRep e = go (eqb u.number t.received)
-    where
-      go : (b : Bool) → (asked b t).partner ≡ t.partner
-      go true = refl
-      go false = refl
+  partner_stays t Respond e = by_response m u kept t (λ (x : Station). x.partner ≡ t.partner) refl (λ e. refl)
+  partner_stays t TakePacket e = by_packet m u kept t (λ (x : Station). x.partner ≡ t.partner) refl (λ e. refl) refl
+  partner_stays t AnswerRep e = by_rep m u kept t (λ (x : Station). x.partner ≡ t.partner) refl refl
 
   -- the partner behind some effects
   partner_by : (effects : List Effect) (t : Station) → (fold (does m u kept) t effects).partner ≡ cond (has_partner effects) (Some u.tag.period) t.partner

@@ -10,7 +10,8 @@ use Rattle.dna_model.specs.Station.{Station, PastPeriod, past, after_event}
 use Rattle.dna_model.specs.Delivery.{periods}
 use Rattle.dna_model.specs.Line.{SentUnit}
 use Rattle.dna_model.proofs.NumberedSteps.{at_pushed}
-use Rattle.dna_model.proofs.DeliveredSteps.{Stays, TookPacket}
+use Rattle.dna_model.proofs.Effects.{Stays}
+use Rattle.dna_model.proofs.DeliveredSteps.{TookPacket}
 use Rattle.dna_model.proofs.StationNumbers.{is_data}
 use Rattle.dna_model.proofs.Partnered.{Partnered}
 

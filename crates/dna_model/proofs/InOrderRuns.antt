@@ -20,26 +20,13 @@ use Rattle.dna_model.specs.Pair.{pair, start}
 use Rattle.dna_model.proofs.Happens.{Happens, Nothing, UserEvent, Sending, Receipt, happens}
 use Rattle.dna_model.proofs.StationNumbers.{unit_of}
 use Rattle.dna_model.proofs.StationBounds.{IsSound}
-use Rattle.dna_model.proofs.DeliveredSteps.{Offers, Stays, TookBy, arrival_took}
+use Rattle.dna_model.proofs.Effects.{Stays, sending_stays}
+use Rattle.dna_model.proofs.DeliveredSteps.{Offers, TookBy, arrival_took}
 use Rattle.dna_model.proofs.DeliveredRuns.{delivers_from}
 use Rattle.dna_model.proofs.DeliveredCaptures.{BothCaptured, captured_kept, start_captured}
 use Rattle.dna_model.proofs.Partnered.{Partnered, new_partnered, event_partnered, sending_partnered, receipt_partnered}
 use Rattle.dna_model.proofs.InOrder.{TakesInOrder, all_from, all_rising, takes_beside, takes_last, takes_none, takes_start, takes_packet}
 use Rattle.dna_model.proofs.Among.{taken_among_given}
-
--- a sending takes nothing
-record TakesNothing (s t : Station) : Type 0 where
-  earlier : t.earlier ≡ s.earlier
-  partner : t.partner ≡ s.partner
-  taken : t.taken ≡ s.taken
-
-sending_takes : (s : Station) (m : MessageValue) → TakesNothing s (after_sending s m)
-sending_takes s (Data flags resp num body) = record { earlier = refl; partner = refl; taken = refl }
-sending_takes s (Ack flags resp) = record { earlier = refl; partner = refl; taken = refl }
-sending_takes s (Nak flags reason resp) = record { earlier = refl; partner = refl; taken = refl }
-sending_takes s (Rep flags num) = record { earlier = refl; partner = refl; taken = refl }
-sending_takes s (Strt flags) = record { earlier = refl; partner = refl; taken = refl }
-sending_takes s (Stack flags) = record { earlier = refl; partner = refl; taken = refl }
 
 -- of a node beside the units of the other
 pub record OwnOrder (n : Node) (own other : List SentUnit) : Type 0 where
@@ -64,7 +51,7 @@ module _ (own other : Half Node SentUnit) (h : IsSound own.state own.sent other.
     takes = takes_last own.state.station _ other.sent own.state.front p.takes refl refl refl;
   }
   order_own r left (Sending bytes m read allowed) =
-      let t = sending_takes own.state.station m in
+      let t = sending_stays own.state.station m in
       record {
         partnered = sending_partnered own.state own.sent other.sent bytes m h p.partnered;
         takes = takes_last own.state.station (after_sending own.state.station m) other.sent own.state.front p.takes t.earlier t.partner t.taken;

@@ -27,6 +27,7 @@ mod LinkWindowRows
 mod Modulo
 -- what is tested of a message that may be sent
 pub mod Checks
+mod Effects
 mod Ordered
 mod CutSending
 mod CutArriving

@@ -16,13 +16,7 @@ use Rattle.dna_model.specs.Truth.{Truth}
 use Rattle.dna_model.specs.StationBook.{is_new, has_room, with_packet, acknowledged_by, is_next, with_data, asked, does, station_book, sending_refusal, after_sending, after_arrival}
 use Rattle.dna_model.specs.Bounds.{IsOrdered}
 use Rattle.dna_model.proofs.Checks.{sending_passed}
-
--- ---- effects, one after another
-
-module _ {S : Type 0} (P : S → Type 0) (f : S → Effect → S) (keeps : (s : S) (effect : Effect) → P s → P (f s effect)) where
-  pub kept_by_all : (effects : List Effect) (s : S) → P s → P (fold f s effects)
-  kept_by_all [] s p = p
-  kept_by_all (effect ∷ next) s p = kept_by_all next (f s effect) (keeps s effect p)
+use Rattle.dna_model.proofs.Effects.{kept_by_all, by_response, by_packet, by_rep}
 
 -- ---- numbers in order
 
@@ -66,28 +60,15 @@ module _ (m : MessageValue) (u : Truth) (kept : Bool) where
   pub does_ordered : (s : Station) (effect : Effect) → IsOrdered s → IsOrdered (does m u kept s effect)
   does_ordered s (GoTo state) o = same_ordered s o (record s { state = state }) refl refl refl
   does_ordered s TakePartner o = same_ordered s o (does m u kept s TakePartner) refl refl refl
-  does_ordered s Respond o = go (ltb s.acknowledged u.response && leb u.response (given s)) refl
-    where
-      go : (b : Bool) → (ltb s.acknowledged u.response && leb u.response (given s)) ≡ b → IsOrdered (acknowledged_by b s u.response)
-      go false e = o
-      go true e =
-          let t = and_parts (ltb s.acknowledged u.response) (leb u.response (given s)) e in
-          let l = ltb-true s.acknowledged u.response t.0 in
-          let n = leb-true u.response (given s) t.1 in
-          let above = o.above in let below = o.below in let few = o.few in
-          record { above = omega arith; below = omega arith; few = omega arith }
+  does_ordered s Respond o = by_response m u kept s IsOrdered o (λ e.
+      let t = and_parts (ltb s.acknowledged u.response) (leb u.response (given s)) e in
+      let l = ltb-true s.acknowledged u.response t.0 in
+      let n = leb-true u.response (given s) t.1 in
+      let above = o.above in let below = o.below in let few = o.few in
+      record { above = omega arith; below = omega arith; few = omega arith })
   does_ordered s SetBack o = let a = o.above in let b = o.below in let f = o.few in record { above = omega arith; below = omega arith; few = f }
-  does_ordered s TakePacket o = go (is_next s u) kept
-    where
-      go : (next kept : Bool) → IsOrdered (with_data next kept s (body_of m))
-      go true true = same_ordered s o (with_data true true s (body_of m)) refl refl refl
-      go true false = same_ordered s o (with_data true false s (body_of m)) refl refl refl
-      go false kept = o
-  does_ordered s AnswerRep o = go (eqb u.number s.received)
-    where
-      go : (b : Bool) → IsOrdered (asked b s)
-      go true = o
-      go false = same_ordered s o (asked false s) refl refl refl
+  does_ordered s TakePacket o = by_packet m u kept s IsOrdered o (λ e. same_ordered s o (with_data true true s (body_of m)) refl refl refl) (same_ordered s o (with_data true false s (body_of m)) refl refl refl)
+  does_ordered s AnswerRep o = by_rep m u kept s IsOrdered o (same_ordered s o (asked false s) refl refl refl)
 
 damaged_ordered : (s : Station) → IsOrdered s → (state : State) (reason : NakReason) → IsOrdered (cond (counts_damage state) (station_book.counts reason s) s)
 damaged_ordered s o Running reason = same_ordered s o (station_book.counts reason s) refl refl refl

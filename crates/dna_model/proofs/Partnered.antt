@@ -14,9 +14,10 @@ use Rattle.dna_model.specs.Node.{Node}
 use Rattle.dna_model.proofs.NumberedSteps.{at_pushed}
 use Rattle.dna_model.proofs.Numbered.{IsGiven}
 use Rattle.dna_model.proofs.StationNumbers.{limits, is_data, data_number, unit_of}
-use Rattle.dna_model.proofs.StationBounds.{HasNone, IsSound, StaysAs, sending_stays}
+use Rattle.dna_model.proofs.StationBounds.{HasNone, IsSound}
 use Rattle.dna_model.proofs.Delivered.{IsOffered}
-use Rattle.dna_model.proofs.DeliveredSteps.{Offers, Stays, TookBy, Took}
+use Rattle.dna_model.proofs.Effects.{Stays, StaysAs, sending_stays}
+use Rattle.dna_model.proofs.DeliveredSteps.{Offers, TookBy, Took}
 
 pub record Partnered (s : Station) (own : List SentUnit) : Type 0 where
   pub rise : (i j : ℕ) (u v : SentUnit) → i < j → slice_get own i ≡ Some u → slice_get own j ≡ Some v → u.known.tag.period ≤ v.known.tag.period

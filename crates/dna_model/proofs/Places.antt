@@ -25,7 +25,8 @@ use Rattle.dna_model.proofs.StationNumbers.{unit_of}
 use Rattle.dna_model.proofs.StationBounds.{IsSound}
 use Rattle.dna_model.proofs.RunBounds.{BothSound, sound_kept, start_sound}
 use Rattle.dna_model.proofs.Delivered.{begins_same}
-use Rattle.dna_model.proofs.DeliveredSteps.{arrival_took, packet_there, packets_begin}
+use Rattle.dna_model.proofs.DeliveredSteps.{arrival_took, packet_there, sending_begins}
+use Rattle.dna_model.proofs.Effects.{sending_stays}
 
 -- an item behind a list
 item_behind : {X : Type 0} (xs ys : List X) (i : ℕ) → slice_get (xs ++ ys) (length xs + i) ≡ slice_get ys i
@@ -63,12 +64,7 @@ given_more s t earlier more = record {
 }
 
 given_sending : (s : Station) (m : MessageValue) → BeginsWith (all_given (after_sending s m)) (all_given s)
-given_sending s (Data flags resp num body) = given_more s (after_sending s (Data flags resp num body)) refl (packets_begin (is_new s) s.packets body)
-given_sending s (Ack flags resp) = begins_same (all_given s)
-given_sending s (Nak flags reason resp) = begins_same (all_given s)
-given_sending s (Rep flags num) = begins_same (all_given s)
-given_sending s (Strt flags) = begins_same (all_given s)
-given_sending s (Stack flags) = begins_same (all_given s)
+given_sending s m = given_more s (after_sending s m) (sending_stays s m).earlier (sending_begins s m)
 
 -- ---- what is sent
 

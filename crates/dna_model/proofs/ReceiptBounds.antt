@@ -16,6 +16,7 @@ use Rattle.dna_model.specs.Bounds.{IsNear as IsNearEffect, AreNear, IsWithin}
 use Rattle.dna_model.specs.Line.{SentUnit}
 use Rattle.dna_model.specs.Node.{Node}
 use Rattle.dna_model.proofs.Ordered.{arrival_ordered}
+use Rattle.dna_model.proofs.Effects.{by_response, by_packet, by_rep}
 use Rattle.dna_model.proofs.CutNode.{not_crossed}
 use Rattle.dna_model.proofs.Happens.{ComesOf, Itself, BadHeader, BadData}
 use Rattle.dna_model.proofs.Numbered.{IsNear, AreNumbered, IsPresent, AcksFrom, IsGiven, NumberNear, near}
@@ -104,42 +105,29 @@ module _ (n : Node) (own other : List SentUnit) (h : IsSound n own other) (their
               record { given = omega arith; received = omega arith; last = omega arith });
         }
     does_met now t SetBack l m = record { state = m.state; period = m.period; packets = m.packets; none = λ e. let x = m.none e in record { received = x.received; acknowledged = x.acknowledged; packets = x.packets }; partner = m.partner; present = m.present }
-    does_met now t Respond l m = go (ltb t.acknowledged unit.known.response && leb unit.known.response (given t)) refl
-      where
-        go : (b : Bool) → (ltb t.acknowledged unit.known.response && leb unit.known.response (given t)) ≡ b → IsMet now (acknowledged_by b t unit.known.response)
-        go false e = m
-        go true e =
-            let less = ltb-true t.acknowledged unit.known.response (and_parts _ _ e).0 in
-            let fits = (acks_of unit.known unit.known.received unit.known.received (has_response unit.message) l.1 lawful_acks).1 in
-            record {
-              state = m.state;
-              period = m.period;
-              packets = m.packets;
-              none = λ e. absurd (let f = l.0 in cc);
-              partner = m.partner;
-              present = present_acknowledged view limits own other (k + 1) (k + 1) (numbers_of t) m.present (omega arith) k unit there (omega arith) (m.partner l.2 ∙ (l.2).from) unit.known.response (omega arith) fits fits;
-            }
-    does_met now t TakePacket l m = go (is_next t unit.known) kept refl
-      where
-        go : (b kept : Bool) → is_next t unit.known ≡ b → IsMet now (with_data b kept t (body_of unit.message))
-        go true true e =
-            let next = eqb-true unit.known.number (t.received + 1) e in
-            let fits = given_of unit.known (is_data unit.message) l.1 lawful_number in
-            record {
-              state = m.state;
-              period = m.period;
-              packets = m.packets;
-              none = λ e. absurd (let f = l.0 in cc);
-              partner = m.partner;
-              present = present_received view limits own other (k + 1) (k + 1) (numbers_of t) m.present (omega arith) k unit there (omega arith) (m.partner l.2 ∙ (l.2).from) (t.received + 1) (t.received + 1) (omega arith) (omega arith) (omega arith);
-            }
-        go true false e = record { state = m.state; period = m.period; packets = m.packets; none = λ e. let x = m.none e in record { received = x.received; acknowledged = x.acknowledged; packets = x.packets }; partner = m.partner; present = m.present }
-        go false kept e = m
-    does_met now t AnswerRep l m = go (eqb unit.known.number t.received)
-      where
-        go : (b : Bool) → IsMet now (asked b t)
-        go true = m
-        go false = record { state = m.state; period = m.period; packets = m.packets; none = λ e. let x = m.none e in record { received = x.received; acknowledged = x.acknowledged; packets = x.packets }; partner = m.partner; present = m.present }
+    does_met now t Respond l m = by_response unit.message unit.known kept t (IsMet now) m (λ e.
+        let less = ltb-true t.acknowledged unit.known.response (and_parts _ _ e).0 in
+        let fits = (acks_of unit.known unit.known.received unit.known.received (has_response unit.message) l.1 lawful_acks).1 in
+        record {
+          state = m.state;
+          period = m.period;
+          packets = m.packets;
+          none = λ e. absurd (let f = l.0 in cc);
+          partner = m.partner;
+          present = present_acknowledged view limits own other (k + 1) (k + 1) (numbers_of t) m.present (omega arith) k unit there (omega arith) (m.partner l.2 ∙ (l.2).from) unit.known.response (omega arith) fits fits;
+        })
+    does_met now t TakePacket l m = by_packet unit.message unit.known kept t (IsMet now) m (λ e.
+        let next = eqb-true unit.known.number (t.received + 1) e in
+        let fits = given_of unit.known (is_data unit.message) l.1 lawful_number in
+        record {
+          state = m.state;
+          period = m.period;
+          packets = m.packets;
+          none = λ e. absurd (let f = l.0 in cc);
+          partner = m.partner;
+          present = present_received view limits own other (k + 1) (k + 1) (numbers_of t) m.present (omega arith) k unit there (omega arith) (m.partner l.2 ∙ (l.2).from) (t.received + 1) (t.received + 1) (omega arith) (omega arith) (omega arith);
+        }) (record { state = m.state; period = m.period; packets = m.packets; none = λ e. let x = m.none e in record { received = x.received; acknowledged = x.acknowledged; packets = x.packets }; partner = m.partner; present = m.present })
+    does_met now t AnswerRep l m = by_rep unit.message unit.known kept t (IsMet now) m (record { state = m.state; period = m.period; packets = m.packets; none = λ e. let x = m.none e in record { received = x.received; acknowledged = x.acknowledged; packets = x.packets }; partner = m.partner; present = m.present })
 
     all_met : (effects : List Effect) (now : State) (t : Station) → AreLawful n.station unit.message unit.known.tag now effects → IsMet now t → IsMet (fold goes now effects) (fold (does unit.message unit.known kept) t effects)
     all_met [] now t l m = m

@@ -14,6 +14,7 @@ use Rattle.dna_model.specs.StationBook.{passes, sending_refusal, after_sending}
 use Rattle.dna_model.specs.Bounds.{IsOrdered, HasWireNumbers}
 use Rattle.dna_model.specs.Line.{SentUnit}
 use Rattle.dna_model.specs.Node.{Node}
+use Rattle.dna_model.proofs.Effects.{StaysAs, sending_stays}
 use Rattle.dna_model.proofs.Ordered.{event_ordered, sending_ordered}
 use Rattle.dna_model.proofs.Numbered.{Numbers, AreNumbered, IsPresent}
 use Rattle.dna_model.proofs.NumberedSteps.{at_pushed, numbered_beside, present_beside, numbered_sending, present_sending, present_new}
@@ -87,22 +88,6 @@ sound_event n own other Start h = starting_new n own other h
 sound_event n own other Halt h = halted n own other h
 
 -- ---- a sending
-
--- a sending leaves all but what was given, what comes next, and the causes
-pub record StaysAs (s t : Station) : Type 0 where
-  pub state : t.state ≡ s.state
-  pub period : t.period ≡ s.period
-  pub partner : t.partner ≡ s.partner
-  pub received : t.received ≡ s.received
-  pub acknowledged : t.acknowledged ≡ s.acknowledged
-
-pub sending_stays : (s : Station) (m : MessageValue) → StaysAs s (after_sending s m)
-sending_stays s (Data flags resp num body) = record { state = refl; period = refl; partner = refl; received = refl; acknowledged = refl }
-sending_stays s (Ack flags resp) = record { state = refl; period = refl; partner = refl; received = refl; acknowledged = refl }
-sending_stays s (Nak flags reason resp) = record { state = refl; period = refl; partner = refl; received = refl; acknowledged = refl }
-sending_stays s (Rep flags num) = record { state = refl; period = refl; partner = refl; received = refl; acknowledged = refl }
-sending_stays s (Strt flags) = record { state = refl; period = refl; partner = refl; received = refl; acknowledged = refl }
-sending_stays s (Stack flags) = record { state = refl; period = refl; partner = refl; received = refl; acknowledged = refl }
 
 -- before RUNNING no packet is given
 nothing_given : (s : Station) (m : MessageValue) → sending_refusal s m ≡ None → is_starting s.state ≡ true → (after_sending s m).packets ≡ s.packets
