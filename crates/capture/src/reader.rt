@@ -209,6 +209,11 @@ impl CaptureReader {
         }
     }
 
+    /// What its memory was taken from. Takes no memory.
+    pub fn alloc(&self) -> Global {
+        self.alloc
+    }
+
     /// The bytes of the record that `advance` read last. Takes no memory.
     pub fn bytes(&self) -> &[u8]
         ensures { result.now ≡ self.now.bytes }

@@ -6,6 +6,8 @@ use Rattle.capture.specs.declared.limit.TheConstants.{MAX_RECORDS}
 use Rattle.capture.specs.declared.fault.CaptureFault.{CaptureFault}
 use Rattle.capture.specs.declared.fault.CaptureFault.TheVariants.{Departs, Read, OutOfMemory, Failed}
 use Rattle.capture.specs.declared.record.Record.{Record}
+use Rattle.capture.specs.declared.entry.Entry.{Entry}
+use Rattle.capture.specs.Entries.{record_with}
 use Rattle.capture.specs.Text.{record_line}
 use Rattle.capture.specs.Range.{IsRecord}
 use Rattle.capture.specs.Departing.{RecordDeparts}
@@ -26,56 +28,58 @@ module _ (text : Option (List ℕ)) (course : Course) (come : Option (List ℕ))
   pub read_unread : course.ahead ≡ Unread → IsRead (along text course come made)
       → IsReadSoFar text (so_far course.capture.own course.capture.peer made (ToCome come)) × (course.capture.records ≡ length made)
   read_unread is h =
-      let so = subst (λ (a : Ahead). IsReadSoFar text (so_far course.capture.own course.capture.peer (made ++ waiting a) (behind a come))) is h.so_far in
-      let count = subst (λ (a : Ahead). course.capture.records ≡ length (made ++ waiting a)) is h.count in
+      let so = subst (λ (a : Ahead). IsReadSoFar text (so_far course.capture.own course.capture.peer (made ++ waiting course.capture.bytes a) (behind a come))) is h.so_far in
+      let count = subst (λ (a : Ahead). course.capture.records ≡ length (made ++ waiting course.capture.bytes a)) is h.count in
       (subst (λ (rs : List Record). IsReadSoFar text (so_far course.capture.own course.capture.peer rs (ToCome come))) (append-nil made) so, count ∙ ap length (append-nil made))
 
   pub from_unread : course.ahead ≡ Unread → IsReadSoFar text (so_far course.capture.own course.capture.peer made (ToCome come)) → course.capture.records ≡ length made
       → course.end.head ≡ record { own = course.capture.own; peer = course.capture.peer } → IsRead (along text course come made)
   from_unread is so count head = record {
-    so_far = subst (λ (a : Ahead). IsReadSoFar text (so_far course.capture.own course.capture.peer (made ++ waiting a) (behind a come))) (sym is)
+    so_far = subst (λ (a : Ahead). IsReadSoFar text (so_far course.capture.own course.capture.peer (made ++ waiting course.capture.bytes a) (behind a come))) (sym is)
         (subst (λ (rs : List Record). IsReadSoFar text (so_far course.capture.own course.capture.peer rs (ToCome come))) (sym (append-nil made)) so);
-    count = subst (λ (a : Ahead). course.capture.records ≡ length (made ++ waiting a)) (sym is) (count ∙ sym (ap length (append-nil made)));
+    count = subst (λ (a : Ahead). course.capture.records ≡ length (made ++ waiting course.capture.bytes a)) (sym is) (count ∙ sym (ap length (append-nil made)));
     head = head;
   }
 
-  pub read_waits : (r : Record) → course.ahead ≡ Waits r → IsRead (along text course come made)
-      → IsReadSoFar text (so_far course.capture.own course.capture.peer (made ++ r ∷ []) (ToCome come)) × (course.capture.records ≡ length (made ++ r ∷ []))
-  read_waits r is h = (
-    subst (λ (a : Ahead). IsReadSoFar text (so_far course.capture.own course.capture.peer (made ++ waiting a) (behind a come))) is h.so_far,
-    subst (λ (a : Ahead). course.capture.records ≡ length (made ++ waiting a)) is h.count,
+  pub read_waits : (entry : Entry) → course.ahead ≡ Waits entry → IsRead (along text course come made)
+      → IsReadSoFar text (so_far course.capture.own course.capture.peer (made ++ record_with entry course.capture.bytes ∷ []) (ToCome come)) × (course.capture.records ≡ length (made ++ record_with entry course.capture.bytes ∷ []))
+  read_waits entry is h = (
+    subst (λ (a : Ahead). IsReadSoFar text (so_far course.capture.own course.capture.peer (made ++ waiting course.capture.bytes a) (behind a come))) is h.so_far,
+    subst (λ (a : Ahead). course.capture.records ≡ length (made ++ waiting course.capture.bytes a)) is h.count,
   )
 
-  pub from_waits : (r : Record) → course.ahead ≡ Waits r → IsReadSoFar text (so_far course.capture.own course.capture.peer (made ++ r ∷ []) (ToCome come)) → course.capture.records ≡ length (made ++ r ∷ [])
+  pub from_waits : (entry : Entry) → course.ahead ≡ Waits entry → IsReadSoFar text (so_far course.capture.own course.capture.peer (made ++ record_with entry course.capture.bytes ∷ []) (ToCome come)) → course.capture.records ≡ length (made ++ record_with entry course.capture.bytes ∷ [])
       → course.end.head ≡ record { own = course.capture.own; peer = course.capture.peer } → IsRead (along text course come made)
-  from_waits r is so count head = record {
-    so_far = subst (λ (a : Ahead). IsReadSoFar text (so_far course.capture.own course.capture.peer (made ++ waiting a) (behind a come))) (sym is) so;
-    count = subst (λ (a : Ahead). course.capture.records ≡ length (made ++ waiting a)) (sym is) count;
+  from_waits entry is so count head = record {
+    so_far = subst (λ (a : Ahead). IsReadSoFar text (so_far course.capture.own course.capture.peer (made ++ waiting course.capture.bytes a) (behind a come))) (sym is) so;
+    count = subst (λ (a : Ahead). course.capture.records ≡ length (made ++ waiting course.capture.bytes a)) (sym is) count;
     head = head;
   }
 
   pub from_ended : course.ahead ≡ Ended → IsReadSoFar text (so_far course.capture.own course.capture.peer made TheEnd) → course.capture.records ≡ length made
       → course.end.head ≡ record { own = course.capture.own; peer = course.capture.peer } → IsRead (along text course come made)
   from_ended is so count head = record {
-    so_far = subst (λ (a : Ahead). IsReadSoFar text (so_far course.capture.own course.capture.peer (made ++ waiting a) (behind a come))) (sym is)
+    so_far = subst (λ (a : Ahead). IsReadSoFar text (so_far course.capture.own course.capture.peer (made ++ waiting course.capture.bytes a) (behind a come))) (sym is)
         (subst (λ (rs : List Record). IsReadSoFar text (so_far course.capture.own course.capture.peer rs TheEnd)) (sym (append-nil made)) so);
-    count = subst (λ (a : Ahead). course.capture.records ≡ length (made ++ waiting a)) (sym is) (count ∙ sym (ap length (append-nil made)));
+    count = subst (λ (a : Ahead). course.capture.records ≡ length (made ++ waiting course.capture.bytes a)) (sym is) (count ∙ sym (ap length (append-nil made)));
     head = head;
   }
 
 -- ---- the next record
 
 -- a record that waited goes on as one that was read
-pub taken_up : (text : Option (List ℕ)) (course : Course) (come : Option (List ℕ)) (made : List Record) (r : Record) → course.ahead ≡ Waits r → IsRead (along text course come made) → IsRead (along text (record course { ahead = Unread }) come (made ++ r ∷ []))
-taken_up text course come made r is h =
-    let read = read_waits text course come made r is h in
-    from_unread text (record course { ahead = Unread }) come (made ++ r ∷ []) refl read.0 read.1 h.head
+pub taken_up : (text : Option (List ℕ)) (course : Course) (come : Option (List ℕ)) (made : List Record) (entry : Entry) → course.ahead ≡ Waits entry → IsRead (along text course come made)
+    → IsRead (along text (record course { ahead = Unread }) come (made ++ record_with entry course.capture.bytes ∷ []))
+taken_up text course come made entry is h =
+    let read = read_waits text course come made entry is h in
+    from_unread text (record course { ahead = Unread }) come (made ++ record_with entry course.capture.bytes ∷ []) refl read.0 read.1 h.head
 
 -- a record that was read goes on as one that waits
-pub put_back : (text : Option (List ℕ)) (course : Course) (come : Option (List ℕ)) (made : List Record) (r : Record) → course.ahead ≡ Unread → IsRead (along text course come (made ++ r ∷ [])) → IsRead (along text (record course { ahead = Waits r }) come made)
-put_back text course come made r is h =
-    let read = read_unread text course come (made ++ r ∷ []) is h in
-    from_waits text (record course { ahead = Waits r }) come made r refl read.0 read.1 h.head
+pub put_back : (text : Option (List ℕ)) (course : Course) (come : Option (List ℕ)) (made : List Record) (entry : Entry) → course.ahead ≡ Unread
+    → IsRead (along text course come (made ++ record_with entry course.capture.bytes ∷ [])) → IsRead (along text (record course { ahead = Waits entry }) come made)
+put_back text course come made entry is h =
+    let read = read_unread text course come (made ++ record_with entry course.capture.bytes ∷ []) is h in
+    from_waits text (record course { ahead = Waits entry }) come made entry refl read.0 read.1 h.head
 
 -- what was read of a text that is read on
 pub record GrowingLaws : Type 0 where
@@ -111,7 +115,7 @@ faulty text course come made (Departs kind line) is h shows =
     let count = h.count in (
       is,
       record {
-        departs = subst (λ (a : Ahead). IfSome (coming (behind a come)) (RecordDeparts (length (made ++ waiting course.ahead)) kind)) (sym is)
+        departs = subst (λ (a : Ahead). IfSome (coming (behind a come)) (RecordDeparts (length (made ++ waiting course.capture.bytes course.ahead)) kind)) (sym is)
             (subst (λ (n : ℕ). IfSome come (RecordDeparts n kind)) h.count shows.1);
         line_is = shows.0 ∙ ap (λ n. n + 2) h.count;
       },

@@ -18,8 +18,8 @@ use Rattle.pair_judge.specs.Faulty.{IsJudgeFault, side_fault_of}
 
 -- ---- records
 
-all_made : (ahead : Ahead) (made : List Record) → ahead ≡ Unread → made ≡ made ++ waiting ahead
-all_made ahead made is = sym (ap (λ (x : Ahead). made ++ waiting x) is ∙ append-nil made)
+all_made : (bytes : List ℕ) (ahead : Ahead) (made : List Record) → ahead ≡ Unread → made ≡ made ++ waiting bytes ahead
+all_made bytes ahead made is = sym (ap (λ (x : Ahead). made ++ waiting bytes x) is ∙ append-nil made)
 
 -- the run so far, with the heads that were read
 run_of_heads : (a b : Track) → IsRead a → IsRead b → IsRun a.course.end.head b.course.end.head a.made b.made → IsRun (head_of (read_of a)) (head_of (read_of b)) a.made b.made
@@ -36,9 +36,9 @@ module _ (a b : Track) (read_a : IsRead a) (read_b : IsRead b) (run : IsRun a.co
     departs = is.1;
     made_a = a.made;
     made_b = b.made;
-    begins_a = (waiting a.course.ahead, refl);
-    begins_b = (waiting b.course.ahead, refl);
-    all_before = all_made a.course.ahead a.made is.0;
+    begins_a = (waiting a.course.capture.bytes a.course.ahead, refl);
+    begins_b = (waiting b.course.capture.bytes b.course.ahead, refl);
+    all_before = all_made a.course.capture.bytes a.course.ahead a.made is.0;
     run = run_of_heads a b read_a read_b run;
   })
   a_faulty Read is = tt
@@ -54,9 +54,9 @@ module _ (a b : Track) (read_a : IsRead a) (read_b : IsRead b) (run : IsRun a.co
     departs = is.1;
     made_a = a.made;
     made_b = b.made;
-    begins_a = (waiting a.course.ahead, refl);
-    begins_b = (waiting b.course.ahead, refl);
-    all_before = all_made b.course.ahead b.made is.0;
+    begins_a = (waiting a.course.capture.bytes a.course.ahead, refl);
+    begins_b = (waiting b.course.capture.bytes b.course.ahead, refl);
+    all_before = all_made b.course.capture.bytes b.course.ahead b.made is.0;
     run = run_of_heads a b read_a read_b run;
   })
   b_faulty Read is = tt

@@ -1,6 +1,7 @@
 -- How the judge ends: its finding is a verdict on all captures that go on behind what was read.
 use Rattle.std.proofs.Common.{◌≡◌, ℕ, List, [], ◌∷◌, ◌++◌, length, Option, refl, sym, ap, subst, ◌∙◌, append-nil, append_assoc}
 use Rattle.capture.specs.declared.record.Record.{Record}
+use Rattle.capture.specs.Entries.{record_with}
 use Rattle.capture.specs.SoFar.{Behind, TheEnd, GoesOn, GoesOnBy}
 use Rattle.wire_base.specs.declared.side.Side.TheVariants.{A, B}
 use Rattle.wire_base.specs.declared.side.Side.{Side}
@@ -14,7 +15,7 @@ use Rattle.dna_model.specs.Verdict.{IsVerdict}
 use Rattle.pair_judge.specs.declared.course.Ahead.{Ahead}
 use Rattle.pair_judge.specs.declared.course.Ahead.TheVariants.{Unread, Waits, Ended}
 use Rattle.pair_judge.specs.declared.course.Course.{Course}
-use Rattle.pair_judge.specs.Course.{IsRead, Track, behind, having_made, read_of, waiting}
+use Rattle.pair_judge.specs.Course.{IsRead, Track, behind, having_made, read_of, waiting, IsWaiting}
 use Rattle.pair_judge.specs.Finding.{EndsWhere}
 use Rattle.pair_judge.specs.Reached.{HasReached, IsFound}
 
@@ -22,28 +23,30 @@ use Rattle.pair_judge.specs.Reached.{HasReached, IsFound}
 
 goes_behind : (ahead : Ahead) (come : Option (List ℕ)) (read all : List Record) → GoesOnBy (behind ahead come) read all → (rest : List Record) × (all ≡ read ++ rest)
 goes_behind Unread come read all goes = goes
-goes_behind (Waits r) come read all goes = goes
+goes_behind (Waits entry) come read all goes = goes
 goes_behind Ended come read all goes = ([], goes ∙ sym (append-nil read))
 
 module _ (t : Track) (made : List Record) (all : List Record) where
   pub goes_any : GoesOn (read_of (having_made t made)) all → (rest : List Record) × (all ≡ made ++ rest)
   goes_any goes =
-      let b = goes_behind t.course.ahead t.come (made ++ waiting t.course.ahead) all goes in
-      (waiting t.course.ahead ++ b.0, b.1 ∙ append_assoc made (waiting t.course.ahead) b.0)
+      let b = goes_behind t.course.ahead t.come (made ++ waiting t.course.capture.bytes t.course.ahead) all goes in
+      (waiting t.course.capture.bytes t.course.ahead ++ b.0, b.1 ∙ append_assoc made (waiting t.course.capture.bytes t.course.ahead) b.0)
 
   pub goes_read : (r : Record) → GoesOn (read_of (having_made t (made ++ r ∷ []))) all → (rest : List Record) × (all ≡ made ++ r ∷ rest)
   goes_read r goes =
-      let b = goes_behind t.course.ahead t.come ((made ++ r ∷ []) ++ waiting t.course.ahead) all goes in
-      (waiting t.course.ahead ++ b.0, b.1 ∙ append_assoc (made ++ r ∷ []) (waiting t.course.ahead) b.0 ∙ append_assoc made (r ∷ []) (waiting t.course.ahead ++ b.0))
+      let b = goes_behind t.course.ahead t.come ((made ++ r ∷ []) ++ waiting t.course.capture.bytes t.course.ahead) all goes in
+      (waiting t.course.capture.bytes t.course.ahead ++ b.0, b.1 ∙ append_assoc (made ++ r ∷ []) (waiting t.course.capture.bytes t.course.ahead) b.0 ∙ append_assoc made (r ∷ []) (waiting t.course.capture.bytes t.course.ahead ++ b.0))
 
-  pub goes_waits : (r : Record) → t.course.ahead ≡ Waits r → GoesOn (read_of (having_made t made)) all → (rest : List Record) × (all ≡ made ++ r ∷ rest)
-  goes_waits r is goes =
-      let at_waits : GoesOnBy (behind (Waits r) t.come) (made ++ r ∷ []) all = subst (λ (x : Ahead). GoesOnBy (behind x t.come) (made ++ waiting x) all) is goes in
+  pub goes_waits : (r : Record) → IsWaiting t.course.capture.bytes t.course.ahead r → GoesOn (read_of (having_made t made)) all → (rest : List Record) × (all ≡ made ++ r ∷ rest)
+  goes_waits r w goes =
+      let bytes = t.course.capture.bytes in
+      let by_entry : GoesOnBy (behind (Waits w.entry) t.come) (made ++ record_with w.entry bytes ∷ []) all = subst (λ (x : Ahead). GoesOnBy (behind x t.come) (made ++ waiting bytes x) all) w.ahead_is goes in
+      let at_waits : GoesOnBy (behind (Waits w.entry) t.come) (made ++ r ∷ []) all = subst (λ (x : Record). GoesOnBy (behind (Waits w.entry) t.come) (made ++ x ∷ []) all) w.is by_entry in
       (at_waits.0, at_waits.1 ∙ append_assoc made (r ∷ []) at_waits.0)
 
   pub goes_ended : t.course.ahead ≡ Ended → GoesOn (read_of (having_made t made)) all → all ≡ made
   goes_ended is goes =
-      let at_end : all ≡ made ++ [] = subst (λ (x : Ahead). GoesOnBy (behind x t.come) (made ++ waiting x) all) is goes in
+      let at_end : all ≡ made ++ [] = subst (λ (x : Ahead). GoesOnBy (behind x t.come) (made ++ waiting t.course.capture.bytes x) all) is goes in
       at_end ∙ append-nil made
 
 at_the_end : (ahead : Ahead) (come : Option (List ℕ)) → ahead ≡ Ended → behind ahead come ≡ TheEnd
@@ -94,7 +97,7 @@ module _ (a b : Track) (head_a head_b : Head) (same_a : a.course.end.head ≡ he
   }
 
   -- both wait
-  pub both_wait : (r s : Record) → IsRead a → IsRead b → a.course.ahead ≡ Waits r → b.course.ahead ≡ Waits s → ((rest_a rest_b : List Record) → IsVerdict head_a head_b (a.made ++ r ∷ rest_a) (b.made ++ s ∷ rest_b) (Refused A place NoOrder)) → IsFound a b (Refused A place NoOrder)
+  pub both_wait : (r s : Record) → IsRead a → IsRead b → IsWaiting a.course.capture.bytes a.course.ahead r → IsWaiting b.course.capture.bytes b.course.ahead s → ((rest_a rest_b : List Record) → IsVerdict head_a head_b (a.made ++ r ∷ rest_a) (b.made ++ s ∷ rest_b) (Refused A place NoOrder)) → IsFound a b (Refused A place NoOrder)
   both_wait r s read_a read_b ahead_a ahead_b law = record {
     made_a = a.made;
     made_b = b.made;
@@ -109,7 +112,7 @@ module _ (a b : Track) (head_a head_b : Head) (same_a : a.course.end.head ≡ he
   }
 
   -- a waits and b has ended
-  pub a_waits : (r : Record) → IsRead a → IsRead b → a.course.ahead ≡ Waits r → b.course.ahead ≡ Ended → ((rest_a : List Record) → IsVerdict head_a head_b (a.made ++ r ∷ rest_a) b.made (Refused A place NoSuchUnit)) → IsFound a b (Refused A place NoSuchUnit)
+  pub a_waits : (r : Record) → IsRead a → IsRead b → IsWaiting a.course.capture.bytes a.course.ahead r → b.course.ahead ≡ Ended → ((rest_a : List Record) → IsVerdict head_a head_b (a.made ++ r ∷ rest_a) b.made (Refused A place NoSuchUnit)) → IsFound a b (Refused A place NoSuchUnit)
   a_waits r read_a read_b ahead_a ahead_b law = record {
     made_a = a.made;
     made_b = b.made;
@@ -123,7 +126,7 @@ module _ (a b : Track) (head_a head_b : Head) (same_a : a.course.end.head ≡ he
   }
 
   -- b waits and a has ended
-  pub b_waits : (r : Record) → IsRead a → IsRead b → a.course.ahead ≡ Ended → b.course.ahead ≡ Waits r → ((rest_b : List Record) → IsVerdict head_a head_b a.made (b.made ++ r ∷ rest_b) (Refused B place NoSuchUnit)) → IsFound a b (Refused B place NoSuchUnit)
+  pub b_waits : (r : Record) → IsRead a → IsRead b → a.course.ahead ≡ Ended → IsWaiting b.course.capture.bytes b.course.ahead r → ((rest_b : List Record) → IsVerdict head_a head_b a.made (b.made ++ r ∷ rest_b) (Refused B place NoSuchUnit)) → IsFound a b (Refused B place NoSuchUnit)
   b_waits r read_a read_b ahead_a ahead_b law = record {
     made_a = a.made;
     made_b = b.made;

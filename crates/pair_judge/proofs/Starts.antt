@@ -84,16 +84,16 @@ found_in a b found f counts_a counts_b = record {
   counts = λ is. counted is f.ends (f.counts is);
 }
   where
-    nothing_waits : (t : Track) (made : List Record) → (read_of t).behind ≡ TheEnd → made ≡ made ++ waiting t.course.ahead
+    nothing_waits : (t : Track) (made : List Record) → (read_of t).behind ≡ TheEnd → made ≡ made ++ waiting t.course.capture.bytes t.course.ahead
     nothing_waits t made ended = by_ahead t.course.ahead ended
       where
-        by_ahead : (ahead : Ahead) → behind ahead t.come ≡ TheEnd → made ≡ made ++ waiting ahead
+        by_ahead : (ahead : Ahead) → behind ahead t.come ≡ TheEnd → made ≡ made ++ waiting t.course.capture.bytes ahead
         by_ahead Unread e = absurd (cc)
-        by_ahead (Waits r) e = absurd (cc)
+        by_ahead (Waits entry) e = absurd (cc)
         by_ahead Ended e = sym (append-nil made)
 
     counted : found.finding ≡ Accepted → EndsWhere found.finding (read_of a).behind (read_of b).behind → (a.course.end.counts ≡ summary_of f.made_a) × (b.course.end.counts ≡ summary_of f.made_b)
-        → (found.summary.a ≡ summary_of (f.made_a ++ waiting a.course.ahead)) × (found.summary.b ≡ summary_of (f.made_b ++ waiting b.course.ahead))
+        → (found.summary.a ≡ summary_of (f.made_a ++ waiting a.course.capture.bytes a.course.ahead)) × (found.summary.b ≡ summary_of (f.made_b ++ waiting b.course.capture.bytes b.course.ahead))
     counted is ends counts =
         let both = subst (λ (finding : Finding). EndsWhere finding (read_of a).behind (read_of b).behind) is ends in
         (counts_a ∙ counts.0 ∙ ap summary_of (nothing_waits a f.made_a both.0), counts_b ∙ counts.1 ∙ ap summary_of (nothing_waits b f.made_b both.1))
@@ -110,4 +110,4 @@ has_room s made e few =
     rw e (record { records = omega arith; sent = omega arith; received = omega arith; damaged = omega arith; kept = omega arith; periods = omega arith })
 
 pub few_made : (t : Track) → IsRead t → length t.made ≤ MAX_RECORDS
-few_made t h = omega (arith, h.so_far.fits.few, length-append t.made (waiting t.course.ahead))
+few_made t h = omega (arith, h.so_far.fits.few, length-append t.made (waiting t.course.capture.bytes t.course.ahead))

@@ -6,6 +6,8 @@ use Rattle.capture.specs.declared.fault.CaptureFault.{CaptureFault}
 use Rattle.capture.specs.declared.fault.CaptureFault.TheVariants as faults
 use Rattle.capture.specs.declared.phase.Phase.TheVariants.{Reading}
 use Rattle.capture.specs.declared.record.Record.{Record}
+use Rattle.capture.specs.declared.entry.Entry.{Entry}
+use Rattle.capture.specs.Entries.{record_with}
 use Rattle.capture.specs.Reader.{CaptureState}
 use Rattle.capture.specs.Range.{NumbersFit}
 use Rattle.capture.specs.SoFar.{Behind, ToCome, TheEnd, ReadSoFar, so_far, IsReadSoFar, DepartsBehind}
@@ -27,22 +29,28 @@ use Rattle.pair_judge.specs.Making.{StandsFor, IsMade}
 -- the reader has not failed, and has not come to the end unseen
 abbrev pub MayReadAhead : Ahead → CaptureState → Type 0
 MayReadAhead Ended capture = Unit {0}
-MayReadAhead (Waits r) capture = (capture.phase ≡ Reading) × NumbersFit r
+MayReadAhead (Waits entry) capture = (capture.phase ≡ Reading) × NumbersFit (record_with entry capture.bytes)
 MayReadAhead Unread capture = capture.phase ≡ Reading
 
 abbrev pub MayRead : Course → Type 0
 MayRead course = MayReadAhead course.ahead course.capture
 
--- the record that was read and not made
-abbrev pub waiting : Ahead → List Record
-waiting Unread = []
-waiting (Waits r) = r ∷ []
-waiting Ended = []
+-- the record that was read and not made, where the reader keeps these bytes
+abbrev pub waiting : List ℕ → Ahead → List Record
+waiting bytes Unread = []
+waiting bytes (Waits entry) = record_with entry bytes ∷ []
+waiting bytes Ended = []
+
+-- this record was read and waits, where the reader keeps its bytes
+pub record IsWaiting (bytes : List ℕ) (ahead : Ahead) (r : Record) : Type 0 where
+  pub entry : Entry
+  pub ahead_is : ahead ≡ Waits entry
+  pub is : record_with entry bytes ≡ r
 
 -- what stands behind the records that were read, where this is what the reader has to give
 abbrev pub behind : Ahead → Option (List ℕ) → Behind
 behind Unread come = ToCome come
-behind (Waits r) come = ToCome come
+behind (Waits entry) come = ToCome come
 behind Ended come = TheEnd
 
 -- A side with its text: its course, what is to come of the text, and the records that were made
@@ -61,21 +69,21 @@ having_made t made = record t { made = made }
 
 -- what was read of its text: the records that were made, and the one that waits
 abbrev pub read_of : Track → ReadSoFar
-read_of t = so_far t.course.capture.own t.course.capture.peer (t.made ++ waiting t.course.ahead) (behind t.course.ahead t.come)
+read_of t = so_far t.course.capture.own t.course.capture.peer (t.made ++ waiting t.course.capture.bytes t.course.ahead) (behind t.course.ahead t.come)
 
 -- that was read of its text, and its end is that of the node whose capture it is
 pub record IsRead (t : Track) : Type 0 where
   pub so_far : IsReadSoFar t.text (read_of t)
-  pub count : t.course.capture.records ≡ length (t.made ++ waiting t.course.ahead)
+  pub count : t.course.capture.records ≡ length (t.made ++ waiting t.course.capture.bytes t.course.ahead)
   pub head : t.course.end.head ≡ head_of (read_of t)
 
 -- the next record was read, or there is none
-abbrev pub NextIs : Option Record → Track → Type 0
-NextIs (Some r) t = IsRead (having_made t (t.made ++ r ∷ []))
+abbrev pub NextIs : Option Entry → Track → Type 0
+NextIs (Some entry) t = IsRead (having_made t (t.made ++ record_with entry t.course.capture.bytes ∷ []))
 NextIs None t = IsRead t
 
-abbrev pub IsReadyFor : Course → Option Record → Type 0
-IsReadyFor course (Some r) = (course.ahead ≡ Unread) × (course.capture.phase ≡ Reading) × NumbersFit r
+abbrev pub IsReadyFor : Course → Option Entry → Type 0
+IsReadyFor course (Some entry) = (course.ahead ≡ Unread) × (course.capture.phase ≡ Reading) × NumbersFit (record_with entry course.capture.bytes)
 IsReadyFor course None = course.ahead ≡ Ended
 
 -- why the next record is not known: a line that departs is the one behind what was read, all of which was made
@@ -115,7 +123,7 @@ pub record IsAdvanced (m : Move) (t : Track) : Type 0 where
 pub record IsBlocked (m : Move) (t : Track) : Type 0 where
   pub next : Record
   pub read : IsRead t
-  pub ahead : t.course.ahead ≡ Waits next
+  pub ahead : IsWaiting t.course.capture.bytes t.course.ahead next
   pub waits : WaitsAt m.old m.before next
   pub still : IsStill m
 

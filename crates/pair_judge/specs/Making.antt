@@ -33,22 +33,22 @@ pub record IsMade (old new : End) (before after : Line) (r : Record) (own other 
 abbrev pub MadeIs : Made → End → End → Line → Line → Record → JudgeHalf → JudgeHalf → Type 0
 MadeIs Done old new before after r own other = IsMade old new before after r own other
 -- the unit that the record names is not sent yet
-MadeIs (Waits back) old new before after r own other = advance (wire_step judged) own other r ≡ any.Waits
+MadeIs Waits old new before after r own other = advance (wire_step judged) own other r ≡ any.Waits
 MadeIs (Fails refusal) old new before after r own other = advance (wire_step judged) own other r ≡ any.Refused refusal
 
--- a record that waits is handed back, and leaves all as it was
-abbrev pub LeavesWaiting : Made → End → End → Line → Line → Record → Type 0
-LeavesWaiting Done old new before after r = Unit {0}
-LeavesWaiting (Waits back) old new before after r = (back ≡ r) × (new ≡ old) × (after ≡ before)
-LeavesWaiting (Fails refusal) old new before after r = Unit {0}
+-- a record that waits leaves all as it was
+abbrev pub LeavesWaiting : Made → End → End → Line → Line → Type 0
+LeavesWaiting Done old new before after = Unit {0}
+LeavesWaiting Waits old new before after = (new ≡ old) × (after ≡ before)
+LeavesWaiting (Fails refusal) old new before after = Unit {0}
 
 abbrev pub NeverWaits : Made → Type 0
 NeverWaits Done = Unit {0}
-NeverWaits (Waits back) = ⊥
+NeverWaits Waits = ⊥
 NeverWaits (Fails refusal) = Unit {0}
 
 -- a fact of a record that can't be made
 abbrev pub IfFails : Made → Type 0 → Type 0
 IfFails Done P = Unit {0}
-IfFails (Waits back) P = Unit {0}
+IfFails Waits P = Unit {0}
 IfFails (Fails refusal) P = P

@@ -8,11 +8,11 @@ use Rattle.dna_model.specs.declared.finding.Finding.TheVariants.{Accepted}
 use Rattle.dna_model.specs.Verdict.{IsVerdict}
 use Rattle.pair_judge.specs.declared.line.Line.{Line}
 use Rattle.pair_judge.specs.declared.end.End.{End}
-use Rattle.pair_judge.specs.declared.course.Ahead.TheVariants.{Waits, Ended}
+use Rattle.pair_judge.specs.declared.course.Ahead.TheVariants.{Ended}
 use Rattle.pair_judge.specs.declared.course.Course.{Course}
 use Rattle.pair_judge.specs.Wire.{JudgeWorld, judge_pair, judge_start}
 use Rattle.pair_judge.specs.Making.{StandsFor}
-use Rattle.pair_judge.specs.Course.{IsRead, Track, WaitsAt, having_made, read_of}
+use Rattle.pair_judge.specs.Course.{IsRead, Track, WaitsAt, IsWaiting, having_made, read_of}
 use Rattle.pair_judge.specs.Finding.{EndsWhere}
 use Rattle.pair_judge.specs.Summary.{summary_of}
 
@@ -34,7 +34,7 @@ pub record IsUnderWay (a b : Track) : Type 0 where
 -- the next record of a side waits
 pub record IsHeldUp (own : Course) (incoming : Line) : Type 0 where
   pub next : Record
-  pub ahead : own.ahead ≡ Waits next
+  pub ahead : IsWaiting own.capture.bytes own.ahead next
   pub waits : WaitsAt own.end incoming next
 
 -- a side can't go on: it waits, or it has ended

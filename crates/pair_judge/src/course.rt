@@ -2,6 +2,8 @@
 
 ghost use Rattle.std.specs.Prelude.{◌≡◌, ◌≢◌, IfOk, IfErr, List, [], ◌∷◌, ◌++◌, Option, ℕ};
 ghost use Rattle.capture.specs.Faulty.{CountsReads, is_failed_read};
+ghost use Rattle.capture.specs.declared.record.Record.{Record};
+ghost use Rattle.capture.specs.Entries.{record_with};
 ghost use Rattle.capture.specs.Range.{NumbersFit};
 ghost use Rattle.capture.specs.declared.phase.Phase.TheVariants as Phase;
 ghost use Rattle.capture.specs.Lines.{to_come};
@@ -13,20 +15,19 @@ ghost use Rattle.pair_judge.specs.Course.{AdvanceIs, IsFaultOf, IsRead, IsReadyF
 use crate::end::End;
 use crate::line::Line;
 use crate::making::{Made, make};
-use capture::{CaptureFault, CaptureReader, Record, text_read_on};
+use capture::{CaptureFault, CaptureReader, Entry, text_read_on};
 use dna_model::StepRefusal;
 use std::alloc::AllocError;
 use std::io::Read;
-use std::mem;
 use wire_base::Tally;
 
 /// What comes next of a capture.
-#[derive(Debug, Drop)]
+#[derive(Clone, Copy, Debug, PartialEq, Eq)]
 pub enum Ahead {
     /// A record that is not read yet, or the end.
     Unread,
-    /// A record that was read and waits for its unit.
-    Waits(Record),
+    /// A record that was read and waits for its unit: that of this entry and the bytes that the reader keeps.
+    Waits(Entry),
     /// Nothing: all records were made.
     Ended,
 }
@@ -77,7 +78,7 @@ impl Course {
         ensures reads { CountsReads (is_failed_read result) (tally_faults reader.old) (tally_faults reader.new) }
     {
         match self.next(reader) {
-            Ok(Some(record)) => self.make(incoming, record),
+            Ok(Some(entry)) => self.make(incoming, entry),
             Ok(None) => Ok(Advance::Ended),
             Err(fault) => Err(fault),
         }
@@ -85,7 +86,7 @@ impl Course {
 
     // The record that waits, or else the next one of the text; `None` at its end.
     #[inline(always)]
-    fn next<R: Read>(&mut self, reader: &mut Tally<R>) -> Result<Option<Record>, CaptureFault>
+    fn next<R: Read>(&mut self, reader: &mut Tally<R>) -> Result<Option<Entry>, CaptureFault>
         requires { MayRead self.old }
         ensures next { IfOk result (λ next. (text : Option (List ℕ)) (made : List Record) →
             IsRead (along text self.old (to_come self.old.capture.unread (R.remaining (tally_lent reader.old))) made) →
@@ -99,14 +100,14 @@ impl Course {
         ensures reads { CountsReads (is_failed_read result) (tally_faults reader.old) (tally_faults reader.new) }
     {
         text_read_on();
-        match mem::replace(&mut self.ahead, Ahead::Unread) {
-            Ahead::Waits(record) => Ok(Some(record)),
-            Ahead::Ended => {
-                self.ahead = Ahead::Ended;
-                Ok(None)
+        match self.ahead {
+            Ahead::Waits(entry) => {
+                self.ahead = Ahead::Unread;
+                Ok(Some(entry))
             }
-            Ahead::Unread => match self.capture.next(reader) {
-                Ok(Some(record)) => Ok(Some(record)),
+            Ahead::Ended => Ok(None),
+            Ahead::Unread => match self.capture.advance(reader) {
+                Ok(Some(entry)) => Ok(Some(entry)),
                 Ok(None) => {
                     self.ahead = Ahead::Ended;
                     Ok(None)
@@ -116,25 +117,26 @@ impl Course {
         }
     }
 
-    // Makes this record, which was read.
+    // Makes the record of this entry, which was read, and of the bytes that the reader keeps.
     #[inline(always)]
-    fn make(&mut self, incoming: &mut Line, next: Record) -> Result<Advance, CaptureFault>
+    fn make(&mut self, incoming: &mut Line, entry: Entry) -> Result<Advance, CaptureFault>
         requires unread { self.old.ahead ≡ Ahead.Unread }
         requires reading { self.old.capture.phase ≡ Phase.Reading }
-        requires numbers { NumbersFit next }
+        requires numbers { NumbersFit (record_with entry self.old.capture.bytes) }
         requires room { HasRoom self.old.end.counts }
         ensures advance { IfOk result (λ advance. (text come : Option (List ℕ)) (made : List Record) →
-            IsRead (along text self.old come (made ++ next ∷ [])) →
+            IsRead (along text self.old come (made ++ record_with entry self.old.capture.bytes ∷ [])) →
             AdvanceIs advance (move self.old.end self.new.end incoming.old incoming.new) (along text self.new come made)) }
         ensures may_read { IfOk result (λ _. MayRead self.new) }
         ensures capture { self.new.capture ≡ self.old.capture }
         ensures head { self.new.end.head ≡ self.old.end.head }
         ensures fault { IfErr result (λ fault. fault ≡ CaptureFault.OutOfMemory) }
     {
-        match make(&mut self.end, incoming, next) {
+        let alloc = self.capture.alloc();
+        match make(alloc, &mut self.end, incoming, entry, self.capture.bytes()) {
             Ok(Made::Done) => Ok(Advance::Made),
-            Ok(Made::Waits(record)) => {
-                self.ahead = Ahead::Waits(record);
+            Ok(Made::Waits) => {
+                self.ahead = Ahead::Waits(entry);
                 Ok(Advance::Blocked)
             }
             Ok(Made::Fails(refusal)) => Ok(Advance::Fails(refusal)),

@@ -17,6 +17,7 @@ use capture::Bytes;
 use ddcmp_msg::{Reading, read_unit};
 use ddcmp_station::{StationFault, Tag};
 use dna_model::StepRefusal;
+use std::alloc::Global;
 
 /// Why a sending was not made.
 #[derive(Clone, Copy, Debug, PartialEq, Eq)]
@@ -32,21 +33,29 @@ pub enum SendFault {
 /// `Refused`: they are no sound message, or the station may not send it now. `OutOfMemory`: there is no room on the line, or
 /// for a new packet in the station. After it the station may have gone on without its unit, so that no record can follow.
 #[inline(always)]
-pub fn send(station: &mut Station, line: &mut Line, bytes: Bytes) -> Result<(), SendFault>
-    ensures ok { OnOk result ((head : Head) (front : ℕ) → wire_sent_step (node_at head station.old front) bytes (reading bytes)
-        ≡ Sends (node_at head station.new front) (unit_of bytes (wire_tag station.old))) }
+pub fn send(
+    alloc: Global,
+    station: &mut Station,
+    line: &mut Line,
+    bytes: &[u8],
+) -> Result<(), SendFault>
+    ensures ok { OnOk result ((head : Head) (front : ℕ) → wire_sent_step (node_at head station.old front) bytes.now (reading bytes.now)
+        ≡ Sends (node_at head station.new front) (unit_of bytes.now (wire_tag station.old))) }
     ensures units { OnOk result (line.new.units.items
-        ≡ line.old.units.items ++ unit_of bytes (wire_tag station.old) ∷ []) }
+        ≡ line.old.units.items ++ unit_of bytes.now (wire_tag station.old) ∷ []) }
     ensures gone { line.new.gone ≡ line.old.gone }
     ensures load { load station.new ≤ load station.old }
     ensures err { IfErr result (IfRefused (λ z. (head : Head) (front : ℕ) →
-        wire_sent_step (node_at head station.old front) bytes (reading bytes) ≡ Refuses z)) }
+        wire_sent_step (node_at head station.old front) bytes.now (reading bytes.now) ≡ Refuses z)) }
 {
-    let tag = match sent(station, bytes.as_slice()) {
+    let tag = match sent(station, bytes) {
         Ok(tag) => tag,
         Err(fault) => return Err(fault),
     };
-    line.push(LineUnit::new(bytes, tag))
+    let Ok(own) = Bytes::copied(alloc, bytes) else {
+        return Err(SendFault::OutOfMemory);
+    };
+    line.push(LineUnit::new(own, tag))
         .map_err(|_| SendFault::OutOfMemory)
 }
 
