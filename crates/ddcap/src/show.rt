@@ -35,8 +35,8 @@ pub enum Ending {
 /// The lines go to `out`, put together and written in large pieces. Status 0: the lines of all records were written. At a
 /// fault of the text the lines of the records before it are written, and then the fault to `err`: a faulty line and its
 /// kind, status 2; a failed read or want of memory, status 3. A failed write ends the printing, with status 3. The memory
-/// for the pieces and for the reader's block is asked for before the first write; after that, only a record's own bytes
-/// take memory.
+/// for the pieces and for the reader's block is asked for before the first write; after that, nothing
+/// takes memory.
 pub fn show_to<A: Read, O: Write, E: Write>(
     alloc: Global,
     a: &mut Tally<A>,
@@ -72,12 +72,12 @@ fn list_records<A: Read, O: Write>(
         Err(fault) => return Ending::Faulty(fault),
     };
     for number in 0..MAX_RECORDS + 1 {
-        match capture.next(a) {
-            Ok(Some(record)) => {
+        match capture.advance(a) {
+            Ok(Some(entry)) => {
                 let Ok(()) = make_room(page, out) else {
                     return Ending::Cut(None);
                 };
-                put_line(page, number, &record);
+                put_line(page, number, entry, capture.bytes());
             }
             Ok(None) => match write_page(page, out) {
                 Ok(()) => return Ending::Whole,

@@ -1,5 +1,6 @@
 use Rattle.std.proofs.Common.{◌≡◌, ℕ, [], refl, sym, subst, ◌∙◌, arith}
 use Rattle.wire_base.specs.Tally.{tally_faults}
+use Rattle.capture.specs.Entries.{record_with}
 use Rattle.capture.specs.Faulty.{CountsReads, is_read_fault}
 use Rattle.ddcap.proofs.Listing.{GrowingLaws, all_lines, head_fault, listed_on, no_lines, opened, read_all, read_by_then, read_to_fault, some_lines}
 use Rattle.ddcap.proofs.show.list_records.Goals as goal
@@ -56,8 +57,8 @@ returns-in-Ok-write_page-2 g c =
     let h = c.loop-number.invariant.0 in
     record {
       records = h.records;
-      read = read_to_fault _ _ c.loop-number.capture c.loop-number.number _ c.loop-number.page h c.in-Err-next.fault (c.in-Err-next.ensures.gives h.reading).0;
-      reads = subst (λ (faults : ℕ). CountsReads (is_read_fault c.in-Err-next.fault) faults (tally_faults c.next.new.reader)) c.loop-number.invariant.1 c.in-Err-next.ensures.reads;
+      read = read_to_fault _ _ c.loop-number.capture c.loop-number.number _ c.loop-number.page h c.in-Err-advance.fault (c.in-Err-advance.ensures.gives h.reading).0;
+      reads = subst (λ (faults : ℕ). CountsReads (is_read_fault c.in-Err-advance.fault) faults (tally_faults c.advance.new.reader)) c.loop-number.invariant.1 c.in-Err-advance.ensures.reads;
       lines = all_lines _ _ c.loop-number.capture c.loop-number.number _ c.loop-number.page h _ c.in-Ok-write_page-2.ensures.ok;
     }
 
@@ -67,7 +68,7 @@ returns-in-Err-write_page-2 g c =
     record {
       records = h.records;
       read = read_by_then _ _ c.loop-number.capture c.loop-number.number _ c.loop-number.page h;
-      reads = subst (λ (faults : ℕ). CountsReads (is_read_fault c.in-Err-next.fault) faults (tally_faults c.next.new.reader)) c.loop-number.invariant.1 c.in-Err-next.ensures.reads;
+      reads = subst (λ (faults : ℕ). CountsReads (is_read_fault c.in-Err-advance.fault) faults (tally_faults c.advance.new.reader)) c.loop-number.invariant.1 c.in-Err-advance.ensures.reads;
       lines = some_lines _ _ c.loop-number.capture c.loop-number.number _ c.loop-number.page h _ c.in-Err-write_page-2.ensures.err;
     }
 
@@ -77,7 +78,7 @@ loop-number-preserved g c =
     let w = c.text_read_on.ensures in
     let laws : GrowingLaws = record { opened = w.opened; one_more = w.one_more; ended = w.ended } in
     let gives = rw c.in-Ok-Some.field-0-is at c.in-Ok-Some.ensures.gives h.reading in (
-      listed_on laws _ _ _ c.loop-number.capture c.next.new.self c.loop-number.number _ _ _ c.loop-number.page c.make_room.new.page c.put_line.new.page c.in-Ok-Some.record h c.next.ensures.head.0 c.next.ensures.head.1 gives c.in-Ok-make_room.ensures.ok c.put_line.ensures,
+      listed_on laws _ _ _ c.loop-number.capture c.advance.new.self c.loop-number.number _ _ _ c.loop-number.page c.make_room.new.page c.put_line.new.page (record_with c.in-Ok-Some.entry c.advance.new.self.bytes) h c.advance.ensures.head.0 c.advance.ensures.head.1 gives c.in-Ok-make_room.ensures.ok (rw c.bytes.ensures at c.put_line.ensures),
       c.in-Ok-Some.ensures.reads ∙ c.loop-number.invariant.1,
     )
 
@@ -85,3 +86,9 @@ pub unreachable-requires : goal.unreachable-requires
 unreachable-requires g c =
     let h = c.loop-number.invariant.0 in
     omega (arith, h.count, h.read.fits.few, c.loop-number-test.false)
+
+pub put_line-requires-clause-record : goal.put_line-requires-clause-record
+put_line-requires-clause-record g c =
+    let h = c.loop-number.invariant.0 in
+    let gives = rw c.in-Ok-Some.field-0-is at c.in-Ok-Some.ensures.gives h.reading in
+    rw c.bytes.ensures gives.0
