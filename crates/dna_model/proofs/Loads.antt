@@ -9,7 +9,7 @@ use Rattle.dna_model.specs.declared.state.StationEvent.{StationEvent}
 use Rattle.dna_model.specs.declared.state.StationEvent.TheVariants.{Start, Halt}
 use Rattle.dna_model.specs.declared.tag.Tag.{Tag}
 use Rattle.dna_model.specs.Causes.{Causes, with_cause, without_cause}
-use Rattle.dna_model.specs.Table.{OfPair, ignored, Effect, GoTo, TakePartner, Respond, SetBack, TakePacket, AnswerRep, row, counts_damage}
+use Rattle.dna_model.specs.Table.{Row, ignored, Effect, GoTo, TakePartner, Respond, SetBack, TakePacket, AnswerRep, row, counts_damage}
 use Rattle.dna_model.specs.Book.{ArrivalValue, Sound, HeaderBad, DataBad, num_of}
 use Rattle.dna_model.specs.WireStation.{WireStation, wire_after_event, load}
 use Rattle.dna_model.specs.WireBook.{wire_is_next, wire_does, wire_book, wire_after_sending, wire_after_arrival}
@@ -25,20 +25,16 @@ all_add [] = 0
 all_add (effect ∷ next) = adds effect + all_add next
 
 -- no row adds more than one
-starting_add : (b : Bool) → all_add (cond b (record { needs = OfPair; effects = GoTo Running ∷ Respond ∷ TakePacket ∷ [] }) ignored).effects ≤ 1
-starting_add true = omega arith
-starting_add false = omega arith
-
-acknowledged_add : (b : Bool) → all_add (cond b (record { needs = OfPair; effects = GoTo Running ∷ [] }) ignored).effects ≤ 1
-acknowledged_add true = omega arith
-acknowledged_add false = omega arith
+either_add : (b : Bool) (r : Row) → all_add r.effects ≤ 1 → all_add (cond b r ignored).effects ≤ 1
+either_add true r adds_one = adds_one
+either_add false r adds_one = omega arith
 
 rows_add : (state : State) (m : MessageValue) → all_add (row state m).effects ≤ 1
 rows_add Halted m = omega arith
 rows_add Istrt (Strt flags) = omega arith
 rows_add Istrt m = omega arith
-rows_add Astrt (Data flags resp num body) = starting_add (eqb resp 0)
-rows_add Astrt (Ack flags resp) = acknowledged_add (eqb resp 0)
+rows_add Astrt (Data flags resp num body) = either_add (eqb resp 0) _ (omega arith)
+rows_add Astrt (Ack flags resp) = either_add (eqb resp 0) _ (omega arith)
 rows_add Astrt m = omega arith
 rows_add Running (Strt flags) = omega arith
 rows_add Running m = omega arith

@@ -187,8 +187,8 @@ impl<T: Copy, W: Window<HeldPacket<T>, 256>> Station<T, W> {
     // The partner is this period, and the start goes on to this state.
     fn join(&mut self, partner: u64, state: State)
         ensures { self.new ≡ record self.old {
-            variables = record self.old.variables { state = state };
-            partner = Some partner;
+          variables = record self.old.variables { state = state };
+          partner = Some partner;
         } }
     {
         self.partner = Some(partner);
@@ -200,7 +200,7 @@ impl<T: Copy, W: Window<HeldPacket<T>, 256>> Station<T, W> {
         requires { load self.old < 2 ^ 63 }
         ensures load { load self.new ≤ load self.old + 1 }
         ensures step { self.new ≡ record self.old {
-            causes = if num == self.old.variables.received then self.old.causes else with_cause nak.RepResponse self.old.causes;
+          causes = if num == self.old.variables.received then self.old.causes else with_cause nak.RepResponse self.old.causes;
         } }
     {
         if !self.variables.is_received(num) {
@@ -213,9 +213,9 @@ impl<T: Copy, W: Window<HeldPacket<T>, 256>> Station<T, W> {
         requires { load self.old < 2 ^ 63 }
         ensures load { load self.new ≤ load self.old + 1 }
         ensures step { self.new ≡ record self.old {
-            variables = with_next (wire_is_next (wire_responded self.old.variables resp) num && kept) (wire_responded self.old.variables resp);
-            causes = if (wire_is_next (wire_responded self.old.variables resp) num && not kept)
-                then with_cause nak.NoBuffer self.old.causes else self.old.causes;
+          variables = with_next (wire_is_next (wire_responded self.old.variables resp) num && kept) (wire_responded self.old.variables resp);
+          causes = if (wire_is_next (wire_responded self.old.variables resp) num && not kept)
+              then with_cause nak.NoBuffer self.old.causes else self.old.causes;
         } }
     {
         self.variables.respond(resp);

@@ -200,7 +200,7 @@ impl<T: Copy, W: Window<HeldPacket<T>, 256>> Station<T, W> {
             then (if resp == self.now.variables.received
             then (if (if wire_is_new self.now.variables then nat_lt (length self.now.variables.held) WINDOW else true)
             then (if (if wire_is_new self.now.variables then true
-                else is_held_packet (slice_get self.now.variables.held self.now.variables.ahead) body.now)
+            else is_held_packet (slice_get self.now.variables.held self.now.variables.ahead) body.now)
             then None
             else Some StationRefusal.Changed)
             else Some StationRefusal.WindowFull)
