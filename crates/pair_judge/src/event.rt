@@ -29,7 +29,13 @@ pub fn happen(station: &mut Station, event: &Event) -> Result<(), StepRefusal>
     match event {
         Event::Start => ask(station, StationEvent::Start),
         Event::Halt => ask(station, StationEvent::Halt),
-        _ => Ok(()),
+        // links are not judged yet, and their events change nothing
+        Event::Open { .. }
+        | Event::Accept { .. }
+        | Event::Reject { .. }
+        | Event::In { .. }
+        | Event::Up { .. }
+        | Event::Close { .. } => Ok(()),
     }
 }
 
