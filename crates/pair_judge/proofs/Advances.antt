@@ -18,7 +18,7 @@ use Rattle.pair_judge.specs.declared.end.End.{End}
 use Rattle.pair_judge.specs.Unit.{unit_of}
 use Rattle.pair_judge.specs.Lines.{Shows}
 use Rattle.pair_judge.specs.Receipts.{node_at, node_of, IsReceived}
-use Rattle.pair_judge.specs.Making.{StandsFor, IsMade}
+use Rattle.pair_judge.specs.Making.{IsMade, StandsFor, move}
 use Rattle.pair_judge.specs.Summary.{counted}
 use Rattle.pair_judge.specs.Wire.{JudgeHalf, JudgeNode, JudgeStation}
 
@@ -45,7 +45,7 @@ same_line before after sent same shows = record {
 
 -- ---- a sending
 
-pub sending_made : (old new : End) (incoming : Line) (bytes : List ℕ) (mine theirs : JudgeHalf) → StandsFor old incoming mine → Shows incoming theirs.sent → ((head : Head) (front : ℕ) → wire_sent_step (node_at head old.station front) bytes (reading bytes) ≡ Sends (node_at head new.station front) (unit_of bytes (wire_tag old.station))) → new.line.units.items ≡ old.line.units.items ++ unit_of bytes (wire_tag old.station) ∷ [] → new.line.gone ≡ old.line.gone → new.head ≡ old.head → new.counts ≡ counted old.counts (Sent bytes) → IsMade old new incoming incoming (Sent bytes) mine theirs
+pub sending_made : (old new : End) (incoming : Line) (bytes : List ℕ) (mine theirs : JudgeHalf) → StandsFor old incoming mine → Shows incoming theirs.sent → ((head : Head) (front : ℕ) → wire_sent_step (node_at head old.station front) bytes (reading bytes) ≡ Sends (node_at head new.station front) (unit_of bytes (wire_tag old.station))) → new.line.units.items ≡ old.line.units.items ++ unit_of bytes (wire_tag old.station) ∷ [] → new.line.gone ≡ old.line.gone → new.head ≡ old.head → new.counts ≡ counted old.counts (Sent bytes) → IsMade (move old new incoming incoming) (Sent bytes) mine theirs
 sending_made old new incoming bytes mine theirs stands shows sends units gone head counts = record {
   next = stepped_sending mine (node_of old.head new.station incoming) (unit_of bytes (wire_tag old.station));
   step_is =
@@ -70,7 +70,7 @@ sending_refused old incoming bytes mine theirs refusal stands refuses =
 
 -- ---- a user event
 
-pub event_made : (old new : End) (incoming : Line) (event : Event) (mine theirs : JudgeHalf) → StandsFor old incoming mine → Shows incoming theirs.sent → ((head : Head) (front : ℕ) → wire_user_step (node_at head old.station front) event ≡ Goes (node_at head new.station front)) → new.line ≡ old.line → new.head ≡ old.head → new.counts ≡ counted old.counts (User event) → IsMade old new incoming incoming (User event) mine theirs
+pub event_made : (old new : End) (incoming : Line) (event : Event) (mine theirs : JudgeHalf) → StandsFor old incoming mine → Shows incoming theirs.sent → ((head : Head) (front : ℕ) → wire_user_step (node_at head old.station front) event ≡ Goes (node_at head new.station front)) → new.line ≡ old.line → new.head ≡ old.head → new.counts ≡ counted old.counts (User event) → IsMade (move old new incoming incoming) (User event) mine theirs
 event_made old new incoming event mine theirs stands shows goes line head counts = record {
   next = stepped mine (node_of old.head new.station incoming);
   step_is =
@@ -97,7 +97,7 @@ reads_unit mine theirs n hint kept bytes unit r state was_sent receives_is =
     ∙ ap (λ (s : JudgeNode). concluded mine (wire_receives judged s hint kept bytes unit)) state
     ∙ ap (concluded mine) receives_is
 
-pub receipt_made : (old new : End) (before after : Line) (hint : ℕ) (kept : Bool) (bytes : List ℕ) (mine theirs : JudgeHalf) → StandsFor old before mine → IsReceived old.station new.station before after hint kept bytes theirs.sent → new.line ≡ old.line → new.head ≡ old.head → new.counts ≡ counted old.counts (Received hint kept bytes) → IsMade old new before after (Received hint kept bytes) mine theirs
+pub receipt_made : (old new : End) (before after : Line) (hint : ℕ) (kept : Bool) (bytes : List ℕ) (mine theirs : JudgeHalf) → StandsFor old before mine → IsReceived old.station new.station before after hint kept bytes theirs.sent → new.line ≡ old.line → new.head ≡ old.head → new.counts ≡ counted old.counts (Received hint kept bytes) → IsMade (move old new before after) (Received hint kept bytes) mine theirs
 receipt_made old new before after hint kept bytes mine theirs stands received line head counts = record {
   next = stepped mine (node_of old.head new.station after);
   step_is = reads_unit mine theirs (node_of old.head old.station before) hint kept bytes received.unit (Ok (node_of old.head new.station after)) (state_is old before mine stands) received.was_sent (received.step old.head);

@@ -10,10 +10,10 @@ use Rattle.pair_judge.specs.declared.end.End.{End}
 use Rattle.pair_judge.specs.declared.summary.SideSummary.{SideSummary}
 use Rattle.pair_judge.specs.Counting.{is_received, is_damaged, is_kept, is_start, more_if}
 use Rattle.pair_judge.specs.Summary.{summary_of, counted}
-use Rattle.pair_judge.specs.Making.{StandsFor, IsMade}
+use Rattle.pair_judge.specs.Making.{IsMade, Move, StandsFor, move}
 use Rattle.pair_judge.specs.Lines.{Shows}
 use Rattle.pair_judge.specs.declared.course.Course.{Course}
-use Rattle.pair_judge.specs.Course.{IsBlocked, IsRead, MayRead, Move, Track, WaitsAt, along}
+use Rattle.pair_judge.specs.Course.{IsBlocked, IsRead, MayRead, Track, WaitsAt, along}
 use Rattle.pair_judge.specs.Reached.{HasReached, IsHeldUp}
 use Rattle.pair_judge.specs.Wire.{JudgeWorld, JudgeHalf, judge_pair, judge_start}
 
@@ -51,7 +51,7 @@ started_so a b a' b' {made_a} {made_b} {w} same_a same_b run =
     subst (λ (h : Head). Run judge_pair (judge_start h b'.head) made_a made_b w) (sym same_a) (subst (λ (h : Head). Run judge_pair (judge_start a.head h) made_a made_b w) (sym same_b) run)
 
 -- the other side stands for the same half
-pub stands_on : (own own' other other' : End) (after : Line) (r : Record) (mine theirs : JudgeHalf) → StandsFor other own.line theirs → IsMade own own' other.line after r mine theirs → IsSame other other' after → StandsFor other' own'.line theirs
+pub stands_on : (own own' other other' : End) (after : Line) (r : Record) (mine theirs : JudgeHalf) → StandsFor other own.line theirs → IsMade (move own own' other.line after) r mine theirs → IsSame other other' after → StandsFor other' own'.line theirs
 stands_on own own' other other' after r mine theirs stands made same = record {
   head = stands.head ∙ sym same.head;
   station = stands.station ∙ sym same.station;
@@ -59,7 +59,7 @@ stands_on own own' other other' after r mine theirs stands made same = record {
   sent = rw same.line made.incoming;
 }
 
-pub reached_by_a : (a a' b b' : End) (after : Line) (made_a made_b : List Record) (r : Record) → (h : HasReached a b made_a made_b) → (m : IsMade a a' b.line after r h.world.a h.world.b) → IsSame b b' after → Run judge_pair (judge_start a.head b.head) (made_a ++ r ∷ []) made_b (record { a = m.next; b = h.world.b }) → HasReached a' b' (made_a ++ r ∷ []) made_b
+pub reached_by_a : (a a' b b' : End) (after : Line) (made_a made_b : List Record) (r : Record) → (h : HasReached a b made_a made_b) → (m : IsMade (move a a' b.line after) r h.world.a h.world.b) → IsSame b b' after → Run judge_pair (judge_start a.head b.head) (made_a ++ r ∷ []) made_b (record { a = m.next; b = h.world.b }) → HasReached a' b' (made_a ++ r ∷ []) made_b
 reached_by_a a a' b b' after made_a made_b r h m same run = record {
   world = record { a = m.next; b = h.world.b };
   run = started_so a b a' b' m.same_head same.head run;
@@ -69,7 +69,7 @@ reached_by_a a a' b b' after made_a made_b r h m same run = record {
   counts_b = same.counts ∙ h.counts_b;
 }
 
-pub reached_by_b : (a a' b b' : End) (after : Line) (made_a made_b : List Record) (r : Record) → (h : HasReached a b made_a made_b) → (m : IsMade b b' a.line after r h.world.b h.world.a) → IsSame a a' after → Run judge_pair (judge_start a.head b.head) made_a (made_b ++ r ∷ []) (record { a = h.world.a; b = m.next }) → HasReached a' b' made_a (made_b ++ r ∷ [])
+pub reached_by_b : (a a' b b' : End) (after : Line) (made_a made_b : List Record) (r : Record) → (h : HasReached a b made_a made_b) → (m : IsMade (move b b' a.line after) r h.world.b h.world.a) → IsSame a a' after → Run judge_pair (judge_start a.head b.head) made_a (made_b ++ r ∷ []) (record { a = h.world.a; b = m.next }) → HasReached a' b' made_a (made_b ++ r ∷ [])
 reached_by_b a a' b b' after made_a made_b r h m same run = record {
   world = record { a = h.world.a; b = m.next };
   run = started_so a b a' b' same.head m.same_head run;

@@ -24,7 +24,7 @@ use Rattle.pair_judge.specs.declared.course.Advance.TheVariants as answers
 use Rattle.pair_judge.specs.Heads.{head_of}
 use Rattle.pair_judge.specs.Lines.{Shows}
 use Rattle.pair_judge.specs.Wire.{JudgeHalf}
-use Rattle.pair_judge.specs.Making.{StandsFor, IsMade}
+use Rattle.pair_judge.specs.Making.{Move, StandsFor, IsMade}
 
 -- the reader has not failed, and has not come to the end unseen
 abbrev pub MayReadAhead : Ahead → CaptureState → Type 0
@@ -93,16 +93,6 @@ IsFaultOf t faults.Read = Unit {0}
 IsFaultOf t faults.OutOfMemory = Unit {0}
 IsFaultOf t faults.Failed = Unit {0}
 
--- An end before and after one record, and the line that leads to it
-pub record Move : Type 0 where
-  pub old : End
-  pub new : End
-  pub before : Line
-  pub after : Line
-
-abbrev pub move : End → End → Line → Line → Move
-move old new before after = record { old = old; new = new; before = before; after = after }
-
 -- nothing moved
 pub record IsStill (m : Move) : Type 0 where
   pub same_end : m.new ≡ m.old
@@ -117,7 +107,7 @@ pub record IsAdvanced (m : Move) (t : Track) : Type 0 where
   pub next : Record
   pub read : IsRead (having_made t (t.made ++ next ∷ []))
   pub unread : t.course.ahead ≡ Unread
-  pub made_it : (mine theirs : JudgeHalf) → StandsFor m.old m.before mine → Shows m.before theirs.sent → IsMade m.old m.new m.before m.after next mine theirs
+  pub made_it : (mine theirs : JudgeHalf) → StandsFor m.old m.before mine → Shows m.before theirs.sent → IsMade m next mine theirs
 
 -- the next record waits
 pub record IsBlocked (m : Move) (t : Track) : Type 0 where

@@ -20,27 +20,37 @@ pub record StandsFor (own : End) (incoming : Line) (half : JudgeHalf) : Type 0 w
   pub front : half.state.front ≡ incoming.gone
   pub sent : Shows own.line half.sent
 
+-- An end before and after one record, and the line that leads to it
+pub record Move : Type 0 where
+  pub old : End
+  pub new : End
+  pub before : Line
+  pub after : Line
+
+abbrev pub move : End → End → Line → Line → Move
+move old new before after = record { old = old; new = new; before = before; after = after }
+
 -- the record is made, and the end stands for the half after it
-pub record IsMade (old new : End) (before after : Line) (r : Record) (own other : JudgeHalf) : Type 0 where
+pub record IsMade (m : Move) (r : Record) (own other : JudgeHalf) : Type 0 where
   pub next : JudgeHalf
   pub step_is : advance (wire_step judged) own other r ≡ any.Made next
-  pub stands : StandsFor new after next
-  pub incoming : Shows after other.sent
-  pub same_head : new.head ≡ old.head
-  pub same_front : new.line.gone ≡ old.line.gone
-  pub counts : new.counts ≡ counted old.counts r
+  pub stands : StandsFor m.new m.after next
+  pub incoming : Shows m.after other.sent
+  pub same_head : m.new.head ≡ m.old.head
+  pub same_front : m.new.line.gone ≡ m.old.line.gone
+  pub counts : m.new.counts ≡ counted m.old.counts r
 
-abbrev pub MadeIs : Made → End → End → Line → Line → Record → JudgeHalf → JudgeHalf → Type 0
-MadeIs Done old new before after r own other = IsMade old new before after r own other
+abbrev pub MadeIs : Made → Move → Record → JudgeHalf → JudgeHalf → Type 0
+MadeIs Done m r own other = IsMade m r own other
 -- the unit that the record names is not sent yet
-MadeIs Waits old new before after r own other = advance (wire_step judged) own other r ≡ any.Waits
-MadeIs (Fails refusal) old new before after r own other = advance (wire_step judged) own other r ≡ any.Refused refusal
+MadeIs Waits m r own other = advance (wire_step judged) own other r ≡ any.Waits
+MadeIs (Fails refusal) m r own other = advance (wire_step judged) own other r ≡ any.Refused refusal
 
 -- a record that waits leaves all as it was
-abbrev pub LeavesWaiting : Made → End → End → Line → Line → Type 0
-LeavesWaiting Done old new before after = Unit {0}
-LeavesWaiting Waits old new before after = (new ≡ old) × (after ≡ before)
-LeavesWaiting (Fails refusal) old new before after = Unit {0}
+abbrev pub LeavesWaiting : Made → Move → Type 0
+LeavesWaiting Done m = Unit {0}
+LeavesWaiting Waits m = (m.new ≡ m.old) × (m.after ≡ m.before)
+LeavesWaiting (Fails refusal) m = Unit {0}
 
 abbrev pub NeverWaits : Made → Type 0
 NeverWaits Done = Unit {0}

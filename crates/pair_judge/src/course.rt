@@ -10,7 +10,8 @@ ghost use Rattle.capture.specs.Lines.{to_come};
 ghost use Rattle.capture.specs.declared.fault.CaptureFault.TheVariants as CaptureFault;
 ghost use Rattle.wire_base.specs.Tally.{tally_faults, tally_lent};
 ghost use Rattle.pair_judge.specs.Summary.{HasRoom};
-ghost use Rattle.pair_judge.specs.Course.{AdvanceIs, IsFaultOf, IsRead, IsReadyFor, MayRead, NextIs, along, move};
+ghost use Rattle.pair_judge.specs.Course.{AdvanceIs, IsFaultOf, IsRead, IsReadyFor, MayRead, NextIs, along};
+ghost use Rattle.pair_judge.specs.Making.{move};
 
 use crate::end::End;
 use crate::line::Line;

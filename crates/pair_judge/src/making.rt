@@ -8,7 +8,7 @@ ghost use Rattle.capture.specs.declared.limit.TheConstants.{MAX_HINT};
 ghost use Rattle.pair_judge.specs.Lines.{Shows};
 ghost use Rattle.pair_judge.specs.Summary.{HasRoom};
 ghost use Rattle.pair_judge.specs.declared.line.Line.{Line};
-ghost use Rattle.pair_judge.specs.Making.{StandsFor, MadeIs, LeavesWaiting, NeverWaits, IfFails};
+ghost use Rattle.pair_judge.specs.Making.{IfFails, LeavesWaiting, MadeIs, NeverWaits, StandsFor, move};
 ghost use Rattle.pair_judge.specs.Wire.{JudgeHalf};
 
 use crate::end::End;
@@ -45,8 +45,8 @@ pub fn make(
     requires numbers { NumbersFit (record_with entry bytes.now) }
     ensures made { IfOk result (λ made. (mine theirs : JudgeHalf) →
         StandsFor own.old incoming.old mine → Shows incoming.old theirs.sent →
-        MadeIs made own.old own.new incoming.old incoming.new (record_with entry bytes.now) mine theirs) }
-    ensures waits { IfOk result (λ made. LeavesWaiting made own.old own.new incoming.old incoming.new) }
+        MadeIs made (move own.old own.new incoming.old incoming.new) (record_with entry bytes.now) mine theirs) }
+    ensures waits { IfOk result (λ made. LeavesWaiting made (move own.old own.new incoming.old incoming.new)) }
     ensures counts { IfOk result (λ made. IfFails made (own.new.counts ≡ own.old.counts)) }
     ensures head { own.new.head ≡ own.old.head }
 {
@@ -75,7 +75,7 @@ fn make_sent(alloc: Global, own: &mut End, bytes: &[u8]) -> Result<Made, AllocEr
     requires { HasRoom own.old.counts }
     ensures made { IfOk result (λ made. (incoming : Line) (mine theirs : JudgeHalf) →
         StandsFor own.old incoming mine → Shows incoming theirs.sent →
-        MadeIs made own.old own.new incoming incoming (Record.Sent bytes.now) mine theirs) }
+        MadeIs made (move own.old own.new incoming incoming) (Record.Sent bytes.now) mine theirs) }
     ensures waits { IfOk result NeverWaits }
     ensures counts { IfOk result (λ made. IfFails made (own.new.counts ≡ own.old.counts)) }
     ensures head { own.new.head ≡ own.old.head }
@@ -98,8 +98,8 @@ fn make_received(own: &mut End, incoming: &mut Line, hint: u64, kept: bool, byte
     requires hint { hint ≤ MAX_HINT }
     ensures made { (mine theirs : JudgeHalf) →
         StandsFor own.old incoming.old mine → Shows incoming.old theirs.sent →
-        MadeIs result own.old own.new incoming.old incoming.new (Record.Received hint kept bytes.now) mine theirs }
-    ensures waits { LeavesWaiting result own.old own.new incoming.old incoming.new }
+        MadeIs result (move own.old own.new incoming.old incoming.new) (Record.Received hint kept bytes.now) mine theirs }
+    ensures waits { LeavesWaiting result (move own.old own.new incoming.old incoming.new) }
     ensures counts { IfFails result (own.new.counts ≡ own.old.counts) }
     ensures head { own.new.head ≡ own.old.head }
 {
@@ -118,7 +118,7 @@ fn make_event(own: &mut End, event: Event) -> Made
     requires { HasRoom own.old.counts }
     ensures made { (incoming : Line) (mine theirs : JudgeHalf) →
         StandsFor own.old incoming mine → Shows incoming theirs.sent →
-        MadeIs result own.old own.new incoming incoming (Record.User event) mine theirs }
+        MadeIs result (move own.old own.new incoming incoming) (Record.User event) mine theirs }
     ensures waits { NeverWaits result }
     ensures counts { IfFails result (own.new.counts ≡ own.old.counts) }
     ensures head { own.new.head ≡ own.old.head }

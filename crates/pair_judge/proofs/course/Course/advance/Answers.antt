@@ -4,7 +4,8 @@ use Rattle.capture.specs.Lines.{to_come}
 use Rattle.capture.specs.Reader.{CaptureState}
 use Rattle.wire_base.specs.Tally.{tally_lent}
 use Rattle.pair_judge.specs.declared.end.End.{End}
-use Rattle.pair_judge.specs.Course.{AdvanceIs, along, move}
+use Rattle.pair_judge.specs.Course.{AdvanceIs, along}
+use Rattle.pair_judge.specs.Making.{move}
 use Rattle.pair_judge.proofs.course.Course.advance.Goals as goal
 
 pub returns-in-Ok-Some-clause-advance : goal.returns-in-Ok-Some-clause-advance
