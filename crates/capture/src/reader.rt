@@ -124,7 +124,7 @@ impl CaptureReader {
     ///
     /// Faults: `Departs` at line 1, with `TooLong` where more than 131,081 bytes stand before the first
     /// LF or the end, and with `Syntax` where the first line has no LF, as in an empty text, or is no
-    /// head; `Read` where a call of the reader failed, and at no other answer did one fail;
+    /// head; `Read` where a call of the reader failed, and at any other answer its count of them stands;
     /// `OutOfMemory` where there is no memory for the reader's block or for its room for bytes.
     pub fn open<R: Read>(
         alloc: Global,
@@ -228,7 +228,7 @@ impl CaptureReader {
     /// more than 131,081 bytes before its LF or the end; `Syntax` where it has no LF; `Syntax` where
     /// it is no record's; `TooLong` where it is one but for too many bytes. `OutOfMemory` comes where
     /// there is no memory for the bytes of the record, and `Read` where a call of the reader failed;
-    /// at no other answer did one fail.
+    /// at any other answer its count of them stands as it stood.
     #[inline(always)]
     pub fn next<R: Read>(&mut self, reader: &mut Tally<R>) -> Result<Option<Record>, CaptureFault>
         ensures gives { self.old.phase ≡ Phase.Reading → NextGives self.old self.new

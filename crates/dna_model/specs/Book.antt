@@ -39,8 +39,9 @@ pub record Book (S K : Type 0) : Type 0 where
   pub after_event : S → StationEvent → S
   pub passes : S → MessageValue → Check → Bool
   pub sends : S → MessageValue → Change → S
-  -- what is known of a message that is sent, by what the station keeps before and after it; and its tag
+  -- what is known of a message that is sent, by what the station keeps before and after it
   pub known : (before after : S) → MessageValue → K
+  -- the tag that a station sends with, and the one that is known of a message
   pub tag : S → Tag
   pub tag_of : K → Tag
   -- whether the number of a data message is the one after the last received

@@ -24,7 +24,3 @@ pub record Rules : Type 0 where
 -- the node of a pair that is judged goes by the test
 abbrev pub judged : Rules
 judged = record { periods = λ (met : Bool). met }
-
--- the ends of a player, which see no tag, go by none
-abbrev pub unjudged : Rules
-unjudged = record { periods = λ (met : Bool). true }

@@ -95,7 +95,7 @@ pub record Row : Type 0 where
 abbrev pub ignored : Row
 ignored = record { needs = Anything; effects = [] }
 
--- a sound message: its effects, in their order
+-- a sound message: what its row needs, and its effects in their order
 abbrev pub row : State → MessageValue → Row
 row Istrt (Strt flags) = record { needs = Anything; effects = TakePartner ∷ GoTo Astrt ∷ [] }
 row Istrt (Stack flags) = record { needs = Fresh; effects = TakePartner ∷ GoTo Running ∷ [] }

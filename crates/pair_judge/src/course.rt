@@ -57,7 +57,7 @@ pub enum Advance {
 impl Course {
     /// Makes the next record, which is read first where none waits. The line leads to this side from the other one.
     ///
-    /// `Departs`, `Read`: the next record can't be read. `OutOfMemory`: there is no room for it, or for the unit that it
+    /// `Departs`, `Read`: the next record can't be read. `OutOfMemory`: there is no room for the message of its event, or for the unit that it
     /// sends. The course has no use after any of them.
     pub fn advance<R: Read>(
         &mut self,

@@ -54,7 +54,7 @@ pub struct Found {
 ///
 /// `Capture`: the line of that side departs from the format as named, and all records before it, with those of the other side that
 /// were made, are a run; or a read of that side failed. `OutOfMemory`: a growth was refused. At every answer but a failed read of a
-/// side no call of its reader failed. After any answer the readers have given what was read ahead, and nothing is said of the rest.
+/// side the count of its reader's failed calls stands as it stood. After any answer the readers have given what was read ahead, and nothing is said of the rest.
 ///
 /// The contract says nothing of when `OutOfMemory` is answered, nor of the order of reading. For now packets are carried unread,
 /// and link events are not judged: a pair whose packets or link events no node allows is accepted.
