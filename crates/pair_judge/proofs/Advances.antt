@@ -17,7 +17,7 @@ use Rattle.pair_judge.specs.declared.line.Line.{Line}
 use Rattle.pair_judge.specs.declared.end.End.{End}
 use Rattle.pair_judge.specs.Unit.{unit_of}
 use Rattle.pair_judge.specs.Lines.{Shows}
-use Rattle.pair_judge.specs.Receipts.{node_at, node_of, IsReceived}
+use Rattle.pair_judge.specs.Receipts.{IsReceived, came, node_at, node_of, station_move}
 use Rattle.pair_judge.specs.Making.{IsMade, StandsFor, move}
 use Rattle.pair_judge.specs.Summary.{counted}
 use Rattle.pair_judge.specs.Wire.{JudgeHalf, JudgeNode, JudgeStation}
@@ -97,7 +97,7 @@ reads_unit mine theirs n hint kept bytes unit r state was_sent receives_is =
     ∙ ap (λ (s : JudgeNode). concluded mine (wire_receives judged s hint kept bytes unit)) state
     ∙ ap (concluded mine) receives_is
 
-pub receipt_made : (old new : End) (before after : Line) (hint : ℕ) (kept : Bool) (bytes : List ℕ) (mine theirs : JudgeHalf) → StandsFor old before mine → IsReceived old.station new.station before after hint kept bytes theirs.sent → new.line ≡ old.line → new.head ≡ old.head → new.counts ≡ counted old.counts (Received hint kept bytes) → IsMade (move old new before after) (Received hint kept bytes) mine theirs
+pub receipt_made : (old new : End) (before after : Line) (hint : ℕ) (kept : Bool) (bytes : List ℕ) (mine theirs : JudgeHalf) → StandsFor old before mine → IsReceived (station_move old.station new.station before after) (came hint kept bytes) theirs.sent → new.line ≡ old.line → new.head ≡ old.head → new.counts ≡ counted old.counts (Received hint kept bytes) → IsMade (move old new before after) (Received hint kept bytes) mine theirs
 receipt_made old new before after hint kept bytes mine theirs stands received line head counts = record {
   next = stepped mine (node_of old.head new.station after);
   step_is = reads_unit mine theirs (node_of old.head old.station before) hint kept bytes received.unit (Ok (node_of old.head new.station after)) (state_is old before mine stands) received.was_sent (received.step old.head);

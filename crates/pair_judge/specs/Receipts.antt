@@ -35,17 +35,36 @@ is_damage DataBad = true
 abbrev pub node_of : Head → JudgeStation → Line → JudgeNode
 node_of head station line = node_at head station line.gone
 
--- the unit of the hint was sent, and the node goes by it: to this station and this line
-pub record IsReceived (old new : JudgeStation) (before after : Line) (hint : ℕ) (kept : Bool) (bytes : List ℕ) (sent : List WireUnit) : Type 0 where
-  pub unit : WireUnit
-  pub was_sent : slice_get sent hint ≡ Some unit
-  pub step : (head : Head) → wire_receives judged (node_of head old before) hint kept bytes unit ≡ Ok (node_of head new after)
-  pub shows : Shows after sent
+-- A station before and after a receipt, and the line that leads to it
+pub record StationMove : Type 0 where
+  pub old : JudgeStation
+  pub new : JudgeStation
+  pub before : Line
+  pub after : Line
 
-abbrev pub ReceiptIs : Receipt → JudgeStation → JudgeStation → Line → Line → ℕ → Bool → List ℕ → List WireUnit → Type 0
-ReceiptIs (Done damaged) old new before after hint kept bytes sent =
-    IsReceived old new before after hint kept bytes sent × (damaged ≡ shows_damage (reading bytes))
+abbrev pub station_move : JudgeStation → JudgeStation → Line → Line → StationMove
+station_move old new before after = record { old = old; new = new; before = before; after = after }
+
+-- What came: the hint, whether its packet was kept, and the bytes
+pub record Came : Type 0 where
+  pub hint : ℕ
+  pub kept : Bool
+  pub bytes : List ℕ
+
+abbrev pub came : ℕ → Bool → List ℕ → Came
+came hint kept bytes = record { hint = hint; kept = kept; bytes = bytes }
+
+-- the unit of the hint was sent, and the node goes by it: to this station and this line
+pub record IsReceived (m : StationMove) (c : Came) (sent : List WireUnit) : Type 0 where
+  pub unit : WireUnit
+  pub was_sent : slice_get sent c.hint ≡ Some unit
+  pub step : (head : Head) → wire_receives judged (node_of head m.old m.before) c.hint c.kept c.bytes unit ≡ Ok (node_of head m.new m.after)
+  pub shows : Shows m.after sent
+
+abbrev pub ReceiptIs : Receipt → StationMove → Came → List WireUnit → Type 0
+ReceiptIs (Done damaged) m c sent = IsReceived m c sent × (damaged ≡ shows_damage (reading c.bytes))
 -- the unit was not sent yet
-ReceiptIs Waits old new before after hint kept bytes sent = slice_get sent hint ≡ None
-ReceiptIs (Fails refusal) old new before after hint kept bytes sent =
-    (unit : WireUnit) × (slice_get sent hint ≡ Some unit) × ((head : Head) → wire_receives judged (node_of head old before) hint kept bytes unit ≡ Err refusal)
+ReceiptIs Waits m c sent = slice_get sent c.hint ≡ None
+ReceiptIs (Fails refusal) m c sent =
+    (unit : WireUnit) × (slice_get sent c.hint ≡ Some unit)
+    × ((head : Head) → wire_receives judged (node_of head m.old m.before) c.hint c.kept c.bytes unit ≡ Err refusal)

@@ -10,7 +10,7 @@ ghost use Rattle.ddcmp_station.specs.Arrival.{arrival_view};
 ghost use Rattle.ddcmp_msg.specs.Reading.{reading};
 ghost use Rattle.pair_judge.specs.Counting.{shows_damage};
 ghost use Rattle.pair_judge.specs.Lines.{Shows};
-ghost use Rattle.pair_judge.specs.Receipts.{ReceiptIs, is_damage};
+ghost use Rattle.pair_judge.specs.Receipts.{ReceiptIs, came, is_damage, station_move};
 
 use crate::end::Station;
 use crate::line::Line;
@@ -46,7 +46,7 @@ pub fn receive(
     requires hint { hint < 2 ^ 63 }
     requires load { load station.old < 2 ^ 63 }
     ensures receipt { (sent : List WireUnit) → Shows line.old sent →
-        ReceiptIs result station.old station.new line.old line.new hint kept bytes.now sent }
+        ReceiptIs result (station_move station.old station.new line.old line.new) (came hint kept bytes.now) sent }
     ensures waits { result ≡ Receipt.Waits → (station.new ≡ station.old) × (line.new ≡ line.old) }
     ensures load { load station.new ≤ load station.old + 1 }
     ensures unchanged { (refusal : StepRefusal) → result ≡ Receipt.Fails refusal → station.new ≡ station.old }
