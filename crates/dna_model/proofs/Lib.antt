@@ -6,6 +6,9 @@ mod Rows
 mod TransferRows
 mod OrderRows
 mod StationRows
+-- worked rows of links
+mod LinkRowSteps
+mod LinkRows
 -- what holds of one station, and its cut to what a node keeps
 mod Modulo
 mod Ordered

@@ -15,3 +15,15 @@ pub mod Pair
 pub mod WireNode
 pub mod Seen
 pub mod Verdict
+-- The logical links of one node: what look-ups and segments are; the tables, over any flow; the true flow and the one that a node keeps
+pub mod LinkTests
+pub mod Pieces
+pub mod Flow
+pub mod Links
+pub mod LinkUser
+pub mod LinkSending
+pub mod LinkArriving
+pub mod TrueFlow
+pub mod WireFlow
+pub mod TrueLinks
+pub mod WireLinks

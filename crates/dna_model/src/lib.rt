@@ -6,6 +6,10 @@
 
 mod finding;
 pub mod laws;
+mod link_event;
+mod link_refusal;
+mod link_tag;
+mod port;
 mod refusal;
 mod state;
 mod tag;
@@ -16,6 +20,10 @@ pub use laws::{
     delivered_in_order, numbers_in_order, numbers_within_bounds, packets_at_their_places,
     running_nodes_see_right,
 };
+pub use link_event::LinkEvent;
+pub use link_refusal::LinkRefusal;
+pub use link_tag::LinkTag;
+pub use port::{LinkTest, Phase, Port};
 pub use refusal::{StationRefusal, StepRefusal};
 pub use state::{State, StationEvent};
 pub use tag::Tag;
