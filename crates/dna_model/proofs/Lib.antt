@@ -7,8 +7,14 @@ mod TransferRows
 mod OrderRows
 mod StationRows
 -- worked rows of links
+mod LinkRowMessages
 mod LinkRowSteps
 mod LinkRows
+mod LinkUserRows
+mod LinkSendingRows
+mod LinkArrivingRows
+mod LinkNumberRows
+mod LinkRequestRows
 -- what holds of one station, and its cut to what a node keeps
 mod Modulo
 mod Ordered

@@ -35,6 +35,8 @@ pub data Act : Type 0 where
   Comes : (to : End) (k : ℕ) → Act
   -- it comes with another tag
   ComesAs : (to : End) (k : ℕ) (tag : LinkTag) → Act
+  -- a message without numbers comes that the other node did not send
+  Gets : (to : End) (src dst : ℕ) (bytes : List ℕ) (tag : LinkTag) → Act
 
 -- a message that was sent, with what is true of it
 pub record SentOne (K : Type 0) : Type 0 where
@@ -79,6 +81,10 @@ module _ {D K : Type 0} (flows : Flows D K) where
   comes_as own tag None = Fails
   comes_as own tag (Some one) = arrives own one.packet (record one.truth { tag = tag })
 
+  abbrev gets : Side D K → (src dst : ℕ) → LinkTag → Result NspValue NspFault → Becomes (Side D K)
+  gets own src dst tag (Ok message) = arrives own (record { dst = dst; src = src; message = message }) (record { tag = tag; known = flows.sends_other flows.empty })
+  gets own src dst tag (Err fault) = Fails
+
   abbrev at_a : Both D K → Becomes (Side D K) → Becomes (Both D K)
   at_a w (Makes side) = Makes (record w { a = side })
   at_a w (Refuses reason) = Refuses reason
@@ -100,6 +106,8 @@ module _ {D K : Type 0} (flows : Flows D K) where
   act w (Comes B k) = at_b w (comes w.b (slice_get w.a.sent k))
   act w (ComesAs A k tag) = at_a w (comes_as w.a tag (slice_get w.b.sent k))
   act w (ComesAs B k tag) = at_b w (comes_as w.b tag (slice_get w.a.sent k))
+  act w (Gets A src dst bytes tag) = at_a w (gets w.a src dst tag (nsp_at bytes))
+  act w (Gets B src dst bytes tag) = at_b w (gets w.b src dst tag (nsp_at bytes))
 
   abbrev pub acts : Becomes (Both D K) → List Act → Becomes (Both D K)
   acts w [] = w
@@ -119,12 +127,47 @@ module _ {D K : Type 0} (flows : Flows D K) where
   end_of (Refuses reason) = Refuses reason
   end_of Fails = Fails
 
-  abbrev pub end_after : List Act → Becomes (Unit {0})
-  end_after list = end_of (acts (Makes new_both) list)
+  abbrev pub after : List Act → Becomes (Both D K)
+  after list = acts (Makes new_both) list
+
+  -- the links of one node
+  abbrev links_at : End → Both D K → LinksOf D
+  links_at A w = w.a.state
+  links_at B w = w.b.state
+
+  abbrev pub links_of : End → Becomes (Both D K) → Becomes (LinksOf D)
+  links_of at (Makes w) = Makes (links_at at w)
+  links_of at (Refuses reason) = Refuses reason
+  links_of at Fails = Fails
+
+  -- the tag of message k that a node sent
+  abbrev sent_by : End → Both D K → List (SentOne K)
+  sent_by A w = w.a.sent
+  sent_by B w = w.b.sent
+
+  abbrev tag_of : Option (SentOne K) → Becomes LinkTag
+  tag_of None = Fails
+  tag_of (Some one) = Makes one.truth.tag
+
+  abbrev pub tag_in : End → ℕ → Becomes (Both D K) → Becomes LinkTag
+  tag_in from k (Makes w) = tag_of (slice_get (sent_by from w) k)
+  tag_in from k (Refuses reason) = Refuses reason
+  tag_in from k Fails = Fails
 
 -- All is made, of both flows; or the last act is refused, of both
 abbrev pub AllMade : List Act → Type 0
-AllMade list = (end_after true_flows list ≡ Makes tt) × (end_after wire_flows list ≡ Makes tt)
+AllMade list = (end_of true_flows (after true_flows list) ≡ Makes tt) × (end_of wire_flows (after wire_flows list) ≡ Makes tt)
 
 abbrev pub LastRefused : LinkRefusal → List Act → Type 0
-LastRefused reason list = (end_after true_flows list ≡ Refuses reason) × (end_after wire_flows list ≡ Refuses reason)
+LastRefused reason list = (end_of true_flows (after true_flows list) ≡ Refuses reason) × (end_of wire_flows (after wire_flows list) ≡ Refuses reason)
+
+-- What comes after these acts is made, and changes nothing at this node
+abbrev pub ChangesNothing : End → List Act → List Act → Type 0
+ChangesNothing at list more =
+    (links_of true_flows at (after true_flows (list ++ more)) ≡ links_of true_flows at (after true_flows list))
+    × (links_of wire_flows at (after wire_flows (list ++ more)) ≡ links_of wire_flows at (after wire_flows list))
+    × AllMade (list ++ more)
+
+-- Message k of this node has this tag
+abbrev pub HasTag : End → ℕ → LinkTag → List Act → Type 0
+HasTag from k tag list = (tag_in true_flows from k (after true_flows list) ≡ Makes tag) × (tag_in wire_flows from k (after wire_flows list) ≡ Makes tag)
