@@ -15,6 +15,7 @@ mod LinkSendingRows
 mod LinkArrivingRows
 mod LinkNumberRows
 mod LinkRequestRows
+mod LinkWindowRows
 -- what holds of one station, and its cut to what a node keeps
 mod Modulo
 mod Ordered
