@@ -43,3 +43,6 @@ mod Partnered
 mod InOrder
 mod Among
 mod InOrderRuns
+-- the links of both sides, in every run
+mod LinkTables
+mod LinkWords

@@ -27,3 +27,5 @@ pub mod TrueFlow
 pub mod WireFlow
 pub mod TrueLinks
 pub mod WireLinks
+-- both sides in a run
+pub mod LinkRuns
