@@ -46,3 +46,4 @@ mod InOrderRuns
 -- the links of both sides, in every run
 mod LinkTables
 mod LinkWords
+mod LinkPieces

@@ -29,3 +29,4 @@ pub mod TrueLinks
 pub mod WireLinks
 -- both sides in a run
 pub mod LinkRuns
+pub mod LinkDelivery
