@@ -47,3 +47,4 @@ mod InOrderRuns
 mod LinkTables
 mod LinkWords
 mod LinkPieces
+mod LinkSends
