@@ -48,3 +48,5 @@ mod LinkTables
 mod LinkWords
 mod LinkPieces
 mod LinkSends
+mod LinkEnds
+mod LinkSides
