@@ -50,3 +50,4 @@ mod LinkPieces
 mod LinkSends
 mod LinkEnds
 mod LinkSides
+mod LinkSteps

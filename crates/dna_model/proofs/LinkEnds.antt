@@ -308,7 +308,7 @@ module _ (own other : List (Option SentMessage)) (front : ℕ) (others : List (L
   lawful : IsLawful limits (view (Some u))
   lawful = theirs.lawful k (Some u) there
 
-  acknowledges : Acknowledges l.flow u.truth.known.last u.truth.known.received (fold acknowledged_through l.flow u.truth.known.acknowledgements)
+  pub acknowledges : Acknowledges l.flow u.truth.known.last u.truth.known.received (fold acknowledged_through l.flow u.truth.known.acknowledgements)
   acknowledges = through u.truth.known.last u.truth.known.received u.truth.known.acknowledgements l.flow told.at_most (acks_below u.truth.known.last_before u.truth.known.received u.truth.known.acknowledgements lawful.acks)
 
   -- the link in RUN with its highest number acknowledged
