@@ -24,6 +24,11 @@ mod CutArriving
 mod CutLabel
 mod CutNode
 mod Loads
+-- what holds of one flow, and its cut to what a node keeps
+mod SegmentNumbers
+mod CutPieces
+mod CutFlowSending
+mod CutFlowArriving
 -- the bounds, in every run
 mod Numbered
 mod NumberedSteps

@@ -27,3 +27,4 @@ pub mod TrueFlow
 pub mod WireFlow
 pub mod TrueLinks
 pub mod WireLinks
+pub mod CutFlow
