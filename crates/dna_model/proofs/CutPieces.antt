@@ -20,7 +20,7 @@ in_order-hold (suc k) p [] = omega arith
 in_order-hold (suc k) p (None ∷ xs) = omega arith
 in_order-hold (suc k) p (Some q ∷ xs) = omega (arith, in_order-hold k p xs)
 
-drop_none : {X : Type 0} (n : ℕ) → drop n (let none : List X = [] in none) ≡ []
+pub drop_none : {X : Type 0} (n : ℕ) → drop n (let none : List X = [] in none) ≡ []
 drop_none zero = refl
 drop_none (suc n) = refl
 

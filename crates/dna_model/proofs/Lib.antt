@@ -29,6 +29,11 @@ mod SegmentNumbers
 mod CutPieces
 mod CutFlowSending
 mod CutFlowArriving
+mod CutEnded
+mod CutLookUps
+mod CutLinkUser
+mod CutLinkSending
+mod CutLinkArriving
 -- the bounds, in every run
 mod Numbered
 mod NumberedSteps

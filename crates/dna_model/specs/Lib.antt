@@ -28,3 +28,4 @@ pub mod WireFlow
 pub mod TrueLinks
 pub mod WireLinks
 pub mod CutFlow
+pub mod CutLinks

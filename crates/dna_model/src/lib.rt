@@ -22,7 +22,7 @@ pub use laws::{
     running_nodes_see_right,
 };
 pub use link_event::LinkEvent;
-pub use link_laws::cut_flow;
+pub use link_laws::{cut_flow, cut_link_steps};
 pub use link_refusal::LinkRefusal;
 pub use link_tag::LinkTag;
 pub use port::{LinkTest, Phase, Port};

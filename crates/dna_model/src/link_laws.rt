@@ -5,10 +5,16 @@ ghost use Rattle.std.specs.Option.{option_map};
 ghost use Rattle.dna_packet.specs.declared.ack_word.AckWord.{AckWord};
 ghost use Rattle.dna_packet.specs.Nsp.{SegmentValue};
 ghost use Rattle.dna_model.specs.Flow.{wire};
+ghost use Rattle.dna_model.specs.Links.{Carried, LinkTruth};
+ghost use Rattle.dna_model.specs.LinkUser.{LinkEventValue};
+ghost use Rattle.dna_model.specs.LinkArriving.{PartnerRule};
 ghost use Rattle.dna_model.specs.TrueFlow.{TrueFlow, Numbers};
 ghost use Rattle.dna_model.specs.TrueFlow as true_flow;
 ghost use Rattle.dna_model.specs.WireFlow as wire_flow;
+ghost use Rattle.dna_model.specs.TrueLinks.{Links, new_links, links_user, links_sent, links_arrived};
+ghost use Rattle.dna_model.specs.WireLinks.{new_wire_links, wire_links_user, wire_links_sent, wire_links_arrived};
 ghost use Rattle.dna_model.specs.CutFlow.{cut, cut_sending, IsOrdered, IsAnswered, Spells, AcksAreNear, SegmentIsNear};
+ghost use Rattle.dna_model.specs.CutLinks.{cut_links, cut_result, cut_sent, AreOrdered, ArrivesNear};
 
 /// From what a node keeps of a link's segments the same messages are delivered, the same segments and acknowledgements are refused
 /// for the same reasons, and what is sent and what comes change it as they change the flow on true numbers.
@@ -30,4 +36,16 @@ pub fn cut_flow()
     ensures takes_segment { (f : TrueFlow) (s : SegmentValue) (known : Numbers) → IsOrdered f
         → Spells s.acks known.acknowledgements → s.number ≡ wire known.segment → AcksAreNear f known.acknowledgements → SegmentIsNear f known.segment
         → cut (true_flow.takes_segment s known f) ≡ wire_flow.takes_segment s tt (cut f) }
+{}
+
+/// From what a node keeps of its links the same events and messages are refused for the same reasons, and change it as they change the
+/// links on true numbers; a message that is sent has the same tag. Whatever the user does goes along; what is sent does where what has to
+/// hold of each link does; and what comes, where besides its numbers are near those of the link that acts on it, whatever the rule on
+/// partners.
+pub fn cut_link_steps()
+    ensures start { (node peer : ℕ) → cut_links (new_links node peer) ≡ new_wire_links node peer }
+    ensures user { (s : Links) (event : LinkEventValue) → cut_result (links_user s event) ≡ wire_links_user (cut_links s) event }
+    ensures sent { (s : Links) (packet : Carried) → AreOrdered s → cut_sent (links_sent s packet) ≡ wire_links_sent (cut_links s) packet }
+    ensures arrived { (rule : PartnerRule) (s : Links) (packet : Carried) (truth : LinkTruth Numbers) → AreOrdered s → ArrivesNear rule s packet.message truth
+        → cut_result (links_arrived rule s packet truth) ≡ wire_links_arrived rule (cut_links s) packet truth.tag }
 {}
