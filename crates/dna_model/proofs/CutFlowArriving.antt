@@ -6,7 +6,7 @@ use Rattle.dna_packet.specs.declared.ack_word.AckWord.{AckWord}
 use Rattle.dna_packet.specs.Nsp.{SegmentValue}
 use Rattle.dna_model.specs.Pieces.{Piece, piece_of, in_order, hold, Whole, next_message}
 use Rattle.dna_model.specs.Flow.{REACH, wire, distance, is_of_data}
-use Rattle.dna_model.specs.TrueFlow.{TrueFlow, Numbers, highest_given, highest_received, delivered_as, delivers_whole, delivers, acknowledged_by, acknowledged_through, takes_acks, with_segment, takes_segment}
+use Rattle.dna_model.specs.TrueFlow.{TrueFlow, Numbers, highest_given, highest_received, delivered_as, delivers_whole, delivers, acknowledged_through, takes_acks, with_segment, takes_segment}
 use Rattle.dna_model.specs.WireFlow.{LinkVariables, WireFlow}
 use Rattle.dna_model.specs.WireFlow as kept
 use Rattle.dna_model.specs.CutFlow.{cut, IsOrdered, data_numbers, Spells, AckIsNear, AcksAreNear, SegmentIsNear}
@@ -29,7 +29,11 @@ module _ (f : TrueFlow) where
 
 -- ---- acknowledgements
 
--- a number that comes, as a node reads it
+-- a number that comes, by whether it counts
+abbrev acknowledged_by : Bool → TrueFlow → ℕ → TrueFlow
+acknowledged_by b f number = cond b (record f { acknowledged = number }) f
+
+-- the same, as a node reads it
 abbrev pub step : LinkVariables → ℕ → LinkVariables
 step k number = kept.acknowledged_to (leb (distance k.acknowledged number) (length k.outstanding)) k number
 

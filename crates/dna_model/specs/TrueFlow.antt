@@ -163,12 +163,8 @@ sends_segment segsize s f = segment_named (all_named (not (is_new s f)) (highest
 -- ---- what comes, by its true numbers
 
 -- an acknowledgement acknowledges all segments through its number
-abbrev pub acknowledged_by : Bool → TrueFlow → ℕ → TrueFlow
-acknowledged_by true f number = record f { acknowledged = number }
-acknowledged_by false f number = f
-
 abbrev pub acknowledged_through : TrueFlow → ℕ → TrueFlow
-acknowledged_through f number = acknowledged_by (nat_lt f.acknowledged number && nat_le number (highest_given f)) f number
+acknowledged_through f number = if nat_lt f.acknowledged number && nat_le number (highest_given f) then record f { acknowledged = number } else f
 
 abbrev pub takes_acks : List AckWord → Numbers → TrueFlow → TrueFlow
 takes_acks words known f = fold acknowledged_through f known.acknowledgements
