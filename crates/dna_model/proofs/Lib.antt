@@ -24,6 +24,16 @@ mod CutArriving
 mod CutLabel
 mod CutNode
 mod Loads
+-- what holds of one flow, and its cut to what a node keeps
+mod SegmentNumbers
+mod CutPieces
+mod CutFlowSending
+mod CutFlowArriving
+mod CutEnded
+mod CutLookUps
+mod CutLinkUser
+mod CutLinkSending
+mod CutLinkArriving
 -- the bounds, in every run
 mod Numbered
 mod NumberedSteps

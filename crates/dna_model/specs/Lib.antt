@@ -30,3 +30,5 @@ pub mod WireLinks
 -- both sides in a run
 pub mod LinkRuns
 pub mod LinkDelivery
+pub mod CutFlow
+pub mod CutLinks

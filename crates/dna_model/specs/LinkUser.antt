@@ -1,6 +1,7 @@
 -- What the user of a node's links does (NSP 4.0, session control interface). The order of the checks is the order of refusals;
 -- `else` gives the number of the reason.
-use Rattle.std.specs.Prelude.{ℕ, true, Option, Some, None, List, Result, Ok, Err}
+use Rattle.std.specs.Prelude.{ℕ, true, Option, Some, None, List, Result, Ok, Err, ◌≤◌, length}
+use Rattle.capture.specs.declared.limit.TheConstants.{MAX_MESSAGE}
 use Rattle.dna_model.specs.declared.link_event.LinkEvent.{LinkEvent}
 use Rattle.dna_model.specs.declared.link_event.LinkEvent.TheVariants as rust
 use Rattle.dna_model.specs.declared.link_refusal.LinkRefusal.{LinkRefusal}
@@ -28,6 +29,15 @@ view (rust.Reject partner link) = Reject partner link
 view (rust.In link message) = In link message.now
 view (rust.Up link message) = Up link message.now
 view (rust.Close link) = Close link
+
+-- The limits beyond those of the fields' types: addresses are from 1, and a message has a line in a capture
+abbrev pub IsInRange : LinkEventValue → Type 0
+IsInRange (Open link) = 1 ≤ link
+IsInRange (Accept partner link) = (1 ≤ partner) × (1 ≤ link)
+IsInRange (Reject partner link) = (1 ≤ partner) × (1 ≤ link)
+IsInRange (In link message) = (1 ≤ link) × (length message ≤ MAX_MESSAGE)
+IsInRange (Up link message) = (1 ≤ link) × (length message ≤ MAX_MESSAGE)
+IsInRange (Close link) = 1 ≤ link
 
 module _ {D K : Type 0} (flows : Flows D K) where
   -- a link that is opened here: in Calling, with this own address

@@ -7,6 +7,7 @@
 mod finding;
 pub mod laws;
 mod link_event;
+pub mod link_laws;
 mod link_refusal;
 mod link_tag;
 mod port;
@@ -21,6 +22,7 @@ pub use laws::{
     running_nodes_see_right,
 };
 pub use link_event::LinkEvent;
+pub use link_laws::{cut_flow, cut_link_steps};
 pub use link_refusal::LinkRefusal;
 pub use link_tag::LinkTag;
 pub use port::{LinkTest, Phase, Port};

@@ -1,5 +1,7 @@
 //! What the user of a node's links does, or gets.
 
+use capture::MAX_MESSAGE;
+
 /// An event at a link. `link` is an address of this node, and `partner` one of the other node's: each is from 1 to 65,535.
 /// A message has at most 65,535 bytes.
 #[derive(Clone, Copy, Debug, PartialEq, Eq)]
@@ -16,4 +18,23 @@ pub enum LinkEvent<'a> {
     Up { link: u16, message: &'a [u8] },
     /// The link is closed from here.
     Close { link: u16 },
+}
+
+impl LinkEvent<'_> {
+    ghost use Rattle.std.specs.Prelude.{IsTrue, ◌↔◌};
+    ghost use Rattle.dna_model.specs.LinkUser.{view, IsInRange};
+
+    /// Whether its addresses are from 1, and its message has at most 65,535 bytes. Takes no memory.
+    pub fn in_range(&self) -> bool
+        ensures { IsTrue result ↔ IsInRange (view self.now) }
+    {
+        match self {
+            LinkEvent::Open { link } | LinkEvent::Close { link } => *link > 0,
+            LinkEvent::Accept { partner, link } | LinkEvent::Reject { partner, link } => *partner
+                > 0
+                && *link > 0,
+            LinkEvent::In { link, message } | LinkEvent::Up { link, message } => *link > 0
+                && message.len() <= MAX_MESSAGE,
+        }
+    }
 }
