@@ -61,3 +61,4 @@ mod LinkSends
 mod LinkEnds
 mod LinkSides
 mod LinkSteps
+mod LinkReads

@@ -27,8 +27,10 @@ pub mod TrueFlow
 pub mod WireFlow
 pub mod TrueLinks
 pub mod WireLinks
--- both sides in a run
-pub mod LinkRuns
-pub mod LinkDelivery
 pub mod CutFlow
 pub mod CutLinks
+-- the links of both sides, in every run
+pub mod LinkRuns
+pub mod LinkBounds
+pub mod LinkDelivery
+pub mod LinkCaptures
