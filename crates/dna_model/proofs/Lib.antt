@@ -62,3 +62,4 @@ mod LinkEnds
 mod LinkSides
 mod LinkSteps
 mod LinkReads
+mod LinkReadSteps

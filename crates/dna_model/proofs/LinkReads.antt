@@ -79,12 +79,12 @@ behind-append place [] event found at = absurd cc
 behind-append zero (first ∷ events) event found at = refl
 behind-append (suc place) (first ∷ events) event found at = behind-append place events event found at
 
-behind_last : (events : List LinkEventValue) (event : LinkEventValue) → behind (length events) (events ++ event ∷ []) ≡ []
+pub behind_last : (events : List LinkEventValue) (event : LinkEventValue) → behind (length events) (events ++ event ∷ []) ≡ []
 behind_last [] event = refl
 behind_last (first ∷ events) event = behind_last events event
 
 -- a later event that gives the address gives it again
-later_gives : (own : ℕ) (events : List LinkEventValue) (place later : ℕ) (event : LinkEventValue) → place < later → slice_get events later ≡ Some event → gives_address own event ≡ true → given_again own (behind place events) ≡ true
+pub later_gives : (own : ℕ) (events : List LinkEventValue) (place later : ℕ) (event : LinkEventValue) → place < later → slice_get events later ≡ Some event → gives_address own event ≡ true → given_again own (behind place events) ≡ true
 later_gives own [] place later event less at gives = absurd cc
 later_gives own (first ∷ events) place zero event less at gives = absurd (omega arith)
 later_gives own (first ∷ events) zero (suc later) event less at gives = among events later at
@@ -138,7 +138,7 @@ owned_same events place l m own handed up is_called fresh o = record {
     read None r = record { handed = handed ∙ r.handed; up = up ∙ r.up }
     read (Some k) r = record { event = r.event; there = r.there; own = r.own; gives = r.gives; handed = handed ∙ r.handed; up = up ∙ r.up }
 
-gives_is : (own : ℕ) (event : LinkEventValue) → given_address event ≡ Some own → gives_address own event ≡ true
+pub gives_is : (own : ℕ) (event : LinkEventValue) → given_address event ≡ Some own → gives_address own event ≡ true
 gives_is own event e = ap (λ (x : Option ℕ). is_at x own) e ∙ eq-eqb own own refl
 
 is_given : (own : ℕ) (event : LinkEventValue) → gives_address own event ≡ true → given_address event ≡ Some own

@@ -1,0 +1,386 @@
+-- All links of a side are read off its user's events, at any time.
+use Rattle.std.proofs.Common.{◌≡◌, ℕ, zero, suc, ◌+◌, ◌<◌, ◌≤◌, Bool, true, false, ◌&&◌, ◌==◌, eqb, cond, ◌⊎◌, inl, inr, Option, Some, None, List, [], ◌∷◌, ◌++◌, length, refl, sym, ap, ◌∙◌, subst, arith, append-nil, fold, length-append, length-set, eqb-true, eq-eqb, ne_eqb}
+use Rattle.std.specs.Prelude.{slice_get, slice_set}
+use Rattle.std.proofs.lemmas.Bool.{and_parts, and_from, cases_eq, cases_order}
+use Rattle.std.proofs.lemmas.Option.{same_Some, slice_get_within}
+use Rattle.two_nodes.proofs.Order.{slice_get-append}
+use Rattle.two_nodes.proofs.Listed.{next_at}
+use Rattle.dna_packet.specs.Nsp.{NspValue}
+use Rattle.dna_model.specs.declared.port.Phase.{Phase}
+use Rattle.dna_model.specs.declared.port.Phase.TheVariants.{Calling, Called, Confirming, Running, Disconnecting, Ended}
+use Rattle.dna_model.specs.declared.port.LinkTest.TheVariants.{HasAddress, LiveAt}
+use Rattle.dna_model.specs.LinkTests.{passes, is_at, is_live, is_called, is_calling, is_connected, has_both}
+use Rattle.dna_model.specs.Links.{LinkOf, LinksOf, number_of, LinkTruth, begun, changed, in_phase, with_flow, ended, forgotten, freed}
+use Rattle.dna_model.specs.LinkUser.{LinkEventValue, Open, Accept, Reject, In, Up, Close, opened, answered}
+use Rattle.dna_model.specs.LinkSending.{Sent}
+use Rattle.dna_model.specs.LinkArriving.{of_partner, called, confirmed}
+use Rattle.dna_model.specs.TrueFlow.{TrueFlow, Numbers, true_flows}
+use Rattle.dna_model.specs.TrueFlow as flow
+use Rattle.dna_model.specs.TrueLinks.{Links}
+use Rattle.dna_model.specs.LinkCaptures.{given_address, gives_address, message_in, message_up, handed_in, delivered_up, behind, IsRead, AreRead}
+use Rattle.dna_model.proofs.NumberedSteps.{at_pushed}
+use Rattle.dna_model.proofs.LinkTables.{IsFound, looked, position_none, UserDid, Opens, Accepts, Rejects, HandsIn, Delivers, Closes, SentDid, OfNone, Stays, EndsCalled, Segment, Acks, ArrivedDid, Ignores, Begins, Confirms, Ends, TakesSegment, TakesAcks, TakesOther}
+use Rattle.dna_model.proofs.LinkPieces.{Delivered, delivered_is}
+use Rattle.dna_model.proofs.LinkSends.{IsSoundFlow, acks_sent, segment_sent}
+use Rattle.dna_model.proofs.LinkSides.{set_same, at_set, all_set, all_pushed}
+use Rattle.dna_model.proofs.LinkReads.{given_again, later_gives, HoldsFrom, HoldsAt, IsOwned, owned_same, at_is, Takes, IsAsBefore, owned_more, behind_last, gives_is}
+
+pub record AreOwned (events : List LinkEventValue) (links : List (LinkOf TrueFlow)) : Type 0 where
+  pub place_of : ℕ → Option ℕ
+  pub owned : (i : ℕ) (link : LinkOf TrueFlow) → slice_get links i ≡ Some link → IsOwned events (place_of i) link
+  pub within : (i place : ℕ) → place_of i ≡ Some place → i < length links
+  pub once : (i j place : ℕ) → place_of i ≡ Some place → place_of j ≡ Some place → i ≡ j
+  pub all : (place own : ℕ) (event : LinkEventValue) → slice_get events place ≡ Some event → given_address event ≡ Some own → (i : ℕ) × (place_of i ≡ Some place)
+
+pub owned_read : (events : List LinkEventValue) (links : List (LinkOf TrueFlow)) → AreOwned events links → AreRead events links
+owned_read events links o = record { place_of = o.place_of; read = λ i link at. (o.owned i link at).read; within = o.within; once = o.once; all = o.all }
+
+-- before any record
+pub none_owned : AreOwned [] []
+none_owned = record { place_of = λ i. None; owned = λ i link at. absurd cc; within = λ i place at. absurd cc; once = λ i j place at_i at_j. absurd cc; all = λ place own event at gives. absurd cc }
+
+calling_live : (phase : Phase) → is_calling phase ≡ true → is_live phase ≡ true
+calling_live Calling e = refl
+calling_live phase e = absurd cc
+
+none_at : (o : Option ℕ) (own : ℕ) → is_at o own ≡ true → o ≡ None → ⊥
+none_at None own e n = absurd cc
+none_at (Some k) own e n = absurd cc
+
+there_is : {X : Type 0} (xs : List X) (i : ℕ) → i < length xs → (x : X) × (slice_get xs i ≡ Some x)
+there_is [] i less = absurd (omega arith)
+there_is (x ∷ xs) zero less = (x, refl)
+there_is (x ∷ xs) (suc i) less = there_is xs i (omega arith)
+
+module _ (events : List LinkEventValue) (s : Links) (o : AreOwned events s.links) where
+  -- a link that begins now has no place
+  place_beyond : o.place_of (length s.links) ≡ None
+  place_beyond = go (o.place_of (length s.links)) refl
+    where
+      go : (p : Option ℕ) → o.place_of (length s.links) ≡ p → o.place_of (length s.links) ≡ None
+      go None e = e
+      go (Some k) e = let w = o.within (length s.links) k e in absurd (omega arith)
+
+  place_below : (i k : ℕ) → o.place_of i ≡ Some k → k < length events
+  place_below i k e =
+      let t = there_is s.links i (o.within i k e) in
+      let h : HoldsAt events t.0.port.own (Some k) = subst (HoldsAt events t.0.port.own) e (o.owned i t.0 t.1).holds in
+      slice_get_within events k h.event h.there
+
+  -- at most one link has an address
+  unique : (i j own : ℕ) (l m : LinkOf TrueFlow) → slice_get s.links i ≡ Some l → slice_get s.links j ≡ Some m → l.port.own ≡ Some own → m.port.own ≡ Some own → i ≡ j
+  unique i j own l m at_i at_j own_l own_m = go (o.place_of i) (o.place_of j) refl refl (o.owned i l at_i).holds (o.owned j m at_j).holds
+    where
+      -- which of two places comes first
+      before : (p q : ℕ) (x : Option ℕ) (h : HoldsFrom events x p) (y : Option ℕ) (g : HoldsFrom events y q) → x ≡ Some own → y ≡ Some own → p < q → ⊥
+      before p q x h y g own_x own_y less = at h.holds g.holds
+        where
+          at : ((x ≡ Some h.address) × (given_again h.address (behind p events) ≡ false)) ⊎ ((x ≡ None) × (given_again h.address (behind p events) ≡ true)) →
+              ((y ≡ Some g.address) × (given_again g.address (behind q events) ≡ false)) ⊎ ((y ≡ None) × (given_again g.address (behind q events) ≡ true)) → ⊥
+          at (inr a) b = let e = sym own_x ∙ a.0 in absurd cc
+          at (inl a) (inr b) = let e = sym own_y ∙ b.0 in absurd cc
+          at (inl a) (inl b) =
+              let same : g.address ≡ h.address = same_Some g.address h.address (sym b.0 ∙ own_y ∙ sym own_x ∙ a.0) in
+              let again = later_gives h.address events p q g.event less g.there (gives_is h.address g.event (g.gives ∙ ap Some same)) in
+              let never = a.1 in absurd cc
+
+      go : (p q : Option ℕ) → o.place_of i ≡ p → o.place_of j ≡ q → HoldsAt events l.port.own (o.place_of i) → HoldsAt events m.port.own (o.place_of j) → i ≡ j
+      go None q at_p at_q h g = let none = subst (HoldsAt events l.port.own) at_p h in let e = sym own_l ∙ none in absurd cc
+      go (Some p) None at_p at_q h g = let none = subst (HoldsAt events m.port.own) at_q g in let e = sym own_m ∙ none in absurd cc
+      go (Some p) (Some q) at_p at_q h g = at (cases_order p q)
+        where
+          x : HoldsFrom events l.port.own p
+          x = subst (HoldsAt events l.port.own) at_p h
+
+          y : HoldsFrom events m.port.own q
+          y = subst (HoldsAt events m.port.own) at_q g
+
+          at : (p ≡ q) ⊎ ((p < q) ⊎ (q < p)) → i ≡ j
+          at (inl e) = o.once i j p at_p (at_q ∙ ap Some (sym e))
+          at (inr (inl less)) = absurd (before p q l.port.own x m.port.own y own_l own_m less)
+          at (inr (inr less)) = absurd (before q p m.port.own y l.port.own x own_m own_l less)
+
+  -- ---- no event
+
+  owned_links : (links : List (LinkOf TrueFlow)) → length s.links ≤ length links → ((i : ℕ) (link : LinkOf TrueFlow) → slice_get links i ≡ Some link → IsOwned events (o.place_of i) link) → AreOwned events links
+  owned_links links longer owned = record { place_of = o.place_of; owned = owned; within = λ i place at. let w = o.within i place at in omega arith; once = o.once; all = o.all }
+
+  -- a link changes, and keeps its address and messages
+  one_owned : (number : ℕ) (link left : LinkOf TrueFlow) → slice_get s.links number ≡ Some link → left.port.own ≡ link.port.own → left.flow.handed ≡ link.flow.handed → left.flow.delivered ≡ link.flow.delivered →
+      (is_called left.port.phase ≡ true → is_called link.port.phase ≡ true) → (is_live left.port.phase ≡ true → left.port.own ≡ None → left.flow.received ≡ []) → AreOwned events (changed number left s).links
+  one_owned number link left there own handed up called fresh = owned_links (slice_set s.links number left) (let l = length-set s.links number left in omega arith)
+      (all_set (λ (i : ℕ) (l : LinkOf TrueFlow). IsOwned events (o.place_of i) l) s.links number left (owned_same events (o.place_of number) link left own handed up called fresh (o.owned number link there)) o.owned)
+
+  pub sent_owned : (m : NspValue) (made : Sent TrueFlow Numbers) → ((number : ℕ) (link : LinkOf TrueFlow) → slice_get s.links number ≡ Some link → IsSoundFlow link.flow) → SentDid true_flows s m made → AreOwned events made.links.links
+  sent_owned m made sound (OfNone none) = o
+  sent_owned m made sound (Stays number link none there) = o
+  sent_owned m made sound (EndsCalled far number link none found) = one_owned number link (ended true_flows link) found.there refl refl refl (λ c. absurd cc) (λ live. absurd cc)
+  sent_owned m made sound (Segment segment number link sent is found run does) =
+      let t = (segment_sent link.flow (sound number link found.there) link.segsize segment sent does).sends in
+      one_owned number link (with_flow sent.flow link) found.there refl t.handed t.delivered (λ c. c) (λ live none. t.received ∙ (o.owned number link found.there).fresh live none)
+  sent_owned m made sound (Acks dst src acks number link sent is found run does) =
+      let t = (acks_sent link.flow (sound number link found.there) acks sent does).sends in
+      one_owned number link (with_flow sent.flow link) found.there refl t.handed t.delivered (λ c. c) (λ live none. t.received ∙ (o.owned number link found.there).fresh live none)
+
+  -- what comes keeps what was handed in and delivered
+  fold_same : (acks : List ℕ) (f : TrueFlow) → ((fold flow.acknowledged_through f acks).handed ≡ f.handed) × ((fold flow.acknowledged_through f acks).delivered ≡ f.delivered)
+  fold_same [] f = (refl, refl)
+  fold_same (ack ∷ acks) f = let r = fold_same acks (flow.acknowledged_through f ack) in let t = one _ in (r.0 ∙ t.0, r.1 ∙ t.1)
+    where
+      one : (b : Bool) → ((cond b (record f { acknowledged = ack }) f).handed ≡ f.handed) × ((cond b (record f { acknowledged = ack }) f).delivered ≡ f.delivered)
+      one true = (refl, refl)
+      one false = (refl, refl)
+
+  pub arrived_owned : (m : NspValue) (truth : LinkTruth Numbers) (left : Links) → ArrivedDid true_flows of_partner s m truth left → AreOwned events left.links
+  arrived_owned m truth left Ignores = o
+  arrived_owned m truth left (Begins far segsize none) =
+      let l = called true_flows of_partner far segsize truth.tag in
+      owned_links (s.links ++ l ∷ []) (let e = length-append s.links (l ∷ []) in omega arith)
+          (all_pushed (λ (i : ℕ) (l : LinkOf TrueFlow). IsOwned events (o.place_of i) l) s.links l
+              (subst (λ (p : Option ℕ). IsOwned events p l) (sym place_beyond) (record { read = record { handed = refl; up = refl }; holds = refl; called = λ c. refl; fresh = λ live none. refl })) o.owned)
+  arrived_owned m truth left (Confirms own far segsize number link found for) =
+      let calling = (and_parts (is_calling link.port.phase) (is_at link.port.own own) found.passed).0 in
+      one_owned number link (confirmed true_flows of_partner far segsize truth.tag link) found.there refl refl refl (λ c. absurd cc) (λ live none. (o.owned number link found.there).fresh (calling_live link.port.phase calling) none)
+  arrived_owned m truth left (Ends test number link found) = one_owned number link (ended true_flows link) found.there refl refl refl (λ c. absurd cc) (λ live. absurd cc)
+  arrived_owned m truth left (TakesSegment own far segment number link is found pair) =
+      let both = and_parts (is_at link.port.own own) (is_at link.port.far far) (and_parts (is_connected link.port.phase) (has_both link.port own far) found.passed).1 in
+      let f = fold_same truth.known.acknowledgements link.flow in
+      one_owned number link (with_flow (flow.takes_segment segment truth.known link.flow) (in_phase Running link)) found.there refl f.0 f.1 (λ c. absurd cc) (λ live none. absurd (none_at link.port.own own both.0 none))
+  arrived_owned m truth left (TakesAcks own far dst src acks number link is found pair) =
+      let both = and_parts (is_at link.port.own own) (is_at link.port.far far) (and_parts (is_connected link.port.phase) (has_both link.port own far) found.passed).1 in
+      let f = fold_same truth.known.acknowledgements link.flow in
+      one_owned number link (with_flow (flow.takes_acks acks truth.known link.flow) (in_phase Running link)) found.there refl f.0 f.1 (λ c. absurd cc) (λ live none. absurd (none_at link.port.own own both.0 none))
+  arrived_owned m truth left (TakesOther own far number link found pair) =
+      let both = and_parts (is_at link.port.own own) (is_at link.port.far far) (and_parts (is_connected link.port.phase) (has_both link.port own far) found.passed).1 in
+      one_owned number link (in_phase Running link) found.there refl refl refl (λ c. absurd cc) (λ live none. absurd (none_at link.port.own own both.0 none))
+
+  -- ---- an event that gives no address
+
+  module _ (event : LinkEventValue) (gives_none : given_address event ≡ None) where
+    owned_event : (links : List (LinkOf TrueFlow)) → length s.links ≤ length links → ((i : ℕ) (link : LinkOf TrueFlow) → slice_get links i ≡ Some link → IsOwned (events ++ event ∷ []) (o.place_of i) link) → AreOwned (events ++ event ∷ []) links
+    owned_event links longer owned = record { place_of = o.place_of; owned = owned; within = λ i place at. let w = o.within i place at in omega arith; once = o.once; all = λ place own e at gives. go place own e gives (at_pushed events event e place at) }
+      where
+        go : (place own : ℕ) (e : LinkEventValue) → given_address e ≡ Some own → (slice_get events place ≡ Some e) ⊎ ((place ≡ length events) × (event ≡ e)) → (i : ℕ) × (o.place_of i ≡ Some place)
+        go place own e gives (inl at) = o.all place own e at gives
+        go place own e gives (inr same) = let x : None ≡ Some own = sym gives_none ∙ ap given_address same.1 ∙ gives in absurd cc
+
+    gives_false : (own : ℕ) → gives_address own event ≡ false
+    gives_false own = ap (λ (x : Option ℕ). is_at x own) gives_none
+
+    -- of a link at which it has no message
+    quiet : (i : ℕ) (l m : LinkOf TrueFlow) → slice_get s.links i ≡ Some l → ((own : ℕ) → l.port.own ≡ Some own → (message_in own event ≡ []) × (message_up own event ≡ [])) → m.port.own ≡ l.port.own → m.flow ≡ l.flow →
+        (is_called m.port.phase ≡ true → is_called l.port.phase ≡ true) → (is_live m.port.phase ≡ true → is_live l.port.phase ≡ true) → IsOwned (events ++ event ∷ []) (o.place_of i) m
+    quiet i l m at silent own same called live = owned_more events event l m (o.place_of i) (o.owned i l at)
+        (λ none. record { handed = ap (λ (f : TrueFlow). f.handed) same; up = ap (λ (f : TrueFlow). f.delivered) same; own = own })
+        (λ address is. let q = silent address is in record {
+          handed = ap (λ (f : TrueFlow). f.handed) same ∙ sym (append-nil l.flow.handed) ∙ ap (λ (x : List (List ℕ)). l.flow.handed ++ x) (sym q.0);
+          up = ap (λ (f : TrueFlow). f.delivered) same ∙ sym (append-nil l.flow.delivered) ∙ ap (λ (x : List (List ℕ)). l.flow.delivered ++ x) (sym q.1);
+          own = inl (own ∙ is, gives_false address);
+        })
+        called (λ alive none. ap (λ (f : TrueFlow). f.received) same ∙ (o.owned i l at).fresh (live alive) (sym own ∙ none))
+
+  -- a message is handed in at an address, or delivered there
+  module _ (event : LinkEventValue) (gives_none : given_address event ≡ None) (own number : ℕ) (link left : LinkOf TrueFlow) (there : slice_get s.links number ≡ Some link) (has : link.port.own ≡ Some own)
+      (silent : (address : ℕ) → (own ≡ address → ⊥) → (message_in address event ≡ []) × (message_up address event ≡ [])) (same_port : left.port ≡ link.port) (same_received : left.flow.received ≡ link.flow.received)
+      (handed : left.flow.handed ≡ link.flow.handed ++ message_in own event) (up : left.flow.delivered ≡ link.flow.delivered ++ message_up own event) where
+    message_owned : AreOwned (events ++ event ∷ []) (changed number left s).links
+    message_owned = owned_event event gives_none (slice_set s.links number left) (let l = length-set s.links number left in omega arith) (λ i l at. go i l (at_set s.links number i left l at))
+      where
+        here : IsOwned (events ++ event ∷ []) (o.place_of number) left
+        here = owned_more events event link left (o.place_of number) (o.owned number link there)
+            (λ none. let e = sym has ∙ none in absurd cc)
+            (λ address is. let same : own ≡ address = same_Some own address (sym has ∙ is) in record {
+              handed = handed ∙ ap (λ (n : ℕ). link.flow.handed ++ message_in n event) same;
+              up = up ∙ ap (λ (n : ℕ). link.flow.delivered ++ message_up n event) same;
+              own = inl (ap (λ p. p.own) same_port ∙ is, gives_false event gives_none address);
+            })
+            (λ c. ap (λ p. is_called p.phase) (sym same_port) ∙ c)
+            (λ live none. let e = sym has ∙ ap (λ p. p.own) (sym same_port) ∙ none in absurd cc)
+
+        go : (i : ℕ) (l : LinkOf TrueFlow) → ((i ≡ number) × (left ≡ l)) ⊎ ((i ≡ number → ⊥) × (slice_get s.links i ≡ Some l)) → IsOwned (events ++ event ∷ []) (o.place_of i) l
+        go i l (inl e) = subst (λ (j : ℕ). IsOwned (events ++ event ∷ []) (o.place_of j) l) (sym e.0) (subst (IsOwned (events ++ event ∷ []) (o.place_of number)) e.1 here)
+        go i l (inr e) = quiet event gives_none i l l e.1 (λ address is. silent address (λ same. e.0 (unique i number own l link e.1 there (is ∙ ap Some (sym same)) has))) refl refl (λ c. c) (λ c. c)
+
+  -- ---- an event that gives an address
+
+  module _ (event : LinkEventValue) (own : ℕ) (gives : given_address event ≡ Some own) (free : number_of (LiveAt own) s ≡ None) where
+    giving_none : (e : LinkEventValue) (n : ℕ) → given_address e ≡ Some n → (address : ℕ) → (message_in address e ≡ []) × (message_up address e ≡ [])
+    giving_none (Open link) n g address = (refl, refl)
+    giving_none (Accept far link) n g address = (refl, refl)
+    giving_none (Reject far link) n g address = (refl, refl)
+    giving_none (In link message) n g address = absurd cc
+    giving_none (Up link message) n g address = absurd cc
+    giving_none (Close link) n g address = absurd cc
+
+    gives_other : (address : ℕ) → (own ≡ address → ⊥) → gives_address address event ≡ false
+    gives_other address differs = ap (λ (x : Option ℕ). is_at x address) gives ∙ ne_eqb own address differs
+
+    -- a link with another address, or with none
+    other_owned : (i : ℕ) (l : LinkOf TrueFlow) → slice_get s.links i ≡ Some l → (l.port.own ≡ Some own → ⊥) → IsOwned (events ++ event ∷ []) (o.place_of i) l
+    other_owned i l at differs = owned_more events event l l (o.place_of i) (o.owned i l at) (λ none. record { handed = refl; up = refl; own = refl })
+        (λ address is. let q = giving_none event own gives address in record {
+          handed = sym (append-nil l.flow.handed) ∙ ap (λ (x : List (List ℕ)). l.flow.handed ++ x) (sym q.0);
+          up = sym (append-nil l.flow.delivered) ∙ ap (λ (x : List (List ℕ)). l.flow.delivered ++ x) (sym q.1);
+          own = inl (is, gives_other address (λ same. differs (is ∙ ap Some (sym same))));
+        })
+        (λ c. c) (o.owned i l at).fresh
+
+    -- the link that had the address
+    forgotten_owned : (i : ℕ) (l : LinkOf TrueFlow) → slice_get s.links i ≡ Some l → l.port.own ≡ Some own → IsOwned (events ++ event ∷ []) (o.place_of i) (forgotten true_flows l)
+    forgotten_owned i l at has = owned_more events event l (forgotten true_flows l) (o.place_of i) (o.owned i l at) (λ none. let e = sym has ∙ none in absurd cc)
+        (λ address is. let q = giving_none event own gives address in record {
+          handed = sym (append-nil l.flow.handed) ∙ ap (λ (x : List (List ℕ)). l.flow.handed ++ x) (sym q.0);
+          up = sym (append-nil l.flow.delivered) ∙ ap (λ (x : List (List ℕ)). l.flow.delivered ++ x) (sym q.1);
+          own = inr (refl, gives_is address event (gives ∙ sym has ∙ is));
+        })
+        (λ c. c) (λ live none. absurd (dead live))
+      where
+        dead : is_live l.port.phase ≡ true → ⊥
+        dead live =
+            let f = position_none (λ (k : LinkOf TrueFlow). passes (LiveAt own) k.port) s.links i l free at in
+            let t : (is_live l.port.phase && is_at l.port.own own) ≡ true = and_from _ _ live (ap (λ (x : Option ℕ). is_at x own) has ∙ eq-eqb own own refl) in
+            absurd cc
+
+    -- all links, once the address is free
+    freed_owned : (i : ℕ) (l : LinkOf TrueFlow) → slice_get (freed true_flows own s).links i ≡ Some l → IsOwned (events ++ event ∷ []) (o.place_of i) l
+    freed_owned = looked (HasAddress own) s s (λ number link. changed number (forgotten true_flows link) s) (freed true_flows own s) refl
+        (λ none e. subst (λ (x : Links). (i : ℕ) (l : LinkOf TrueFlow) → slice_get x.links i ≡ Some l → IsOwned (events ++ event ∷ []) (o.place_of i) l) e
+            (λ i l at. other_owned i l at (λ has. let f = position_none (λ (k : LinkOf TrueFlow). passes (HasAddress own) k.port) s.links i l none at in let t = ap (λ (x : Option ℕ). is_at x own) has ∙ eq-eqb own own refl in absurd cc)))
+        (λ number link found e. subst (λ (x : Links). (i : ℕ) (l : LinkOf TrueFlow) → slice_get x.links i ≡ Some l → IsOwned (events ++ event ∷ []) (o.place_of i) l) e
+            (λ i l at. go number link found i l (at_set s.links number i (forgotten true_flows link) l at)))
+      where
+        go : (number : ℕ) (link : LinkOf TrueFlow) → IsFound (HasAddress own) s number link → (i : ℕ) (l : LinkOf TrueFlow) →
+            ((i ≡ number) × (forgotten true_flows link ≡ l)) ⊎ ((i ≡ number → ⊥) × (slice_get s.links i ≡ Some l)) → IsOwned (events ++ event ∷ []) (o.place_of i) l
+        go number link found i l (inl e) =
+            subst (λ (j : ℕ). IsOwned (events ++ event ∷ []) (o.place_of j) l) (sym e.0) (subst (IsOwned (events ++ event ∷ []) (o.place_of number)) e.1 (forgotten_owned number link found.there (at_is link.port.own own found.passed)))
+        go number link found i l (inr e) = other_owned i l e.1 (λ has. e.0 (unique i number own l link e.1 found.there has (at_is link.port.own own found.passed)))
+
+    same_long : length (freed true_flows own s).links ≡ length s.links
+    same_long = looked (HasAddress own) s s (λ number link. changed number (forgotten true_flows link) s) (freed true_flows own s) refl
+        (λ none e. ap (λ (x : Links). length x.links) (sym e)) (λ number link found e. ap (λ (x : Links). length x.links) (sym e) ∙ length-set s.links number (forgotten true_flows link))
+
+    -- one link gets this place, and had none
+    module _ (number : ℕ) (left : LinkOf TrueFlow) (links : List (LinkOf TrueFlow)) (none : o.place_of number ≡ None) (here : slice_get links number ≡ Some left) (longer : length s.links ≤ length links) (has : left.port.own ≡ Some own)
+        (not_called : is_called left.port.phase ≡ false) (handed : left.flow.handed ≡ []) (up : left.flow.delivered ≡ [])
+        (others : (i : ℕ) (l : LinkOf TrueFlow) → slice_get links i ≡ Some l → ((i ≡ number) × (left ≡ l)) ⊎ ((i ≡ number → ⊥) × IsOwned (events ++ event ∷ []) (o.place_of i) l)) where
+      abbrev placed : ℕ → Option ℕ
+      placed i = cond (i == number) (Some (length events)) (o.place_of i)
+
+      placed_here : placed number ≡ Some (length events)
+      placed_here = ap (λ (b : Bool). cond b (Some (length events)) (o.place_of number)) (eq-eqb number number refl)
+
+      placed_other : (i : ℕ) → (i ≡ number → ⊥) → placed i ≡ o.place_of i
+      placed_other i differs = ap (λ (b : Bool). cond b (Some (length events)) (o.place_of i)) (ne_eqb i number differs)
+
+      left_owned : IsOwned (events ++ event ∷ []) (Some (length events)) left
+      left_owned = record {
+        read = record {
+          event = event;
+          there = next_at events [] event;
+          own = own;
+          gives = gives;
+          handed = handed ∙ ap (λ (x : List LinkEventValue). handed_in own x) (sym (behind_last events event));
+          up = up ∙ ap (λ (x : List LinkEventValue). delivered_up own x) (sym (behind_last events event));
+        };
+        holds = record { address = own; event = event; there = next_at events [] event; gives = gives; holds = inl (has, ap (given_again own) (behind_last events event)) };
+        called = λ c. let n = not_called in absurd cc;
+        fresh = λ live n. let e = sym has ∙ n in absurd cc;
+      }
+
+      pub given_owned : AreOwned (events ++ event ∷ []) links
+      given_owned = record {
+        place_of = placed;
+        owned = λ i l at. own_at i l (others i l at);
+        within = λ i place at. within_at i place at (cases_eq i number);
+        once = λ i j place at_i at_j. once_at i j place at_i at_j (cases_eq i number) (cases_eq j number);
+        all = λ place address e at g. all_at place address e g (at_pushed events event e place at);
+      }
+        where
+          own_at : (i : ℕ) (l : LinkOf TrueFlow) → ((i ≡ number) × (left ≡ l)) ⊎ ((i ≡ number → ⊥) × IsOwned (events ++ event ∷ []) (o.place_of i) l) → IsOwned (events ++ event ∷ []) (placed i) l
+          own_at i l (inl e) =
+              subst (λ (p : Option ℕ). IsOwned (events ++ event ∷ []) p l) (sym (ap placed e.0 ∙ placed_here)) (subst (IsOwned (events ++ event ∷ []) (Some (length events))) e.1 left_owned)
+          own_at i l (inr e) = subst (λ (p : Option ℕ). IsOwned (events ++ event ∷ []) p l) (sym (placed_other i e.0)) e.1
+
+          within_at : (i place : ℕ) → placed i ≡ Some place → (i ≡ number) ⊎ (i ≡ number → ⊥) → i < length links
+          within_at i place at (inl e) = let w = slice_get_within links number left here in omega arith
+          within_at i place at (inr d) = let w = o.within i place (sym (placed_other i d) ∙ at) in omega arith
+
+          once_at : (i j place : ℕ) → placed i ≡ Some place → placed j ≡ Some place → (i ≡ number) ⊎ (i ≡ number → ⊥) → (j ≡ number) ⊎ (j ≡ number → ⊥) → i ≡ j
+          once_at i j place at_i at_j (inl e) (inl f) = e ∙ sym f
+          once_at i j place at_i at_j (inl e) (inr f) =
+              let p : length events ≡ place = same_Some (length events) place (sym (ap placed e ∙ placed_here) ∙ at_i) in
+              let w = place_below j place (sym (placed_other j f) ∙ at_j) in absurd (omega arith)
+          once_at i j place at_i at_j (inr e) (inl f) =
+              let p : length events ≡ place = same_Some (length events) place (sym (ap placed f ∙ placed_here) ∙ at_j) in
+              let w = place_below i place (sym (placed_other i e) ∙ at_i) in absurd (omega arith)
+          once_at i j place at_i at_j (inr e) (inr f) = o.once i j place (sym (placed_other i e) ∙ at_i) (sym (placed_other j f) ∙ at_j)
+
+          all_at : (place address : ℕ) (e : LinkEventValue) → given_address e ≡ Some address → (slice_get events place ≡ Some e) ⊎ ((place ≡ length events) × (event ≡ e)) → (i : ℕ) × (placed i ≡ Some place)
+          all_at place address e g (inl at) =
+              let a = o.all place address e at g in
+              (a.0, placed_other a.0 (λ same. let x : None ≡ Some place = sym none ∙ ap o.place_of (sym same) ∙ a.1 in absurd cc) ∙ a.1)
+          all_at place address e g (inr same) = (number, placed_here ∙ ap Some (sym same.0))
+
+    -- the link in Called that is answered
+    answered_owned : (phase : Phase) (number : ℕ) (link : LinkOf TrueFlow) → slice_get s.links number ≡ Some link → is_called link.port.phase ≡ true → is_called phase ≡ false → AreOwned (events ++ event ∷ []) (changed number (answered true_flows phase own link) (freed true_flows own s)).links
+    answered_owned phase number link there called not_called =
+        given_owned number (answered true_flows phase own link) (slice_set (freed true_flows own s).links number (answered true_flows phase own link)) none (let t = there_is (freed true_flows own s).links number (let w = slice_get_within s.links number link there in let l = same_long in omega arith) in set_same (freed true_flows own s).links number t.0 (answered true_flows phase own link) t.1)
+            (let l = length-set (freed true_flows own s).links number (answered true_flows phase own link) in let m = same_long in omega arith) refl not_called neither.0 neither.1
+            (λ i l at. go i l (at_set (freed true_flows own s).links number i (answered true_flows phase own link) l at))
+      where
+        none : o.place_of number ≡ None
+        none = (o.owned number link there).called called
+
+        neither : (link.flow.handed ≡ []) × (link.flow.delivered ≡ [])
+        neither = let r = subst (λ (p : Option ℕ). IsRead events link p) none (o.owned number link there).read in (r.handed, r.up)
+
+        go : (i : ℕ) (l : LinkOf TrueFlow) → ((i ≡ number) × (answered true_flows phase own link ≡ l)) ⊎ ((i ≡ number → ⊥) × (slice_get (freed true_flows own s).links i ≡ Some l)) →
+            ((i ≡ number) × (answered true_flows phase own link ≡ l)) ⊎ ((i ≡ number → ⊥) × IsOwned (events ++ event ∷ []) (o.place_of i) l)
+        go i l (inl e) = inl e
+        go i l (inr e) = inr (e.0, freed_owned i l e.1)
+
+    -- the link that is opened
+    opened_owned : AreOwned (events ++ event ∷ []) (begun (opened true_flows own) (freed true_flows own s)).links
+    opened_owned =
+        given_owned (length s.links) (opened true_flows own) ((freed true_flows own s).links ++ opened true_flows own ∷ []) place_beyond
+            (ap (slice_get ((freed true_flows own s).links ++ opened true_flows own ∷ [])) (sym same_long) ∙ next_at (freed true_flows own s).links [] (opened true_flows own))
+            (let l = length-append (freed true_flows own s).links (opened true_flows own ∷ []) in let m = same_long in omega arith) refl refl refl refl
+            (λ i l at. go i l (at_pushed (freed true_flows own s).links (opened true_flows own) l i at))
+      where
+        go : (i : ℕ) (l : LinkOf TrueFlow) → (slice_get (freed true_flows own s).links i ≡ Some l) ⊎ ((i ≡ length (freed true_flows own s).links) × (opened true_flows own ≡ l)) →
+            ((i ≡ length s.links) × (opened true_flows own ≡ l)) ⊎ ((i ≡ length s.links → ⊥) × IsOwned (events ++ event ∷ []) (o.place_of i) l)
+        go i l (inl at) = inr (λ e. let w = slice_get_within (freed true_flows own s).links i l at in let m = same_long in absurd (omega arith), freed_owned i l at)
+        go i l (inr e) = inl (e.0 ∙ same_long, e.1)
+
+  -- ---- every event
+
+  at_other : (message : List ℕ) (own address : ℕ) → (own ≡ address → ⊥) → cond (own == address) (message ∷ []) [] ≡ []
+  at_other message own address differs = ap (λ (b : Bool). cond b (message ∷ []) []) (ne_eqb own address differs)
+
+  at_own : (message : List ℕ) (own : ℕ) → message ∷ [] ≡ cond (own == own) (message ∷ []) []
+  at_own message own = ap (λ (b : Bool). cond b (message ∷ []) []) (sym (eq-eqb own own refl))
+
+  pub user_owned : (event : LinkEventValue) (left : Links) → UserDid true_flows s event left → AreOwned (events ++ event ∷ []) left.links
+  user_owned event left (Opens own free) = opened_owned (Open own) own refl free
+  user_owned event left (Accepts far own number link found free) =
+      answered_owned (Accept far own) own refl free Confirming number link found.there (and_parts (is_called link.port.phase) (is_at link.port.far far) found.passed).0 refl
+  user_owned event left (Rejects far own number link found free) =
+      answered_owned (Reject far own) own refl free Disconnecting number link found.there (and_parts (is_called link.port.phase) (is_at link.port.far far) found.passed).0 refl
+  user_owned event left (HandsIn own message number link found may) =
+      message_owned (In own message) refl own number link (with_flow (flow.hands_in message link.flow) link) found.there (at_is link.port.own own (and_parts (is_live link.port.phase) (is_at link.port.own own) found.passed).1)
+          (λ address differs. (at_other message own address differs, refl)) refl refl (ap (λ (x : List (List ℕ)). link.flow.handed ++ x) (at_own message own)) (sym (append-nil link.flow.delivered))
+  user_owned event left (Delivers own message number link next found delivers) =
+      let d = delivered_is message link.flow next delivers in
+      message_owned (Up own message) refl own number link (with_flow next link) found.there (at_is link.port.own own found.passed)
+          (λ address differs. (refl, at_other message own address differs)) refl (ap (λ (f : TrueFlow). f.received) d.is) (ap (λ (f : TrueFlow). f.handed) d.is ∙ sym (append-nil link.flow.handed))
+          (ap (λ (f : TrueFlow). f.delivered) d.is ∙ ap (λ (x : List ℕ). link.flow.delivered ++ x ∷ []) (sym d.message_is) ∙ ap (λ (x : List (List ℕ)). link.flow.delivered ++ x) (at_own message own))
+  user_owned event left (Closes own number link found connected) =
+      owned_event (Close own) refl (slice_set s.links number (in_phase Disconnecting link)) (let l = length-set s.links number (in_phase Disconnecting link) in omega arith)
+          (all_set (λ (i : ℕ) (l : LinkOf TrueFlow). IsOwned (events ++ Close own ∷ []) (o.place_of i) l) s.links number (in_phase Disconnecting link)
+              (quiet (Close own) refl number link (in_phase Disconnecting link) found.there (λ address is. (refl, refl)) refl refl (λ c. absurd cc) (λ live. connected_live link.port.phase connected))
+              (λ i l at. quiet (Close own) refl i l l at (λ address is. (refl, refl)) refl refl (λ c. c) (λ c. c)))
+    where
+      connected_live : (phase : Phase) → is_connected phase ≡ true → is_live phase ≡ true
+      connected_live Confirming e = refl
+      connected_live Running e = refl
+      connected_live phase e = absurd cc
