@@ -63,3 +63,4 @@ mod LinkSides
 mod LinkSteps
 mod LinkReads
 mod LinkReadSteps
+mod LinkRunBounds

@@ -1,5 +1,6 @@
 -- What was handed in at a link and delivered at it, off the records of its user alone.
 use Rattle.std.specs.Prelude.{◌≡◌, ℕ, zero, suc, ◌<◌, Bool, true, ◌==◌, if◌then◌else◌, Option, Some, None, List, [], ◌∷◌, ◌++◌, length, slice_get}
+use Rattle.dna_model.specs.Delivery.{BeginsWith}
 use Rattle.dna_model.specs.LinkTests.{is_at}
 use Rattle.dna_model.specs.Links.{LinkOf}
 use Rattle.dna_model.specs.LinkUser.{LinkEventValue, Open, Accept, Reject, In, Up, Close}
@@ -67,3 +68,22 @@ pub record AreRead (events : List LinkEventValue) (links : List (LinkOf TrueFlow
   pub within : (i place : ℕ) → place_of i ≡ Some place → i < length links
   pub once : (i j place : ℕ) → place_of i ≡ Some place → place_of j ≡ Some place → i ≡ j
   pub all : (place own : ℕ) (event : LinkEventValue) → slice_get events place ≡ Some event → given_address event ≡ Some own → (i : ℕ) × (place_of i ≡ Some place)
+
+-- ---- from capture to capture
+
+-- these are a beginning of what was handed in at the link that has this place in the other side's events; or nothing, where it has none
+abbrev pub BeginsAt : List LinkEventValue → (delivered : List (List ℕ)) → Option ℕ → Type 0
+BeginsAt events delivered None = delivered ≡ []
+BeginsAt events delivered (Some place) = (own : ℕ) × (event : LinkEventValue) × (slice_get events place ≡ Some event) × (given_address event ≡ Some own) × BeginsWith (handed_in own (behind place events)) delivered
+
+abbrev pub BeginsFor : List LinkEventValue → (delivered : List (List ℕ)) → (place_of : ℕ → Option ℕ) → (partner : Option ℕ) → Type 0
+BeginsFor events delivered place_of None = delivered ≡ []
+BeginsFor events delivered place_of (Some partner) = BeginsAt events delivered (place_of partner)
+
+-- what was delivered at each address, from the event that gave it to a link up to the next that gives it again, is a beginning of what was
+-- handed in at that link's partner. Whose partner a link is, is the run's
+pub record AreUpFrom (events further : List LinkEventValue) (links others : List (LinkOf TrueFlow)) : Type 0 where
+  pub own : AreRead events links
+  pub other : AreRead further others
+  pub up : (i place address : ℕ) (link : LinkOf TrueFlow) (event : LinkEventValue) → slice_get links i ≡ Some link → own.place_of i ≡ Some place → slice_get events place ≡ Some event → given_address event ≡ Some address →
+      BeginsFor further (delivered_up address (behind place events)) other.place_of link.partner

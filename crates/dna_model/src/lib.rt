@@ -9,6 +9,7 @@ pub mod laws;
 mod link_event;
 pub mod link_laws;
 mod link_refusal;
+pub mod link_run_laws;
 mod link_tag;
 mod port;
 mod refusal;
@@ -24,6 +25,7 @@ pub use laws::{
 pub use link_event::LinkEvent;
 pub use link_laws::{cut_flow, cut_link_steps};
 pub use link_refusal::LinkRefusal;
+pub use link_run_laws::{links_deliver_in_order, links_read_off_captures, links_within_bounds};
 pub use link_tag::LinkTag;
 pub use port::{LinkTest, Phase, Port};
 pub use refusal::{StationRefusal, StepRefusal};
