@@ -17,10 +17,13 @@ use Rattle.dna_model.specs.TrueFlow.{TrueFlow, Numbers, highest_given, highest_r
 use Rattle.dna_model.specs.CutFlow.{IsOrdered, IsAnswered, data_numbers, Spells, AckIsNear, AcksAreNear, SegmentIsNear}
 use Rattle.dna_model.specs.CutLinks.{IsLinkOrdered, ComesNear, IsActedOn, ArrivesNear}
 use Rattle.dna_model.specs.LinkRuns.{SentMessage, LinkSide, LinkWorld, LinkStep, ByUser, Sends, SendsNone, Keeps, KeepsNone, Reached, Start, ByA, ByB, new_world}
-use Rattle.dna_model.specs.LinkBounds.{AreLinksBounded}
+use Rattle.dna_model.specs.LinkBounds.{AreLinksBounded, AreCutInStep}
 use Rattle.dna_model.specs.LinkDelivery.{whole, HeldFrom, UpFrom, DeliversLinks}
 use Rattle.dna_model.specs.LinkCaptures.{given_address, delivered_up, behind, handed_in, IsReadFrom, IsRead, AreRead, BeginsAt, BeginsFor, AreUpFrom}
 use Rattle.dna_model.proofs.Numbered.{AcksFrom, NumberNear, IsNear}
+use Rattle.dna_model.proofs.CutLinkUser.{user_same}
+use Rattle.dna_model.proofs.CutLinkSending.{sent_same}
+use Rattle.dna_model.proofs.CutLinkArriving.{arrived_same}
 use Rattle.dna_model.proofs.LinkTables.{user_did, sent_did, arrived_did}
 use Rattle.dna_model.proofs.LinkWords.{limits, AreWords}
 use Rattle.dna_model.proofs.LinkPieces.{IsPassed, passed_begins}
@@ -146,6 +149,13 @@ module _ (own other : LinkSide) (h : IsSoundSide own other) (theirs : IsSoundSid
           subst (λ (x : List (List ℕ)). BeginsFor further x theirs_read.place_of link.partner) (r.up ∙ ap (λ (n : ℕ). delivered_up n (behind place events)) same)
               (begins_for further theirs_read link.flow.delivered link.partner (up_from link (h.ends i link at).flow.passed link.partner (h.ends i link at).held))
 
+side_in_step : (own other : LinkSide) → AreLinksBounded own other → AreCutInStep own other
+side_in_step own other b = record {
+  user = λ event. user_same own.links event;
+  sent = λ packet. sent_same own.links b.ordered packet;
+  kept = λ place unit ahead there small. arrived_same of_partner own.links b.ordered unit.truth unit.packet (b.near place unit ahead there small);
+}
+
 -- ---- in every run
 
 record BothOwned (w : LinkWorld) (events further : List LinkEventValue) : Type 0 where
@@ -190,3 +200,7 @@ module _ (node_a peer_a node_b peer_b : ℕ) (w : LinkWorld) (of_a of_b : List L
       let a = owned_read of_a w.a.links.links owned.of_a in
       let b = owned_read of_b w.b.links.links owned.of_b in
       (side_up w.a w.b sound.of_a sound.of_b of_a of_b a b, side_up w.b w.a sound.of_b sound.of_a of_b of_a b a)
+
+  -- and so what is kept of the links goes along
+  pub in_step : AreCutInStep w.a w.b × AreCutInStep w.b w.a
+  in_step = (side_in_step w.a w.b bounded.0, side_in_step w.b w.a bounded.1)

@@ -4,7 +4,7 @@
 ghost use Rattle.std.specs.Prelude.{ℕ, List};
 ghost use Rattle.dna_model.specs.LinkUser.{LinkEventValue};
 ghost use Rattle.dna_model.specs.LinkRuns.{LinkWorld, Reached, new_world};
-ghost use Rattle.dna_model.specs.LinkBounds.{AreLinksBounded};
+ghost use Rattle.dna_model.specs.LinkBounds.{AreLinksBounded, AreCutInStep};
 ghost use Rattle.dna_model.specs.LinkDelivery.{DeliversLinks};
 ghost use Rattle.dna_model.specs.LinkCaptures.{AreUpFrom};
 
@@ -15,6 +15,15 @@ pub fn links_within_bounds()
         → Reached (new_world node_a peer_a node_b peer_b) w of_a of_b → AreLinksBounded w.a w.b }
     ensures of_b { (node_a peer_a node_b peer_b : ℕ) (w : LinkWorld) (of_a of_b : List LinkEventValue)
         → Reached (new_world node_a peer_a node_b peer_b) w of_a of_b → AreLinksBounded w.b w.a }
+{}
+
+/// So at any time in a run wire links make of each event, of each message that is sent and of each that may still be kept just what is seen
+/// of the links on unbounded numbers, with the same refusals and tags.
+pub fn wire_links_see_right()
+    ensures of_a { (node_a peer_a node_b peer_b : ℕ) (w : LinkWorld) (of_a of_b : List LinkEventValue)
+        → Reached (new_world node_a peer_a node_b peer_b) w of_a of_b → AreCutInStep w.a w.b }
+    ensures of_b { (node_a peer_a node_b peer_b : ℕ) (w : LinkWorld) (of_a of_b : List LinkEventValue)
+        → Reached (new_world node_a peer_a node_b peer_b) w of_a of_b → AreCutInStep w.b w.a }
 {}
 
 /// In order, nothing invented: in every run what was given is a cut of what was handed in, each piece that was received is the one that the
