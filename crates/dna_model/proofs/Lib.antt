@@ -16,6 +16,7 @@ mod LinkArrivingRows
 mod LinkNumberRows
 mod LinkRequestRows
 mod LinkWindowRows
+mod LinkRunRows
 -- what holds of one station, and its cut to what a node keeps
 mod Modulo
 mod Ordered
