@@ -1,12 +1,12 @@
 -- Pieces are a cut of what was handed in, and what is delivered are the whole messages of the first pieces that came.
-use Rattle.std.proofs.Common.{◌≡◌, ℕ, zero, suc, ◌+◌, ◌-◌, ◌<◌, ◌≤◌, Bool, true, false, not, ◌&&◌, ◌||◌, ◌==◌, cond, Option, Some, None, List, [], ◌∷◌, ◌++◌, length, map, take, drop, refl, sym, ap, ap₂, ◌∙◌, subst, arith, append_assoc, append-nil, eqb-true, take-append-drop, take_all, length-append, add-one, bytes_eq}
+use Rattle.std.proofs.Common.{◌≡◌, ℕ, zero, suc, ◌+◌, Bool, true, false, not, ◌&&◌, ◌||◌, ◌==◌, cond, Option, Some, None, List, [], ◌∷◌, ◌++◌, length, map, take, drop, refl, sym, ap, ap₂, ◌∙◌, subst, arith, append_assoc, append-nil, eqb-true, take-append-drop, take_all, length-append, bytes_eq}
 use Rattle.std.specs.Prelude.{slice_get}
 use Rattle.std.proofs.lemmas.List.{drop_at, map-append, length-map}
 use Rattle.std.proofs.lemmas.Bool.{and_parts}
 use Rattle.std.proofs.lemmas.Slice.Eq.{bytes_eq-Decides}
 use Rattle.two_nodes.proofs.Order.{slice_get-append}
 use Rattle.dna_model.specs.Delivery.{BeginsWith}
-use Rattle.dna_model.specs.Pieces.{Piece, alike, Unsent, with_message, is_piece_of, is_next_of, is_next_piece, left_of, without_piece, hold, Whole, with_piece, next_message}
+use Rattle.dna_model.specs.Pieces.{Piece, alike, Unsent, is_piece_of, is_next_of, is_next_piece, left_of, without_piece, hold, Whole, with_piece, next_message}
 use Rattle.dna_model.specs.TrueFlow.{TrueFlow, hands_in, delivered_as, delivers_whole, delivers}
 use Rattle.dna_model.specs.LinkDelivery.{whole, unfinished, with_begun, IsCut}
 

@@ -1,16 +1,15 @@
 -- All links of a side are read off its user's events, at any time.
-use Rattle.std.proofs.Common.{◌≡◌, ℕ, zero, suc, ◌+◌, ◌<◌, ◌≤◌, Bool, true, false, ◌&&◌, ◌==◌, eqb, cond, ◌⊎◌, inl, inr, Option, Some, None, List, [], ◌∷◌, ◌++◌, length, refl, sym, ap, ◌∙◌, subst, arith, append-nil, fold, length-append, length-set, eqb-true, eq-eqb, ne_eqb}
+use Rattle.std.proofs.Common.{◌≡◌, ℕ, zero, suc, ◌<◌, ◌≤◌, Bool, true, false, ◌&&◌, ◌==◌, cond, ◌⊎◌, inl, inr, Option, Some, None, List, [], ◌∷◌, ◌++◌, length, refl, sym, ap, ◌∙◌, subst, arith, append-nil, fold, length-append, length-set, eq-eqb, ne_eqb}
 use Rattle.std.specs.Prelude.{slice_get, slice_set}
 use Rattle.std.proofs.lemmas.Bool.{and_parts, and_from, cases_eq, cases_order}
 use Rattle.std.proofs.lemmas.Option.{same_Some, slice_get_within}
-use Rattle.two_nodes.proofs.Order.{slice_get-append}
 use Rattle.two_nodes.proofs.Listed.{next_at}
 use Rattle.dna_packet.specs.Nsp.{NspValue}
 use Rattle.dna_model.specs.declared.port.Phase.{Phase}
-use Rattle.dna_model.specs.declared.port.Phase.TheVariants.{Calling, Called, Confirming, Running, Disconnecting, Ended}
+use Rattle.dna_model.specs.declared.port.Phase.TheVariants.{Calling, Confirming, Running, Disconnecting}
 use Rattle.dna_model.specs.declared.port.LinkTest.TheVariants.{HasAddress, LiveAt}
 use Rattle.dna_model.specs.LinkTests.{passes, is_at, is_live, is_called, is_calling, is_connected, has_both}
-use Rattle.dna_model.specs.Links.{LinkOf, LinksOf, number_of, LinkTruth, begun, changed, in_phase, with_flow, ended, forgotten, freed}
+use Rattle.dna_model.specs.Links.{LinkOf, number_of, LinkTruth, begun, changed, in_phase, with_flow, ended, forgotten, freed}
 use Rattle.dna_model.specs.LinkUser.{LinkEventValue, Open, Accept, Reject, In, Up, Close, opened, answered}
 use Rattle.dna_model.specs.LinkSending.{Sent}
 use Rattle.dna_model.specs.LinkArriving.{of_partner, called, confirmed}
@@ -20,10 +19,10 @@ use Rattle.dna_model.specs.TrueLinks.{Links}
 use Rattle.dna_model.specs.LinkCaptures.{given_address, gives_address, message_in, message_up, handed_in, delivered_up, behind, IsRead, AreRead}
 use Rattle.dna_model.proofs.NumberedSteps.{at_pushed}
 use Rattle.dna_model.proofs.LinkTables.{IsFound, looked, position_none, UserDid, Opens, Accepts, Rejects, HandsIn, Delivers, Closes, SentDid, OfNone, Stays, EndsCalled, Segment, Acks, ArrivedDid, Ignores, Begins, Confirms, Ends, TakesSegment, TakesAcks, TakesOther}
-use Rattle.dna_model.proofs.LinkPieces.{Delivered, delivered_is}
+use Rattle.dna_model.proofs.LinkPieces.{delivered_is}
 use Rattle.dna_model.proofs.LinkSends.{IsSoundFlow, acks_sent, segment_sent}
 use Rattle.dna_model.proofs.LinkSides.{set_same, at_set, all_set, all_pushed}
-use Rattle.dna_model.proofs.LinkReads.{given_again, later_gives, HoldsFrom, HoldsAt, IsOwned, owned_same, at_is, Takes, IsAsBefore, owned_more, behind_last, gives_is}
+use Rattle.dna_model.proofs.LinkReads.{given_again, later_gives, HoldsFrom, HoldsAt, IsOwned, owned_same, at_is, owned_more, behind_last, gives_is}
 
 pub record AreOwned (events : List LinkEventValue) (links : List (LinkOf TrueFlow)) : Type 0 where
   pub place_of : ℕ → Option ℕ
@@ -136,8 +135,8 @@ module _ (events : List LinkEventValue) (s : Links) (o : AreOwned events s.links
   arrived_owned m truth left (Begins far segsize none) =
       let l = called true_flows of_partner far segsize truth.tag in
       owned_links (s.links ++ l ∷ []) (let e = length-append s.links (l ∷ []) in omega arith)
-          (all_pushed (λ (i : ℕ) (l : LinkOf TrueFlow). IsOwned events (o.place_of i) l) s.links l
-              (subst (λ (p : Option ℕ). IsOwned events p l) (sym place_beyond) (record { read = record { handed = refl; up = refl }; holds = refl; called = λ c. refl; fresh = λ live none. refl })) o.owned)
+      (all_pushed (λ (i : ℕ) (l : LinkOf TrueFlow). IsOwned events (o.place_of i) l) s.links l
+      (subst (λ (p : Option ℕ). IsOwned events p l) (sym place_beyond) (record { read = record { handed = refl; up = refl }; holds = refl; called = λ c. refl; fresh = λ live none. refl })) o.owned)
   arrived_owned m truth left (Confirms own far segsize number link found for) =
       let calling = (and_parts (is_calling link.port.phase) (is_at link.port.own own) found.passed).0 in
       one_owned number link (confirmed true_flows of_partner far segsize truth.tag link) found.there refl refl refl (λ c. absurd cc) (λ live none. (o.owned number link found.there).fresh (calling_live link.port.phase calling) none)
@@ -245,9 +244,9 @@ module _ (events : List LinkEventValue) (s : Links) (o : AreOwned events s.links
     freed_owned : (i : ℕ) (l : LinkOf TrueFlow) → slice_get (freed true_flows own s).links i ≡ Some l → IsOwned (events ++ event ∷ []) (o.place_of i) l
     freed_owned = looked (HasAddress own) s s (λ number link. changed number (forgotten true_flows link) s) (freed true_flows own s) refl
         (λ none e. subst (λ (x : Links). (i : ℕ) (l : LinkOf TrueFlow) → slice_get x.links i ≡ Some l → IsOwned (events ++ event ∷ []) (o.place_of i) l) e
-            (λ i l at. other_owned i l at (λ has. let f = position_none (λ (k : LinkOf TrueFlow). passes (HasAddress own) k.port) s.links i l none at in let t = ap (λ (x : Option ℕ). is_at x own) has ∙ eq-eqb own own refl in absurd cc)))
+        (λ i l at. other_owned i l at (λ has. let f = position_none (λ (k : LinkOf TrueFlow). passes (HasAddress own) k.port) s.links i l none at in let t = ap (λ (x : Option ℕ). is_at x own) has ∙ eq-eqb own own refl in absurd cc)))
         (λ number link found e. subst (λ (x : Links). (i : ℕ) (l : LinkOf TrueFlow) → slice_get x.links i ≡ Some l → IsOwned (events ++ event ∷ []) (o.place_of i) l) e
-            (λ i l at. go number link found i l (at_set s.links number i (forgotten true_flows link) l at)))
+        (λ i l at. go number link found i l (at_set s.links number i (forgotten true_flows link) l at)))
       where
         go : (number : ℕ) (link : LinkOf TrueFlow) → IsFound (HasAddress own) s number link → (i : ℕ) (l : LinkOf TrueFlow) →
             ((i ≡ number) × (forgotten true_flows link ≡ l)) ⊎ ((i ≡ number → ⊥) × (slice_get s.links i ≡ Some l)) → IsOwned (events ++ event ∷ []) (o.place_of i) l
@@ -325,8 +324,8 @@ module _ (events : List LinkEventValue) (s : Links) (o : AreOwned events s.links
     answered_owned : (phase : Phase) (number : ℕ) (link : LinkOf TrueFlow) → slice_get s.links number ≡ Some link → is_called link.port.phase ≡ true → is_called phase ≡ false → AreOwned (events ++ event ∷ []) (changed number (answered true_flows phase own link) (freed true_flows own s)).links
     answered_owned phase number link there called not_called =
         given_owned number (answered true_flows phase own link) (slice_set (freed true_flows own s).links number (answered true_flows phase own link)) none (let t = there_is (freed true_flows own s).links number (let w = slice_get_within s.links number link there in let l = same_long in omega arith) in set_same (freed true_flows own s).links number t.0 (answered true_flows phase own link) t.1)
-            (let l = length-set (freed true_flows own s).links number (answered true_flows phase own link) in let m = same_long in omega arith) refl not_called neither.0 neither.1
-            (λ i l at. go i l (at_set (freed true_flows own s).links number i (answered true_flows phase own link) l at))
+        (let l = length-set (freed true_flows own s).links number (answered true_flows phase own link) in let m = same_long in omega arith) refl not_called neither.0 neither.1
+        (λ i l at. go i l (at_set (freed true_flows own s).links number i (answered true_flows phase own link) l at))
       where
         none : o.place_of number ≡ None
         none = (o.owned number link there).called called
@@ -343,9 +342,9 @@ module _ (events : List LinkEventValue) (s : Links) (o : AreOwned events s.links
     opened_owned : AreOwned (events ++ event ∷ []) (begun (opened true_flows own) (freed true_flows own s)).links
     opened_owned =
         given_owned (length s.links) (opened true_flows own) ((freed true_flows own s).links ++ opened true_flows own ∷ []) place_beyond
-            (ap (slice_get ((freed true_flows own s).links ++ opened true_flows own ∷ [])) (sym same_long) ∙ next_at (freed true_flows own s).links [] (opened true_flows own))
-            (let l = length-append (freed true_flows own s).links (opened true_flows own ∷ []) in let m = same_long in omega arith) refl refl refl refl
-            (λ i l at. go i l (at_pushed (freed true_flows own s).links (opened true_flows own) l i at))
+        (ap (slice_get ((freed true_flows own s).links ++ opened true_flows own ∷ [])) (sym same_long) ∙ next_at (freed true_flows own s).links [] (opened true_flows own))
+        (let l = length-append (freed true_flows own s).links (opened true_flows own ∷ []) in let m = same_long in omega arith) refl refl refl refl
+        (λ i l at. go i l (at_pushed (freed true_flows own s).links (opened true_flows own) l i at))
       where
         go : (i : ℕ) (l : LinkOf TrueFlow) → (slice_get (freed true_flows own s).links i ≡ Some l) ⊎ ((i ≡ length (freed true_flows own s).links) × (opened true_flows own ≡ l)) →
             ((i ≡ length s.links) × (opened true_flows own ≡ l)) ⊎ ((i ≡ length s.links → ⊥) × IsOwned (events ++ event ∷ []) (o.place_of i) l)
@@ -368,17 +367,17 @@ module _ (events : List LinkEventValue) (s : Links) (o : AreOwned events s.links
       answered_owned (Reject far own) own refl free Disconnecting number link found.there (and_parts (is_called link.port.phase) (is_at link.port.far far) found.passed).0 refl
   user_owned event left (HandsIn own message number link found may) =
       message_owned (In own message) refl own number link (with_flow (flow.hands_in message link.flow) link) found.there (at_is link.port.own own (and_parts (is_live link.port.phase) (is_at link.port.own own) found.passed).1)
-          (λ address differs. (at_other message own address differs, refl)) refl refl (ap (λ (x : List (List ℕ)). link.flow.handed ++ x) (at_own message own)) (sym (append-nil link.flow.delivered))
+      (λ address differs. (at_other message own address differs, refl)) refl refl (ap (λ (x : List (List ℕ)). link.flow.handed ++ x) (at_own message own)) (sym (append-nil link.flow.delivered))
   user_owned event left (Delivers own message number link next found delivers) =
       let d = delivered_is message link.flow next delivers in
       message_owned (Up own message) refl own number link (with_flow next link) found.there (at_is link.port.own own found.passed)
-          (λ address differs. (refl, at_other message own address differs)) refl (ap (λ (f : TrueFlow). f.received) d.is) (ap (λ (f : TrueFlow). f.handed) d.is ∙ sym (append-nil link.flow.handed))
-          (ap (λ (f : TrueFlow). f.delivered) d.is ∙ ap (λ (x : List ℕ). link.flow.delivered ++ x ∷ []) (sym d.message_is) ∙ ap (λ (x : List (List ℕ)). link.flow.delivered ++ x) (at_own message own))
+      (λ address differs. (refl, at_other message own address differs)) refl (ap (λ (f : TrueFlow). f.received) d.is) (ap (λ (f : TrueFlow). f.handed) d.is ∙ sym (append-nil link.flow.handed))
+      (ap (λ (f : TrueFlow). f.delivered) d.is ∙ ap (λ (x : List ℕ). link.flow.delivered ++ x ∷ []) (sym d.message_is) ∙ ap (λ (x : List (List ℕ)). link.flow.delivered ++ x) (at_own message own))
   user_owned event left (Closes own number link found connected) =
       owned_event (Close own) refl (slice_set s.links number (in_phase Disconnecting link)) (let l = length-set s.links number (in_phase Disconnecting link) in omega arith)
-          (all_set (λ (i : ℕ) (l : LinkOf TrueFlow). IsOwned (events ++ Close own ∷ []) (o.place_of i) l) s.links number (in_phase Disconnecting link)
-              (quiet (Close own) refl number link (in_phase Disconnecting link) found.there (λ address is. (refl, refl)) refl refl (λ c. absurd cc) (λ live. connected_live link.port.phase connected))
-              (λ i l at. quiet (Close own) refl i l l at (λ address is. (refl, refl)) refl refl (λ c. c) (λ c. c)))
+      (all_set (λ (i : ℕ) (l : LinkOf TrueFlow). IsOwned (events ++ Close own ∷ []) (o.place_of i) l) s.links number (in_phase Disconnecting link)
+      (quiet (Close own) refl number link (in_phase Disconnecting link) found.there (λ address is. (refl, refl)) refl refl (λ c. absurd cc) (λ live. connected_live link.port.phase connected))
+      (λ i l at. quiet (Close own) refl i l l at (λ address is. (refl, refl)) refl refl (λ c. c) (λ c. c)))
     where
       connected_live : (phase : Phase) → is_connected phase ≡ true → is_live phase ≡ true
       connected_live Confirming e = refl

@@ -1,26 +1,14 @@
 -- What was handed in and delivered is what the user's records say, at any time.
-use Rattle.std.proofs.Common.{◌≡◌, ℕ, zero, suc, ◌+◌, ◌<◌, ◌≤◌, Bool, true, false, ◌&&◌, ◌||◌, ◌==◌, eqb, cond, ◌⊎◌, inl, inr, Option, Some, None, List, [], ◌∷◌, ◌++◌, length, refl, sym, ap, ap₂, ◌∙◌, subst, arith, append-nil, append_assoc, length-append, length-set, eqb-true, eq-eqb, ne_eqb}
-use Rattle.std.specs.Prelude.{slice_get, slice_set}
-use Rattle.std.proofs.lemmas.Bool.{and_parts, cases_eq, cases_order}
-use Rattle.std.proofs.lemmas.Option.{same_Some, slice_get_within}
+use Rattle.std.proofs.Common.{◌≡◌, ℕ, zero, suc, ◌<◌, Bool, true, false, ◌||◌, cond, ◌⊎◌, inl, inr, Option, Some, None, List, [], ◌∷◌, ◌++◌, length, refl, sym, ap, ap₂, ◌∙◌, subst, arith, append-nil, append_assoc, eqb-true, eq-eqb}
+use Rattle.std.specs.Prelude.{slice_get}
+use Rattle.std.proofs.lemmas.Option.{same_Some}
 use Rattle.two_nodes.proofs.Order.{slice_get-append}
-use Rattle.two_nodes.proofs.Listed.{next_at}
-use Rattle.dna_packet.specs.Nsp.{NspValue}
-use Rattle.dna_model.specs.declared.port.Phase.{Phase}
-use Rattle.dna_model.specs.declared.port.Phase.TheVariants.{Calling, Called, Confirming, Running, Disconnecting, Ended}
-use Rattle.dna_model.specs.declared.port.LinkTest.TheVariants.{HasAddress, LiveAt}
-use Rattle.dna_model.specs.LinkTests.{passes, is_at, is_live, is_called, is_calling, is_connected, has_both}
-use Rattle.dna_model.specs.Links.{LinkOf, LinksOf, number_of, LinkTruth, begun, changed, in_phase, with_flow, ended, forgotten, freed}
-use Rattle.dna_model.specs.LinkUser.{LinkEventValue, Open, Accept, Reject, In, Up, Close, opened, answered}
-use Rattle.dna_model.specs.LinkSending.{Sent}
-use Rattle.dna_model.specs.LinkArriving.{PartnerRule, called, confirmed}
-use Rattle.dna_model.specs.TrueFlow.{TrueFlow, Numbers, empty, true_flows}
-use Rattle.dna_model.specs.TrueFlow as flow
-use Rattle.dna_model.specs.LinkCaptures.{given_address, gives_address, message_in, message_up, until_given, handed_in, delivered_up, behind, IsReadFrom, HasNeither, IsRead, AreRead}
-use Rattle.dna_model.proofs.NumberedSteps.{at_pushed}
-use Rattle.dna_model.proofs.LinkTables.{IsFound, looked, position_none, UserDid, Opens, Accepts, Rejects, HandsIn, Delivers, Closes}
-use Rattle.dna_model.proofs.LinkPieces.{Delivered, delivered_is}
-use Rattle.dna_model.proofs.LinkSides.{set_same, at_set, all_set, all_pushed}
+use Rattle.dna_model.specs.LinkTests.{is_at, is_live, is_called}
+use Rattle.dna_model.specs.Links.{LinkOf}
+use Rattle.dna_model.specs.LinkUser.{LinkEventValue, Open, Accept, Reject, In, Up, Close}
+use Rattle.dna_model.specs.LinkArriving.{called}
+use Rattle.dna_model.specs.TrueFlow.{TrueFlow}
+use Rattle.dna_model.specs.LinkCaptures.{given_address, gives_address, message_in, message_up, until_given, handed_in, delivered_up, behind, IsReadFrom, IsRead}
 
 -- ---- lists of events
 
@@ -180,38 +168,43 @@ module _ (events : List LinkEventValue) (event : LinkEventValue) (l m : LinkOf T
     Both = IsReadFrom (events ++ event ∷ []) m place × HoldsFrom (events ++ event ∷ []) m.port.own place
 
     given_more : given_again h.address (behind place events) ≡ true → IsAsBefore → l.port.own ≡ None → Both
-    given_more again b none = (record {
-      event = r.event;
-      there = there_then;
-      own = r.own;
-      gives = r.gives;
-      handed = b.handed ∙ r.handed ∙ sym (ap (handed_in r.own) still ∙ until-again r.own (message_in r.own) (behind place events) event (ap (λ (n : ℕ). given_again n (behind place events)) address_is ∙ again));
-      up = b.up ∙ r.up ∙ sym (ap (delivered_up r.own) still ∙ until-again r.own (message_up r.own) (behind place events) event (ap (λ (n : ℕ). given_again n (behind place events)) address_is ∙ again));
-    }, record {
-      address = h.address;
-      event = h.event;
-      there = slice_get-append events (event ∷ []) place h.event h.there;
-      gives = h.gives;
-      holds = inr (b.own ∙ none, ap (given_again h.address) still ∙ again-append h.address (behind place events) event ∙ ap (λ (x : Bool). x || gives_address h.address event) again);
-    })
+    given_more again b none = (
+      record {
+        event = r.event;
+        there = there_then;
+        own = r.own;
+        gives = r.gives;
+        handed = b.handed ∙ r.handed ∙ sym (ap (handed_in r.own) still ∙ until-again r.own (message_in r.own) (behind place events) event (ap (λ (n : ℕ). given_again n (behind place events)) address_is ∙ again));
+        up = b.up ∙ r.up ∙ sym (ap (delivered_up r.own) still ∙ until-again r.own (message_up r.own) (behind place events) event (ap (λ (n : ℕ). given_again n (behind place events)) address_is ∙ again));
+      },
+      record {
+        address = h.address;
+        event = h.event;
+        there = slice_get-append events (event ∷ []) place h.event h.there;
+        gives = h.gives;
+        holds = inr (b.own ∙ none, ap (given_again h.address) still ∙ again-append h.address (behind place events) event ∙ ap (λ (x : Bool). x || gives_address h.address event) again);
+      },
+    )
 
     held_more : given_again h.address (behind place events) ≡ false → Takes h.address → Both
     held_more again t =
-        let not_again : given_again r.own (behind place events) ≡ false = ap (λ (n : ℕ). given_again n (behind place events)) address_is ∙ again in
-        (record {
-          event = r.event;
-          there = there_then;
-          own = r.own;
-          gives = r.gives;
-          handed = t.handed ∙ ap₂ (λ (x : List (List ℕ)) (n : ℕ). x ++ message_in n event) r.handed (sym address_is) ∙ sym (ap (handed_in r.own) still ∙ until-more r.own (message_in r.own) (behind place events) event not_again (λ g. (gives_none r.own event g).0));
-          up = t.up ∙ ap₂ (λ (x : List (List ℕ)) (n : ℕ). x ++ message_up n event) r.up (sym address_is) ∙ sym (ap (delivered_up r.own) still ∙ until-more r.own (message_up r.own) (behind place events) event not_again (λ g. (gives_none r.own event g).1));
-        }, record {
-          address = h.address;
-          event = h.event;
-          there = slice_get-append events (event ∷ []) place h.event h.there;
-          gives = h.gives;
-          holds = go t.own;
-        })
+        let not_again : given_again r.own (behind place events) ≡ false = ap (λ (n : ℕ). given_again n (behind place events)) address_is ∙ again in (
+          record {
+            event = r.event;
+            there = there_then;
+            own = r.own;
+            gives = r.gives;
+            handed = t.handed ∙ ap₂ (λ (x : List (List ℕ)) (n : ℕ). x ++ message_in n event) r.handed (sym address_is) ∙ sym (ap (handed_in r.own) still ∙ until-more r.own (message_in r.own) (behind place events) event not_again (λ g. (gives_none r.own event g).0));
+            up = t.up ∙ ap₂ (λ (x : List (List ℕ)) (n : ℕ). x ++ message_up n event) r.up (sym address_is) ∙ sym (ap (delivered_up r.own) still ∙ until-more r.own (message_up r.own) (behind place events) event not_again (λ g. (gives_none r.own event g).1));
+          },
+          record {
+            address = h.address;
+            event = h.event;
+            there = slice_get-append events (event ∷ []) place h.event h.there;
+            gives = h.gives;
+            holds = go t.own;
+          },
+        )
       where
         again_now : given_again h.address (behind place (events ++ event ∷ [])) ≡ gives_address h.address event
         again_now = ap (given_again h.address) still ∙ again-append h.address (behind place events) event ∙ ap (λ (x : Bool). x || gives_address h.address event) again

@@ -1,26 +1,26 @@
 -- What holds of both sides' links in every run: the bounds, the order, and what the captures tell of it.
-use Rattle.std.proofs.Common.{◌≡◌, ℕ, zero, suc, ◌+◌, ◌<◌, ◌≤◌, Bool, true, false, ◌&&◌, nat_lt, nat_le, max, cond, ◌⊎◌, inl, inr, Option, Some, None, List, [], ◌∷◌, ◌++◌, length, map, refl, sym, ap, ap₂, ◌∙◌, subst, arith, append-nil, ltb-true, ltb-false, leb-true, leb-false}
+use Rattle.std.proofs.Common.{◌≡◌, ℕ, zero, suc, ◌+◌, ◌<◌, ◌≤◌, Bool, true, false, ◌&&◌, nat_lt, nat_le, max, cond, ◌⊎◌, inl, inr, Option, Some, None, List, [], ◌∷◌, ◌++◌, length, map, refl, sym, ap, ap₂, ◌∙◌, subst, arith, append-nil, ltb-true, ltb-false, leb-false}
 use Rattle.std.specs.Prelude.{slice_get}
 use Rattle.std.specs.List.{AllByRecursion}
 use Rattle.std.proofs.lemmas.Bool.{and_parts, and_cases}
 use Rattle.std.proofs.lemmas.Option.{same_Some}
 use Rattle.dna_packet.specs.declared.ack_word.AckWord.{AckWord}
 use Rattle.dna_packet.specs.AckWord.{IsAckWord}
-use Rattle.dna_packet.specs.Nsp.{SegmentValue, NspValue, DataSegment, LinkService, DataAck, OtherDataAck, ConnectAck, NoOperation, ConnectInitiate, ConnectConfirm, DisconnectInitiate, DisconnectConfirm, IsInRange}
+use Rattle.dna_packet.specs.Nsp.{NspValue, DataSegment, DataAck, IsInRange}
 use Rattle.dna_model.specs.Delivery.{BeginsWith}
 use Rattle.dna_model.specs.Pieces.{Piece, in_order}
 use Rattle.dna_model.specs.Flow.{wire, is_of_data}
-use Rattle.dna_model.specs.Links.{LinkOf, LinkTruth}
+use Rattle.dna_model.specs.Links.{LinkOf}
 use Rattle.dna_model.specs.LinkUser.{LinkEventValue}
 use Rattle.dna_model.specs.LinkArriving.{of_partner, is_of_pair}
-use Rattle.dna_model.specs.TrueFlow.{TrueFlow, Numbers, highest_given, highest_received, acknowledged_through, true_flows}
-use Rattle.dna_model.specs.CutFlow.{IsOrdered, IsAnswered, data_numbers, Spells, AckIsNear, AcksAreNear, SegmentIsNear}
-use Rattle.dna_model.specs.CutLinks.{IsLinkOrdered, ComesNear, IsActedOn, ArrivesNear}
+use Rattle.dna_model.specs.TrueFlow.{TrueFlow, highest_given, highest_received, true_flows}
+use Rattle.dna_model.specs.CutFlow.{IsOrdered, IsAnswered, data_numbers, Spells, AcksAreNear}
+use Rattle.dna_model.specs.CutLinks.{ComesNear, IsActedOn}
 use Rattle.dna_model.specs.LinkRuns.{SentMessage, LinkSide, LinkWorld, LinkStep, ByUser, Sends, SendsNone, Keeps, KeepsNone, Reached, Start, ByA, ByB, new_world}
 use Rattle.dna_model.specs.LinkBounds.{AreLinksBounded, AreCutInStep}
 use Rattle.dna_model.specs.LinkDelivery.{whole, HeldFrom, UpFrom, DeliversLinks}
-use Rattle.dna_model.specs.LinkCaptures.{given_address, delivered_up, behind, handed_in, IsReadFrom, IsRead, AreRead, BeginsAt, BeginsFor, AreUpFrom}
-use Rattle.dna_model.proofs.Numbered.{AcksFrom, NumberNear, IsNear}
+use Rattle.dna_model.specs.LinkCaptures.{given_address, delivered_up, behind, IsReadFrom, IsRead, AreRead, BeginsAt, BeginsFor, AreUpFrom}
+use Rattle.dna_model.proofs.Numbered.{AcksFrom, NumberNear}
 use Rattle.dna_model.proofs.CutLinkUser.{user_same}
 use Rattle.dna_model.proofs.CutLinkSending.{sent_same}
 use Rattle.dna_model.proofs.CutLinkArriving.{arrived_same}
@@ -28,10 +28,9 @@ use Rattle.dna_model.proofs.LinkTables.{user_did, sent_did, arrived_did}
 use Rattle.dna_model.proofs.LinkWords.{limits, AreWords}
 use Rattle.dna_model.proofs.LinkPieces.{IsPassed, passed_begins}
 use Rattle.dna_model.proofs.LinkSends.{number_in, IsSoundFlow, within_all}
-use Rattle.dna_model.proofs.LinkEnds.{numbers_of, view, SegmentTold, IsTold, IsSoundEnd, IsOfPair, of_pair_is, end_near}
+use Rattle.dna_model.proofs.LinkEnds.{of_pair_is, end_near}
 use Rattle.dna_model.proofs.LinkSides.{IsSoundSide}
 use Rattle.dna_model.proofs.LinkSteps.{BothLinksSound, reached_sound, start_sound}
-use Rattle.dna_model.proofs.LinkReads.{IsOwned}
 use Rattle.dna_model.proofs.LinkReadSteps.{AreOwned, owned_read, none_owned, user_owned, sent_owned, arrived_owned}
 
 -- ---- the bounds
@@ -147,7 +146,7 @@ module _ (own other : LinkSide) (h : IsSoundSide own other) (theirs : IsSoundSid
       go i place address link event at there gives r =
           let same : r.own ≡ address = same_Some r.own address (sym r.gives ∙ ap given_address (same_Some r.event event (sym r.there ∙ there)) ∙ gives) in
           subst (λ (x : List (List ℕ)). BeginsFor further x theirs_read.place_of link.partner) (r.up ∙ ap (λ (n : ℕ). delivered_up n (behind place events)) same)
-              (begins_for further theirs_read link.flow.delivered link.partner (up_from link (h.ends i link at).flow.passed link.partner (h.ends i link at).held))
+          (begins_for further theirs_read link.flow.delivered link.partner (up_from link (h.ends i link at).flow.passed link.partner (h.ends i link at).held))
 
 side_in_step : (own other : LinkSide) → AreLinksBounded own other → AreCutInStep own other
 side_in_step own other b = record {
@@ -166,11 +165,11 @@ step_owned : (own other left : LinkSide) (events made : List LinkEventValue) →
 step_owned own other left events made h o (ByUser event links does) = user_owned events own.links o event links (user_did true_flows own.links links event does)
 step_owned own other left events made h o (Sends packet sent does) =
     subst (λ (x : List LinkEventValue). AreOwned x sent.links.links) (sym (append-nil events))
-        (sent_owned events own.links o packet.message sent (λ number link there. (h.ends number link there).flow) (sent_did true_flows own.links sent packet does))
+    (sent_owned events own.links o packet.message sent (λ number link there. (h.ends number link there).flow) (sent_did true_flows own.links sent packet does))
 step_owned own other left events made h o SendsNone = subst (λ (x : List LinkEventValue). AreOwned x own.links.links) (sym (append-nil events)) o
 step_owned own other left events made h o (Keeps place unit links ahead there does) =
     subst (λ (x : List LinkEventValue). AreOwned x links.links) (sym (append-nil events))
-        (arrived_owned events own.links o unit.packet.message unit.truth links (arrived_did true_flows of_partner own.links links unit.truth unit.packet does))
+    (arrived_owned events own.links o unit.packet.message unit.truth links (arrived_did true_flows of_partner own.links links unit.truth unit.packet does))
 step_owned own other left events made h o (KeepsNone place ahead there) = subst (λ (x : List LinkEventValue). AreOwned x own.links.links) (sym (append-nil events)) o
 
 reached_owned : {start w : LinkWorld} {of_a of_b : List LinkEventValue} → BothLinksSound start → BothOwned start [] [] → Reached start w of_a of_b → BothOwned w of_a of_b

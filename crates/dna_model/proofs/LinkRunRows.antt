@@ -6,7 +6,7 @@ use Rattle.dna_packet.specs.Nsp.{NspValue}
 use Rattle.dna_packet.specs.ReadingNsp.{nsp_at}
 use Rattle.dna_model.specs.declared.link_refusal.LinkRefusal.{LinkRefusal}
 use Rattle.dna_model.specs.Links.{LinkOf, Carried}
-use Rattle.dna_model.specs.LinkUser.{LinkEventValue, Open, Accept, In, Up, Close}
+use Rattle.dna_model.specs.LinkUser.{LinkEventValue, Open, Accept, In, Up}
 use Rattle.dna_model.specs.LinkSending.{Sent}
 use Rattle.dna_model.specs.LinkArriving.{of_partner}
 use Rattle.dna_model.specs.TrueFlow.{TrueFlow, Numbers}

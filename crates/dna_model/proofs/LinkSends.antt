@@ -1,5 +1,5 @@
 -- What a link sends, on its true numbers: what becomes of its flow, and what is true of the message.
-use Rattle.std.proofs.Common.{◌≡◌, ℕ, zero, suc, ◌+◌, ◌-◌, ◌<◌, ◌≤◌, Bool, true, false, not, ◌&&◌, ◌||◌, ◌==◌, nat_lt, nat_le, cond, ◌⊎◌, inl, inr, Option, Some, None, List, [], ◌∷◌, ◌++◌, length, Result, Ok, Err, refl, sym, ap, ◌∙◌, subst, arith, append-nil, eqb-true, ltb-true, leb-true, length-append}
+use Rattle.std.proofs.Common.{◌≡◌, ℕ, zero, suc, ◌+◌, ◌-◌, ◌<◌, ◌≤◌, Bool, true, false, not, ◌&&◌, nat_lt, nat_le, cond, ◌⊎◌, inl, inr, Option, Some, None, List, [], ◌∷◌, ◌++◌, length, Result, Ok, refl, sym, ap, ◌∙◌, subst, arith, append-nil, eqb-true, ltb-true, leb-true, length-append}
 use Rattle.std.specs.Prelude.{slice_get, bytes_eq}
 use Rattle.std.proofs.lemmas.Bool.{and_parts, or_cases}
 use Rattle.std.proofs.lemmas.Slice.Eq.{bytes_eq-Decides}
@@ -7,10 +7,9 @@ use Rattle.two_nodes.proofs.Listed.{next_at}
 use Rattle.dna_packet.specs.declared.ack_word.AckWord.{AckWord}
 use Rattle.dna_packet.specs.Nsp.{SegmentValue}
 use Rattle.dna_model.specs.declared.link_refusal.LinkRefusal.{LinkRefusal}
-use Rattle.dna_model.specs.declared.link_refusal.LinkRefusal.TheVariants.{WrongSegment, WrongAck, SegmentTooLong, LinkWindowFull}
+use Rattle.dna_model.specs.declared.link_refusal.LinkRefusal.TheVariants.{WrongSegment, SegmentTooLong, LinkWindowFull}
 use Rattle.dna_model.specs.Pieces.{Piece, piece_of, alike, same_piece, in_order, is_next_piece, without_piece}
 use Rattle.dna_model.specs.Flow.{Sending, REACH, wire, distance}
-use Rattle.dna_model.specs.Links.{check}
 use Rattle.dna_model.specs.LinkDelivery.{IsCut}
 use Rattle.dna_model.specs.TrueFlow.{TrueFlow, Numbers, highest_given, highest_received, Named, all_named, sending, acks_named, sends_acks, sends_new, is_given, is_repeat, sends_again, is_new, segment_named, sends_segment}
 use Rattle.dna_model.proofs.Numbered.{IsGiven, AcksFrom}

@@ -1,35 +1,27 @@
 -- Both sides' links, beside all that was first sent: what holds of them at any time is kept by each step.
-use Rattle.std.proofs.Common.{◌≡◌, ℕ, zero, suc, ◌+◌, ◌-◌, ◌<◌, ◌≤◌, Bool, true, false, cond, ◌⊎◌, inl, inr, Option, Some, None, List, [], ◌∷◌, ◌++◌, length, refl, sym, ap, ◌∙◌, subst, arith, append-nil, length-append, length-set}
+use Rattle.std.proofs.Common.{◌≡◌, ℕ, zero, suc, ◌≤◌, true, ◌⊎◌, inl, inr, Option, Some, None, List, [], ◌∷◌, ◌++◌, length, refl, sym, ap, ◌∙◌, subst, arith, append-nil, length-append, length-set}
 use Rattle.std.specs.Prelude.{slice_get, slice_set}
 use Rattle.std.proofs.lemmas.Bool.{cases_eq}
 use Rattle.std.proofs.lemmas.Option.{same_Some, slice_get_within}
 use Rattle.two_nodes.proofs.Order.{slice_get-append}
-use Rattle.dna_packet.specs.Nsp.{SegmentValue, NspValue, DataSegment, DataAck}
-use Rattle.dna_packet.specs.declared.ack_word.AckWord.{AckWord}
-use Rattle.dna_model.specs.declared.link_tag.LinkTag.{LinkTag}
-use Rattle.dna_model.specs.declared.port.Phase.{Phase}
-use Rattle.dna_model.specs.declared.port.Phase.TheVariants.{Confirming, Running, Disconnecting, Ended}
-use Rattle.dna_model.specs.declared.port.Port.{Port}
+use Rattle.dna_model.specs.declared.port.Phase.TheVariants.{Confirming, Disconnecting}
 use Rattle.dna_model.specs.declared.port.LinkTest.TheVariants.{HasAddress}
 use Rattle.dna_model.specs.LinkTests.{is_calling}
-use Rattle.dna_model.specs.Pieces.{Piece, none_unsent}
-use Rattle.dna_model.specs.Flow.{Sending}
-use Rattle.dna_model.specs.Links.{LinkOf, LinksOf, Carried, LinkTruth, begun, changed, in_phase, with_flow, ended, forgotten, freed}
+use Rattle.dna_model.specs.Pieces.{Piece}
+use Rattle.dna_model.specs.Links.{LinkOf, LinksOf, begun, changed, in_phase, with_flow, forgotten, freed}
 use Rattle.dna_model.specs.LinkUser.{LinkEventValue, opened, answered}
-use Rattle.dna_model.specs.LinkSending.{Sent, truth_of}
-use Rattle.dna_model.specs.LinkArriving.{of_partner, called, confirmed, running}
 use Rattle.dna_model.specs.TrueFlow.{TrueFlow, empty, highest_given, highest_received, true_flows}
 use Rattle.dna_model.specs.TrueFlow as flow
 use Rattle.dna_model.specs.TrueLinks.{Links}
-use Rattle.dna_model.specs.LinkRuns.{SentMessage, LinkSide, sends, keeps}
-use Rattle.dna_model.specs.LinkDelivery.{IsCut, HeldFrom}
-use Rattle.dna_model.proofs.Numbered.{Numbers, Numbered, IsLawful, IsUpTo, AreNumbered, IsPresent}
-use Rattle.dna_model.proofs.NumberedSteps.{IsSending, numbered_beside, present_beside, numbered_sending, present_sending, present_further, present_new, at_pushed}
-use Rattle.dna_model.proofs.LinkTables.{has_numbers, IsFound, looked, UserDid, Opens, Accepts, Rejects, HandsIn, Delivers, Closes}
-use Rattle.dna_model.proofs.LinkWords.{limits, AreAtMost}
+use Rattle.dna_model.specs.LinkRuns.{SentMessage, LinkSide, sends}
+use Rattle.dna_model.specs.LinkDelivery.{HeldFrom}
+use Rattle.dna_model.proofs.Numbered.{AreNumbered, IsPresent}
+use Rattle.dna_model.proofs.NumberedSteps.{numbered_beside, present_beside, present_new, at_pushed}
+use Rattle.dna_model.proofs.LinkTables.{looked, UserDid, Opens, Accepts, Rejects, HandsIn, Delivers, Closes}
+use Rattle.dna_model.proofs.LinkWords.{limits}
 use Rattle.dna_model.proofs.LinkPieces.{IsPassed, cut_handed, Delivered, delivered_is, passed_delivered}
-use Rattle.dna_model.proofs.LinkSends.{number_in, IsSoundFlow, SendsFrom}
-use Rattle.dna_model.proofs.LinkEnds.{name_of, sender_name, nobody, numbers_of, view, GrownAt, Grows, IsTold, told_grown, SegmentTold, IsSoundEnd, end_port, end_flow, end_grown, end_beside, end_further, end_aside, present_aside}
+use Rattle.dna_model.proofs.LinkSends.{IsSoundFlow}
+use Rattle.dna_model.proofs.LinkEnds.{sender_name, nobody, numbers_of, view, GrownAt, Grows, IsTold, told_grown, IsSoundEnd, end_port, end_flow, end_grown, end_beside}
 
 -- ---- lists of links
 
@@ -252,20 +244,20 @@ module _ (own other : LinkSide) (h : IsSoundSide own other) where
       }
   user_sound event left (Accepts far address number link found free) =
       leaves _ (one_sound (freed true_flows address own.links) (freed_sound address) number link (answered true_flows Confirming address link) found.there refl
-          (end_port own.sent other.sent own.front other.links.links number link (record link.port { phase = Confirming; own = Some address }) (λ x. absurd cc) (end_of number link found.there)))
+      (end_port own.sent other.sent own.front other.links.links number link (record link.port { phase = Confirming; own = Some address }) (λ x. absurd cc) (end_of number link found.there)))
   user_sound event left (Rejects far address number link found free) =
       leaves _ (one_sound (freed true_flows address own.links) (freed_sound address) number link (answered true_flows Disconnecting address link) found.there refl
-          (end_port own.sent other.sent own.front other.links.links number link (record link.port { phase = Disconnecting; own = Some address }) (λ x. absurd cc) (end_of number link found.there)))
+      (end_port own.sent other.sent own.front other.links.links number link (record link.port { phase = Disconnecting; own = Some address }) (λ x. absurd cc) (end_of number link found.there)))
   user_sound event left (HandsIn address message number link found may) =
       let e = end_of number link found.there in
       leaves _ (one_sound own.links none_freed number link (with_flow (flow.hands_in message link.flow) link) found.there refl
-          (end_flow own.sent other.sent own.front other.links.links number link (flow.hands_in message link.flow) (handed_sound message link.flow e.flow) refl refl refl refl e))
+      (end_flow own.sent other.sent own.front other.links.links number link (flow.hands_in message link.flow) (handed_sound message link.flow e.flow) refl refl refl refl e))
   user_sound event left (Delivers address message number link next found delivers) =
       let e = end_of number link found.there in
       let d = delivered_is message link.flow next delivers in
       leaves _ (one_sound own.links none_freed number link (with_flow next link) found.there (ap (λ (f : TrueFlow). f.given) d.is)
-          (end_flow own.sent other.sent own.front other.links.links number link next (delivered_sound message link.flow next e.flow d)
-              (ap (λ (f : TrueFlow). f.given) d.is) (ap (λ (f : TrueFlow). f.received) d.is) (ap (λ (f : TrueFlow). f.acknowledged) d.is) (ap (λ (f : TrueFlow). f.last) d.is) e))
+      (end_flow own.sent other.sent own.front other.links.links number link next (delivered_sound message link.flow next e.flow d)
+      (ap (λ (f : TrueFlow). f.given) d.is) (ap (λ (f : TrueFlow). f.received) d.is) (ap (λ (f : TrueFlow). f.acknowledged) d.is) (ap (λ (f : TrueFlow). f.last) d.is) e))
   user_sound event left (Closes address number link found connected) =
       leaves _ (one_sound own.links none_freed number link (in_phase Disconnecting link) found.there refl
-          (end_port own.sent other.sent own.front other.links.links number link (record link.port { phase = Disconnecting }) (λ x. absurd cc) (end_of number link found.there)))
+      (end_port own.sent other.sent own.front other.links.links number link (record link.port { phase = Disconnecting }) (λ x. absurd cc) (end_of number link found.there)))

@@ -1,17 +1,17 @@
 -- A packet that is first sent, and one that is kept, leave both sides' links sound; and so they are in every run.
-use Rattle.std.proofs.Common.{◌≡◌, ℕ, zero, suc, ◌+◌, ◌-◌, ◌<◌, ◌≤◌, Bool, true, false, ◌&&◌, ◌⊎◌, inl, inr, Option, Some, None, List, [], ◌∷◌, ◌++◌, length, fold, refl, sym, ap, ◌∙◌, subst, arith, append-nil, length-append}
-use Rattle.std.specs.Prelude.{slice_get, slice_set}
+use Rattle.std.proofs.Common.{◌≡◌, ℕ, ◌+◌, ◌≤◌, true, false, ◌⊎◌, inl, inr, Option, Some, None, List, [], ◌∷◌, ◌++◌, length, fold, refl, sym, ap, ◌∙◌, subst, arith, append-nil, length-append}
+use Rattle.std.specs.Prelude.{slice_get}
 use Rattle.std.proofs.lemmas.Bool.{and_parts, cases_eq}
 use Rattle.std.proofs.lemmas.Option.{same_Some, slice_get_within}
 use Rattle.dna_packet.specs.declared.ack_word.AckWord.{AckWord}
-use Rattle.dna_packet.specs.Nsp.{SegmentValue, NspValue, DataSegment, DataAck}
+use Rattle.dna_packet.specs.Nsp.{SegmentValue, DataSegment, DataAck}
 use Rattle.dna_model.specs.declared.port.Phase.TheVariants.{Running, Ended}
 use Rattle.dna_model.specs.LinkTests.{is_calling, is_at}
-use Rattle.dna_model.specs.Pieces.{Piece, piece_of, in_order}
-use Rattle.dna_model.specs.Links.{LinkOf, LinksOf, Carried, LinkTruth, begun, changed, in_phase, with_flow, ended}
+use Rattle.dna_model.specs.Pieces.{Piece, in_order}
+use Rattle.dna_model.specs.Links.{LinkOf, Carried, LinkTruth, begun, changed, in_phase, with_flow, ended}
 use Rattle.dna_model.specs.LinkUser.{LinkEventValue}
 use Rattle.dna_model.specs.LinkSending.{Sent, truth_of}
-use Rattle.dna_model.specs.LinkArriving.{PartnerRule, of_partner, is_for, is_of_pair, called, confirmed, running}
+use Rattle.dna_model.specs.LinkArriving.{of_partner, called, confirmed}
 use Rattle.dna_model.specs.TrueFlow.{TrueFlow, Numbers, empty, highest_given, highest_received, acknowledged_through, true_flows}
 use Rattle.dna_model.specs.TrueFlow as flow
 use Rattle.dna_model.specs.TrueLinks.{Links}
@@ -20,11 +20,11 @@ use Rattle.dna_model.specs.LinkDelivery.{HeldFrom}
 use Rattle.dna_model.proofs.Numbered.{AcksFrom, IsLawful, IsPresent}
 use Rattle.dna_model.proofs.Numbered as numbered
 use Rattle.dna_model.proofs.NumberedSteps.{IsSending, numbered_sending, present_sending, present_further, present_new, none_numbered, at_pushed}
-use Rattle.dna_model.proofs.LinkTables.{has_numbers, IsFound, SentDid, OfNone, Stays, EndsCalled, Segment, Acks, sent_did, ArrivedDid, Ignores, Begins, Confirms, Ends, TakesSegment, TakesAcks, TakesOther, arrived_did, user_did}
-use Rattle.dna_model.proofs.LinkWords.{limits, AreWords, Acknowledges}
-use Rattle.dna_model.proofs.LinkSends.{IsSoundFlow, SendsFrom, other_sent, SendsWords, acks_sent, IsTrueSegment, SendsSegment, segment_sent}
-use Rattle.dna_model.proofs.LinkEnds.{name_of, nobody, numbers_of, view, Grows, SegmentTold, IsTold, told_grown, IsSoundEnd, end_port, end_further, end_aside, present_aside, of_pair_is, IsOfPair, acknowledges, end_acks, end_segment}
-use Rattle.dna_model.proofs.LinkSides.{set_same, at_set, all_set, all_pushed, grows_same, grows_set, grows_pushed, IsSoundSide, side_grown, side_beside, side_changed, end_new, LeavesSound, user_sound}
+use Rattle.dna_model.proofs.LinkTables.{has_numbers, SentDid, OfNone, Stays, EndsCalled, Segment, Acks, sent_did, ArrivedDid, Ignores, Begins, Confirms, Ends, TakesSegment, TakesAcks, TakesOther, arrived_did, user_did}
+use Rattle.dna_model.proofs.LinkWords.{limits, AreWords}
+use Rattle.dna_model.proofs.LinkSends.{SendsFrom, other_sent, acks_sent, IsTrueSegment, segment_sent}
+use Rattle.dna_model.proofs.LinkEnds.{name_of, nobody, numbers_of, view, Grows, SegmentTold, IsTold, told_grown, IsSoundEnd, end_port, end_further, end_aside, present_aside, of_pair_is, acknowledges, end_acks, end_segment}
+use Rattle.dna_model.proofs.LinkSides.{set_same, at_set, all_set, all_pushed, grows_same, grows_set, grows_pushed, IsSoundSide, side_grown, side_beside, side_changed, end_new, user_sound}
 
 -- both sides after a step of one
 pub record StaySound (left other : LinkSide) : Type 0 where
@@ -156,30 +156,30 @@ module _ (own other : LinkSide) (h : IsSoundSide own other) (theirs : IsSoundSid
       StaySound (sends own (changed number left own.links) (Some (record { packet = packet; truth = truth_of true_flows number link known }))) other
   changed_sent packet known number link left there s same_partner calling segment words =
       link_sent packet known number link left (changed number left own.links) there s same_partner calling
-          (grows_set own.links.links own.links.links number link left s.more (grows_same own.links.links) there s.given)
-          (set_same own.links.links number link left there) (λ i l at. at_set own.links.links number i left l at) segment words
+      (grows_set own.links.links own.links.links number link left s.more (grows_same own.links.links) there s.given)
+      (set_same own.links.links number link left there) (λ i l at. at_set own.links.links number i left l at) segment words
 
   pub message_sent : (packet : Carried) (made : Sent TrueFlow Numbers) → SentDid true_flows own.links packet.message made → StaySound (sends own made.links (Some (record { packet = packet; truth = made.truth }))) other
   message_sent packet made (OfNone none) =
       nobody_sent (Some (record { packet = packet; truth = no_truth }))
-          (record { sender = refl; last_before = refl; lawful = record { few = omega arith; number = tt; acks = tt }; more_given = omega arith; more_last = omega arith }) refl
-          (λ u e. subst (IsTold own.links.links) (same_Some _ u e) (record { sender = λ n e. absurd cc; at_most = tt; segment = nothing_told packet no_truth own.links.links none; words = no_words packet no_truth none }))
+      (record { sender = refl; last_before = refl; lawful = record { few = omega arith; number = tt; acks = tt }; more_given = omega arith; more_last = omega arith }) refl
+      (λ u e. subst (IsTold own.links.links) (same_Some _ u e) (record { sender = λ n e. absurd cc; at_most = tt; segment = nothing_told packet no_truth own.links.links none; words = no_words packet no_truth none }))
   message_sent packet made (Stays number link none there) =
       link_sent packet (flow.sends_other link.flow) number link link own.links there (other_sent link.flow (flow.sends_other link.flow) refl (h.ends number link there).flow) refl (λ c. c) (grows_same own.links.links) there (only_same number link there)
-          (λ x e. let t = ap has_numbers e in absurd cc) (no_words packet (truth_of true_flows number link (flow.sends_other link.flow)) none)
+      (λ x e. let t = ap has_numbers e in absurd cc) (no_words packet (truth_of true_flows number link (flow.sends_other link.flow)) none)
   message_sent packet made (EndsCalled far number link none found) =
       changed_sent packet (flow.sends_other link.flow) number link (ended true_flows link) found.there (other_sent link.flow (flow.sends_other link.flow) refl (h.ends number link found.there).flow) refl (λ c. absurd cc)
-          (λ x e. let t = ap has_numbers e in absurd cc) (no_words packet (truth_of true_flows number link (flow.sends_other link.flow)) none)
+      (λ x e. let t = ap has_numbers e in absurd cc) (no_words packet (truth_of true_flows number link (flow.sends_other link.flow)) none)
   message_sent packet made (Segment segment number link sent is found run does) =
       let t = segment_sent link.flow (h.ends number link found.there).flow link.segsize segment sent does in
       changed_sent packet sent.known number link (with_flow sent.flow link) found.there t.sends refl (λ c. c)
-          (λ x e. let same : segment ≡ x = let f = sym is ∙ e in cc in subst (λ (y : SegmentValue). IsTrueSegment y sent.flow.given sent.known) same t.is_true)
-          (λ dst src acks e. let f = sym is ∙ e in absurd cc)
+      (λ x e. let same : segment ≡ x = let f = sym is ∙ e in cc in subst (λ (y : SegmentValue). IsTrueSegment y sent.flow.given sent.known) same t.is_true)
+      (λ dst src acks e. let f = sym is ∙ e in absurd cc)
   message_sent packet made (Acks dst src acks number link sent is found run does) =
       let t = acks_sent link.flow (h.ends number link found.there).flow acks sent does in
       changed_sent packet sent.known number link (with_flow sent.flow link) found.there t.sends refl (λ c. c)
-          (λ x e. let f = sym is ∙ e in absurd cc)
-          (λ d s a e. let same : acks ≡ a = let f = sym is ∙ e in cc in subst (λ (y : List AckWord). AreWords y sent.known.acknowledgements) same t.words_are)
+      (λ x e. let f = sym is ∙ e in absurd cc)
+      (λ d s a e. let same : acks ≡ a = let f = sym is ∙ e in cc in subst (λ (y : List AckWord). AreWords y sent.known.acknowledgements) same t.words_are)
 
 -- ---- a packet is kept
 
@@ -210,8 +210,8 @@ module _ (own other : LinkSide) (h : IsSoundSide own other) (theirs : IsSoundSid
   one_kept : (number : ℕ) (link left : LinkOf TrueFlow) → slice_get own.links.links number ≡ Some link → left.flow.given ≡ link.flow.given → IsSoundEnd own.sent other.sent (k + 1) other.links.links number left → StaySound (keeps own (changed number left own.links) k) other
   one_kept number link left at given e =
       after_keeping own other h theirs k (Some u) ahead there (changed number left own.links)
-          (grows_set own.links.links own.links.links number link left [] (grows_same own.links.links) at (given ∙ sym (append-nil link.flow.given)))
-          (all_set (λ (i : ℕ) (l : LinkOf TrueFlow). IsSoundEnd own.sent other.sent (k + 1) other.links.links i l) own.links.links number left e now)
+      (grows_set own.links.links own.links.links number link left [] (grows_same own.links.links) at (given ∙ sym (append-nil link.flow.given)))
+      (all_set (λ (i : ℕ) (l : LinkOf TrueFlow). IsSoundEnd own.sent other.sent (k + 1) other.links.links i l) own.links.links number left e now)
 
   -- the sender is there
   sender_there : (o : Option ℕ) → u.truth.tag.link ≡ o → HeldFrom o [] other.links.links
@@ -239,11 +239,11 @@ module _ (own other : LinkSide) (h : IsSoundSide own other) (theirs : IsSoundSid
   message_kept left (Begins far segsize none) =
       let l = called true_flows of_partner far segsize u.truth.tag in
       after_keeping own other h theirs k (Some u) ahead there (begun l own.links) (grows_pushed own.links.links own.links.links l (grows_same own.links.links))
-          (all_pushed (λ (i : ℕ) (l : LinkOf TrueFlow). IsSoundEnd own.sent other.sent (k + 1) other.links.links i l) own.links.links l
-              (end_new (keeps own own.links k) other (none_kept own other h theirs k (Some u) ahead there) (length own.links.links) l (omega arith) refl (λ c. absurd cc) (sender_there u.truth.tag.link refl)) now)
+      (all_pushed (λ (i : ℕ) (l : LinkOf TrueFlow). IsSoundEnd own.sent other.sent (k + 1) other.links.links i l) own.links.links l
+      (end_new (keeps own own.links k) other (none_kept own other h theirs k (Some u) ahead there) (length own.links.links) l (omega arith) refl (λ c. absurd cc) (sender_there u.truth.tag.link refl)) now)
   message_kept left (Confirms address far segsize number link found for) =
       one_kept number link (confirmed true_flows of_partner far segsize u.truth.tag link) found.there refl
-          (confirmed_sound far segsize number link found.there (and_parts (is_calling link.port.phase) (is_at link.port.own address) found.passed).0)
+      (confirmed_sound far segsize number link found.there (and_parts (is_calling link.port.phase) (is_at link.port.own address) found.passed).0)
   message_kept left (Ends test number link found) =
       one_kept number link (ended true_flows link) found.there refl (end_port own.sent other.sent (k + 1) other.links.links number link (record link.port { phase = Ended }) (λ c. absurd cc) (now number link found.there))
   message_kept left (TakesSegment address far segment number link is found pair) =
@@ -251,14 +251,14 @@ module _ (own other : LinkSide) (h : IsSoundSide own other) (theirs : IsSoundSid
       let e = h.ends number link found.there in
       let a = acknowledges own.sent other.sent own.front other.links.links number link e theirs.messages k u there ahead told p in
       one_kept number link (with_flow (flow.takes_segment segment u.truth.known link.flow) (in_phase Running link)) found.there (ap (λ (f : TrueFlow). f.given) a.is)
-          (end_segment own.sent other.sent own.front other.links.links number link e theirs.messages k u there ahead told p segment (told.segment segment is) (fold acknowledged_through link.flow u.truth.known.acknowledgements)
-              (ap (λ (f : TrueFlow). f.received) a.is) (ap (λ (f : TrueFlow). f.last) a.is) (end_acks own.sent other.sent own.front other.links.links number link e theirs.messages k u there ahead told p))
+      (end_segment own.sent other.sent own.front other.links.links number link e theirs.messages k u there ahead told p segment (told.segment segment is) (fold acknowledged_through link.flow u.truth.known.acknowledgements)
+      (ap (λ (f : TrueFlow). f.received) a.is) (ap (λ (f : TrueFlow). f.last) a.is) (end_acks own.sent other.sent own.front other.links.links number link e theirs.messages k u there ahead told p))
   message_kept left (TakesAcks address far dst src acks number link is found pair) =
       let p = of_pair_is number link.partner u.truth.tag pair in
       let e = h.ends number link found.there in
       let a = acknowledges own.sent other.sent own.front other.links.links number link e theirs.messages k u there ahead told p in
       one_kept number link (with_flow (flow.takes_acks acks u.truth.known link.flow) (in_phase Running link)) found.there (ap (λ (f : TrueFlow). f.given) a.is)
-          (end_acks own.sent other.sent own.front other.links.links number link e theirs.messages k u there ahead told p)
+      (end_acks own.sent other.sent own.front other.links.links number link e theirs.messages k u there ahead told p)
   message_kept left (TakesOther address far number link found pair) =
       one_kept number link (in_phase Running link) found.there refl (end_port own.sent other.sent (k + 1) other.links.links number link (record link.port { phase = Running }) (λ c. absurd cc) (now number link found.there))
 

@@ -1,21 +1,20 @@
 -- What each table of the links comes to, over any flow: what is left of the links is one of a few things.
-use Rattle.std.proofs.Common.{◌≡◌, ℕ, zero, suc, ◌+◌, ◌<◌, ◌≤◌, Bool, true, false, not, ◌&&◌, ◌==◌, nat_lt, cond, ◌⊎◌, inl, inr, Option, Some, None, List, [], ◌∷◌, ◌++◌, length, Result, Ok, Err, refl, sym, ap, ◌∙◌, subst, arith, ltb-true, ltb-false, position, one-add}
+use Rattle.std.proofs.Common.{◌≡◌, ℕ, zero, suc, ◌+◌, ◌<◌, Bool, true, false, not, ◌==◌, nat_lt, cond, Option, Some, None, List, [], ◌∷◌, length, Result, Ok, Err, refl, ap, ◌∙◌, subst, arith, ltb-true, ltb-false, position, one-add}
 use Rattle.std.specs.Prelude.{slice_get}
 use Rattle.std.specs.List.{prefix_len}
 use Rattle.std.proofs.lemmas.Option.{cond_some, slice_get_within}
 use Rattle.dna_packet.specs.declared.ack_word.AckWord.{AckWord}
 use Rattle.dna_packet.specs.Nsp.{SegmentValue, NspValue, DataSegment, LinkService, DataAck, OtherDataAck, ConnectAck, NoOperation, ConnectInitiate, ConnectConfirm, DisconnectInitiate, DisconnectConfirm}
 use Rattle.dna_model.specs.declared.link_refusal.LinkRefusal.{LinkRefusal}
-use Rattle.dna_model.specs.declared.link_refusal.LinkRefusal.TheVariants.{WrongNode, NoLink, LinkState, AddressInUse, CrossedLink}
+use Rattle.dna_model.specs.declared.link_refusal.LinkRefusal.TheVariants.{NoLink, LinkState, AddressInUse, CrossedLink}
 use Rattle.dna_model.specs.declared.port.Phase.{Phase}
-use Rattle.dna_model.specs.declared.port.Phase.TheVariants.{Calling, Called, Confirming, Running, Disconnecting, Ended}
-use Rattle.dna_model.specs.declared.port.Port.{Port}
+use Rattle.dna_model.specs.declared.port.Phase.TheVariants.{Confirming, Disconnecting}
 use Rattle.dna_model.specs.declared.port.LinkTest.{LinkTest}
 use Rattle.dna_model.specs.declared.port.LinkTest.TheVariants.{HasAddress, LiveAt, TheLink, LiveTo, OpenedAt, CallingAt, CalledBy, BegunBy, ActedOn}
 use Rattle.dna_model.specs.LinkTests.{passes, takes_messages, is_connected, is_calling, is_confirming, is_running, is_disconnecting}
 use Rattle.dna_model.specs.Flow.{Flows, Sending}
-use Rattle.dna_model.specs.Links.{LinkOf, LinksOf, Carried, LinkTruth, check, number_of, on_link, at_number, with_link, begun, changed, in_phase, with_flow, ended, forgotten, freed}
-use Rattle.dna_model.specs.LinkUser.{LinkEventValue, Open, Accept, Reject, In, Up, Close, opened, answered, gives, answers, delivered, user_step}
+use Rattle.dna_model.specs.Links.{LinkOf, LinksOf, Carried, LinkTruth, check, number_of, on_link, at_number, with_link, begun, changed, in_phase, with_flow, ended, freed}
+use Rattle.dna_model.specs.LinkUser.{LinkEventValue, Open, Accept, Reject, In, Up, Close, opened, answered, gives, delivered, user_step}
 use Rattle.dna_model.specs.LinkSending.{Sent, of_no_link, truth_of, unchanged, ending, confirms_end, carries, in_run, segment_of, in_its_phase, message_sent, sent_step}
 use Rattle.dna_model.specs.LinkArriving.{PartnerRule, is_for, is_of_pair, called, confirmed, ends_link, running, acted_on, message_arrived, arrived_step}
 
@@ -182,7 +181,7 @@ module _ {D K : Type 0} (flows : Flows D K) where
 
     run_did : (m : NspValue) (src dst : ℕ) (sends : LinkOf D → Result (Sending D K) LinkRefusal) →
         ((number : ℕ) (link : LinkOf D) (sent : Sending D K) → IsFound (TheLink src dst) s number link → is_running link.port.phase ≡ true → sends link ≡ Ok sent →
-            SentDid s m (record { links = changed number (with_flow sent.flow link) s; truth = truth_of flows number link sent.known })) →
+        SentDid s m (record { links = changed number (with_flow sent.flow link) s; truth = truth_of flows number link sent.known })) →
         in_run flows src dst sends s ≡ Ok left → SentDid s m left
     run_did m src dst sends d e =
         looked (TheLink src dst) s (Err NoLink) (λ number link. check (is_running link.port.phase) LinkState (carries flows s number link (sends link))) (Ok left) e (λ missing e. absurd cc)
@@ -244,7 +243,7 @@ module _ {D K : Type 0} (flows : Flows D K) where
 
     acts_did : (m : NspValue) (own far : ℕ) (takes : LinkOf D → D) →
         ((number : ℕ) (link : LinkOf D) → IsFound (ActedOn own far) s number link → rule (is_of_pair number link.partner truth.tag) ≡ true →
-            ArrivedDid rule s m truth (changed number (running flows rule takes link) s)) →
+        ArrivedDid rule s m truth (changed number (running flows rule takes link) s)) →
         acted_on flows rule own far truth.tag takes s ≡ Ok left → ArrivedDid rule s m truth left
     acts_did m own far takes d e =
         looked (ActedOn own far) s (Ok s) (λ number link. check (rule (is_of_pair number link.partner truth.tag)) CrossedLink (Ok (changed number (running flows rule takes link) s))) (Ok left) e
@@ -273,7 +272,7 @@ module _ {D K : Type 0} (flows : Flows D K) where
     came_did (DisconnectConfirm dst src reason) e = did_arrive _ _ (ends_did _ dst src _ refl) e
     came_did (DataSegment segment) e =
         acts_did (DataSegment segment) segment.dstaddr segment.srcaddr (λ link. flows.takes_segment segment truth.known link.flow)
-            (λ number link found of_pair. TakesSegment segment.dstaddr segment.srcaddr segment number link refl found of_pair) e
+        (λ number link found of_pair. TakesSegment segment.dstaddr segment.srcaddr segment number link refl found of_pair) e
     came_did (DataAck dst src acks) e =
         acts_did (DataAck dst src acks) dst src (λ link. flows.takes_acks acks truth.known link.flow) (λ number link found of_pair. TakesAcks dst src dst src acks number link refl found of_pair) e
     came_did (LinkService interrupt dst src rest) e = acts_did _ dst src (λ link. link.flow) (λ number link found of_pair. TakesOther dst src number link found of_pair) e

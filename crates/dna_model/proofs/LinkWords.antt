@@ -1,8 +1,7 @@
 -- The acknowledgement words of a message that may be sent, and what acknowledgements that come do.
-use Rattle.std.proofs.Common.{◌≡◌, ℕ, ◌+◌, ◌-◌, ◌<◌, ◌≤◌, Bool, true, false, not, ◌&&◌, nat_lt, nat_le, cond, max, ◌⊎◌, inl, inr, Option, Some, None, List, [], ◌∷◌, length, fold, refl, sym, ap, ◌∙◌, subst, arith, leb-true, leb-false, ltb-true, ltb-false}
+use Rattle.std.proofs.Common.{◌≡◌, ℕ, ◌+◌, ◌-◌, ◌<◌, ◌≤◌, Bool, true, false, ◌&&◌, nat_lt, nat_le, cond, max, ◌⊎◌, inl, inr, Option, Some, None, List, [], ◌∷◌, fold, refl, ap, ◌∙◌, subst, arith, leb-true, ltb-true}
 use Rattle.std.proofs.lemmas.Bool.{and_parts}
 use Rattle.dna_packet.specs.declared.ack_word.AckWord.{AckWord}
-use Rattle.dna_packet.specs.declared.ack_word.AckQualifier.{AckQualifier}
 use Rattle.dna_model.specs.Flow.{REACH, wire, distance, is_of_data}
 use Rattle.dna_model.specs.TrueFlow.{TrueFlow, highest_given, named, Named, with_number, with_first, all_named, acknowledged_through}
 use Rattle.dna_model.proofs.Numbered.{Limits, AcksFrom}

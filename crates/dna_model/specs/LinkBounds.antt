@@ -8,7 +8,7 @@ use Rattle.dna_model.specs.TrueFlow.{TrueFlow}
 use Rattle.dna_model.specs.TrueLinks.{links_user, links_sent, links_arrived}
 use Rattle.dna_model.specs.WireLinks.{wire_links_user, wire_links_sent, wire_links_arrived}
 use Rattle.dna_model.specs.LinkRuns.{SentMessage, LinkSide}
-use Rattle.dna_model.specs.CutFlow.{IsOrdered, IsAnswered}
+use Rattle.dna_model.specs.CutFlow.{IsAnswered}
 use Rattle.dna_model.specs.CutLinks.{cut_links, cut_result, cut_sent, AreOrdered, ArrivesNear}
 
 -- Each link's own numbers are in order, and its highest number received is at most 2,047 above the last acknowledgement that it sent;

@@ -1,9 +1,9 @@
 -- What was handed in at a link and delivered at it, off the records of its user alone.
-use Rattle.std.specs.Prelude.{◌≡◌, ℕ, zero, suc, ◌<◌, Bool, true, ◌==◌, if◌then◌else◌, Option, Some, None, List, [], ◌∷◌, ◌++◌, length, slice_get}
+use Rattle.std.specs.Prelude.{◌≡◌, ℕ, zero, suc, ◌<◌, Bool, ◌==◌, if◌then◌else◌, Option, Some, None, List, [], ◌∷◌, ◌++◌, length, slice_get}
 use Rattle.dna_model.specs.Delivery.{BeginsWith}
 use Rattle.dna_model.specs.LinkTests.{is_at}
 use Rattle.dna_model.specs.Links.{LinkOf}
-use Rattle.dna_model.specs.LinkUser.{LinkEventValue, Open, Accept, Reject, In, Up, Close}
+use Rattle.dna_model.specs.LinkUser.{LinkEventValue, Open, Accept, Reject, In, Up}
 use Rattle.dna_model.specs.TrueFlow.{TrueFlow}
 
 -- the own address that an event gives to a link

@@ -1,7 +1,7 @@
 -- The links of both sides, and the packets that went from each to the other: all of a run that the links meet. Of stations, units and
 -- lines they know nothing but this: packets that are kept come in the order of their first sending, each at most once, and with what
 -- was true of them then.
-use Rattle.std.specs.Prelude.{◌≡◌, ℕ, ◌+◌, ◌≤◌, Option, Some, None, List, [], ◌∷◌, ◌++◌, slice_get, Result, Ok}
+use Rattle.std.specs.Prelude.{◌≡◌, ℕ, ◌+◌, ◌≤◌, Option, Some, None, List, [], ◌∷◌, ◌++◌, slice_get, Ok}
 use Rattle.dna_model.specs.Links.{Carried, LinkTruth}
 use Rattle.dna_model.specs.LinkUser.{LinkEventValue}
 use Rattle.dna_model.specs.LinkSending.{Sent}
