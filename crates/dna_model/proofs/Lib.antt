@@ -60,8 +60,10 @@ mod LinkWords
 mod LinkPieces
 mod LinkSends
 mod LinkEnds
+mod LinkTakes
 mod LinkSides
 mod LinkSteps
 mod LinkReads
+mod LinkOwners
 mod LinkReadSteps
 mod LinkRunBounds

@@ -28,10 +28,11 @@ use Rattle.dna_model.proofs.LinkTables.{user_did, sent_did, arrived_did}
 use Rattle.dna_model.proofs.LinkWords.{limits, AreWords}
 use Rattle.dna_model.proofs.LinkPieces.{IsPassed, passed_begins}
 use Rattle.dna_model.proofs.LinkSends.{number_in, IsSoundFlow, within_all}
-use Rattle.dna_model.proofs.LinkEnds.{of_pair_is, end_near}
+use Rattle.dna_model.proofs.LinkTakes.{of_pair_is, end_near}
 use Rattle.dna_model.proofs.LinkSides.{IsSoundSide}
 use Rattle.dna_model.proofs.LinkSteps.{BothLinksSound, reached_sound, start_sound}
-use Rattle.dna_model.proofs.LinkReadSteps.{AreOwned, owned_read, none_owned, user_owned, sent_owned, arrived_owned}
+use Rattle.dna_model.proofs.LinkOwners.{AreOwned, owned_read, none_owned, sent_owned, arrived_owned}
+use Rattle.dna_model.proofs.LinkReadSteps.{user_owned}
 
 -- ---- the bounds
 

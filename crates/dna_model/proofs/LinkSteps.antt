@@ -23,7 +23,8 @@ use Rattle.dna_model.proofs.NumberedSteps.{IsSending, numbered_sending, present_
 use Rattle.dna_model.proofs.LinkTables.{has_numbers, SentDid, OfNone, Stays, EndsCalled, Segment, Acks, sent_did, ArrivedDid, Ignores, Begins, Confirms, Ends, TakesSegment, TakesAcks, TakesOther, arrived_did, user_did}
 use Rattle.dna_model.proofs.LinkWords.{limits, AreWords}
 use Rattle.dna_model.proofs.LinkSends.{SendsFrom, other_sent, acks_sent, IsTrueSegment, segment_sent}
-use Rattle.dna_model.proofs.LinkEnds.{name_of, nobody, numbers_of, view, Grows, SegmentTold, IsTold, told_grown, IsSoundEnd, end_port, end_further, end_aside, present_aside, of_pair_is, acknowledges, end_acks, end_segment}
+use Rattle.dna_model.proofs.LinkEnds.{name_of, nobody, numbers_of, view, Grows, SegmentTold, IsTold, told_grown, IsSoundEnd, end_port, end_further, end_aside, present_aside}
+use Rattle.dna_model.proofs.LinkTakes.{of_pair_is, acknowledges, end_acks, end_segment}
 use Rattle.dna_model.proofs.LinkSides.{set_same, at_set, all_set, all_pushed, grows_same, grows_set, grows_pushed, IsSoundSide, side_grown, side_beside, side_changed, end_new, user_sound}
 
 -- both sides after a step of one
