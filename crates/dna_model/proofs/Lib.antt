@@ -67,3 +67,4 @@ mod LinkReads
 mod LinkOwners
 mod LinkReadSteps
 mod LinkRunBounds
+mod LinkReached

@@ -1,29 +1,25 @@
 -- The links of a side with the places of the events that gave them their addresses: at most one link has an address, and what is sent and
 -- what comes changes nothing of it.
-use Rattle.std.proofs.Common.{◌≡◌, ℕ, zero, suc, ◌<◌, ◌≤◌, Bool, true, false, ◌&&◌, ◌==◌, cond, ◌⊎◌, inl, inr, Option, Some, None, List, [], ◌∷◌, ◌++◌, length, refl, sym, ap, ◌∙◌, subst, arith, append-nil, fold, length-append, length-set, eq-eqb, ne_eqb}
+use Rattle.std.proofs.Common.{◌≡◌, ℕ, zero, suc, ◌<◌, ◌≤◌, Bool, true, false, cond, ◌⊎◌, inl, inr, Option, Some, None, List, [], ◌∷◌, ◌++◌, length, refl, sym, ap, ◌∙◌, subst, arith, fold, length-append, length-set}
 use Rattle.std.specs.Prelude.{slice_get, slice_set}
-use Rattle.std.proofs.lemmas.Bool.{and_parts, and_from, cases_eq, cases_order}
+use Rattle.std.proofs.lemmas.Bool.{and_parts, cases_order}
 use Rattle.std.proofs.lemmas.Option.{same_Some, slice_get_within}
-use Rattle.two_nodes.proofs.Listed.{next_at}
 use Rattle.dna_packet.specs.Nsp.{NspValue}
 use Rattle.dna_model.specs.declared.port.Phase.{Phase}
-use Rattle.dna_model.specs.declared.port.Phase.TheVariants.{Calling, Confirming, Running, Disconnecting}
-use Rattle.dna_model.specs.declared.port.LinkTest.TheVariants.{HasAddress, LiveAt}
-use Rattle.dna_model.specs.LinkTests.{passes, is_at, is_live, is_called, is_calling, is_connected, has_both}
-use Rattle.dna_model.specs.Links.{LinkOf, number_of, LinkTruth, begun, changed, in_phase, with_flow, ended, forgotten, freed}
-use Rattle.dna_model.specs.LinkUser.{LinkEventValue, Open, Accept, Reject, In, Up, Close, opened, answered}
+use Rattle.dna_model.specs.declared.port.Phase.TheVariants.{Calling, Running}
+use Rattle.dna_model.specs.LinkTests.{is_at, is_live, is_called, is_calling, is_connected, has_both}
+use Rattle.dna_model.specs.Links.{LinkOf, LinkTruth, changed, in_phase, with_flow, ended}
+use Rattle.dna_model.specs.LinkUser.{LinkEventValue}
 use Rattle.dna_model.specs.LinkSending.{Sent}
 use Rattle.dna_model.specs.LinkArriving.{of_partner, called, confirmed}
 use Rattle.dna_model.specs.TrueFlow.{TrueFlow, Numbers, true_flows}
 use Rattle.dna_model.specs.TrueFlow as flow
 use Rattle.dna_model.specs.TrueLinks.{Links}
-use Rattle.dna_model.specs.LinkCaptures.{given_address, gives_address, message_in, message_up, handed_in, delivered_up, behind, IsRead, AreRead}
-use Rattle.dna_model.proofs.NumberedSteps.{at_pushed}
-use Rattle.dna_model.proofs.LinkTables.{IsFound, looked, position_none, UserDid, Opens, Accepts, Rejects, HandsIn, Delivers, Closes, SentDid, OfNone, Stays, EndsCalled, Segment, Acks, ArrivedDid, Ignores, Begins, Confirms, Ends, TakesSegment, TakesAcks, TakesOther}
-use Rattle.dna_model.proofs.LinkPieces.{delivered_is}
+use Rattle.dna_model.specs.LinkCaptures.{given_address, behind, AreRead}
+use Rattle.dna_model.proofs.LinkTables.{SentDid, OfNone, Stays, EndsCalled, Segment, Acks, ArrivedDid, Ignores, Begins, Confirms, Ends, TakesSegment, TakesAcks, TakesOther}
 use Rattle.dna_model.proofs.LinkSends.{IsSoundFlow, acks_sent, segment_sent}
-use Rattle.dna_model.proofs.LinkSides.{set_same, at_set, all_set, all_pushed}
-use Rattle.dna_model.proofs.LinkReads.{given_again, later_gives, HoldsFrom, HoldsAt, IsOwned, owned_same, at_is, owned_more, behind_last, gives_is}
+use Rattle.dna_model.proofs.LinkSides.{all_set, all_pushed}
+use Rattle.dna_model.proofs.LinkReads.{given_again, later_gives, HoldsFrom, HoldsAt, IsOwned, owned_same, gives_is}
 
 pub record AreOwned (events : List LinkEventValue) (links : List (LinkOf TrueFlow)) : Type 0 where
   pub place_of : ℕ → Option ℕ

@@ -1,28 +1,25 @@
 -- All links of a side are read off its user's events: each event keeps it so.
-use Rattle.std.proofs.Common.{◌≡◌, ℕ, zero, suc, ◌<◌, ◌≤◌, Bool, true, false, ◌&&◌, ◌==◌, cond, ◌⊎◌, inl, inr, Option, Some, None, List, [], ◌∷◌, ◌++◌, length, refl, sym, ap, ◌∙◌, subst, arith, append-nil, fold, length-append, length-set, eq-eqb, ne_eqb}
+use Rattle.std.proofs.Common.{◌≡◌, ℕ, ◌<◌, ◌≤◌, Bool, true, false, ◌&&◌, ◌==◌, cond, ◌⊎◌, inl, inr, Option, Some, None, List, [], ◌∷◌, ◌++◌, length, refl, sym, ap, ◌∙◌, subst, arith, append-nil, length-append, length-set, eq-eqb, ne_eqb}
 use Rattle.std.specs.Prelude.{slice_get, slice_set}
-use Rattle.std.proofs.lemmas.Bool.{and_parts, and_from, cases_eq, cases_order}
+use Rattle.std.proofs.lemmas.Bool.{and_parts, and_from, cases_eq}
 use Rattle.std.proofs.lemmas.Option.{same_Some, slice_get_within}
 use Rattle.two_nodes.proofs.Listed.{next_at}
-use Rattle.dna_packet.specs.Nsp.{NspValue}
 use Rattle.dna_model.specs.declared.port.Phase.{Phase}
-use Rattle.dna_model.specs.declared.port.Phase.TheVariants.{Calling, Confirming, Running, Disconnecting}
+use Rattle.dna_model.specs.declared.port.Phase.TheVariants.{Confirming, Running, Disconnecting}
 use Rattle.dna_model.specs.declared.port.LinkTest.TheVariants.{HasAddress, LiveAt}
-use Rattle.dna_model.specs.LinkTests.{passes, is_at, is_live, is_called, is_calling, is_connected, has_both}
-use Rattle.dna_model.specs.Links.{LinkOf, number_of, LinkTruth, begun, changed, in_phase, with_flow, ended, forgotten, freed}
+use Rattle.dna_model.specs.LinkTests.{passes, is_at, is_live, is_called, is_connected}
+use Rattle.dna_model.specs.Links.{LinkOf, number_of, begun, changed, in_phase, with_flow, forgotten, freed}
 use Rattle.dna_model.specs.LinkUser.{LinkEventValue, Open, Accept, Reject, In, Up, Close, opened, answered}
-use Rattle.dna_model.specs.LinkSending.{Sent}
-use Rattle.dna_model.specs.LinkArriving.{of_partner, called, confirmed}
+use Rattle.dna_model.specs.LinkArriving.{called}
 use Rattle.dna_model.specs.TrueFlow.{TrueFlow, Numbers, true_flows}
 use Rattle.dna_model.specs.TrueFlow as flow
 use Rattle.dna_model.specs.TrueLinks.{Links}
-use Rattle.dna_model.specs.LinkCaptures.{given_address, gives_address, message_in, message_up, handed_in, delivered_up, behind, IsRead, AreRead}
+use Rattle.dna_model.specs.LinkCaptures.{given_address, gives_address, message_in, message_up, handed_in, delivered_up, IsRead}
 use Rattle.dna_model.proofs.NumberedSteps.{at_pushed}
-use Rattle.dna_model.proofs.LinkTables.{IsFound, looked, position_none, UserDid, Opens, Accepts, Rejects, HandsIn, Delivers, Closes, SentDid, OfNone, Stays, EndsCalled, Segment, Acks, ArrivedDid, Ignores, Begins, Confirms, Ends, TakesSegment, TakesAcks, TakesOther}
+use Rattle.dna_model.proofs.LinkTables.{IsFound, looked, position_none, UserDid, Opens, Accepts, Rejects, HandsIn, Delivers, Closes}
 use Rattle.dna_model.proofs.LinkPieces.{delivered_is}
-use Rattle.dna_model.proofs.LinkSends.{IsSoundFlow, acks_sent, segment_sent}
-use Rattle.dna_model.proofs.LinkSides.{set_same, at_set, all_set, all_pushed}
-use Rattle.dna_model.proofs.LinkReads.{given_again, later_gives, HoldsFrom, HoldsAt, IsOwned, owned_same, at_is, owned_more, behind_last, gives_is}
+use Rattle.dna_model.proofs.LinkSides.{set_same, at_set, all_set}
+use Rattle.dna_model.proofs.LinkReads.{given_again, IsOwned, at_is, owned_more, behind_last, gives_is}
 use Rattle.dna_model.proofs.LinkOwners.{AreOwned, there_is, place_beyond, place_below, unique}
 
 module _ (events : List LinkEventValue) (s : Links) (o : AreOwned events s.links) where

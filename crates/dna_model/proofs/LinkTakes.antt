@@ -1,15 +1,12 @@
 -- A message of its partner comes to a link: its words acknowledge, and its segment is held.
-use Rattle.std.proofs.Common.{◌≡◌, ℕ, zero, suc, ◌+◌, ◌-◌, ◌≤◌, true, max, ◌⊎◌, inl, inr, Option, Some, None, List, [], ◌∷◌, ◌++◌, length, fold, refl, sym, ap, ◌∙◌, subst, arith, eqb-true}
+use Rattle.std.proofs.Common.{◌≡◌, ℕ, zero, suc, ◌+◌, ◌-◌, ◌≤◌, true, max, ◌⊎◌, inl, inr, Option, Some, None, List, [], ◌∷◌, length, fold, refl, sym, ap, ◌∙◌, subst, arith, eqb-true}
 use Rattle.std.specs.Prelude.{slice_get}
 use Rattle.std.proofs.lemmas.Bool.{and_parts}
 use Rattle.std.proofs.lemmas.Option.{same_Some}
-use Rattle.two_nodes.proofs.Order.{slice_get-append}
-use Rattle.dna_packet.specs.declared.ack_word.AckWord.{AckWord}
-use Rattle.dna_packet.specs.Nsp.{SegmentValue, DataSegment, DataAck}
+use Rattle.dna_packet.specs.Nsp.{SegmentValue}
 use Rattle.dna_model.specs.declared.link_tag.LinkTag.{LinkTag}
 use Rattle.dna_model.specs.declared.port.Phase.TheVariants.{Running}
-use Rattle.dna_model.specs.declared.port.Port.{Port}
-use Rattle.dna_model.specs.LinkTests.{is_calling, is_at}
+use Rattle.dna_model.specs.LinkTests.{is_at}
 use Rattle.dna_model.specs.Pieces.{Piece, piece_of, in_order, hold}
 use Rattle.dna_model.specs.Links.{LinkOf, in_phase, with_flow}
 use Rattle.dna_model.specs.LinkArriving.{are_same, is_of_pair}
@@ -17,11 +14,11 @@ use Rattle.dna_model.specs.TrueFlow.{TrueFlow, highest_given, highest_received, 
 use Rattle.dna_model.specs.TrueFlow as flow
 use Rattle.dna_model.specs.LinkRuns.{SentMessage}
 use Rattle.dna_model.specs.LinkDelivery.{HeldFrom}
-use Rattle.dna_model.proofs.Numbered.{Numbers, Numbered, AcksFrom, IsGiven, IsLawful, IsNear, IsUpTo, ReceivedFrom, AcknowledgedFrom, AreNumbered, IsPresent, near}
-use Rattle.dna_model.proofs.NumberedSteps.{present_beside, present_further, present_acknowledged, present_received, at_pushed}
-use Rattle.dna_model.proofs.LinkWords.{limits, AreAtMost, AreWords, Acknowledges, through}
+use Rattle.dna_model.proofs.Numbered.{AcksFrom, IsGiven, IsLawful, IsNear, AcknowledgedFrom, AreNumbered, IsPresent, near}
+use Rattle.dna_model.proofs.NumberedSteps.{present_further, present_acknowledged, present_received}
+use Rattle.dna_model.proofs.LinkWords.{limits, AreAtMost, Acknowledges, through}
 use Rattle.dna_model.proofs.LinkPieces.{passed_held}
-use Rattle.dna_model.proofs.LinkSends.{number_in, IsSoundFlow, within_all, IsTrueSegment}
+use Rattle.dna_model.proofs.LinkSends.{number_in, within_all}
 use Rattle.dna_model.proofs.LinkEnds.{name_of, sender_name, numbers_of, view, SegmentTold, IsTold, IsSoundEnd, present_raised, end_further}
 
 -- a message of this pair of links
