@@ -1,8 +1,9 @@
 -- Each row of the table of what an arrival does, and each reason that may refuse it, computed on both flows.
-use Rattle.std.proofs.Common.{ℕ, List, [], ◌∷◌, ◌++◌, Some, None, refl}
+use Rattle.std.proofs.Common.{◌≡◌, true, false, ℕ, List, [], ◌∷◌, ◌++◌, Some, None, refl}
 use Rattle.dna_model.specs.declared.link_tag.LinkTag.{LinkTag}
 use Rattle.dna_model.specs.declared.link_refusal.LinkRefusal.TheVariants.{WrongNode, NoLink, SegmentTooLong, CrossedLink}
 use Rattle.dna_model.specs.LinkUser.{Open, Accept, Reject, In, Up, Close}
+use Rattle.dna_model.specs.LinkArriving.{of_anyone}
 use Rattle.dna_model.proofs.LinkRowMessages.{CI, CI_AGAIN, CC, CONNECT_ACK, DI, DC, LINK_SERVICE, INTERRUPT, OTHER_ACK, NO_OPERATION, DATA_ACK, ack, SEGMENT, carries}
 use Rattle.dna_model.proofs.LinkRowSteps.{Act, A, B, NODE_A, NODE_B, Does, Sends, Comes, ComesAs, Gets, AllMade, LastRefused, ChangesNothing, HasTag}
 use Rattle.dna_model.proofs.LinkRows.{opened, connected}
@@ -229,3 +230,8 @@ carried_from_an_earlier_link : LastRefused CrossedLink
     ∷ ComesAs B 1 of_the_pair
     ∷ [])
 carried_from_an_earlier_link = (refl, refl)
+
+-- ---- a player's node asks for no partner
+
+anyone : (of_anyone true ≡ true) × (of_anyone false ≡ true)
+anyone = (refl, refl)
