@@ -34,3 +34,4 @@ pub mod LinkRuns
 pub mod LinkBounds
 pub mod LinkDelivery
 pub mod LinkCaptures
+pub mod LinkRecords
