@@ -6,14 +6,14 @@ use Rattle.dna_packet.specs.Nsp.{NspValue}
 use Rattle.dna_packet.specs.ReadingNsp.{nsp_at}
 use Rattle.dna_model.specs.declared.link_refusal.LinkRefusal.{LinkRefusal}
 use Rattle.dna_model.specs.Links.{LinkOf, Carried}
-use Rattle.dna_model.specs.LinkUser.{LinkEventValue, Open, Accept, In, Up}
+use Rattle.dna_model.specs.LinkUser.{LinkEventValue, Open, Accept, In, Up, Close}
 use Rattle.dna_model.specs.LinkSending.{Sent}
 use Rattle.dna_model.specs.LinkArriving.{of_partner}
 use Rattle.dna_model.specs.TrueFlow.{TrueFlow, Numbers}
 use Rattle.dna_model.specs.TrueLinks.{Links, links_user, links_sent, links_arrived}
 use Rattle.dna_model.specs.LinkRuns.{SentMessage, LinkSide, LinkWorld, LinkStep, ByUser, Sends, SendsNone, Keeps, KeepsNone, Reached, Start, ByA, ByB, new_world}
 use Rattle.dna_model.specs.LinkCaptures.{handed_in, delivered_up, behind}
-use Rattle.dna_model.proofs.LinkRowMessages.{CI, CC, DATA_ACK, ack, SEGMENT, carries}
+use Rattle.dna_model.proofs.LinkRowMessages.{CI, CC, DI, DC, DATA_ACK, ack, SEGMENT, carries}
 use Rattle.dna_model.proofs.LinkRowSteps.{End, A, B, NODE_A, NODE_B}
 
 -- What a side does: its user, a packet that is first sent with this message or with none, or the packet at this place that is kept
@@ -100,15 +100,15 @@ new = new_world NODE_A NODE_B NODE_B NODE_A
 abbrev run_of : List Step → Option (Ran new)
 run_of steps = all_more (Some (record { world = new; of_a = []; of_b = []; reached = Start })) steps
 
--- what each link of b delivered, and the events of a and b behind those that gave the addresses
+-- what each link of b delivered; and what was handed in at address 1 of a, and delivered at address 2 of b, behind the events at these places
 record Shown : Type 0 where
   pub up : List (List (List ℕ))
   pub in_at_a : List (List ℕ)
   pub up_at_b : List (List ℕ)
 
-abbrev shown : Option (Ran new) → Option Shown
-shown None = None
-shown (Some r) = Some (record { up = map (λ (l : LinkOf TrueFlow). l.flow.delivered) r.world.b.links.links; in_at_a = handed_in 1 (behind 0 r.of_a); up_at_b = delivered_up 2 (behind 0 r.of_b) })
+abbrev shown : (place_a place_b : ℕ) → Option (Ran new) → Option Shown
+shown place_a place_b None = None
+shown place_a place_b (Some r) = Some (record { up = map (λ (l : LinkOf TrueFlow). l.flow.delivered) r.world.b.links.links; in_at_a = handed_in 1 (behind place_a r.of_a); up_at_b = delivered_up 2 (behind place_b r.of_b) })
 
 abbrev letters : List ℕ
 letters = 0x61 ∷ 0x62 ∷ 0x63 ∷ []
@@ -130,12 +130,39 @@ lost_at_a_restart =
     ∷ b (Does (Up 2 letters))
     ∷ []
 
-it_is_a_run : shown (run_of lost_at_a_restart) ≡ Some (record { up = (letters ∷ []) ∷ []; in_at_a = letters ∷ []; up_at_b = letters ∷ [] })
+it_is_a_run : shown 0 0 (run_of lost_at_a_restart) ≡ Some (record { up = (letters ∷ []) ∷ []; in_at_a = letters ∷ []; up_at_b = letters ∷ [] })
 it_is_a_run = refl
 
 -- a packet is not kept twice, nor behind a later one
-kept_twice : shown (run_of (lost_at_a_restart ++ b (Kept 5) ∷ [])) ≡ None
+kept_twice : shown 0 0 (run_of (lost_at_a_restart ++ b (Kept 5) ∷ [])) ≡ None
 kept_twice = refl
 
-kept_late : shown (run_of (lost_at_a_restart ++ b (Kept 3) ∷ [])) ≡ None
+kept_late : shown 0 0 (run_of (lost_at_a_restart ++ b (Kept 3) ∷ [])) ≡ None
 kept_late = refl
+
+-- the link ends, and both addresses are given again
+abbrev given_again : List Step
+given_again =
+    lost_at_a_restart
+    ++ a (Does (Close 1))
+    ∷ a (First (DI 2 1))
+    ∷ b (Kept 6)
+    ∷ b (First (DC 1 2))
+    ∷ a (Kept 1)
+    ∷ a (Does (Open 1))
+    ∷ a (First (CI 1))
+    ∷ b (Kept 7)
+    ∷ b (Does (Accept 1 2))
+    ∷ b (First (CC 1 2))
+    ∷ a (Kept 2)
+    ∷ a (Does (In 1 (0x78 ∷ [])))
+    ∷ a (First (SEGMENT 0x60 2 1 (carries 1 (0x78 ∷ []))))
+    ∷ b (Kept 8)
+    ∷ b (Does (Up 2 (0x78 ∷ [])))
+    ∷ []
+
+first_link : shown 0 0 (run_of given_again) ≡ Some (record { up = (letters ∷ []) ∷ ((0x78 ∷ []) ∷ []) ∷ []; in_at_a = letters ∷ []; up_at_b = letters ∷ [] })
+first_link = refl
+
+second_link : shown 3 2 (run_of given_again) ≡ Some (record { up = (letters ∷ []) ∷ ((0x78 ∷ []) ∷ []) ∷ []; in_at_a = (0x78 ∷ []) ∷ []; up_at_b = (0x78 ∷ []) ∷ [] })
+second_link = refl
