@@ -66,5 +66,6 @@ mod LinkSteps
 mod LinkReads
 mod LinkOwners
 mod LinkReadSteps
+mod LinkCounts
 mod LinkRunBounds
 mod LinkReached

@@ -48,6 +48,15 @@ there_is [] i less = absurd (omega arith)
 there_is (x ∷ xs) zero less = (x, refl)
 there_is (x ∷ xs) (suc i) less = there_is xs i (omega arith)
 
+-- what comes keeps what was handed in and delivered
+pub fold_same : (acks : List ℕ) (f : TrueFlow) → ((fold flow.acknowledged_through f acks).handed ≡ f.handed) × ((fold flow.acknowledged_through f acks).delivered ≡ f.delivered)
+fold_same [] f = (refl, refl)
+fold_same (ack ∷ acks) f = let r = fold_same acks (flow.acknowledged_through f ack) in let t = one _ in (r.0 ∙ t.0, r.1 ∙ t.1)
+  where
+    one : (b : Bool) → ((cond b (record f { acknowledged = ack }) f).handed ≡ f.handed) × ((cond b (record f { acknowledged = ack }) f).delivered ≡ f.delivered)
+    one true = (refl, refl)
+    one false = (refl, refl)
+
 module _ (events : List LinkEventValue) (s : Links) (o : AreOwned events s.links) where
   -- a link that begins now has no place
   pub place_beyond : o.place_of (length s.links) ≡ None
@@ -117,15 +126,6 @@ module _ (events : List LinkEventValue) (s : Links) (o : AreOwned events s.links
   sent_owned m made sound (Acks dst src acks number link sent is found run does) =
       let t = (acks_sent link.flow (sound number link found.there) acks sent does).sends in
       one_owned number link (with_flow sent.flow link) found.there refl t.handed t.delivered (λ c. c) (λ live none. t.received ∙ (o.owned number link found.there).fresh live none)
-
-  -- what comes keeps what was handed in and delivered
-  fold_same : (acks : List ℕ) (f : TrueFlow) → ((fold flow.acknowledged_through f acks).handed ≡ f.handed) × ((fold flow.acknowledged_through f acks).delivered ≡ f.delivered)
-  fold_same [] f = (refl, refl)
-  fold_same (ack ∷ acks) f = let r = fold_same acks (flow.acknowledged_through f ack) in let t = one _ in (r.0 ∙ t.0, r.1 ∙ t.1)
-    where
-      one : (b : Bool) → ((cond b (record f { acknowledged = ack }) f).handed ≡ f.handed) × ((cond b (record f { acknowledged = ack }) f).delivered ≡ f.delivered)
-      one true = (refl, refl)
-      one false = (refl, refl)
 
   pub arrived_owned : (m : NspValue) (truth : LinkTruth Numbers) (left : Links) → ArrivedDid true_flows of_partner s m truth left → AreOwned events left.links
   arrived_owned m truth left Ignores = o

@@ -19,7 +19,7 @@ use Rattle.dna_model.specs.CutLinks.{ComesNear, IsActedOn}
 use Rattle.dna_model.specs.LinkRuns.{SentMessage, LinkSide, LinkWorld, LinkStep, ByUser, Sends, SendsNone, Keeps, KeepsNone, Reached, Start, ByA, ByB, new_world}
 use Rattle.dna_model.specs.LinkBounds.{AreLinksBounded, AreCutInStep}
 use Rattle.dna_model.specs.LinkDelivery.{whole, HeldFrom, UpFrom, DeliversLinks}
-use Rattle.dna_model.specs.LinkCaptures.{given_address, delivered_up, behind, IsReadFrom, IsRead, AreRead, BeginsAt, BeginsFor, AreUpFrom}
+use Rattle.dna_model.specs.LinkCaptures.{given_address, delivered_up, behind, IsReadFrom, IsRead, AreRead, BeginsAt, BeginsFor, AreUpFrom, deliveries, ups}
 use Rattle.dna_model.proofs.Numbered.{AcksFrom, NumberNear}
 use Rattle.dna_model.proofs.CutLinkUser.{user_same}
 use Rattle.dna_model.proofs.CutLinkSending.{sent_same}
@@ -33,6 +33,7 @@ use Rattle.dna_model.proofs.LinkSides.{IsSoundSide}
 use Rattle.dna_model.proofs.LinkSteps.{BothLinksSound, reached_sound, start_sound}
 use Rattle.dna_model.proofs.LinkOwners.{AreOwned, owned_read, none_owned, sent_owned, arrived_owned}
 use Rattle.dna_model.proofs.LinkReadSteps.{user_owned}
+use Rattle.dna_model.proofs.LinkCounts.{user_count, sent_count, arrived_count, ups_more}
 
 -- ---- the bounds
 
@@ -182,6 +183,28 @@ reached_owned sound first (ByB {w = v} {of_b = ys} {events = events} {left = lef
     let o = reached_owned sound first r in
     record { of_a = o.of_a; of_b = step_owned v.b v.a left ys events (reached_sound sound r).of_b o.of_b step }
 
+record BothCounted (w : LinkWorld) (events further : List LinkEventValue) : Type 0 where
+  pub of_a : deliveries w.a.links.links ≡ ups events
+  pub of_b : deliveries w.b.links.links ≡ ups further
+
+step_counted : (own other left : LinkSide) (events made : List LinkEventValue) → IsSoundSide own other → deliveries own.links.links ≡ ups events → LinkStep own other made left → deliveries left.links.links ≡ ups (events ++ made)
+step_counted own other left events made h e (ByUser event links does) = ups_more events event (deliveries own.links.links) (deliveries links.links) e (user_count own.links event links (user_did true_flows own.links links event does))
+step_counted own other left events made h e (Sends packet sent does) =
+    sent_count own.links packet.message sent (λ number link there. (h.ends number link there).flow) (sent_did true_flows own.links sent packet does) ∙ e ∙ ap ups (sym (append-nil events))
+step_counted own other left events made h e SendsNone = e ∙ ap ups (sym (append-nil events))
+step_counted own other left events made h e (Keeps place unit links ahead there does) =
+    arrived_count own.links unit.packet.message unit.truth links (arrived_did true_flows of_partner own.links links unit.truth unit.packet does) ∙ e ∙ ap ups (sym (append-nil events))
+step_counted own other left events made h e (KeepsNone place ahead there) = e ∙ ap ups (sym (append-nil events))
+
+reached_counted : {start w : LinkWorld} {of_a of_b : List LinkEventValue} → BothLinksSound start → BothCounted start [] [] → Reached start w of_a of_b → BothCounted w of_a of_b
+reached_counted sound first Start = first
+reached_counted sound first (ByA {w = v} {of_a = xs} {events = events} {left = left} r step) =
+    let o = reached_counted sound first r in
+    record { of_a = step_counted v.a v.b left xs events (reached_sound sound r).of_a o.of_a step; of_b = o.of_b }
+reached_counted sound first (ByB {w = v} {of_b = ys} {events = events} {left = left} r step) =
+    let o = reached_counted sound first r in
+    record { of_a = o.of_a; of_b = step_counted v.b v.a left ys events (reached_sound sound r).of_b o.of_b step }
+
 module _ (node_a peer_a node_b peer_b : ℕ) (w : LinkWorld) (of_a of_b : List LinkEventValue) (run : Reached (new_world node_a peer_a node_b peer_b) w of_a of_b) where
   sound : BothLinksSound w
   sound = reached_sound (start_sound node_a peer_a node_b peer_b) run
@@ -204,3 +227,7 @@ module _ (node_a peer_a node_b peer_b : ℕ) (w : LinkWorld) (of_a of_b : List L
   -- and so what is kept of the links goes along
   pub in_step : AreCutInStep w.a w.b × AreCutInStep w.b w.a
   in_step = (side_in_step w.a w.b bounded.0, side_in_step w.b w.a bounded.1)
+
+  -- and each delivery is an event
+  pub counted : (deliveries w.a.links.links ≡ ups of_a) × (deliveries w.b.links.links ≡ ups of_b)
+  counted = let c = reached_counted (start_sound node_a peer_a node_b peer_b) (record { of_a = refl; of_b = refl }) run in (c.of_a, c.of_b)

@@ -1,5 +1,5 @@
 -- What was handed in at a link and delivered at it, off the records of its user alone.
-use Rattle.std.specs.Prelude.{◌≡◌, ℕ, zero, suc, ◌<◌, Bool, ◌==◌, if◌then◌else◌, Option, Some, None, List, [], ◌∷◌, ◌++◌, length, slice_get}
+use Rattle.std.specs.Prelude.{◌≡◌, ℕ, zero, suc, ◌+◌, ◌<◌, Bool, ◌==◌, if◌then◌else◌, Option, Some, None, List, [], ◌∷◌, ◌++◌, length, slice_get}
 use Rattle.dna_model.specs.Delivery.{BeginsWith}
 use Rattle.dna_model.specs.LinkTests.{is_at}
 use Rattle.dna_model.specs.Links.{LinkOf}
@@ -87,3 +87,19 @@ pub record AreUpFrom (events further : List LinkEventValue) (links others : List
   pub other : AreRead further others
   pub up : (i place address : ℕ) (link : LinkOf TrueFlow) (event : LinkEventValue) → slice_get links i ≡ Some link → own.place_of i ≡ Some place → slice_get events place ≡ Some event → given_address event ≡ Some address →
       BeginsFor further (delivered_up address (behind place events)) other.place_of link.partner
+
+-- ---- how many
+
+-- how many messages were delivered at all links
+abbrev pub deliveries : List (LinkOf TrueFlow) → ℕ
+deliveries [] = 0
+deliveries (link ∷ links) = length link.flow.delivered + deliveries links
+
+-- and how many events say so
+abbrev pub is_delivery : LinkEventValue → ℕ
+is_delivery (Up link message) = 1
+is_delivery event = 0
+
+abbrev pub ups : List LinkEventValue → ℕ
+ups [] = 0
+ups (event ∷ events) = is_delivery event + ups events

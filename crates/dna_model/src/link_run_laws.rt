@@ -1,12 +1,12 @@
 //! What holds of the links of both sides in every run, whatever the code does, for the proofs of callers to cite. `Reached` says all that
 //! it asks of stations, units and lines: packets that are kept come in the order of their first sending, with what was true of them then.
 
-ghost use Rattle.std.specs.Prelude.{ℕ, List};
+ghost use Rattle.std.specs.Prelude.{◌≡◌, ℕ, List};
 ghost use Rattle.dna_model.specs.LinkUser.{LinkEventValue};
 ghost use Rattle.dna_model.specs.LinkRuns.{LinkWorld, Reached, new_world};
 ghost use Rattle.dna_model.specs.LinkBounds.{AreLinksBounded, AreCutInStep};
 ghost use Rattle.dna_model.specs.LinkDelivery.{DeliversLinks};
-ghost use Rattle.dna_model.specs.LinkCaptures.{AreUpFrom};
+ghost use Rattle.dna_model.specs.LinkCaptures.{AreUpFrom, deliveries, ups};
 
 /// Numbers modulo 4,096 tell all: at any time in a run the numbers of each link are in order, and those of each message that may still
 /// be kept are near the numbers of the link that acts on it.
@@ -44,4 +44,12 @@ pub fn links_read_off_captures()
         → Reached (new_world node_a peer_a node_b peer_b) w of_a of_b → AreUpFrom of_a of_b w.a.links.links w.b.links.links }
     ensures of_b { (node_a peer_a node_b peer_b : ℕ) (w : LinkWorld) (of_a of_b : List LinkEventValue)
         → Reached (new_world node_a peer_a node_b peer_b) w of_a of_b → AreUpFrom of_b of_a w.b.links.links w.a.links.links }
+{}
+
+/// In every run as many messages were delivered at a side's links, all in all, as events of its user say.
+pub fn links_count_deliveries()
+    ensures of_a { (node_a peer_a node_b peer_b : ℕ) (w : LinkWorld) (of_a of_b : List LinkEventValue)
+        → Reached (new_world node_a peer_a node_b peer_b) w of_a of_b → deliveries w.a.links.links ≡ ups of_a }
+    ensures of_b { (node_a peer_a node_b peer_b : ℕ) (w : LinkWorld) (of_a of_b : List LinkEventValue)
+        → Reached (new_world node_a peer_a node_b peer_b) w of_a of_b → deliveries w.b.links.links ≡ ups of_b }
 {}
