@@ -1,5 +1,5 @@
 -- As many messages were delivered as the user's events say, at any time.
-use Rattle.std.proofs.Common.{◌≡◌, ℕ, zero, suc, ◌+◌, ◌⊎◌, inl, inr, Option, Some, None, List, [], ◌∷◌, ◌++◌, length, refl, sym, ap, ◌∙◌, subst, arith, append-nil, length-append}
+use Rattle.std.proofs.Common.{◌≡◌, ℕ, zero, suc, ◌+◌, ◌⊎◌, inl, inr, Some, List, [], ◌∷◌, ◌++◌, length, refl, sym, ap, ◌∙◌, subst, arith, length-append}
 use Rattle.std.specs.Prelude.{slice_get, slice_set}
 use Rattle.std.proofs.lemmas.Bool.{cases_eq}
 use Rattle.std.proofs.lemmas.Option.{same_Some}
@@ -7,8 +7,8 @@ use Rattle.dna_packet.specs.Nsp.{NspValue}
 use Rattle.dna_model.specs.declared.port.Phase.{Phase}
 use Rattle.dna_model.specs.declared.port.Phase.TheVariants.{Confirming, Disconnecting, Running}
 use Rattle.dna_model.specs.declared.port.LinkTest.TheVariants.{HasAddress}
-use Rattle.dna_model.specs.Links.{LinkOf, LinkTruth, begun, changed, in_phase, with_flow, ended, forgotten, freed}
-use Rattle.dna_model.specs.LinkUser.{LinkEventValue, Open, Accept, Reject, In, Up, Close, opened, answered}
+use Rattle.dna_model.specs.Links.{LinkOf, LinkTruth, changed, in_phase, with_flow, ended, forgotten, freed}
+use Rattle.dna_model.specs.LinkUser.{LinkEventValue, opened, answered}
 use Rattle.dna_model.specs.LinkSending.{Sent}
 use Rattle.dna_model.specs.LinkArriving.{of_partner, called, confirmed}
 use Rattle.dna_model.specs.TrueFlow.{TrueFlow, Numbers, true_flows}
@@ -51,9 +51,11 @@ module _ (s : Links) where
       (λ n l found e. subst (λ (x : Links). (there : LinkOf TrueFlow) × (slice_get x.links number ≡ Some there) × (there.flow.delivered ≡ link.flow.delivered)) e (go n l found.there (cases_eq number n)))
     where
       go : (n : ℕ) (l : LinkOf TrueFlow) → slice_get s.links n ≡ Some l → (number ≡ n) ⊎ (number ≡ n → ⊥) → (there : LinkOf TrueFlow) × (slice_get (slice_set s.links n (forgotten true_flows l)) number ≡ Some there) × (there.flow.delivered ≡ link.flow.delivered)
-      go n l there (inl e) =
-          (forgotten true_flows l, ap (slice_get (slice_set s.links n (forgotten true_flows l))) e ∙ set_same s.links n l (forgotten true_flows l) there,
-              ap (λ (x : LinkOf TrueFlow). x.flow.delivered) (same_Some l link (sym there ∙ ap (slice_get s.links) (sym e) ∙ at)))
+      go n l there (inl e) = (
+        forgotten true_flows l,
+        ap (slice_get (slice_set s.links n (forgotten true_flows l))) e ∙ set_same s.links n l (forgotten true_flows l) there,
+        ap (λ (x : LinkOf TrueFlow). x.flow.delivered) (same_Some l link (sym there ∙ ap (slice_get s.links) (sym e) ∙ at)),
+      )
       go n l there (inr d) = (link, set_other s.links n number (forgotten true_flows l) d ∙ at, refl)
 
   answered_count : (phase : Phase) (own number : ℕ) (link : LinkOf TrueFlow) → slice_get s.links number ≡ Some link → deliveries (changed number (answered true_flows phase own link) (freed true_flows own s)).links ≡ deliveries s.links

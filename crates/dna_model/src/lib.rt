@@ -26,7 +26,8 @@ pub use link_event::LinkEvent;
 pub use link_laws::{cut_flow, cut_link_steps};
 pub use link_refusal::LinkRefusal;
 pub use link_run_laws::{
-    links_count_deliveries, links_deliver_in_order, links_read_off_captures, links_within_bounds, wire_links_see_right,
+    links_count_deliveries, links_deliver_in_order, links_read_off_captures, links_within_bounds,
+    wire_links_see_right,
 };
 pub use link_tag::LinkTag;
 pub use port::{LinkTest, Phase, Port};
