@@ -14,14 +14,14 @@ use Rattle.dna_model.specs.LinkArriving.{of_partner, called, confirmed}
 use Rattle.dna_model.specs.TrueFlow.{TrueFlow, Numbers, true_flows}
 use Rattle.dna_model.specs.TrueFlow as flow
 use Rattle.dna_model.specs.TrueLinks.{Links}
-use Rattle.dna_model.specs.LinkCaptures.{deliveries, is_delivery, ups}
+use Rattle.dna_model.specs.LinkCaptures.{deliveries, delivery_count, ups}
 use Rattle.dna_model.proofs.LinkTables.{looked, UserDid, Opens, Accepts, Rejects, HandsIn, Delivers, Closes, SentDid, OfNone, Stays, EndsCalled, Segment, Acks, ArrivedDid, Ignores, Begins, Confirms, Ends, TakesSegment, TakesAcks, TakesOther}
 use Rattle.dna_model.proofs.LinkPieces.{delivered_is}
 use Rattle.dna_model.proofs.LinkSends.{IsSoundFlow, acks_sent, segment_sent}
 use Rattle.dna_model.proofs.LinkSides.{set_same, set_other}
 use Rattle.dna_model.proofs.LinkOwners.{fold_same}
 
-ups-append : (events : List LinkEventValue) (event : LinkEventValue) → ups (events ++ event ∷ []) ≡ ups events + is_delivery event
+ups-append : (events : List LinkEventValue) (event : LinkEventValue) → ups (events ++ event ∷ []) ≡ ups events + delivery_count event
 ups-append [] event = omega arith
 ups-append (first ∷ events) event = let e = ups-append events event in omega arith
 
@@ -63,7 +63,7 @@ module _ (s : Links) where
       let f = freed_at own number link at in
       set_same_count (freed true_flows own s).links number f.0 (answered true_flows phase own link) f.1 (sym f.2) ∙ freed_count own
 
-  pub user_count : (event : LinkEventValue) (left : Links) → UserDid true_flows s event left → deliveries left.links ≡ deliveries s.links + is_delivery event
+  pub user_count : (event : LinkEventValue) (left : Links) → UserDid true_flows s event left → deliveries left.links ≡ deliveries s.links + delivery_count event
   user_count event left (Opens own free) = let e = pushed_count (freed true_flows own s).links (opened true_flows own) refl in let f = freed_count own in omega arith
   user_count event left (Accepts far own number link found free) = let e = answered_count Confirming own number link found.there in omega arith
   user_count event left (Rejects far own number link found free) = let e = answered_count Disconnecting own number link found.there in omega arith
@@ -95,5 +95,5 @@ module _ (s : Links) where
       set_same_count s.links number link (with_flow (flow.takes_acks acks truth.known link.flow) (in_phase Running link)) found.there (fold_same truth.known.acknowledgements link.flow).1
   arrived_count m truth left (TakesOther own far number link found pair) = set_same_count s.links number link (in_phase Running link) found.there refl
 
-pub ups_more : (events : List LinkEventValue) (event : LinkEventValue) (before after : ℕ) → before ≡ ups events → after ≡ before + is_delivery event → after ≡ ups (events ++ event ∷ [])
+pub ups_more : (events : List LinkEventValue) (event : LinkEventValue) (before after : ℕ) → before ≡ ups events → after ≡ before + delivery_count event → after ≡ ups (events ++ event ∷ [])
 ups_more events event before after e f = let a = ups-append events event in omega arith

@@ -96,10 +96,10 @@ deliveries [] = 0
 deliveries (link ∷ links) = length link.flow.delivered + deliveries links
 
 -- and how many events say so
-abbrev pub is_delivery : LinkEventValue → ℕ
-is_delivery (Up link message) = 1
-is_delivery event = 0
+abbrev pub delivery_count : LinkEventValue → ℕ
+delivery_count (Up link message) = 1
+delivery_count event = 0
 
 abbrev pub ups : List LinkEventValue → ℕ
 ups [] = 0
-ups (event ∷ events) = is_delivery event + ups events
+ups (event ∷ events) = delivery_count event + ups events
