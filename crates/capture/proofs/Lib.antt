@@ -13,3 +13,4 @@ pub mod TakeLaws
 pub mod RangeLaws
 pub mod LackLaws
 pub mod TextLaws
+pub mod SoFarLaws

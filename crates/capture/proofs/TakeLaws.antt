@@ -13,8 +13,6 @@ use Rattle.capture.specs.Text.{record_text, ended}
 use Rattle.capture.specs.Range.{IsRecord, record_bytes, most_bytes}
 use Rattle.capture.specs.Departing.{first_line, IsWhole, LineDeparts, WordsDepart, RecordDeparts, HeadWordsDepart, HeadDeparts}
 use Rattle.capture.specs.Reading.{record_at, head_at}
-use Rattle.capture.specs.Faulty.{fault_at}
-use Rattle.capture.specs.Reader.{FaultShows}
 use Rattle.capture.proofs.BytesLaws.{limited}
 use Rattle.capture.proofs.LineLaws.{line-split, line-append, if_known}
 use Rattle.capture.proofs.RecordLaws.{IsRecordOf, IsLongRecordOf, record_shows, record_again}
@@ -90,11 +88,6 @@ line_departs Syntax taken bytes some h = let lt = h.0 in inl (omega arith, h.1, 
 pub lines_depart : (kind : Departure) (taken : ℕ) (before : Option (List ℕ)) → 1 ≤ taken → IfSome before (LineDeparts (MAX_RECORDS + 1) taken kind) → IfSome before (RecordDeparts (taken - 1) kind)
 lines_depart kind taken None some h = tt
 lines_depart kind taken (Some bytes) some h = line_departs kind taken bytes some h
-
-pub shown_at : (departs : Departure → List ℕ → Type 0) (number : ℕ) (before : Option (List ℕ)) (kind : Departure) → IfSome before (departs kind) → FaultShows departs number before (fault_at kind number)
-shown_at departs number before Syntax h = (refl, h)
-shown_at departs number before TooLong h = (refl, h)
-shown_at departs number before TooMany h = (refl, h)
 
 -- ---- the head
 

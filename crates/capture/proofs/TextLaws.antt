@@ -66,7 +66,7 @@ begun_lines (r ∷ ps) (s ∷ rs) rest p q e =
     let tail : rs ≡ ps ++ ih.0 = ih.1 in
     (ih.0, cc, ih.2)
 
-nothing_more : (rs : List Record) → [] ≡ record_lines rs → rs ≡ []
+pub nothing_more : (rs : List Record) → [] ≡ record_lines rs → rs ≡ []
 nothing_more [] e = refl
 nothing_more (r ∷ rs) e = absurd (line_some (record_text Number r) (record_lines rs) (sym e))
 

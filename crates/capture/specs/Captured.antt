@@ -1,13 +1,15 @@
 -- The fields of a reader of a capture.
-use Rattle.std.specs.Prelude.{◌-◌, ◌+◌, ◌≤◌}
+use Rattle.std.specs.Prelude.{◌≡◌, ◌-◌, ◌+◌, ◌≤◌, length, take}
 use Rattle.capture.specs.declared.reader.CaptureReader.TheInside.{Inside}
-use Rattle.capture.specs.declared.limit.TheConstants.{MAX_RECORDS}
+use Rattle.capture.specs.declared.limit.TheConstants.{MAX_MESSAGE, MAX_RECORDS}
 use Rattle.capture.specs.Reader.{CaptureState}
 
--- the head's line is one of those taken
 abbrev pub capture_state : Inside → CaptureState
-capture_state r = record { own = r.own; peer = r.peer; records = r.lines.taken - 1; phase = r.phase; unread = r.lines.unread }
+capture_state r = record { own = r.own; peer = r.peer; records = r.lines.taken - 1; phase = r.phase; unread = r.lines.unread; bytes = take r.len r.room.items }
 
+-- the head's line is one of those taken, and the bytes are within the room
 pub record IsCounted (r : Inside) : Type 0 where
   pub head : 1 ≤ r.lines.taken
   pub few : r.lines.taken ≤ MAX_RECORDS + 1
+  pub room : length r.room.items ≡ MAX_MESSAGE
+  pub within : r.len ≤ MAX_MESSAGE

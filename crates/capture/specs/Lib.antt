@@ -6,5 +6,8 @@ pub mod Lines
 pub mod Block
 pub mod Faulty
 pub mod Reader
+pub mod SoFar
 pub mod Captured
 pub mod Writing
+pub mod Entries
+pub mod Worded

@@ -3,9 +3,8 @@ use Rattle.std.specs.Prelude.{◌≡◌, ℕ, ◌+◌, ◌-◌, ◌<◌, ◌≤�
 use Rattle.std.specs.Io.KnownBytes.{Consumes, IsAtEnd}
 use Rattle.capture.specs.declared.limit.TheConstants.{MAX_RECORDS}
 use Rattle.capture.specs.declared.fault.Departure.{Departure}
-use Rattle.capture.specs.declared.fault.Departure.TheVariants as kinds
 use Rattle.capture.specs.declared.fault.CaptureFault.{CaptureFault}
-use Rattle.capture.specs.declared.fault.CaptureFault.TheVariants.{Syntax, TooLong, TooMany, Read, OutOfMemory, Failed}
+use Rattle.capture.specs.declared.fault.CaptureFault.TheVariants.{Departs, Read, OutOfMemory, Failed}
 use Rattle.capture.specs.declared.phase.Phase.{Phase}
 use Rattle.capture.specs.declared.phase.Phase.TheVariants as phases
 use Rattle.capture.specs.declared.record.Record.{Record}
@@ -14,19 +13,18 @@ use Rattle.capture.specs.Range.{IsNode, IsRecord}
 use Rattle.capture.specs.Departing.{HeadDeparts, RecordDeparts}
 use Rattle.capture.specs.Lines.{LineState, to_come}
 
--- the head, the count of records so far, whether more may come, and the bytes read ahead
+-- the head, the count of records so far, whether more may come, the bytes read ahead, and those of the record that `advance` read last
 pub record CaptureState : Type 0 where
   pub own : ℕ
   pub peer : ℕ
   pub records : ℕ
   pub phase : Phase
   pub unread : List ℕ
+  pub bytes : List ℕ
 
 -- A fault names the line at hand, by its number, and says how the first line of what was to come departs.
 abbrev pub FaultShows : (Departure → List ℕ → Type 0) → ℕ → Option (List ℕ) → CaptureFault → Type 0
-FaultShows departs number before (Syntax line) = (line ≡ number) × IfSome before (departs kinds.Syntax)
-FaultShows departs number before (TooLong line) = (line ≡ number) × IfSome before (departs kinds.TooLong)
-FaultShows departs number before (TooMany line) = (line ≡ number) × IfSome before (departs kinds.TooMany)
+FaultShows departs number before (Departs kind line) = (line ≡ number) × IfSome before (departs kind)
 FaultShows departs number before Read = Unit {0}
 FaultShows departs number before OutOfMemory = Unit {0}
 FaultShows departs number before Failed = ⊥

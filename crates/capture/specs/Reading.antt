@@ -3,7 +3,7 @@ use Rattle.std.specs.Prelude.{◌≡◌, ℕ, ◌+◌, ◌*◌, ◌==◌, ◌&&�
 use Rattle.std.specs.Str.{all_ascii_digits, bytes_eq}
 use Rattle.std.specs.Str.Parse.{digits_value}
 use Rattle.std.specs.List.{list_all}
-use Rattle.hex.specs.Hex.{decode_of}
+use Rattle.hex.specs.Hex.{decode_of, is_hex_digit}
 use Rattle.capture.specs.declared.limit.TheConstants.{MAX_HINT, MAX_LINK, MAX_UNIT, MAX_MESSAGE}
 use Rattle.capture.specs.declared.event.Event.{Event}
 use Rattle.capture.specs.declared.event.Event.TheVariants.{Start, Halt, Open, Accept, Reject, In, Up, Close}
@@ -71,6 +71,10 @@ address_at text = option_and_then (λ parts.
 -- no letter is a capital
 abbrev pub is_lower : ℕ → Bool
 is_lower b = nat_lt b 65 || nat_lt 70 b
+
+-- a digit 0 to 9 or a to f
+abbrev pub is_digit : ℕ → Bool
+is_digit b = is_lower b && is_hex_digit b
 
 abbrev pub decoded : {E : Type 0} → Result (List ℕ) E → Option (List ℕ)
 decoded (Ok bytes) = Some bytes

@@ -1,8 +1,9 @@
 //! The bytes of a unit or of a message, in memory of their own.
 
-ghost use Rattle.std.specs.Prelude.{◌≡◌, ◌↔◌, [], length, IsTrue};
+ghost use Rattle.std.specs.Prelude.{◌≡◌, ◌↔◌, [], length, IsTrue, IfOk};
 ghost use Rattle.hex.specs.Hex.{IsBytes};
 
+use std::alloc::{AllocError, Global};
 use std::marker::Model;
 
 /// Bytes that their record owns. A contract sees them as the list of the bytes.
@@ -25,6 +26,15 @@ impl Bytes {
         ensures { result ≡ owned.items }
     {
         Bytes { owned }
+    }
+
+    /// A copy of these bytes. `AllocError` where there is no memory for it.
+    pub fn copied(alloc: Global, bytes: &[u8]) -> Result<Bytes, AllocError>
+        ensures { IfOk result (λ copy. copy ≡ bytes.now) }
+    {
+        let mut owned = Vec::with_capacity(alloc, bytes.len())?;
+        owned.extend_from_slice(bytes)?;
+        Ok(Bytes { owned })
     }
 
     /// The bytes, in the memory that they have. Takes no memory.

@@ -1,94 +1,87 @@
 //! Reading the words of an event.
 
 ghost use Rattle.std.specs.Prelude.{◌≡◌};
-ghost use Rattle.capture.specs.Reading.{Gives, must, positive_at, event_at, link_event_at, links_at, message_at};
+ghost use Rattle.std.specs.Option.{option_map};
+ghost use Rattle.capture.specs.Reading.{must, positive_at, event_at, link_event_at, links_at, message_at};
+ghost use Rattle.capture.specs.Entries.{told};
+ghost use Rattle.capture.specs.Worded.{as_record, messaged};
 
-use crate::bytes::Bytes;
-use crate::digits::bytes_of;
-use crate::event::Event;
-use crate::fault::{Departure, PartFault};
-use crate::limit::{MAX_LINK, MAX_MESSAGE};
+use crate::entry::Entry;
+use crate::limit::MAX_LINK;
 use crate::number::positive_of;
 use crate::part::{after, cut_at};
-use std::alloc::Global;
 
-fn link_of(text: &[u8]) -> Result<u16, PartFault>
-    ensures { Gives result (must (positive_at MAX_LINK text.now)) }
+fn link_of(text: &[u8]) -> Option<u16>
+    ensures { result ≡ positive_at MAX_LINK text.now }
 {
     match positive_of(text, MAX_LINK) {
-        Some(link) => Ok(link as u16),
-        None => Err(PartFault::Departs(Departure::Syntax)),
+        Some(link) => Some(link as u16),
+        None => None,
     }
 }
 
 #[tactic(auto, unfolding(crate::specs::Reading::links_at))]
-fn links_of(text: &[u8]) -> Result<(u16, u16), PartFault>
-    ensures { Gives result (links_at text.now) }
+fn links_of(text: &[u8]) -> Option<(u16, u16)>
+    ensures { links_at text.now ≡ must result }
 {
-    let Some((partner, link)) = cut_at(text, b' ') else {
-        return Err(PartFault::Departs(Departure::Syntax));
-    };
+    let (partner, link) = cut_at(text, b' ')?;
     let partner = link_of(partner)?;
     let link = link_of(link)?;
-    Ok((partner, link))
+    Some((partner, link))
 }
 
+// A link and the text of a message.
 #[tactic(auto, unfolding(crate::specs::Reading::message_at))]
-fn message_of(alloc: Global, text: &[u8]) -> Result<(u16, Bytes), PartFault>
-    ensures { Gives result (message_at text.now) }
+fn message_of(text: &[u8]) -> Option<(u16, &[u8])>
+    ensures { message_at text.now ≡ messaged (option_map (λ parts. (parts.0, parts.1.now)) result) }
 {
-    let Some((link, bytes)) = cut_at(text, b' ') else {
-        return Err(PartFault::Departs(Departure::Syntax));
-    };
+    let (link, bytes) = cut_at(text, b' ')?;
     let link = link_of(link)?;
-    let bytes = bytes_of(alloc, bytes, MAX_MESSAGE)?;
-    Ok((link, bytes))
+    Some((link, bytes))
 }
 
 #[tactic(auto, unfolding(crate::specs::Reading::link_event_at))]
-fn link_event_of(text: &[u8]) -> Result<Event, PartFault>
-    ensures { Gives result (link_event_at text.now) }
+fn link_event_of(text: &[u8]) -> Option<(Entry, &[u8])>
+    ensures { as_record (link_event_at text.now) ≡ told (option_map (λ parts. (parts.0, parts.1.now)) result) }
 {
     if let Some(rest) = after(text, b"open ") {
         let link = link_of(rest)?;
-        return Ok(Event::Open { link });
+        return Some((Entry::Open { link }, rest));
     }
     if let Some(rest) = after(text, b"close ") {
         let link = link_of(rest)?;
-        return Ok(Event::Close { link });
+        return Some((Entry::Close { link }, rest));
     }
     if let Some(rest) = after(text, b"accept ") {
         let (partner, link) = links_of(rest)?;
-        return Ok(Event::Accept { partner, link });
+        return Some((Entry::Accept { partner, link }, rest));
     }
     if let Some(rest) = after(text, b"reject ") {
         let (partner, link) = links_of(rest)?;
-        return Ok(Event::Reject { partner, link });
+        return Some((Entry::Reject { partner, link }, rest));
     }
-    Err(PartFault::Departs(Departure::Syntax))
+    None
 }
 
-/// The event that the text spells, as it stands behind `u ` in a line.
-///
-/// Faults: `Departs(Syntax)` where it spells none; `Departs(TooLong)` where it would but for more
-/// than 65,535 bytes of a message; `OutOfMemory`. `open 1` and `in 7 -` are events, `open 0` is none.
+/// The event that the text spells, as it stands behind `u ` in a line, and the text of its BYTES, where it has any; `None`
+/// where it spells none. `open 1` and `in 7 -` are events, `open 0` is none.
 #[tactic(auto, unfolding(crate::specs::Reading::event_at))]
-pub fn event_of(alloc: Global, text: &[u8]) -> Result<Event, PartFault>
-    ensures { Gives result (event_at text.now) }
+pub fn event_of(text: &[u8]) -> Option<(Entry, &[u8])>
+    ensures { as_record (event_at text.now) ≡ told (option_map (λ parts. (parts.0, parts.1.now)) result) }
 {
     if text == b"start".as_slice() {
-        return Ok(Event::Start);
+        return Some((Entry::Start, text));
     }
     if text == b"halt".as_slice() {
-        return Ok(Event::Halt);
+        return Some((Entry::Halt, text));
     }
     if let Some(rest) = after(text, b"in ") {
-        let (link, bytes) = message_of(alloc, rest)?;
-        return Ok(Event::In { link, bytes });
+        let (link, bytes) = message_of(rest)?;
+        return Some((Entry::In { link }, bytes));
     }
     if let Some(rest) = after(text, b"up ") {
-        let (link, bytes) = message_of(alloc, rest)?;
-        return Ok(Event::Up { link, bytes });
+        let (link, bytes) = message_of(rest)?;
+        return Some((Entry::Up { link }, bytes));
     }
     link_event_of(text)
 }

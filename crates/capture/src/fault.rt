@@ -1,10 +1,11 @@
 //! Why a text is no capture, or could not be read or written.
 
-ghost use Rattle.std.specs.Prelude.{◌≡◌};
+ghost use Rattle.std.specs.Prelude.{◌≡◌, ◌≤◌, length};
 
+use std::fmt;
 use thiserror::Error;
 
-/// How a line departs from the format.
+/// How a line departs from the format. Printed as `syntax`, `too long` or `too many`.
 #[derive(Clone, Copy, Debug, PartialEq, Eq)]
 pub enum Departure {
     /// The line is none of the format's, or has no LF.
@@ -13,6 +14,37 @@ pub enum Departure {
     TooLong,
     /// The line comes after as many as a text may have.
     TooMany,
+}
+
+impl Departure {
+    ghost use Rattle.capture.specs.Faulty.{kind_words};
+
+    /// The words that a departure of this kind is told by, of at most 8 bytes. Takes no memory.
+    pub fn words<'a>(self) -> &'a [u8]
+        ensures words { result.now ≡ kind_words self }
+        ensures short { length result.now ≤ 8 }
+    {
+        match self {
+            Departure::Syntax => b"syntax",
+            Departure::TooLong => b"too long",
+            Departure::TooMany => b"too many",
+        }
+    }
+}
+
+impl fmt::Display for Departure {
+    ghost use Rattle.std.specs.Prelude.{Some};
+    ghost use Rattle.capture.specs.Faulty.{kind_words};
+
+    ghost output = { λ kind. Some (kind_words kind) };
+
+    fn fmt<W: fmt::Write>(&self, f: &mut fmt::Formatter<W>) -> fmt::Result {
+        match self {
+            Departure::Syntax => f.write_str("syntax"),
+            Departure::TooLong => f.write_str("too long"),
+            Departure::TooMany => f.write_str("too many"),
+        }
+    }
 }
 
 /// Why a part of a line could not be read.
@@ -36,15 +68,9 @@ pub enum LineFault {
 /// Why a reader of a capture gives no head or no record. Lines are counted from 1.
 #[derive(Clone, Copy, Debug, PartialEq, Eq, Error)]
 pub enum CaptureFault {
-    /// The line departs from the format: none of its lines, or without its LF.
-    #[error("line {line}: syntax")]
-    Syntax { line: u64 },
-    /// The line, or its BYTES, is too long.
-    #[error("line {line}: too long")]
-    TooLong { line: u64 },
-    /// The line comes after 1,000,000,000,000 records.
-    #[error("line {line}: too many")]
-    TooMany { line: u64 },
+    /// The line departs from the format in this way.
+    #[error("line {line}: {kind}")]
+    Departs { kind: Departure, line: u64 },
     /// The reader failed in this call.
     #[error("read failed")]
     Read,
@@ -54,21 +80,6 @@ pub enum CaptureFault {
     /// An earlier call answered a fault.
     #[error("failed before")]
     Failed,
-}
-
-impl CaptureFault {
-    ghost use Rattle.capture.specs.Faulty.{fault_at};
-
-    /// The fault of a line that departs in this way.
-    pub fn of_line(kind: Departure, line: u64) -> CaptureFault
-        ensures { result ≡ fault_at kind line }
-    {
-        match kind {
-            Departure::Syntax => CaptureFault::Syntax { line },
-            Departure::TooLong => CaptureFault::TooLong { line },
-            Departure::TooMany => CaptureFault::TooMany { line },
-        }
-    }
 }
 
 /// Why a line was not written.

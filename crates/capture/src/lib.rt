@@ -8,6 +8,7 @@
 mod address;
 mod bytes;
 mod digits;
+mod entry;
 mod event;
 mod event_words;
 mod fault;
@@ -22,13 +23,14 @@ mod phase;
 mod reader;
 mod record;
 mod record_words;
+mod so_far;
 mod writer;
 
 pub use address::{address_of, is_node};
 pub use bytes::Bytes;
 pub use digits::bytes_of;
+pub use entry::Entry;
 pub use event::Event;
-pub use event_words::event_of;
 pub use fault::{CaptureFault, Departure, LineFault, PartFault, WriteFault};
 pub use hint::HintForm;
 pub use laws::{
@@ -43,6 +45,7 @@ pub use phase::Phase;
 pub use reader::CaptureReader;
 pub use record::Record;
 pub use record_words::{head_of, record_of};
+pub use so_far::{text_read_on, whole_text};
 pub use writer::{write_head, write_record};
 
 #[cfg(test)]

@@ -6,6 +6,7 @@ ghost use Rattle.capture.specs.declared.line_reader.TheConstants.{BLOCK};
 ghost use Rattle.std.specs.Io.KnownBytes.{Consumes, IsAtEnd};
 ghost use Rattle.capture.specs.declared.limit.TheConstants.{MAX_LINE};
 ghost use Rattle.wire_base.specs.Tally.{CountedFault, tally_faults, tally_lent};
+ghost use Rattle.capture.specs.Faulty.{CountsReads, is_failed_line_read};
 ghost use Rattle.capture.specs.Lines.{FindsLine, FindsLf, ReadsAhead, to_come};
 
 use crate::fault::{Departure, LineFault};
@@ -101,6 +102,7 @@ impl LineReader {
     /// behind and a byte is to come; `Departs(TooLong)` at more than 131,081 bytes before the LF or the
     /// end; `Departs(Syntax)` where the text ends without an LF. `Read` comes only where the reader
     /// failed, and may come before any of them.
+    #[inline(always)]
     pub fn next<R: Read>(
         &mut self,
         most: u64,
@@ -110,8 +112,7 @@ impl LineReader {
             (to_come self.old.unread (R.remaining (tally_lent reader.old)))
             (to_come self.new.unread (R.remaining (tally_lent reader.new))) result }
         ensures taken { self.new.taken ≡ self.old.taken }
-        ensures read { result ≡ Err LineFault.Read → CountedFault (tally_faults reader.old) (tally_faults reader.new) }
-        ensures faults { OnOk result (tally_faults reader.new ≡ tally_faults reader.old) }
+        ensures reads { CountsReads (is_failed_line_read result) (tally_faults reader.old) (tally_faults reader.new) }
     {
         if self.taken() >= most {
             return self.beyond(most, reader);
@@ -149,8 +150,7 @@ impl LineReader {
             (to_come self.old.unread (R.remaining (tally_lent reader.old)))
             (to_come self.new.unread (R.remaining (tally_lent reader.new))) result }
         ensures taken { self.new.taken ≡ self.old.taken }
-        ensures read { result ≡ Err LineFault.Read → CountedFault (tally_faults reader.old) (tally_faults reader.new) }
-        ensures faults { OnOk result (tally_faults reader.new ≡ tally_faults reader.old) }
+        ensures reads { CountsReads (is_failed_line_read result) (tally_faults reader.old) (tally_faults reader.new) }
     {
         if !self.unread().is_empty() {
             return Err(LineFault::Departs(Departure::TooMany));
@@ -186,6 +186,7 @@ impl LineReader {
     }
 
     // Where the first LF stands among the bytes read ahead, from `searched` on.
+    #[inline(always)]
     fn find_lf(&self, searched: usize) -> Option<usize>
         requires { searched ≤ length self.now.unread }
         ensures { FindsLf searched self.now.unread result }

@@ -1,22 +1,31 @@
 //! Reading a capture, record by record.
 
-ghost use Rattle.std.specs.Prelude.{OnOk, ◌≡◌, ◌≤◌, ◌+◌, Ok, Err, None};
-ghost use Rattle.wire_base.specs.Tally.{CountedFault, tally_faults, tally_lent};
-ghost use Rattle.capture.specs.declared.limit.TheConstants.{MAX_RECORDS};
+ghost use Rattle.std.specs.Prelude.{◌≡◌, ◌≤◌, ◌+◌, length, Ok, Err, None, IfOk, IfSome};
+ghost use Rattle.wire_base.specs.Tally.{tally_faults, tally_lent};
+ghost use Rattle.capture.specs.declared.limit.TheConstants.{MAX_MESSAGE, MAX_RECORDS};
 ghost use Rattle.capture.specs.Lines.{to_come};
+ghost use Rattle.capture.specs.Entries.{recorded, recorded_in};
+ghost use Rattle.capture.specs.Faulty.{CountsReads, is_failed_read};
 ghost use Rattle.capture.specs.Reader.{NextGives, Opens, TakesRecord};
 
+use crate::entry::Entry;
 use crate::fault::{CaptureFault, Departure, LineFault, PartFault};
 use crate::hint::HintForm;
-use crate::limit::MAX_RECORDS;
+use crate::limit::{MAX_MESSAGE, MAX_RECORDS};
 use crate::line_reader::LineReader;
 use crate::phase::Phase;
 use crate::record::Record;
-use crate::record_words::{head_of, record_of};
+use crate::record_words::{head_of, line_into, record_of};
 use std::alloc::Global;
 use std::io::Read;
 use std::marker::Model;
 use wire_base::Tally;
+
+// A first line that is no head.
+const NO_HEAD: CaptureFault = CaptureFault::Departs {
+    kind: Departure::Syntax,
+    line: 1,
+};
 
 /// Reads the head of a capture and then its records, one a call, from a reader that each call is
 /// lent, the same throughout.
@@ -30,6 +39,9 @@ pub struct CaptureReader {
     own: u16,
     peer: u16,
     phase: Phase,
+    // What `advance` read last: that many bytes at the front.
+    room: Vec<u8>,
+    len: usize,
 }
 
 impl Model for CaptureReader {
@@ -45,6 +57,7 @@ impl Model for CaptureReader {
 }
 
 // One record's turn.
+#[inline(always)]
 fn take_record<R: Read>(
     alloc: Global,
     lines: &mut LineReader,
@@ -55,8 +68,7 @@ fn take_record<R: Read>(
     ensures takes { TakesRecord lines.old lines.new
         (to_come lines.old.unread (R.remaining (tally_lent reader.old)))
         (to_come lines.new.unread (R.remaining (tally_lent reader.new))) result }
-    ensures read { result ≡ Err CaptureFault.Read → CountedFault (tally_faults reader.old) (tally_faults reader.new) }
-    ensures faults { OnOk result (tally_faults reader.new ≡ tally_faults reader.old) }
+    ensures reads { CountsReads (is_failed_read result) (tally_faults reader.old) (tally_faults reader.new) }
 {
     let number = lines.taken() + 1;
     match lines.next(MAX_RECORDS + 1, reader) {
@@ -65,11 +77,44 @@ fn take_record<R: Read>(
                 lines.skip(len);
                 Ok(Some(record))
             }
-            Err(PartFault::Departs(kind)) => Err(CaptureFault::of_line(kind, number)),
+            Err(PartFault::Departs(kind)) => Err(CaptureFault::Departs { kind, line: number }),
             Err(PartFault::OutOfMemory) => Err(CaptureFault::OutOfMemory),
         },
         Ok(None) => Ok(None),
-        Err(LineFault::Departs(kind)) => Err(CaptureFault::of_line(kind, number)),
+        Err(LineFault::Departs(kind)) => Err(CaptureFault::Departs { kind, line: number }),
+        Err(LineFault::Read) => Err(CaptureFault::Read),
+    }
+}
+
+// One record's turn, with its bytes at the front of the room: how many they are beside its entry.
+#[inline(always)]
+fn take_entry<R: Read>(
+    lines: &mut LineReader,
+    room: &mut [u8],
+    reader: &mut Tally<R>,
+) -> Result<Option<(Entry, usize)>, CaptureFault>
+    requires head { 1 ≤ lines.old.taken }
+    requires few { lines.old.taken ≤ MAX_RECORDS + 1 }
+    requires room { length room.old ≡ MAX_MESSAGE }
+    ensures takes { TakesRecord lines.old lines.new
+        (to_come lines.old.unread (R.remaining (tally_lent reader.old)))
+        (to_come lines.new.unread (R.remaining (tally_lent reader.new))) (recorded_in room.new result) }
+    ensures room { length room.new ≡ MAX_MESSAGE }
+    ensures len { IfOk result (λ taken. IfSome taken (λ entry. entry.1 ≤ MAX_MESSAGE)) }
+    ensures memory { result ≡ Err CaptureFault.OutOfMemory → ⊥ }
+    ensures reads { CountsReads (is_failed_read result) (tally_faults reader.old) (tally_faults reader.new) }
+{
+    let number = lines.taken() + 1;
+    match lines.next(MAX_RECORDS + 1, reader) {
+        Ok(Some(len)) => match line_into(HintForm::Number, lines.line(len), room) {
+            Ok(entry) => {
+                lines.skip(len);
+                Ok(Some(entry))
+            }
+            Err(kind) => Err(CaptureFault::Departs { kind, line: number }),
+        },
+        Ok(None) => Ok(None),
+        Err(LineFault::Departs(kind)) => Err(CaptureFault::Departs { kind, line: number }),
         Err(LineFault::Read) => Err(CaptureFault::Read),
     }
 }
@@ -77,16 +122,16 @@ fn take_record<R: Read>(
 impl CaptureReader {
     /// Reads the head, `ddcap 1 OWN PEER`.
     ///
-    /// Faults: `TooLong { line: 1 }` where more than 131,081 bytes stand before the first LF or the
-    /// end; `Syntax { line: 1 }` where the first line has no LF, as in an empty text, or is no head;
-    /// `Read` where the reader failed; `OutOfMemory` where there is no memory for the reader's block.
+    /// Faults: `Departs` at line 1, with `TooLong` where more than 131,081 bytes stand before the first
+    /// LF or the end, and with `Syntax` where the first line has no LF, as in an empty text, or is no
+    /// head; `Read` where a call of the reader failed, and at any other answer its count of them stands;
+    /// `OutOfMemory` where there is no memory for the reader's block or for its room for bytes.
     pub fn open<R: Read>(
         alloc: Global,
         reader: &mut Tally<R>,
     ) -> Result<CaptureReader, CaptureFault>
         ensures opens { Opens (R.remaining (tally_lent reader.old)) (R.remaining (tally_lent reader.new)) result }
-        ensures read { result ≡ Err CaptureFault.Read → CountedFault (tally_faults reader.old) (tally_faults reader.new) }
-        ensures faults { OnOk result (tally_faults reader.new ≡ tally_faults reader.old) }
+        ensures reads { CountsReads (is_failed_read result) (tally_faults reader.old) (tally_faults reader.new) }
     {
         let Ok(mut lines) = LineReader::new(alloc) else {
             return Err(CaptureFault::OutOfMemory);
@@ -95,18 +140,23 @@ impl CaptureReader {
             Ok(Some(len)) => match head_of(lines.line(len)) {
                 Some((own, peer)) => {
                     lines.skip(len);
+                    let Ok(room) = vec![in alloc; 0u8; MAX_MESSAGE] else {
+                        return Err(CaptureFault::OutOfMemory);
+                    };
                     Ok(CaptureReader {
                         alloc,
                         lines,
                         own,
                         peer,
                         phase: Phase::Reading,
+                        room,
+                        len: 0,
                     })
                 }
-                None => Err(CaptureFault::Syntax { line: 1 }),
+                None => Err(NO_HEAD),
             },
-            Ok(None) => Err(CaptureFault::Syntax { line: 1 }),
-            Err(LineFault::Departs(kind)) => Err(CaptureFault::of_line(kind, 1)),
+            Ok(None) => Err(NO_HEAD),
+            Err(LineFault::Departs(kind)) => Err(CaptureFault::Departs { kind, line: 1 }),
             Err(LineFault::Read) => Err(CaptureFault::Read),
         }
     }
@@ -125,13 +175,61 @@ impl CaptureReader {
         self.peer
     }
 
+    /// Reads the next record as [`next`](CaptureReader::next) does, but keeps its bytes, which `bytes` lends until the next call,
+    /// and answers the rest. It takes no memory, and so never answers `OutOfMemory`.
+    #[inline(always)]
+    pub fn advance<R: Read>(&mut self, reader: &mut Tally<R>) -> Result<Option<Entry>, CaptureFault>
+        ensures gives { self.old.phase ≡ Phase.Reading → NextGives self.old self.new
+            (to_come self.old.unread (R.remaining (tally_lent reader.old)))
+            (to_come self.new.unread (R.remaining (tally_lent reader.new))) (recorded self.new.bytes result) }
+        ensures ended { self.old.phase ≡ Phase.Ended → (result ≡ Ok None) × (self.new ≡ self.old) }
+        ensures failed { self.old.phase ≡ Phase.Failed → (result ≡ Err CaptureFault.Failed) × (self.new ≡ self.old) }
+        ensures head { (self.new.own ≡ self.old.own) × (self.new.peer ≡ self.old.peer) }
+        ensures memory { result ≡ Err CaptureFault.OutOfMemory → ⊥ }
+        ensures reads { CountsReads (is_failed_read result) (tally_faults reader.old) (tally_faults reader.new) }
+    {
+        match self.phase {
+            Phase::Reading => {}
+            Phase::Ended => return Ok(None),
+            Phase::Failed => return Err(CaptureFault::Failed),
+        }
+        match take_entry(&mut self.lines, &mut self.room, reader) {
+            Ok(Some((entry, len))) => {
+                self.len = len;
+                Ok(Some(entry))
+            }
+            Ok(None) => {
+                self.phase = Phase::Ended;
+                Ok(None)
+            }
+            Err(fault) => {
+                self.phase = Phase::Failed;
+                Err(fault)
+            }
+        }
+    }
+
+    /// What its memory was taken from. Takes no memory.
+    pub fn alloc(&self) -> Global {
+        self.alloc
+    }
+
+    /// The bytes of the record that `advance` read last. Takes no memory.
+    pub fn bytes(&self) -> &[u8]
+        ensures { result.now ≡ self.now.bytes }
+    {
+        &self.room[..self.len]
+    }
+
     /// Reads the next record, or finds that none is left.
     ///
-    /// Record i, counted from 0, stands on line i + 2. Faults of a line, in the order in which they
-    /// are tested: `TooMany` after 1,000,000,000,000 records, whatever the line holds; `TooLong` at
+    /// Record i, counted from 0, stands on line i + 2. `Departs` names that line, with the first of
+    /// these kinds: `TooMany` after 1,000,000,000,000 records, whatever the line holds; `TooLong` at
     /// more than 131,081 bytes before its LF or the end; `Syntax` where it has no LF; `Syntax` where
     /// it is no record's; `TooLong` where it is one but for too many bytes. `OutOfMemory` comes where
-    /// there is no memory for the bytes of the record, and `Read` where the reader failed.
+    /// there is no memory for the bytes of the record, and `Read` where a call of the reader failed;
+    /// at any other answer its count of them stands as it stood.
+    #[inline(always)]
     pub fn next<R: Read>(&mut self, reader: &mut Tally<R>) -> Result<Option<Record>, CaptureFault>
         ensures gives { self.old.phase ≡ Phase.Reading → NextGives self.old self.new
             (to_come self.old.unread (R.remaining (tally_lent reader.old)))
@@ -139,8 +237,7 @@ impl CaptureReader {
         ensures ended { self.old.phase ≡ Phase.Ended → (result ≡ Ok None) × (self.new ≡ self.old) }
         ensures failed { self.old.phase ≡ Phase.Failed → (result ≡ Err CaptureFault.Failed) × (self.new ≡ self.old) }
         ensures head { (self.new.own ≡ self.old.own) × (self.new.peer ≡ self.old.peer) }
-        ensures read { result ≡ Err CaptureFault.Read → CountedFault (tally_faults reader.old) (tally_faults reader.new) }
-        ensures faults { OnOk result (tally_faults reader.new ≡ tally_faults reader.old) }
+        ensures reads { CountsReads (is_failed_read result) (tally_faults reader.old) (tally_faults reader.new) }
     {
         match self.phase {
             Phase::Reading => {}

@@ -1,15 +1,20 @@
 //! Reading the words of a record's line, and of the head.
 
-ghost use Rattle.std.specs.Prelude.{◌≡◌, true, false, IfSome};
+ghost use Rattle.std.specs.Prelude.{◌≡◌, ◌≤◌, length, true, false, IfOk, IfSome};
 ghost use Rattle.capture.specs.Reading.{Gives, hint_at, receipt_at, record_at, head_at};
 ghost use Rattle.capture.specs.Range.{IsNode};
+ghost use Rattle.capture.specs.declared.limit.TheConstants.{MAX_MESSAGE};
+ghost use Rattle.std.specs.Option.{option_map};
+ghost use Rattle.capture.specs.Entries.{parted, told};
 
 use crate::address::address_of;
-use crate::digits::bytes_of;
+use crate::bytes::Bytes;
+use crate::digits::{bytes_into, bytes_of};
+use crate::entry::Entry;
 use crate::event_words::event_of;
 use crate::fault::{Departure, PartFault};
 use crate::hint::HintForm;
-use crate::limit::{MAX_HINT, MAX_UNIT};
+use crate::limit::MAX_HINT;
 use crate::number::number_of;
 use crate::part::{after, cut_at};
 use crate::record::Record;
@@ -25,42 +30,69 @@ fn hint_of(form: HintForm, text: &[u8]) -> Option<u64>
 }
 
 #[tactic(auto, unfolding(crate::specs::Reading::receipt_at))]
-fn receipt_of(alloc: Global, form: HintForm, kept: bool, text: &[u8]) -> Result<Record, PartFault>
-    ensures { Gives result (receipt_at form kept text.now) }
+fn receipt_of(form: HintForm, kept: bool, text: &[u8]) -> Option<(Entry, &[u8])>
+    ensures { receipt_at form kept text.now ≡ told (option_map (λ parts. (parts.0, parts.1.now)) result) }
 {
-    let Some((hint, bytes)) = cut_at(text, b' ') else {
-        return Err(PartFault::Departs(Departure::Syntax));
-    };
-    let Some(hint) = hint_of(form, hint) else {
-        return Err(PartFault::Departs(Departure::Syntax));
-    };
-    let bytes = bytes_of(alloc, bytes, MAX_UNIT)?;
-    Ok(Record::Received { hint, kept, bytes })
+    let (hint, bytes) = cut_at(text, b' ')?;
+    let hint = hint_of(form, hint)?;
+    Some((Entry::Received { kept, hint }, bytes))
+}
+
+/// What the line says beside its BYTES, and the text of BYTES, where it has any; `None` where it can be no record's. The line
+/// is given without its LF.
+#[tactic(auto, unfolding(crate::specs::Reading::record_at))]
+pub fn entry_of(form: HintForm, line: &[u8]) -> Option<(Entry, &[u8])>
+    ensures { record_at form line.now ≡ told (option_map (λ parts. (parts.0, parts.1.now)) result) }
+{
+    if let Some(rest) = after(line, b"s ") {
+        return Some((Entry::Sent, rest));
+    }
+    if let Some(rest) = after(line, b"r ") {
+        return receipt_of(form, false, rest);
+    }
+    if let Some(rest) = after(line, b"k ") {
+        return receipt_of(form, true, rest);
+    }
+    if let Some(rest) = after(line, b"u ") {
+        return event_of(rest);
+    }
+    None
 }
 
 /// The record that the line spells; the line is given without its LF.
 ///
 /// Faults: `Departs(Syntax)` where it spells none; `Departs(TooLong)` where it would but for too
 /// many bytes; `OutOfMemory`. `r 0 -` is a record, `r 01 -` is none.
-#[tactic(auto, unfolding(crate::specs::Reading::record_at))]
+#[inline(always)]
 pub fn record_of(alloc: Global, form: HintForm, line: &[u8]) -> Result<Record, PartFault>
     ensures { Gives result (record_at form line.now) }
 {
-    if let Some(rest) = after(line, b"s ") {
-        let bytes = bytes_of(alloc, rest, MAX_UNIT)?;
-        return Ok(Record::Sent(bytes));
-    }
-    if let Some(rest) = after(line, b"r ") {
-        return receipt_of(alloc, form, false, rest);
-    }
-    if let Some(rest) = after(line, b"k ") {
-        return receipt_of(alloc, form, true, rest);
-    }
-    if let Some(rest) = after(line, b"u ") {
-        let event = event_of(alloc, rest)?;
-        return Ok(Record::User(event));
-    }
-    Err(PartFault::Departs(Departure::Syntax))
+    let Some((entry, text)) = entry_of(form, line) else {
+        return Err(PartFault::Departs(Departure::Syntax));
+    };
+    let Some(most) = entry.limit() else {
+        return Ok(entry.with(Bytes::new(Vec::new(alloc))));
+    };
+    let bytes = bytes_of(alloc, text, most)?;
+    Ok(entry.with(bytes))
+}
+
+/// Reads the line's record in two parts: its entry, and its bytes, which are written to the front of the room, with how many they
+/// are. The line is given without its LF. It departs as for [`record_of`]. Takes no memory.
+pub fn line_into(form: HintForm, line: &[u8], room: &mut [u8]) -> Result<(Entry, usize), Departure>
+    requires { length room.old ≡ MAX_MESSAGE }
+    ensures record { record_at form line.now ≡ parted room.new result }
+    ensures len { IfOk result (λ parts. parts.1 ≤ MAX_MESSAGE) }
+    ensures room { length room.new ≡ MAX_MESSAGE }
+{
+    let Some((entry, text)) = entry_of(form, line) else {
+        return Err(Departure::Syntax);
+    };
+    let Some(most) = entry.limit() else {
+        return Ok((entry, 0));
+    };
+    let len = bytes_into(text, most, room)?;
+    Ok((entry, len))
 }
 
 /// The own node's address and its peer's, as the head spells them; the line is given without its LF.

@@ -1,2 +1,3 @@
 mod Listing
 mod NotOpened
+pub mod Answering

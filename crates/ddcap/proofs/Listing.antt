@@ -1,36 +1,27 @@
 -- The lines of a capture's records, as they grow from one record to the next.
 use Rattle.std.proofs.Common.{◌≡◌, ℕ, ◌+◌, ◌<◌, ◌⊎◌, inl, inr, List, [], ◌∷◌, ◌++◌, length, take, Option, Some, None, Ok, refl, sym, ap, subst, ◌∙◌, arith, length-append, append-nil, append_assoc}
 use Rattle.std.specs.Option.{IfSome}
-use Rattle.std.specs.List.{AllByRecursion}
 use Rattle.std.specs.Io.KnownBytes.{Appends, Consumes, IsAtEnd}
-use Rattle.std.proofs.KnownBytes.{Appends-nil, Appends-trans, Consumes-trans}
+use Rattle.std.proofs.KnownBytes.{Appends-nil, Appends-trans}
 use Rattle.std.proofs.Math.Seq.{take-append-add}
 use Rattle.wire_base.specs.Tally.{AppendsBeginning, CountedFault}
 use Rattle.capture.specs.declared.fault.CaptureFault.{CaptureFault}
-use Rattle.capture.specs.declared.fault.CaptureFault.TheVariants.{Read, OutOfMemory}
+use Rattle.capture.specs.declared.fault.CaptureFault.TheVariants.{Departs, Read, OutOfMemory, Failed}
 use Rattle.capture.specs.declared.limit.TheConstants.{MAX_RECORDS}
 use Rattle.capture.specs.declared.phase.Phase.TheVariants.{Reading}
 use Rattle.capture.specs.declared.record.Record.{Record}
-use Rattle.capture.specs.Text.{head_line, record_line, record_lines}
+use Rattle.capture.specs.Text.{record_line}
 use Rattle.capture.specs.Range.{IsRecord}
 use Rattle.capture.specs.Departing.{HeadDeparts, RecordDeparts}
 use Rattle.capture.specs.Lines.{to_come}
 use Rattle.capture.specs.Reader.{CaptureState, FaultShows, Opens, NextGives}
-use Rattle.ddcap.specs.declared.show.Ending.TheVariants.{Whole, Faulty, Cut}
-use Rattle.ddcap.specs.Printed.{Stream}
+use Rattle.capture.specs.SoFar.{ToCome, TheEnd, so_far, IsReadSoFar}
+use Rattle.ddcap.specs.declared.show.Ending.TheVariants.{Faulty}
+use Rattle.ddcap.specs.Printed.{Moved, Stream}
 use Rattle.ddcap.specs.Shown.{shown_line, shown_lines}
-use Rattle.ddcap.specs.Showing.{Begins, IsTextOf, WritesAll, WritesSome, Lists}
+use Rattle.ddcap.specs.Showing.{HasBegun, HasRead, HasReadAll, IsReadTo, WritesAll, WritesSome}
 
 -- ---- lists of records
-
-All-push : {X : Type 0} (P : X → Type 0) (xs : List X) (x : X) → AllByRecursion P xs → P x → AllByRecursion P (xs ++ x ∷ [])
-All-push P [] x all last = (last, tt)
-All-push P (y ∷ ys) x all last = (all.0, All-push P ys x all.1 last)
-
-record_lines-push : (rs : List Record) (r : Record) → record_lines (rs ++ r ∷ []) ≡ record_lines rs ++ record_line r
-record_lines-push [] r = append-nil (record_line r)
-record_lines-push (s ∷ rs) r =
-    ap (λ bytes. record_line s ++ bytes) (record_lines-push rs r) ∙ sym (append_assoc (record_line s) (record_lines rs) (record_line r))
 
 shown_lines-push : (number : ℕ) (rs : List Record) (r : Record) → shown_lines number (rs ++ r ∷ []) ≡ shown_lines number rs ++ shown_line (number + length rs) r
 shown_lines-push number [] r =
@@ -41,36 +32,6 @@ shown_lines-push number (s ∷ rs) r =
     ap (λ text. shown_line number s ++ text) (shown_lines-push (number + 1) rs r)
     ∙ sym (append_assoc (shown_line number s) (shown_lines (number + 1) rs) (shown_line ((number + 1) + length rs) r))
     ∙ ap (λ n. shown_lines number (s ∷ rs) ++ shown_line n r) same
-
--- ---- what was read
-
-begins_on : (text before after : Option (List ℕ)) (rs : List Record) (r : Record) → Begins text before rs → IsRecord r → length rs < MAX_RECORDS → Consumes before after (record_line r) → Begins text after (rs ++ r ∷ [])
-begins_on text before after rs r b is_record few consumes =
-    let read : (head_line b.own b.peer ++ record_lines rs) ++ record_line r ≡ head_line b.own b.peer ++ record_lines (rs ++ r ∷ []) =
-    append_assoc (head_line b.own b.peer) (record_lines rs) (record_line r)
-    ∙ ap (λ bytes. head_line b.own b.peer ++ bytes) (sym (record_lines-push rs r)) in
-    record {
-      own = b.own;
-      peer = b.peer;
-      own_fits = b.own_fits;
-      peer_fits = b.peer_fits;
-      each = All-push IsRecord rs r b.each is_record;
-      few = omega (arith, length-append rs (r ∷ []));
-      beginning = subst (Consumes text after) read (Consumes-trans text before after _ _ b.beginning consumes);
-    }
-
--- nothing is to come behind the records
-at_end : (text rest : Option (List ℕ)) (rs : List Record) → Begins text rest rs → IsAtEnd rest → IfSome text (IsTextOf rs)
-at_end None rest rs b end = tt
-at_end (Some bytes) None rs b end = absurd b.beginning
-at_end (Some bytes) (Some left) rs b end = record {
-  own = b.own;
-  peer = b.peer;
-  is_text = record {
-    fits = record { own_fits = b.own_fits; peer_fits = b.peer_fits; each = b.each; few = b.few };
-    spelled = b.beginning ∙ ap (λ xs. (head_line b.own b.peer ++ record_lines rs) ++ xs) end ∙ append-nil (head_line b.own b.peer ++ record_lines rs);
-  };
-}
 
 -- ---- what was written
 
@@ -89,29 +50,27 @@ some_on a b c xs ys first second =
 
 -- ---- between two records
 
--- so many records were read; a part of their lines was written, and the rest waits on the page
-pub record HasListed (text : Option (List ℕ)) (capture : CaptureState) (come : Option (List ℕ)) (number : ℕ) (out_old out : Stream) (page : List ℕ) : Type 0 where
+-- the laws of a text that is read on
+pub record GrowingLaws : Type 0 where
+  pub opened : (text left : Option (List ℕ)) (state : CaptureState) → Opens text left (Ok state) → IsReadSoFar text (so_far state.own state.peer [] (ToCome (to_come state.unread left)))
+  pub one_more : (text before after : Option (List ℕ)) (own peer : ℕ) (rs : List Record) (r : Record) → IsReadSoFar text (so_far own peer rs (ToCome before)) → length rs < MAX_RECORDS → IsRecord r → Consumes before after (record_line r) → IsReadSoFar text (so_far own peer (rs ++ r ∷ []) (ToCome after))
+  pub ended : (text before : Option (List ℕ)) (own peer : ℕ) (rs : List Record) → IsReadSoFar text (so_far own peer rs (ToCome before)) → IsAtEnd before → IsReadSoFar text (so_far own peer rs TheEnd)
+
+-- a reader in this state has read so many records of the text; a part of their lines was written, and the rest waits on the page
+pub record HasListed (text come : Option (List ℕ)) (capture : CaptureState) (number : ℕ) (out : Moved) (page : List ℕ) : Type 0 where
   pub records : List Record
-  pub begins : Begins text come records
+  pub read : IsReadSoFar text (so_far capture.own capture.peer records (ToCome come))
   pub count : length records ≡ number
   pub counted : capture.records ≡ number
   pub reading : capture.phase ≡ Reading
   pub written : List ℕ
   pub lines : shown_lines 0 records ≡ written ++ page
-  pub on_out : WritesAll out_old out written
+  pub on_out : WritesAll out.old out.new written
 
-pub opened : (text after : Option (List ℕ)) (capture : CaptureState) (out : Stream) (page : List ℕ) → Opens text after (Ok capture) → page ≡ [] → HasListed text capture (to_come capture.unread after) 0 out out page
-opened text after capture out page opens empty = record {
+pub opened : (laws : GrowingLaws) (text after : Option (List ℕ)) (capture : CaptureState) (out : Stream) (page : List ℕ) → Opens text after (Ok capture) → page ≡ [] → HasListed text (to_come capture.unread after) capture 0 (record { old = out; new = out }) page
+opened laws text after capture out page opens empty = record {
   records = [];
-  begins = record {
-    own = capture.own;
-    peer = capture.peer;
-    own_fits = opens.0;
-    peer_fits = opens.1;
-    each = tt;
-    few = omega arith;
-    beginning = subst (Consumes text (to_come capture.unread after)) (sym (append-nil (head_line capture.own capture.peer))) opens.4;
-  };
+  read = laws.opened text after capture opens;
   count = refl;
   counted = opens.2;
   reading = opens.3;
@@ -124,13 +83,13 @@ opened text after capture out page opens empty = record {
 abbrev pub HasMadeRoom : (page kept : List ℕ) (out out' : Stream) → Type 0
 HasMadeRoom page kept out out' = ((kept ≡ page) × (out' ≡ out)) ⊎ ((kept ≡ []) × WritesAll out out' page)
 
-pub listed_on : (text before after : Option (List ℕ)) (old new : CaptureState) (number : ℕ) (out_old out out' : Stream) (page kept page' : List ℕ) (r : Record) → HasListed text old before number out_old out page → NextGives old new before after (Ok (Some r)) → HasMadeRoom page kept out out' → page' ≡ kept ++ shown_line number r → HasListed text new after (number + 1) out_old out' page'
-listed_on text before after old new number out_old out out' page kept page' r h gives room put =
+pub listed_on : (laws : GrowingLaws) (text before after : Option (List ℕ)) (old new : CaptureState) (number : ℕ) (out_old out out' : Stream) (page kept page' : List ℕ) (r : Record) → HasListed text before old number (record { old = out_old; new = out }) page → new.own ≡ old.own → new.peer ≡ old.peer → NextGives old new before after (Ok (Some r)) → HasMadeRoom page kept out out' → page' ≡ kept ++ shown_line number r → HasListed text after new (number + 1) (record { old = out_old; new = out' }) page'
+listed_on laws text before after old new number out_old out out' page kept page' r h own peer gives room put =
     let count = h.count in
     let counted = h.counted in
     let few = gives.1 in
     let same : 0 + length h.records ≡ number = omega arith in
-    let begins = begins_on text before after h.records r h.begins gives.0 (omega arith) gives.4 in
+    let read : IsReadSoFar text (so_far new.own new.peer (h.records ++ r ∷ []) (ToCome after)) = rw (own, peer) (laws.one_more text before after old.own old.peer h.records r h.read (omega arith) gives.0 gives.4) in
     let count_on : length (h.records ++ r ∷ []) ≡ number + 1 = omega (arith, length-append h.records (r ∷ [])) in
     let counted_on : new.records ≡ number + 1 = gives.2 ∙ ap (λ n. n + 1) counted in
     let lines : shown_lines 0 (h.records ++ r ∷ []) ≡ (h.written ++ page) ++ shown_line number r =
@@ -138,7 +97,7 @@ listed_on text before after old new number out_old out out' page kept page' r h 
     elim room [
       | inl stays ↦ record {
         records = h.records ++ r ∷ [];
-        begins = begins;
+        read = read;
         count = count_on;
         counted = counted_on;
         reading = gives.3;
@@ -148,7 +107,7 @@ listed_on text before after old new number out_old out out' page kept page' r h 
       }
       | inr moved ↦ record {
         records = h.records ++ r ∷ [];
-        begins = begins;
+        read = read;
         count = count_on;
         counted = counted_on;
         reading = gives.3;
@@ -160,50 +119,43 @@ listed_on text before after old new number out_old out out' page kept page' r h 
 
 -- ---- the three endings
 
-no_read_whole : Whole ≡ Faulty Read → ⊥
-no_read_whole e = cc
+module _ (text before : Option (List ℕ)) (capture : CaptureState) (number : ℕ) (out : Moved) (page : List ℕ) (h : HasListed text before capture number out page) where
+  -- what was read by then
+  abbrev has_read : HasRead text h.records
+  has_read = record { own = capture.own; peer = capture.peer; come = before; read = h.read }
 
-no_read_cut : Cut ≡ Faulty Read → ⊥
-no_read_cut e = cc
+  pub all_lines : (out' : Stream) → WritesAll out.new out' page → WritesAll out.old out' (shown_lines 0 h.records)
+  all_lines out' all = subst (WritesAll out.old out') (sym h.lines) (all_on out.old out.new out' h.written page h.on_out all)
 
-pub same_fault : (f g : CaptureFault) → Faulty f ≡ Faulty g → f ≡ g
-same_fault f g e = cc
+  pub some_lines : (out' : Stream) → WritesSome out.new out' page → WritesSome out.old out' (shown_lines 0 h.records)
+  some_lines out' some = subst (WritesSome out.old out') (sym h.lines) (some_on out.old out.new out' h.written page h.on_out some)
 
-pub whole : (text before : Option (List ℕ)) (failed : Type 0) (old : CaptureState) (number : ℕ) (out_old out out' : Stream) (page : List ℕ) → HasListed text old before number out_old out page → IsAtEnd before → WritesAll out out' page → Lists text failed out_old out' Whole
-whole text before failed old number out_old out out' page h end all = record {
-  records = h.records;
-  read = at_end text before h.records h.begins end;
-  failed_read = λ e. absurd (no_read_whole e);
-  lines = subst (WritesAll out_old out') (sym h.lines) (all_on out_old out out' h.written page h.on_out all);
-}
+  pub read_all : (laws : GrowingLaws) → IsAtEnd before → HasReadAll text h.records
+  read_all laws end = record { own = capture.own; peer = capture.peer; read = laws.ended text before capture.own capture.peer h.records h.read end }
 
-pub faulty : (text before : Option (List ℕ)) (failed : Type 0) (old : CaptureState) (number : ℕ) (out_old out out' : Stream) (page : List ℕ) (fault : CaptureFault) → HasListed text old before number out_old out page → FaultShows (RecordDeparts old.records) (old.records + 2) before fault → (fault ≡ Read → failed) → WritesAll out out' page → Lists text failed out_old out' (Faulty fault)
-faulty text before failed old number out_old out out' page fault h shows reads all = record {
-  records = h.records;
-  read = inr (before, h.begins, subst (λ (n : ℕ). FaultShows (RecordDeparts n) (n + 2) before fault) (h.counted ∙ sym h.count) shows);
-  failed_read = λ e. reads (same_fault fault Read e);
-  lines = subst (WritesAll out_old out') (sym h.lines) (all_on out_old out out' h.written page h.on_out all);
-}
+  pub read_to_fault : (fault : CaptureFault) → FaultShows (RecordDeparts capture.records) (capture.records + 2) before fault → IsReadTo (Faulty fault) text h.records
+  read_to_fault (Departs kind line) shows =
+      let same = h.counted ∙ sym h.count in
+      inr (
+        has_read,
+        record {
+          departs = subst (λ (n : ℕ). IfSome before (RecordDeparts n kind)) same shows.1;
+          line_is = shows.0 ∙ ap (λ n. n + 2) same;
+        },
+      )
+  read_to_fault Read shows = inr has_read
+  read_to_fault OutOfMemory shows = inr has_read
+  read_to_fault Failed shows = absurd shows
 
-pub faulty_head : (text : Option (List ℕ)) (failed : Type 0) (out : Stream) (fault : CaptureFault) → FaultShows HeadDeparts 1 text fault → (fault ≡ Read → failed) → Lists text failed out out (Faulty fault)
-faulty_head text failed out fault shows reads = record {
-  records = [];
-  read = inl (refl, shows);
-  failed_read = λ e. reads (same_fault fault Read e);
-  lines = (Appends-nil out.bytes, refl);
-}
+  pub read_by_then : HasBegun text h.records
+  read_by_then = inr has_read
 
--- there is no memory before anything is read
-no_read_memory : OutOfMemory ≡ Read → ⊥
-no_read_memory e = cc
+pub head_fault : (text : Option (List ℕ)) (fault : CaptureFault) → FaultShows HeadDeparts 1 text fault → IsReadTo (Faulty fault) text []
+head_fault text (Departs kind line) shows = inl (refl, record { departs = shows.1; line_is = shows.0 })
+head_fault text Read shows = inl refl
+head_fault text OutOfMemory shows = inl refl
+head_fault text Failed shows = absurd shows
 
-pub without_memory : (text : Option (List ℕ)) (failed : Type 0) (out : Stream) → Lists text failed out out (Faulty OutOfMemory)
-without_memory text failed out = faulty_head text failed out OutOfMemory tt (λ e. absurd (no_read_memory e))
-
-pub cut : (text before : Option (List ℕ)) (failed : Type 0) (old : CaptureState) (number : ℕ) (out_old out out' : Stream) (page : List ℕ) → HasListed text old before number out_old out page → WritesSome out out' page → Lists text failed out_old out' Cut
-cut text before failed old number out_old out out' page h some = record {
-  records = h.records;
-  read = (before, h.begins);
-  failed_read = λ e. absurd (no_read_cut e);
-  lines = subst (WritesSome out_old out') (sym h.lines) (some_on out_old out out' h.written page h.on_out some);
-}
+-- nothing was written
+pub no_lines : (out : Stream) → WritesAll out out []
+no_lines out = (Appends-nil out.bytes, refl)

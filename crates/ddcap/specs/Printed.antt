@@ -7,10 +7,12 @@ use Rattle.std.specs.declared.io.ErrorKind.{ErrorKind}
 use Rattle.std.specs.declared.io.ErrorKind.TheVariants as kind
 use Rattle.wire_base.specs.Side.{side_letter}
 use Rattle.wire_base.specs.Tally.{AppendsBeginning, CountedFault, tally_faults, tally_lent}
+use Rattle.capture.specs.Faulty.{CountsReads, line_fault_words}
 use Rattle.wire_base.specs.declared.side.Side.{Side}
 use Rattle.wire_base.specs.declared.side.Side.TheVariants.{A, B}
 use Rattle.wire_base.specs.declared.tally.Tally.{Tally}
-use Rattle.pair_judge.specs.Judged.{IsAnswer}
+use Rattle.pair_judge.specs.Faulty.{is_failed_read_of}
+use Rattle.pair_judge.specs.Judged.{Answer, IsAnswer}
 use Rattle.pair_judge.specs.Reason.{reason_name, reason_number}
 use Rattle.pair_judge.specs.declared.summary.SideSummary.{SideSummary}
 use Rattle.pair_judge.specs.declared.verdict.Verdict.{Verdict}
@@ -18,7 +20,7 @@ use Rattle.pair_judge.specs.declared.verdict.Verdict.TheVariants.{Accepted, Refu
 use Rattle.pair_judge.specs.declared.fault.JudgeFault.{JudgeFault}
 use Rattle.pair_judge.specs.declared.fault.JudgeFault.TheVariants.{Capture, OutOfMemory}
 use Rattle.pair_judge.specs.declared.fault.TextFault.{TextFault}
-use Rattle.pair_judge.specs.declared.fault.TextFault.TheVariants.{Syntax, TooLong, TooMany, Read}
+use Rattle.pair_judge.specs.declared.fault.TextFault.TheVariants.{Departs, Read}
 use Rattle.ddcap.specs.declared.words.WordsFault.{WordsFault}
 use Rattle.ddcap.specs.declared.words.WordsFault.TheVariants as words
 
@@ -39,9 +41,7 @@ verdict_text (Refused side place reason) =
 
 -- what was wrong with a text, behind its side
 abbrev pub text_fault : TextFault → List ℕ
-text_fault (Syntax line) = codes "line " ++ (decimal line ++ codes ": syntax")
-text_fault (TooLong line) = codes "line " ++ (decimal line ++ codes ": too long")
-text_fault (TooMany line) = codes "line " ++ (decimal line ++ codes ": too many")
+text_fault (Departs kind line) = line_fault_words kind line
 text_fault Read = codes "read failed"
 
 -- `a: line 3: syntax` and its kin, or `out of memory`
@@ -56,9 +56,7 @@ verdict_status (Refused side place reason) = 1
 
 -- 2: a faulty text; 3: its reader failed
 abbrev pub text_fault_status : TextFault → ℕ
-text_fault_status (Syntax line) = 2
-text_fault_status (TooLong line) = 2
-text_fault_status (TooMany line) = 2
+text_fault_status (Departs kind line) = 2
 text_fault_status Read = 3
 
 abbrev pub fault_status : JudgeFault → ℕ
@@ -84,13 +82,21 @@ abbrev pub not_opened_says : Side → ErrorKind → List ℕ
 not_opened_says side kind.OutOfMemory = fault_text OutOfMemory
 not_opened_says side _ = not_opened_text side
 
--- what a stream shows: its bytes, where they are known, and how many of its calls failed
+-- What a reader or a writer shows: the bytes that it has left or has taken, where they are known, and how many of its calls failed
 pub record Stream : Type 0 where
   pub bytes : Option (List ℕ)
   pub faults : ℕ
 
-abbrev pub stream_of : {W : Type 0} → (W → Option (List ℕ)) → Tally W → Stream
-stream_of contents tally = record { bytes = contents (tally_lent tally); faults = tally_faults tally }
+abbrev pub stream_of : {T : Type 0} → (T → Option (List ℕ)) → Tally T → Stream
+stream_of bytes tally = record { bytes = bytes (tally_lent tally); faults = tally_faults tally }
+
+-- the same before and after a call
+pub record Moved : Type 0 where
+  pub old : Stream
+  pub new : Stream
+
+abbrev pub moved : {T : Type 0} → (T → Option (List ℕ)) → Tally T → Tally T → Moved
+moved bytes old new = record { old = stream_of bytes old; new = stream_of bytes new }
 
 -- a text is on the stream, no call failed, and the status is the one that was meant;
 -- or a call failed, a beginning of the text that is not all of it is on the stream, and the status is 3
@@ -100,19 +106,15 @@ Writes old new text meant status =
     ⊎ (AppendsBeginning old.bytes new.bytes text × CountedFault old.faults new.faults × (status ≡ 3))
 
 -- a verdict is written to standard output and a fault to standard error; the other stream stays as it is
-abbrev pub Prints : (out_old out_new err_old err_new : Stream) → Result Verdict JudgeFault → ℕ → Type 0
-Prints out_old out_new err_old err_new (Ok verdict) status =
-    Writes out_old out_new (verdict_text verdict) (verdict_status verdict) status × (err_new ≡ err_old)
-Prints out_old out_new err_old err_new (Err fault) status =
-    Writes err_old err_new (fault_text fault) (fault_status fault) status × (out_new ≡ out_old)
+abbrev pub Prints : (out err : Moved) → Answer → ℕ → Type 0
+Prints out err (Ok verdict) status = Writes out.old out.new (verdict_text verdict) (verdict_status verdict) status × (err.new ≡ err.old)
+Prints out err (Err fault) status = Writes err.old err.new (fault_text fault) (fault_status fault) status × (out.new ≡ out.old)
 
--- a failed read is answered only where a call of the named side's reader failed
-abbrev pub ReadFailed : (failed_a failed_b : Type 0) → Result Verdict JudgeFault → Type 0
-ReadFailed failed_a failed_b answer = (answer ≡ Err (Capture A Read) → failed_a) × (answer ≡ Err (Capture B Read) → failed_b)
-
--- One call of `check`: an answer of the judge on what the two readers had left is printed, with its status.
-pub record Checks (text_a text_b : Option (List ℕ)) (failed_a failed_b : Type 0) (out_old out_new err_old err_new : Stream) (status : ℕ) : Type 0 where
-  pub answer : Result Verdict JudgeFault
-  pub judged : IsAnswer text_a text_b answer
-  pub read : ReadFailed failed_a failed_b answer
-  pub printed : Prints out_old out_new err_old err_new answer status
+-- One call of `check`: what is printed, with its status, is an answer of which all is true that the judge's contract says of its own:
+-- of what the two readers had left, and of their counts.
+pub record Checks (a b out err : Moved) (status : ℕ) : Type 0 where
+  pub answer : Answer
+  pub judged : IsAnswer a.old.bytes b.old.bytes answer
+  pub reads_a : CountsReads (is_failed_read_of A answer) a.old.faults a.new.faults
+  pub reads_b : CountsReads (is_failed_read_of B answer) b.old.faults b.new.faults
+  pub printed : Prints out err answer status

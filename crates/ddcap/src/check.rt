@@ -1,21 +1,22 @@
 //! `check`: two captures, one answer.
 
-ghost use Rattle.wire_base.specs.Tally.{CountedFault, tally_faults, tally_lent};
-ghost use Rattle.pair_judge.specs.declared.fault.JudgeFault.TheVariants.{OutOfMemory};
-ghost use Rattle.ddcap.specs.Printed.{Checks, Writes, fault_text as text_of, stream_of};
+ghost use Rattle.pair_judge.specs.declared.fault.JudgeFault.TheVariants.{Capture, OutOfMemory};
+ghost use Rattle.pair_judge.specs.declared.fault.TextFault.TheVariants.{Read as FailedRead};
+ghost use Rattle.ddcap.specs.Printed.{Checks, Writes, fault_text as text_of, moved, stream_of};
 
-use crate::text::{FAILED, fault_status, fault_text, verdict_status, verdict_text};
-use pair_judge::{JudgeFault, judge};
+use crate::text::{FAILED, FAULTY, line_fault_text, verdict_status, verdict_text};
+use pair_judge::{JudgeFault, TextFault, judge};
 use std::alloc::Global;
 use std::io::{Read, Write};
-use wire_base::{Tally, write_whole};
+use wire_base::{Side, Tally, write_whole};
 
 /// Judges the captures that two readers give, prints the answer, and answers the status.
 ///
 /// A verdict is printed to `out`: `accepted` and a line a side, status 0, or `refused SIDE RECORD line LINE: NUMBER NAME`,
 /// status 1. A fault is printed to `err`: a faulty text's line and kind, status 2; a failed read or want of memory,
 /// status 3. The whole text is put together before the first write, so that no growth comes between two writes; where there
-/// is no memory for it, the answer is `out of memory`. A failed write ends the printing, with status 3.
+/// is no memory for it, the answer is `out of memory`. That and a failed read are printed without memory, so that a failed
+/// read is always told. A failed write ends the printing, with status 3.
 pub fn check_to<A: Read, B: Read, O: Write, E: Write>(
     alloc: Global,
     a: &mut Tally<A>,
@@ -23,11 +24,8 @@ pub fn check_to<A: Read, B: Read, O: Write, E: Write>(
     out: &mut Tally<O>,
     err: &mut Tally<E>,
 ) -> u8
-    ensures { Checks (A.remaining (tally_lent a.old)) (B.remaining (tally_lent b.old))
-        (CountedFault (tally_faults a.old) (tally_faults a.new))
-        (CountedFault (tally_faults b.old) (tally_faults b.new))
-        (stream_of O.contents out.old) (stream_of O.contents out.new)
-        (stream_of E.contents err.old) (stream_of E.contents err.new) result }
+    ensures { Checks (moved A.remaining a.old a.new) (moved B.remaining b.old b.new)
+        (moved O.contents out.old out.new) (moved E.contents err.old err.new) result }
 {
     match judge(alloc, a, b) {
         Ok(verdict) => match verdict_text(alloc, verdict) {
@@ -35,9 +33,14 @@ pub fn check_to<A: Read, B: Read, O: Write, E: Write>(
             Err(_) => print_out_of_memory(err),
         },
         Err(fault) => match fault {
-            JudgeFault::Capture { side, fault } => match fault_text(alloc, side, fault) {
-                Ok(text) => print(err, text.as_bytes(), fault_status(fault)),
-                Err(_) => print_out_of_memory(err),
+            JudgeFault::Capture { side, fault } => match fault {
+                TextFault::Departs { kind, line } => {
+                    match line_fault_text(alloc, side, kind, line) {
+                        Ok(text) => print(err, text.as_bytes(), FAULTY),
+                        Err(_) => print_out_of_memory(err),
+                    }
+                }
+                TextFault::Read => print_failed_read(err, side),
             },
             JudgeFault::OutOfMemory => print_out_of_memory(err),
         },
@@ -60,4 +63,15 @@ pub fn print_out_of_memory<W: Write>(stream: &mut Tally<W>) -> u8
         (text_of OutOfMemory) 3 result }
 {
     print(stream, b"out of memory\n", FAILED)
+}
+
+/// Writes that a read of this side failed, from a constant, and answers the status, 3.
+pub fn print_failed_read<W: Write>(stream: &mut Tally<W>, side: Side) -> u8
+    ensures { Writes (stream_of W.contents stream.old) (stream_of W.contents stream.new)
+        (text_of (Capture side FailedRead)) 3 result }
+{
+    match side {
+        Side::A => print(stream, b"a: read failed\n", FAILED),
+        Side::B => print(stream, b"b: read failed\n", FAILED),
+    }
 }

@@ -1,28 +1,23 @@
 //! `show`: one capture, a line a record.
 
-ghost use Rattle.std.specs.Prelude.{◌≡◌, ◌≢◌, ◌+◌, ◌≤◌, ◌⊎◌, [], ◌++◌, length, codes, OnOk, OnErr};
-ghost use Rattle.std.specs.Fmt.{decimal};
-ghost use Rattle.wire_base.specs.Tally.{CountedFault, tally_faults, tally_lent};
+ghost use Rattle.std.specs.Prelude.{◌≡◌, ◌≢◌, ◌+◌, ◌≤◌, ◌⊎◌, [], length, OnOk, OnErr};
 ghost use Rattle.capture.specs.declared.fault.CaptureFault.TheVariants as CaptureFault;
 ghost use Rattle.ddcap.specs.declared.page.TheConstants.{SIZE};
 ghost use Rattle.ddcap.specs.declared.shown_line.TheConstants.{LINE};
-ghost use Rattle.ddcap.specs.Printed.{Writes, stream_of};
+ghost use Rattle.ddcap.specs.Printed.{Writes, moved, stream_of};
 ghost use Rattle.ddcap.specs.Showing.{Lists, Shows, WritesAll, WritesSome, shown_fault, shown_fault_status};
 
-use crate::check::{print, print_out_of_memory};
+use crate::check::{print, print_failed_read, print_out_of_memory};
 use crate::page::{Page, SIZE};
 use crate::shown_line::{LINE, put_line};
-use crate::text::FAILED;
-use capture::{CaptureFault, CaptureReader, MAX_RECORDS};
+use crate::text::{FAILED, FAULTY};
+use capture::{CaptureFault, CaptureReader, Departure, MAX_RECORDS, text_read_on};
 use std::alloc::Global;
 use std::io::{Read, Write};
-use wire_base::{Tally, WriteFailed, write_whole};
+use wire_base::{Side, Tally, WriteFailed, write_whole};
 
 /// The status where all lines were printed.
 const SHOWN: u8 = 0;
-
-/// The status of a faulty text.
-const FAULTY: u8 = 2;
 
 /// How the printing of a capture's records came to its end.
 #[derive(Clone, Copy, Debug, PartialEq, Eq)]
@@ -31,8 +26,8 @@ pub enum Ending {
     Whole,
     /// The records before the fault were printed.
     Faulty(CaptureFault),
-    /// A write failed.
-    Cut,
+    /// A write failed; this fault of the text had been met by then, if any.
+    Cut(Option<CaptureFault>),
 }
 
 /// Prints a line for each record of the capture that a reader gives, and answers the status.
@@ -40,17 +35,16 @@ pub enum Ending {
 /// The lines go to `out`, put together and written in large pieces. Status 0: the lines of all records were written. At a
 /// fault of the text the lines of the records before it are written, and then the fault to `err`: a faulty line and its
 /// kind, status 2; a failed read or want of memory, status 3. A failed write ends the printing, with status 3. The memory
-/// for the pieces and for the reader's block is asked for before the first write; after that, only a record's own bytes
-/// take memory.
+/// for the pieces and for the reader's block is asked for before the first write; after that, nothing
+/// takes memory.
 pub fn show_to<A: Read, O: Write, E: Write>(
     alloc: Global,
     a: &mut Tally<A>,
     out: &mut Tally<O>,
     err: &mut Tally<E>,
 ) -> u8
-    ensures { Shows (A.remaining (tally_lent a.old)) (CountedFault (tally_faults a.old) (tally_faults a.new))
-        (stream_of O.contents out.old) (stream_of O.contents out.new)
-        (stream_of E.contents err.old) (stream_of E.contents err.new) result }
+    ensures { Shows (moved A.remaining a.old a.new) (moved O.contents out.old out.new)
+        (moved E.contents err.old err.new) result }
 {
     let Ok(mut page) = Page::new(alloc) else {
         return print_out_of_memory(err);
@@ -58,7 +52,7 @@ pub fn show_to<A: Read, O: Write, E: Write>(
     match list_records(alloc, &mut page, a, out) {
         Ending::Whole => SHOWN,
         Ending::Faulty(fault) => print_fault(&mut page, err, fault),
-        Ending::Cut => FAILED,
+        Ending::Cut(_) => FAILED,
     }
 }
 
@@ -70,28 +64,28 @@ fn list_records<A: Read, O: Write>(
     out: &mut Tally<O>,
 ) -> Ending
     requires { page.old ≡ [] }
-    ensures { Lists (A.remaining (tally_lent a.old)) (CountedFault (tally_faults a.old) (tally_faults a.new))
-        (stream_of O.contents out.old) (stream_of O.contents out.new) result }
+    ensures { Lists (moved A.remaining a.old a.new) (moved O.contents out.old out.new) result }
 {
+    text_read_on();
     let mut capture = match CaptureReader::open(alloc, a) {
         Ok(capture) => capture,
         Err(fault) => return Ending::Faulty(fault),
     };
     for number in 0..MAX_RECORDS + 1 {
-        match capture.next(a) {
-            Ok(Some(record)) => {
+        match capture.advance(a) {
+            Ok(Some(entry)) => {
                 let Ok(()) = make_room(page, out) else {
-                    return Ending::Cut;
+                    return Ending::Cut(None);
                 };
-                put_line(page, number, &record);
+                put_line(page, number, entry, capture.bytes());
             }
             Ok(None) => match write_page(page, out) {
                 Ok(()) => return Ending::Whole,
-                Err(_) => return Ending::Cut,
+                Err(_) => return Ending::Cut(None),
             },
             Err(fault) => match write_page(page, out) {
                 Ok(()) => return Ending::Faulty(fault),
-                Err(_) => return Ending::Cut,
+                Err(_) => return Ending::Cut(Some(fault)),
             },
         }
     }
@@ -133,24 +127,23 @@ fn print_fault<W: Write>(page: &mut Page, err: &mut Tally<W>, fault: CaptureFaul
         (shown_fault fault) (shown_fault_status fault) result }
 {
     match fault {
-        CaptureFault::Syntax { line } => print_line_fault(page, err, line, b": syntax\n"),
-        CaptureFault::TooLong { line } => print_line_fault(page, err, line, b": too long\n"),
-        CaptureFault::TooMany { line } => print_line_fault(page, err, line, b": too many\n"),
-        CaptureFault::Read => print(err, b"a: read failed\n", FAILED),
+        CaptureFault::Departs { kind, line } => print_line_fault(page, err, kind, line),
+        CaptureFault::Read => print_failed_read(err, Side::A),
         CaptureFault::OutOfMemory => print_out_of_memory(err),
         CaptureFault::Failed => unreachable!(),
     }
 }
 
-// Prints a faulty line.
-fn print_line_fault<W: Write>(page: &mut Page, err: &mut Tally<W>, line: u64, kind: &[u8]) -> u8
-    requires { length kind.now ≤ 80 }
+// Prints a line that departs.
+fn print_line_fault<W: Write>(page: &mut Page, err: &mut Tally<W>, kind: Departure, line: u64) -> u8
     ensures { Writes (stream_of W.contents err.old) (stream_of W.contents err.new)
-        (codes "a: line " ++ (decimal line ++ kind.now)) 2 result }
+        (shown_fault (CaptureFault.Departs kind line)) 2 result }
 {
     page.clear();
     page.put(b"a: line ");
     page.put_number(line);
-    page.put(kind);
+    page.put(b": ");
+    page.put(kind.words());
+    page.put(b"\n");
     print(err, page.as_slice(), FAULTY)
 }

@@ -2,8 +2,9 @@
 
 ghost use Rattle.std.specs.Prelude.{◌≡◌, ◌+◌, ◌*◌, ◌≤◌, ◌∷◌, ◌++◌, length, codes};
 ghost use Rattle.std.specs.Fmt.{decimal};
-ghost use Rattle.capture.specs.Range.{IsEvent, IsRecord};
-ghost use Rattle.capture.specs.Text.{bytes_text, event_text, spaced};
+ghost use Rattle.capture.specs.Entries.{record_with};
+ghost use Rattle.capture.specs.Range.{IsRecord};
+ghost use Rattle.capture.specs.Text.{bytes_text, spaced};
 ghost use Rattle.capture.specs.declared.limit.TheConstants.{MAX_MESSAGE};
 ghost use Rattle.ddcmp_msg.specs.Message.{view};
 ghost use Rattle.ddcmp_msg.specs.Reading.{reading, reading_view};
@@ -12,55 +13,51 @@ ghost use Rattle.ddcap.specs.declared.shown_line.TheConstants.{LINE};
 ghost use Rattle.ddcap.specs.Shown.{flags_digits, data_words, message_words, reading_words, unit_words, record_words, shown_line};
 
 use crate::page::Page;
-use capture::{Event, Record};
+use capture::Entry;
 use ddcmp_msg::{Flags, Message, Reading, read_unit};
 
 /// More bytes than a line has: two digits for each byte of a longest message, and some words and numbers.
 pub const LINE: usize = 132_000;
 
-/// Appends the line of a record, with its LF: its number, and what it says.
-pub fn put_line(page: &mut Page, number: u64, record: &Record)
-    requires record { IsRecord «record».now }
+/// Appends the line of the record of this entry and these bytes, with its LF: its number, and what it says.
+pub fn put_line(page: &mut Page, number: u64, entry: Entry, bytes: &[u8])
+    requires record { IsRecord (record_with entry bytes.now) }
     requires room { length page.old + LINE ≤ SIZE }
-    ensures { page.new ≡ page.old ++ shown_line number «record».now }
+    ensures { page.new ≡ page.old ++ shown_line number (record_with entry bytes.now) }
 {
     page.put_number(number);
-    put_record(page, record);
+    put_entry(page, entry, bytes);
     page.put(b"\n");
 }
 
 // A space, and what a record says.
-fn put_record(page: &mut Page, record: &Record)
-    requires record { IsRecord «record».now }
+fn put_entry(page: &mut Page, entry: Entry, bytes: &[u8])
+    requires record { IsRecord (record_with entry bytes.now) }
     requires room { length page.old + 131_800 ≤ SIZE }
-    ensures bytes { page.new ≡ page.old ++ 32 ∷ record_words «record».now }
+    ensures bytes { page.new ≡ page.old ++ 32 ∷ record_words (record_with entry bytes.now) }
     ensures len { length page.new ≤ length page.old + 131_800 }
 {
-    match record {
-        Record::Sent(bytes) => {
+    match entry {
+        Entry::Sent => {
             page.put(b" sent ");
-            put_unit(page, bytes.as_slice());
+            put_unit(page, bytes);
         }
-        Record::Received {
-            hint,
-            kept: false,
-            bytes,
-        } => {
+        Entry::Received { kept: false, hint } => {
             page.put(b" received ");
-            put_receipt(page, *hint, bytes.as_slice());
+            put_receipt(page, hint, bytes);
         }
-        Record::Received {
-            hint,
-            kept: true,
-            bytes,
-        } => {
+        Entry::Received { kept: true, hint } => {
             page.put(b" kept ");
-            put_receipt(page, *hint, bytes.as_slice());
+            put_receipt(page, hint, bytes);
         }
-        Record::User(event) => {
-            page.put(b" user ");
-            put_event(page, event);
-        }
+        Entry::Start => page.put(b" user start"),
+        Entry::Halt => page.put(b" user halt"),
+        Entry::Open { link } => put_field(page, b" user open ", u64::from(link)),
+        Entry::Accept { partner, link } => put_links(page, b" user accept ", partner, link),
+        Entry::Reject { partner, link } => put_links(page, b" user reject ", partner, link),
+        Entry::In { link } => put_message_event(page, b" user in ", link, bytes),
+        Entry::Up { link } => put_message_event(page, b" user up ", link, bytes),
+        Entry::Close { link } => put_field(page, b" user close ", u64::from(link)),
     }
 }
 
@@ -179,35 +176,25 @@ fn put_field(page: &mut Page, name: &[u8], number: u64)
     page.put_number(number);
 }
 
-// The words of an event, as they stand in its line.
-fn put_event(page: &mut Page, event: &Event)
-    requires event { IsEvent event.now }
-    requires room { length page.old + 131_600 ≤ SIZE }
-    ensures bytes { page.new ≡ page.old ++ event_text event.now }
-    ensures len { length page.new ≤ length page.old + 131_600 }
+// Two links behind the words of their event.
+fn put_links(page: &mut Page, words: &[u8], partner: u16, link: u16)
+    requires room { length page.old + length words.now + 81 ≤ SIZE }
+    ensures bytes { page.new ≡ page.old ++ (words.now ++ spaced (decimal partner) (decimal link)) }
+    ensures len { length page.new ≤ length page.old + length words.now + 81 }
 {
-    match event {
-        Event::Start => page.put(b"start"),
-        Event::Halt => page.put(b"halt"),
-        Event::Open { link } => put_field(page, b"open ", u64::from(*link)),
-        Event::Accept { partner, link } => {
-            put_field(page, b"accept ", u64::from(*partner));
-            put_field(page, b" ", u64::from(*link));
-        }
-        Event::Reject { partner, link } => {
-            put_field(page, b"reject ", u64::from(*partner));
-            put_field(page, b" ", u64::from(*link));
-        }
-        Event::In { link, bytes } => {
-            put_field(page, b"in ", u64::from(*link));
-            put_message_bytes(page, bytes.as_slice());
-        }
-        Event::Up { link, bytes } => {
-            put_field(page, b"up ", u64::from(*link));
-            put_message_bytes(page, bytes.as_slice());
-        }
-        Event::Close { link } => put_field(page, b"close ", u64::from(*link)),
-    }
+    put_field(page, words, u64::from(partner));
+    put_field(page, b" ", u64::from(link));
+}
+
+// A link and its message behind the words of their event.
+fn put_message_event(page: &mut Page, words: &[u8], link: u16, bytes: &[u8])
+    requires short { length bytes.now ≤ MAX_MESSAGE }
+    requires room { length page.old + length words.now + 131_111 ≤ SIZE }
+    ensures bytes { page.new ≡ page.old ++ (words.now ++ spaced (decimal link) (bytes_text bytes.now)) }
+    ensures len { length page.new ≤ length page.old + length words.now + 131_111 }
+{
+    put_field(page, words, u64::from(link));
+    put_message_bytes(page, bytes);
 }
 
 // A space and BYTES: `-` for no bytes, else two digits for each.

@@ -1,11 +1,14 @@
 //! Tests of what no contract says: the worked rows of the protocols from outside, words, and devices that fail.
 
+mod contradictory;
 mod devices;
+mod limits;
 mod pair;
 mod reasons;
 mod rows;
 mod show;
 mod show_devices;
+mod station_pairs;
 mod texts;
 mod transfer;
 mod units;

@@ -1,13 +1,19 @@
 //! The text that `check` prints of an answer, and its status.
 
 ghost use Rattle.std.specs.Prelude.{◌≡◌, IfOk, string_bytes};
+ghost use Rattle.capture.specs.Faulty.{line_fault_words};
 ghost use Rattle.pair_judge.specs.declared.fault.JudgeFault.TheVariants.{Capture};
+ghost use Rattle.pair_judge.specs.declared.fault.TextFault.TheVariants.{Departs};
 ghost use Rattle.ddcap.specs.Printed as printed;
 
-use pair_judge::{SideSummary, TextFault, Verdict};
+use capture::Departure;
+use pair_judge::{SideSummary, Verdict};
 use std::alloc::{AllocError, Global};
 use std::fmt;
 use wire_base::Side;
+
+/// The status of a faulty text.
+pub const FAULTY: u8 = 2;
 
 /// The status where a device or the memory failed.
 pub const FAILED: u8 = 3;
@@ -43,22 +49,21 @@ impl fmt::Display for SideLine {
     }
 }
 
-/// What was wrong with a text, as it stands behind the side.
+/// A line that departs, as it is told behind its side.
 #[derive(Clone, Copy)]
-struct TextFaultWords(TextFault);
+struct FaultyLine {
+    kind: Departure,
+    line: u64,
+}
 
-impl fmt::Display for TextFaultWords {
+impl fmt::Display for FaultyLine {
     ghost use Rattle.std.specs.Prelude.{Some};
 
-    ghost output = { λ words. Some (printed.text_fault words.0) };
+    ghost output = { λ faulty. Some (line_fault_words faulty.kind faulty.line) };
 
     fn fmt<W: fmt::Write>(&self, f: &mut fmt::Formatter<W>) -> fmt::Result {
-        match self.0 {
-            TextFault::Syntax { line } => write!(f, "line {line}: syntax"),
-            TextFault::TooLong { line } => write!(f, "line {line}: too long"),
-            TextFault::TooMany { line } => write!(f, "line {line}: too many"),
-            TextFault::Read => f.write_str("read failed"),
-        }
+        let FaultyLine { kind, line } = *self;
+        write!(f, "line {line}: {kind}")
     }
 }
 
@@ -92,13 +97,17 @@ pub fn verdict_text(alloc: Global, verdict: Verdict) -> Result<String, AllocErro
     }
 }
 
-/// The text of a side's fault, with its LF: `a: line 3: syntax` and its kin, or `a: read failed`. Fails for want of memory
-/// alone.
-pub fn fault_text(alloc: Global, side: Side, fault: TextFault) -> Result<String, AllocError>
-    ensures { IfOk result (λ text. string_bytes text ≡ printed.fault_text (Capture side fault)) }
+/// The text of a line of this side that departs, with its LF: `a: line 3: syntax` and its kin. Fails for want of memory alone.
+pub fn line_fault_text(
+    alloc: Global,
+    side: Side,
+    kind: Departure,
+    line: u64,
+) -> Result<String, AllocError>
+    ensures { IfOk result (λ text. string_bytes text ≡ printed.fault_text (Capture side (Departs kind line))) }
 {
-    let words = TextFaultWords(fault);
-    format!(in alloc; "{side}: {words}\n")
+    let faulty = FaultyLine { kind, line };
+    format!(in alloc; "{side}: {faulty}\n")
 }
 
 /// The status of a verdict: 0 accepted, 1 refused.
@@ -108,15 +117,5 @@ pub fn verdict_status(verdict: Verdict) -> u8
     match verdict {
         Verdict::Accepted(_) => 0,
         Verdict::Refused { .. } => 1,
-    }
-}
-
-/// The status of a text's fault: 2 for a faulty line, 3 where the reader failed.
-pub fn fault_status(fault: TextFault) -> u8
-    ensures { result ≡ printed.text_fault_status fault }
-{
-    match fault {
-        TextFault::Syntax { .. } | TextFault::TooLong { .. } | TextFault::TooMany { .. } => 2,
-        TextFault::Read => FAILED,
     }
 }

@@ -1,13 +1,10 @@
 -- What a station says of a message that it let its node send.
 use Rattle.ddcmp_msg.specs.Message.{MessageValue}
-use Rattle.dna_model.specs.declared.tag.Tag.{Tag}
-use Rattle.dna_model.specs.WireStation.{WireStation, gives_new, label_again}
+use Rattle.dna_model.specs.WireStation.{WireStation}
+use Rattle.dna_model.specs.WireBook.{wire_tag, gives_new, label_again}
 use Rattle.ddcmp_station.specs.declared.sent_as.SentAs.{SentAs}
 
 module _ {L : Type 0} where
-  -- the period and its partner
-  abbrev pub tag_of : WireStation L → Tag
-  tag_of w = record { period = w.period; partner = w.partner }
-
+  -- the tag of the unit, whether its number is new, and the label of a packet that is sent again
   abbrev pub sent_as : WireStation L → MessageValue → SentAs L
-  sent_as w m = record { tag = tag_of w; first = gives_new w m; label = label_again w m }
+  sent_as w m = record { tag = wire_tag w; first = gives_new w m; label = label_again w m }

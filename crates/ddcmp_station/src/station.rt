@@ -1,7 +1,7 @@
 //! The station, and what its user does.
 
 ghost use Rattle.std.specs.Prelude.{◌≡◌, ◌+◌, ◌^◌, ◌<◌, ◌≤◌, length, IfOk, OnOk, OnErr, IfErr};
-ghost use Rattle.dna_model.specs.Station.{user_refusal};
+ghost use Rattle.dna_model.specs.Table.{user_refusal};
 ghost use Rattle.dna_model.specs.WireStation.{new_wire_station, wire_after_event, wire_after_label, load};
 ghost use Rattle.ddcmp_station.specs.Fault.{IsRefused};
 
@@ -9,8 +9,8 @@ mod arriving;
 mod sending;
 
 use crate::causes::Causes;
-use crate::kept::Kept;
-use crate::{Held, StationFault};
+use crate::station_variables::StationVariables;
+use crate::{HeldPacket, StationFault};
 use dna_model::{State, StationEvent, StationRefusal};
 use std::alloc::{AllocError, Global};
 use std::marker::Model;
@@ -31,8 +31,8 @@ use wire_base::Window;
 /// of its numbers their values modulo 256. A contract sees it as the record of what it keeps, its period, its partner period and
 /// the open causes of a NAK. A refused call changes nothing.
 #[derive(Drop)]
-pub struct Station<T: Copy, W: Window<Held<T>, 256>> {
-    kept: Kept<T, W>,
+pub struct Station<T: Copy, W: Window<HeldPacket<T>, 256>> {
+    variables: StationVariables<T, W>,
     // how many starts there were: the number of the present period
     period: u64,
     // the other side's period that the present one goes with, once it is known
@@ -43,22 +43,22 @@ pub struct Station<T: Copy, W: Window<Held<T>, 256>> {
     alloc: Global,
 }
 
-impl<T: Copy, W: Window<Held<T>, 256>> Model for Station<T, W> {
+impl<T: Copy, W: Window<HeldPacket<T>, 256>> Model for Station<T, W> {
     ghost use Rattle.dna_model.specs.WireStation.{WireStation};
 
     ghost Value = { WireStation T };
 
-    ghost view = { λ s. record { kept = s.kept; period = s.period; partner = s.partner; causes = s.causes } };
+    ghost view = { λ s. record { variables = s.variables; period = s.period; partner = s.partner; causes = s.causes } };
 }
 
-impl<T: Copy, W: Window<Held<T>, 256>> Station<T, W> {
+impl<T: Copy, W: Window<HeldPacket<T>, 256>> Station<T, W> {
     /// A station that nobody has started: in HALTED, in period 0, with no partner (DDCMP 4.1, startup state table). It takes
     /// the memory that its window takes when it is made.
     pub fn new(alloc: Global) -> Result<Self, AllocError>
         ensures { IfOk result (λ station. station ≡ new_wire_station) }
     {
         Ok(Station {
-            kept: Kept::new(alloc, State::Halted)?,
+            variables: StationVariables::new(alloc, State::Halted)?,
             period: 0,
             partner: None,
             causes: Causes::new(),
@@ -68,9 +68,9 @@ impl<T: Copy, W: Window<Held<T>, 256>> Station<T, W> {
 
     /// Its state: HALTED, ISTRT, ASTRT or RUNNING.
     pub fn state(&self) -> State
-        ensures { result ≡ self.now.kept.state }
+        ensures { result ≡ self.now.variables.state }
     {
-        self.kept.state()
+        self.variables.state()
     }
 
     /// How many starts there were so far, which is the number of the present period: 0 before the first.
@@ -88,9 +88,9 @@ impl<T: Copy, W: Window<Held<T>, 256>> Station<T, W> {
     /// was.
     pub fn user(&mut self, event: StationEvent) -> Result<(), StationFault>
         requires { load self.old < 2 ^ 63 }
-        ensures allowed { OnOk result (user_refusal self.old.kept.state event ≡ None) }
+        ensures allowed { OnOk result (user_refusal self.old.variables.state event ≡ None) }
         ensures ok { OnOk result (self.new ≡ wire_after_event self.old event) }
-        ensures refused { IfErr result (λ fault. IsRefused (user_refusal self.old.kept.state event) fault) }
+        ensures refused { IfErr result (λ fault. IsRefused (user_refusal self.old.variables.state event) fault) }
         ensures alone { IfErr result (λ fault. fault ≡ StationFault.Refused StationRefusal.WrongUserEvent) }
         ensures err { OnErr result (self.new ≡ self.old) }
         ensures load { load self.new ≤ load self.old + 1 }
@@ -98,7 +98,7 @@ impl<T: Copy, W: Window<Held<T>, 256>> Station<T, W> {
         match event {
             StationEvent::Start => self.start(),
             StationEvent::Halt => {
-                self.kept.go_to(State::Halted);
+                self.variables.go_to(State::Halted);
                 Ok(())
             }
         }
@@ -107,17 +107,17 @@ impl<T: Copy, W: Window<Held<T>, 256>> Station<T, W> {
     // Its user starts it.
     fn start(&mut self) -> Result<(), StationFault>
         requires { load self.old < 2 ^ 63 }
-        ensures allowed { OnOk result (user_refusal self.old.kept.state StationEvent.Start ≡ None) }
+        ensures allowed { OnOk result (user_refusal self.old.variables.state StationEvent.Start ≡ None) }
         ensures ok { OnOk result (self.new ≡ wire_after_event self.old StationEvent.Start) }
-        ensures refused { IfErr result (λ fault. IsRefused (user_refusal self.old.kept.state StationEvent.Start) fault) }
+        ensures refused { IfErr result (λ fault. IsRefused (user_refusal self.old.variables.state StationEvent.Start) fault) }
         ensures alone { IfErr result (λ fault. fault ≡ StationFault.Refused StationRefusal.WrongUserEvent) }
         ensures err { OnErr result (self.new ≡ self.old) }
         ensures load { load self.new ≤ load self.old + 1 }
     {
-        let State::Halted = self.kept.state() else {
+        let State::Halted = self.variables.state() else {
             return Err(StationFault::Refused(StationRefusal::WrongUserEvent));
         };
-        self.kept.start();
+        self.variables.start();
         self.period += 1;
         self.partner = None;
         self.causes = Causes::new();
@@ -127,9 +127,9 @@ impl<T: Copy, W: Window<Held<T>, 256>> Station<T, W> {
     /// Puts a label beside the packet with the newest number, in the place of one that it had. A number is outstanding. Takes
     /// no memory.
     pub fn label(&mut self, label: T)
-        requires { 0 < length self.old.kept.held }
+        requires { 0 < length self.old.variables.held }
         ensures { self.new ≡ wire_after_label self.old label }
     {
-        self.kept.label(self.alloc, label);
+        self.variables.label(self.alloc, label);
     }
 }

@@ -50,5 +50,5 @@ module _ {L : Type 0} (all : List (HeldPacket L)) (s : Station) where
 
     pub label_same : (label : L) → cut (with_label all label) s ≡ wire_after_label (cut all s) label
     label_same label =
-        ap (λ (ps : List (HeldPacket L)). record (cut all s) { kept = record (cut all s).kept { held = ps } })
+        ap (λ (ps : List (HeldPacket L)). record (cut all s) { variables = record (cut all s).variables { held = ps } })
         (held_labelled (slice_get all (length all - 1)) label ∙ ap (λ (o : Option (HeldPacket L)). labelled (drop s.acknowledged all) o label) (sym newest_held))

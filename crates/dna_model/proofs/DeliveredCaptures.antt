@@ -9,25 +9,28 @@ use Rattle.ddcmp_msg.specs.Reading.{reading}
 use Rattle.ddcmp_msg.specs.Reading as read_as
 use Rattle.capture.specs.declared.record.Record.{Record}
 use Rattle.capture.specs.declared.record.Record.TheVariants.{Received}
+use Rattle.dna_model.specs.declared.head.Head.{Head}
 use Rattle.dna_model.specs.declared.state.StationEvent.TheVariants.{Start, Halt}
 use Rattle.dna_model.specs.Station.{Station, PastPeriod, past, after_event}
 use Rattle.dna_model.specs.Delivery.{periods, taken_by_period, packet_in, in_last, with_period, delivered_by, delivered}
-use Rattle.dna_model.specs.Periods.{crossed}
-use Rattle.dna_model.specs.Sending.{after_sending}
+use Rattle.dna_model.specs.Rules.{judged}
+use Rattle.dna_model.specs.StationBook.{after_sending}
 use Rattle.dna_model.specs.Truth.{Truth}
-use Rattle.dna_model.specs.Arriving.{ArrivalValue, HeaderBad, DataBad, Sound, arrival_refusal, after_arrival}
+use Rattle.dna_model.specs.Book.{ArrivalValue, HeaderBad, DataBad, Sound}
+use Rattle.dna_model.specs.StationBook.{arrival_refusal, after_arrival}
 use Rattle.dna_model.specs.Line.{SentUnit}
 use Rattle.dna_model.specs.Node.{Node}
 use Rattle.dna_model.specs.Pair.{pair, start}
 use Rattle.dna_model.proofs.Happens.{Happens, Nothing, UserEvent, Sending, Receipt, ComesOf, Itself, BadHeader, BadData, happens}
 use Rattle.dna_model.proofs.StationBounds.{IsSound}
-use Rattle.dna_model.proofs.DeliveredSteps.{Stays, TookBy, Took, arrival_took, unkept, claim_allowed}
+use Rattle.dna_model.proofs.Effects.{Stays, sending_stays}
+use Rattle.dna_model.proofs.DeliveredSteps.{TookBy, Took, arrival_took, unkept, claim_allowed}
 use Rattle.dna_model.proofs.DeliveredRuns.{BothDeliver, delivery_kept, start_delivers}
 
 abbrev taken : PastPeriod → List (List ℕ)
 taken period = period.taken
 
-in_last-append : (packets : List (List ℕ)) (ps : List (List (List ℕ))) (p : List (List ℕ)) → in_last packets (ps ++ p ∷ []) ≡ ps ++ (p ++ packets) ∷ []
+pub in_last-append : (packets : List (List ℕ)) (ps : List (List (List ℕ))) (p : List (List ℕ)) → in_last packets (ps ++ p ∷ []) ≡ ps ++ (p ++ packets) ∷ []
 in_last-append packets [] p = refl
 in_last-append packets (q ∷ []) p = refl
 in_last-append packets (q ∷ r ∷ ps) p = ap (λ (x : List (List (List ℕ))). q ∷ x) (in_last-append packets (r ∷ ps) p)
@@ -46,12 +49,7 @@ more_taken s t packets earlier more =
     ∙ sym (in_last-append packets (map taken s.earlier) s.taken) ∙ ap (in_last packets) (sym (periods_taken s))
 
 sending_taken : (s : Station) (m : MessageValue) → taken_by_period (after_sending s m) ≡ taken_by_period s
-sending_taken s (Data flags resp num body) = same_taken s (after_sending s (Data flags resp num body)) refl refl
-sending_taken s (Nak flags reason resp) = same_taken s (after_sending s (Nak flags reason resp)) refl refl
-sending_taken s (Ack flags resp) = refl
-sending_taken s (Rep flags num) = refl
-sending_taken s (Strt flags) = refl
-sending_taken s (Stack flags) = refl
+sending_taken s m = same_taken s (after_sending s m) (sending_stays s m).earlier (sending_stays s m).taken
 
 -- ---- a receipt
 
@@ -80,7 +78,7 @@ module _ (s t : Station) (hint : ℕ) (kept : Bool) (bytes : List ℕ) (unit : S
   damage_taken none (inr (inl (p, e))) = same_taken s t stays.earlier p.taken ∙ not_kept (taken_by_period s) hint kept bytes none
   damage_taken none (inr (inr (p, was))) = absurd cc
 
-receipt_taken : (s : Station) (hint : ℕ) (kept : Bool) (bytes : List ℕ) (unit : SentUnit) (arrival : ArrivalValue Truth) → reading unit.bytes ≡ read_as.Sound unit.message → ComesOf unit bytes arrival → arrival_refusal crossed s arrival kept ≡ None →
+receipt_taken : (s : Station) (hint : ℕ) (kept : Bool) (bytes : List ℕ) (unit : SentUnit) (arrival : ArrivalValue Truth) → reading unit.bytes ≡ read_as.Sound unit.message → ComesOf unit bytes arrival → arrival_refusal judged s arrival kept ≡ None →
     Took s (after_arrival s arrival kept) unit.message unit.known kept → taken_by_period (after_arrival s arrival kept) ≡ delivered_by (taken_by_period s) (Received hint kept bytes)
 receipt_taken s hint kept bytes unit (Sound m u) reads (Itself same) allowed took = sound_taken s _ hint kept bytes unit took.0 (ap reading same ∙ reads) took.1
 receipt_taken s hint kept bytes unit HeaderBad reads BadHeader allowed took = damage_taken s _ hint kept bytes unit took.0 (unkept kept (claim_allowed false kept allowed)) took.1
@@ -89,7 +87,7 @@ receipt_taken s hint kept bytes unit DataBad reads BadData allowed took = damage
 -- ---- any record
 
 module _ (own other : Half Node SentUnit) (h : IsSound own.state own.sent other.sent) (theirs : IsSound other.state other.sent own.sent) where
-  record_taken : (r : Record) (left : Half Node SentUnit) → Happens crossed own other r left → taken_by_period left.state.station ≡ delivered_by (taken_by_period own.state.station) r
+  record_taken : (r : Record) (left : Half Node SentUnit) → Happens judged own other r left → taken_by_period left.state.station ≡ delivered_by (taken_by_period own.state.station) r
   record_taken r left (Nothing event none) = ap (λ (b : Bool). with_period b (taken_by_period own.state.station)) (sym none)
   record_taken r left (UserEvent Start allowed) = map-append taken (periods own.state.station) (past (after_event own.state.station Start) ∷ [])
   record_taken r left (UserEvent Halt allowed) = refl
@@ -106,7 +104,7 @@ pub record BothCaptured (w : World Node SentUnit) (of_a of_b : List Record) : Ty
   pub b_took : delivered of_b ≡ taken_by_period w.b.state.station
 
 one_more : (own other : Half Node SentUnit) (h : IsSound own.state own.sent other.sent) (theirs : IsSound other.state other.sent own.sent) (made : List Record) (r : Record) (left : Half Node SentUnit) →
-    Happens crossed own other r left → delivered made ≡ taken_by_period own.state.station → delivered (made ++ r ∷ []) ≡ taken_by_period left.state.station
+    Happens judged own other r left → delivered made ≡ taken_by_period own.state.station → delivered (made ++ r ∷ []) ≡ taken_by_period left.state.station
 one_more own other h theirs made r left what e =
     fold-append delivered_by ([] ∷ []) made (r ∷ []) ∙ ap (λ (ps : List (List (List ℕ))). delivered_by ps r) e ∙ sym (record_taken own other h theirs r left what)
 
@@ -114,15 +112,15 @@ pub captured_kept : IsKept pair BothCaptured
 captured_kept = record {
   by_a = λ w made_a made_b r h c made. record {
     both = delivery_kept.by_a w made_a made_b r h c.both made;
-    a_took = one_more w.a w.b c.both.sound.of_a c.both.sound.of_b made_a r h (happens crossed w.a w.b h r made) c.a_took;
+    a_took = one_more w.a w.b c.both.sound.of_a c.both.sound.of_b made_a r h (happens judged w.a w.b h r made) c.a_took;
     b_took = c.b_took;
   };
   by_b = λ w made_a made_b r h c made. record {
     both = delivery_kept.by_b w made_a made_b r h c.both made;
     a_took = c.a_took;
-    b_took = one_more w.b w.a c.both.sound.of_b c.both.sound.of_a made_b r h (happens crossed w.b w.a h r made) c.b_took;
+    b_took = one_more w.b w.a c.both.sound.of_b c.both.sound.of_a made_b r h (happens judged w.b w.a h r made) c.b_took;
   };
 }
 
-pub start_captured : BothCaptured start [] []
-start_captured = record { both = start_delivers; a_took = refl; b_took = refl }
+pub start_captured : (head_a head_b : Head) → BothCaptured (start head_a head_b) [] []
+start_captured head_a head_b = record { both = start_delivers head_a head_b; a_took = refl; b_took = refl }

@@ -1,7 +1,7 @@
 -- What a period took stays a beginning of what its partner period gave, whatever a record does.
-use Rattle.std.proofs.Common.{◌≡◌, cond, ℕ, ◌+◌, ◌-◌, Bool, true, false, ◌&&◌, eqb, ltb, leb, ◌⊎◌, inl, inr, Option, Some, None, List, [], ◌∷◌, ◌++◌, length, refl, sym, ap, ◌∙◌, subst, arith, eqb-true}
+use Rattle.std.proofs.Common.{◌≡◌, cond, ℕ, ◌+◌, ◌-◌, Bool, true, false, ◌&&◌, eqb, ltb, leb, ◌⊎◌, inl, inr, Option, Some, None, List, [], ◌∷◌, ◌++◌, fold, length, refl, sym, ap, ◌∙◌, subst, arith, eqb-true}
 use Rattle.std.specs.Prelude.{slice_get}
-use Rattle.std.proofs.lemmas.Bool.{cond_both, and_left, and_parts}
+use Rattle.std.proofs.lemmas.Bool.{and_parts, and_right}
 use Rattle.std.proofs.lemmas.List.{length_push}
 use Rattle.two_nodes.proofs.Listed.{next_at}
 use Rattle.std.proofs.lemmas.Slice.Eq.{bytes_eq-Decides}
@@ -9,25 +9,27 @@ use Rattle.ddcmp_msg.specs.declared.flags.Flags.{Flags}
 use Rattle.ddcmp_msg.specs.Message.{MessageValue, Data, Ack, Nak, Rep, Strt, Stack}
 use Rattle.ddcmp_msg.specs.declared.nak_reason.NakReason.{NakReason}
 use Rattle.ddcmp_msg.specs.declared.nak_reason.NakReason.TheVariants.{HeaderCheck, DataCheck}
-use Rattle.dna_model.specs.declared.state.State.{State}
-use Rattle.dna_model.specs.declared.state.State.TheVariants.{Halted, Istrt, Astrt, Running}
 use Rattle.dna_model.specs.declared.state.StationEvent.{StationEvent}
 use Rattle.dna_model.specs.declared.state.StationEvent.TheVariants.{Start, Halt}
-use Rattle.dna_model.specs.declared.refusal.StationRefusal.TheVariants.{Changed, CrossedPeriod}
+use Rattle.dna_model.specs.declared.refusal.StationRefusal.TheVariants.{CrossedPeriod}
+use Rattle.dna_model.specs.Table.{Change, Nothing, UseCause, SendPacket, change_of, Effect, GoTo, TakePartner, Respond, SetBack, TakePacket, AnswerRep, row, counts_damage}
+use Rattle.dna_model.specs.Rules.{judged}
 use Rattle.dna_model.specs.Station.{Station, PastPeriod, past, given, after_event}
 use Rattle.dna_model.specs.Delivery.{periods, BeginsWith, IsDelivered}
-use Rattle.dna_model.specs.Periods.{crossed}
-use Rattle.dna_model.specs.Sending.{is_new, is_packet, as_first_given, data_refusal, sending_refusal, sending_refusal_in, after_sending, with_packet}
-use Rattle.dna_model.specs.Truth.{Truth, truth_of}
-use Rattle.dna_model.specs.Arriving.{ArrivalValue, Sound, HeaderBad, DataBad, is_next, acknowledged_by, responded, with_data, data_arrived, asked, arrived_in, damaged_in, set_back, arrival_refusal, after_arrival, standing, takes_in, keep_refusal}
-use Rattle.dna_model.specs.Bounds.{IsOrdered, reads_numbers}
+use Rattle.dna_model.specs.Truth.{Truth}
+use Rattle.dna_model.specs.Book.{ArrivalValue, Sound, HeaderBad, DataBad, body_of, has_packet, keep_refusal}
+use Rattle.dna_model.specs.StationBook.{sends, is_new, is_packet, as_first_given, sending_refusal, after_sending, truth_of, with_packet, is_next, acknowledged_by, with_data, asked, does, takes, meets_needs, station_book, arrival_refusal, after_arrival}
+use Rattle.dna_model.specs.Bounds.{IsOrdered}
 use Rattle.dna_model.specs.Line.{SentUnit}
-use Rattle.dna_model.proofs.Ordered.{passed, data_passed}
+use Rattle.dna_model.proofs.Effects.{kept_by_all, by_response, by_packet, by_rep, Stays, does_stays, sending_stays}
+use Rattle.dna_model.proofs.Checks.{sending_passed}
+use Rattle.dna_model.proofs.CutArriving.{TakesBy, taken_by}
+use Rattle.dna_model.proofs.CutNode.{not_crossed}
 use Rattle.dna_model.proofs.Happens.{ComesOf, Itself, BadHeader, BadData}
 use Rattle.dna_model.proofs.NumberedSteps.{at_pushed}
-use Rattle.dna_model.proofs.StationNumbers.{unit_of}
+use Rattle.dna_model.proofs.StationNumbers.{is_data, unit_of}
 use Rattle.dna_model.proofs.StationBounds.{is_starting, HasNone}
-use Rattle.dna_model.proofs.ReceiptBounds.{IsOfPair, acts_of_pair, not_crossed, is_numbered}
+use Rattle.dna_model.proofs.Lawful.{AreLawful, has_partner, packet_lawful, partner_lawful, rows_lawful}
 use Rattle.dna_model.proofs.Delivered.{GrowTo, begins_same, grow_present, grow_start, delivered_grown, IsOffered, offered_grown}
 
 -- of a station, with the units that it sent
@@ -77,86 +79,60 @@ pub packets_begin : (new : Bool) (packets : List (List ℕ)) (body : List ℕ) �
 packets_begin true packets body = record { rest = body ∷ []; whole = refl }
 packets_begin false packets body = begins_same packets
 
+pub sending_begins : (s : Station) (m : MessageValue) → BeginsWith (after_sending s m).packets s.packets
+sending_begins s m = go (change_of m)
+  where
+    go : (change : Change) → BeginsWith (sends s m change).packets s.packets
+    go SendPacket = packets_begin (is_new s) s.packets (body_of m)
+    go UseCause = begins_same s.packets
+    go Nothing = begins_same s.packets
+
 pub sending_grows : (s : Station) (m : MessageValue) → GrowTo (periods s) (periods (after_sending s m))
-sending_grows s (Data flags resp num body) = grow_present s (after_sending s (Data flags resp num body)) refl (packets_begin (is_new s) s.packets body)
-sending_grows s (Ack flags resp) = grow_present s s refl (begins_same s.packets)
-sending_grows s (Nak flags reason resp) = grow_present s (after_sending s (Nak flags reason resp)) refl (begins_same s.packets)
-sending_grows s (Rep flags num) = grow_present s s refl (begins_same s.packets)
-sending_grows s (Strt flags) = grow_present s s refl (begins_same s.packets)
-sending_grows s (Stack flags) = grow_present s s refl (begins_same s.packets)
+sending_grows s m = grow_present s (after_sending s m) (sending_stays s m).earlier (sending_begins s m)
 
 pub sending_delivers : (s : Station) (ps : List PastPeriod) (m : MessageValue) → Delivers s ps → Delivers (after_sending s m) ps
-sending_delivers s ps (Data flags resp num body) d = record { earlier = d.earlier; present = d.present }
-sending_delivers s ps (Ack flags resp) d = d
-sending_delivers s ps (Nak flags reason resp) d = record { earlier = d.earlier; present = d.present }
-sending_delivers s ps (Rep flags num) d = d
-sending_delivers s ps (Strt flags) d = d
-sending_delivers s ps (Stack flags) d = d
+sending_delivers s ps m d = go (change_of m)
+  where
+    go : (change : Change) → Delivers (sends s m change) ps
+    go SendPacket = record { earlier = d.earlier; present = d.present }
+    go UseCause = record { earlier = d.earlier; present = d.present }
+    go Nothing = d
 
 is_the_packet : (o : Option (List ℕ)) (body : List ℕ) → is_packet o body ≡ true → o ≡ Some body
 is_the_packet None body e = absurd cc
 is_the_packet (Some packet) body e = ap Some (sym ((bytes_eq-Decides body packet).0 e))
 
 -- the packet that is sent is the one of its number
-pub packet_there : (s : Station) (new : Bool) (body : List ℕ) → is_new s ≡ new → data_refusal new s body ≡ None → slice_get (with_packet new s.packets body) (s.next_to_send - 1) ≡ Some body
+pub packet_there : (s : Station) (new : Bool) (body : List ℕ) → is_new s ≡ new → cond new true (as_first_given s body) ≡ true → slice_get (with_packet new s.packets body) (s.next_to_send - 1) ≡ Some body
 packet_there s true body e allowed =
     let f = eqb-true s.next_to_send (given s + 1) e in
     let place : s.next_to_send - 1 ≡ length s.packets = omega arith in
     ap (slice_get (s.packets ++ body ∷ [])) place ∙ next_at s.packets [] body
-packet_there s false body e allowed = is_the_packet (slice_get s.packets (s.next_to_send - 1)) body (passed (as_first_given s body) Changed None allowed).0
+packet_there s false body e allowed = is_the_packet (slice_get s.packets (s.next_to_send - 1)) body allowed
 
-data_offered : (s : Station) (o : IsOrdered s) (flags : Flags) (resp num : ℕ) (body : List ℕ) → length s.earlier ≡ s.period → data_refusal (is_new s) s body ≡ None →
-    IsOffered (Data flags resp num body) (truth_of s (Data flags resp num body)) (periods (after_sending s (Data flags resp num body)))
-data_offered s o flags resp num body count allowed =
+message_offered : (s : Station) (o : IsOrdered s) (m : MessageValue) → length s.earlier ≡ s.period → sending_refusal s m ≡ None → IsOffered m (truth_of s m) (periods (after_sending s m))
+message_offered s o (Data flags resp num body) count e =
     let after = after_sending s (Data flags resp num body) in
     let a = o.above in
-    (past after, ap (slice_get (periods after)) (sym count) ∙ next_at after.earlier [] (past after), omega arith, packet_there s (is_new s) body refl allowed)
-
-message_offered : (s : Station) (o : IsOrdered s) (state : State) (m : MessageValue) → length s.earlier ≡ s.period → sending_refusal_in state s m ≡ None → IsOffered m (truth_of s m) (periods (after_sending s m))
-message_offered s o Running (Data flags resp num body) count e = data_offered s o flags resp num body count (data_passed s num resp body e).2
-message_offered s o Halted (Data flags resp num body) count e = absurd cc
-message_offered s o Istrt (Data flags resp num body) count e = absurd cc
-message_offered s o Astrt (Data flags resp num body) count e = absurd cc
-message_offered s o state (Ack flags resp) count e = tt
-message_offered s o state (Nak flags reason resp) count e = tt
-message_offered s o state (Rep flags num) count e = tt
-message_offered s o state (Strt flags) count e = tt
-message_offered s o state (Stack flags) count e = tt
-
-sending_count : (s : Station) (m : MessageValue) → length s.earlier ≡ s.period → length (after_sending s m).earlier ≡ (after_sending s m).period
-sending_count s (Data flags resp num body) c = c
-sending_count s (Ack flags resp) c = c
-sending_count s (Nak flags reason resp) c = c
-sending_count s (Rep flags num) c = c
-sending_count s (Strt flags) c = c
-sending_count s (Stack flags) c = c
-
-sending_taken : (s : Station) (m : MessageValue) → length s.taken ≡ s.received → length (after_sending s m).taken ≡ (after_sending s m).received
-sending_taken s (Data flags resp num body) c = c
-sending_taken s (Ack flags resp) c = c
-sending_taken s (Nak flags reason resp) c = c
-sending_taken s (Rep flags num) c = c
-sending_taken s (Strt flags) c = c
-sending_taken s (Stack flags) c = c
+    (past after, ap (slice_get (periods after)) (sym count) ∙ next_at after.earlier [] (past after), omega arith, packet_there s (is_new s) body refl (sending_passed s (Data flags resp num body) refl e).1.1.1.0)
+message_offered s o (Ack flags resp) count e = tt
+message_offered s o (Nak flags reason resp) count e = tt
+message_offered s o (Rep flags num) count e = tt
+message_offered s o (Strt flags) count e = tt
+message_offered s o (Stack flags) count e = tt
 
 pub sending_offers : (s : Station) (own : List SentUnit) (bytes : List ℕ) (m : MessageValue) → IsOrdered s → sending_refusal s m ≡ None → Offers s own → Offers (after_sending s m) (own ++ unit_of s bytes m ∷ [])
 sending_offers s own bytes m ordered allowed o = record {
-  count = sending_count s m o.count;
-  taken_count = sending_taken s m o.taken_count;
+  count = let t = sending_stays s m in ap length t.earlier ∙ o.count ∙ sym t.period;
+  taken_count = let t = sending_stays s m in ap length t.taken ∙ o.taken_count ∙ sym t.received;
   offered = λ i u at. go u (at_pushed own (unit_of s bytes m) u i at);
 }
   where
     go : (u : SentUnit) → {i : ℕ} → (slice_get own i ≡ Some u) ⊎ ((i ≡ length own) × (unit_of s bytes m ≡ u)) → IsOffered u.message u.known (periods (after_sending s m))
     go u {i} (inl e) = offered_grown u.message u.known (periods s) (periods (after_sending s m)) (sending_grows s m) (o.offered i u e)
-    go u (inr e) = subst (λ (x : SentUnit). IsOffered x.message x.known (periods (after_sending s m))) e.1 (message_offered s ordered s.state m o.count allowed)
+    go u (inr e) = subst (λ (x : SentUnit). IsOffered x.message x.known (periods (after_sending s m))) e.1 (message_offered s ordered m o.count allowed)
 
 -- ---- a receipt
-
--- what a station keeps at every receipt
-pub record Stays (s t : Station) : Type 0 where
-  pub earlier : t.earlier ≡ s.earlier
-  pub period : t.period ≡ s.period
-  pub packets : t.packets ≡ s.packets
 
 -- Nothing was taken; or nothing was ever taken in the period, and the partner is the message's period; or the packet of this message
 -- was taken, which is the next one of the pair
@@ -195,96 +171,115 @@ pub unkept : (kept : Bool) → (kept ≡ true → false ≡ true) → kept ≡ f
 unkept true claims = sym (claims refl)
 unkept false claims = refl
 
-stays_same : (s : Station) → Stays s s
-stays_same s = record { earlier = refl; period = refl; packets = refl }
+-- a message with a packet
+record IsData (m : MessageValue) : Type 0 where
+  flags : Flags
+  resp : ℕ
+  num : ℕ
+  body : List ℕ
+  message : m ≡ Data flags resp num body
 
-took_nothing : (s : Station) → TookNothing s s
-took_nothing s = record { partner = refl; taken = refl; received = refl }
+data_is : (m : MessageValue) → is_data m ≡ true → IsData m
+data_is (Data flags resp num body) e = record { flags = flags; resp = resp; num = num; body = body; message = refl }
+data_is (Ack flags resp) e = absurd cc
+data_is (Nak flags reason resp) e = absurd cc
+data_is (Rep flags num) e = absurd cc
+data_is (Strt flags) e = absurd cc
+data_is (Stack flags) e = absurd cc
 
-acknowledged_stays : (s : Station) (b : Bool) (r : ℕ) → Stays s (acknowledged_by b s r) × TookNothing s (acknowledged_by b s r)
-acknowledged_stays s true r = (record { earlier = refl; period = refl; packets = refl }, record { partner = refl; taken = refl; received = refl })
-acknowledged_stays s false r = (stays_same s, took_nothing s)
+module _ (s : Station) (u : Truth) (m : MessageValue) (kept : Bool) where
+  -- ---- effects, one after another
 
-pub responded_stays : (s : Station) (r : ℕ) → Stays s (responded s r) × TookNothing s (responded s r)
-responded_stays s r = acknowledged_stays s (ltb s.acknowledged r && leb r (given s)) r
+  effects_stay : (effects : List Effect) → Stays s (fold (does m u kept) s effects)
+  effects_stay effects = kept_by_all (Stays s) (does m u kept) one_more effects s (record { earlier = refl; period = refl; packets = refl })
+    where
+      one_more : (t : Station) (effect : Effect) → Stays s t → Stays s (does m u kept t effect)
+      one_more t effect stays = let d = does_stays m u kept t effect in record { earlier = d.earlier ∙ stays.earlier; period = d.period ∙ stays.period; packets = d.packets ∙ stays.packets }
 
-module _ (s : Station) (u : Truth) where
-  data_took : (t : Station) → Stays s t × TookNothing s t → (flags : Flags) (resp num : ℕ) (body : List ℕ) → IsOfPair s u.tag → (next kept : Bool) → (next ≡ true → u.number ≡ s.received + 1) → (kept ≡ true → next ≡ true) →
-      Took s (with_data next kept t body) (Data flags resp num body) u kept
-  data_took t k flags resp num body of_pair true true fits claims =
-      let stays = k.0 in let nothing = k.1 in (
-        record { earlier = stays.earlier; period = stays.period; packets = stays.packets },
-        inr (inr (
-          record {
-            flags = flags;
-            resp = resp;
-            num = num;
-            body = body;
-            message = refl;
-            from = of_pair.from;
-            to = of_pair.to;
-            next = fits refl;
-            partner = nothing.partner;
-            taken = ap (λ (l : List (List ℕ)). l ++ body ∷ []) nothing.taken;
-            received = ap (λ n. n + 1) nothing.received;
-          },
-          refl,
-        )),
-      )
-  data_took t k flags resp num body of_pair true false fits claims =
-      let stays = k.0 in let nothing = k.1 in
-      (record { earlier = stays.earlier; period = stays.period; packets = stays.packets }, inl (record { partner = nothing.partner; taken = nothing.taken; received = nothing.received }, refl))
-  data_took t k flags resp num body of_pair false kept fits claims = (k.0, inl (k.1, unkept kept claims))
+  partner_stays : (t : Station) (effect : Effect) → has_partner (effect ∷ []) ≡ false → (does m u kept t effect).partner ≡ t.partner
+  partner_stays t (GoTo state) e = refl
+  partner_stays t TakePartner e = absurd cc
+  partner_stays t SetBack e = refl
+  partner_stays t Respond e = by_response m u kept t (λ (x : Station). x.partner ≡ t.partner) refl (λ e. refl)
+  partner_stays t TakePacket e = by_packet m u kept t (λ (x : Station). x.partner ≡ t.partner) refl (λ e. refl) refl
+  partner_stays t AnswerRep e = by_rep m u kept t (λ (x : Station). x.partner ≡ t.partner) refl refl
 
-  module _ (kept : Bool) where
-    asked_took : (b : Bool) (m : MessageValue) → kept ≡ false → Took s (asked b s) m u kept
-    asked_took true m none = (stays_same s, inl (took_nothing s, none))
-    asked_took false m none = (record { earlier = refl; period = refl; packets = refl }, inl (record { partner = refl; taken = refl; received = refl }, none))
+  -- the partner behind some effects
+  partner_by : (effects : List Effect) (t : Station) → (fold (does m u kept) t effects).partner ≡ cond (has_partner effects) (Some u.tag.period) t.partner
+  partner_by [] t = refl
+  partner_by (TakePartner ∷ next) t = partner_by next (does m u kept t TakePartner) ∙ either (has_partner next)
+    where
+      either : (b : Bool) → cond b (Some u.tag.period) (Some u.tag.period) ≡ Some u.tag.period
+      either true = refl
+      either false = refl
+  partner_by (GoTo state ∷ next) t = partner_by next (record t { state = state })
+  partner_by (SetBack ∷ next) t = partner_by next (does m u kept t SetBack)
+  partner_by (Respond ∷ next) t = partner_by next (does m u kept t Respond) ∙ ap (cond (has_partner next) (Some u.tag.period)) (partner_stays t Respond refl)
+  partner_by (TakePacket ∷ next) t = partner_by next (does m u kept t TakePacket) ∙ ap (cond (has_partner next) (Some u.tag.period)) (partner_stays t TakePacket refl)
+  partner_by (AnswerRep ∷ next) t = partner_by next (does m u kept t AnswerRep) ∙ ap (cond (has_partner next) (Some u.tag.period)) (partner_stays t AnswerRep refl)
 
-    nothing_took : (t : Station) (m : MessageValue) → Stays s t × TookNothing s t → kept ≡ false → Took s t m u kept
-    nothing_took t m k none = (k.0, inl (k.1, none))
+  -- ---- what a row took
 
-    -- a state, or a partner, and no more
-    only_state : (t : Station) (m : MessageValue) → t.earlier ≡ s.earlier → t.period ≡ s.period → t.packets ≡ s.packets → t.partner ≡ s.partner → t.taken ≡ s.taken → t.received ≡ s.received → kept ≡ false → Took s t m u kept
-    only_state t m earlier period packets partner taken received none = (record { earlier = earlier; period = period; packets = packets }, inl (record { partner = partner; taken = taken; received = received }, none))
+  module _ (effects : List Effect) (lawful : AreLawful s m u.tag s.state effects) where
+    abbrev left : Station
+    left = fold (does m u kept) s effects
 
-    only_partner : (t : Station) (m : MessageValue) → HasNone s → t.earlier ≡ s.earlier → t.period ≡ s.period → t.packets ≡ s.packets → t.partner ≡ Some u.tag.period → t.taken ≡ s.taken → t.received ≡ s.received → kept ≡ false → Took s t m u kept
-    only_partner t m h earlier period packets partner taken received none =
-        (record { earlier = earlier; period = period; packets = packets }, inr (inl (record { partner = partner; taken = taken; received = received; none = h }, none)))
+    taking : (b : Bool) → ((has_packet effects && is_next s u) && kept) ≡ b → TakesBy m u kept s left b
+    taking b e = subst (λ (b : Bool). TakesBy m u kept s left b) e (taken_by m u kept effects s)
 
-    took_in : (state : State) (m : MessageValue) → (is_starting state ≡ true → HasNone s) → (reads_numbers state m ≡ true → is_numbered m ≡ true → IsOfPair s u.tag) → (kept ≡ true → takes_in state s m u ≡ true) → Took s (arrived_in state s m u kept) m u kept
-    took_in Istrt (Strt flags) none pair claims = only_partner _ (Strt flags) (none refl) refl refl refl refl refl refl (unkept kept claims)
-    took_in Istrt (Stack flags) none pair claims = only_partner _ (Stack flags) (none refl) refl refl refl refl refl refl (unkept kept claims)
-    took_in Astrt (Strt flags) none pair claims = only_partner _ (Strt flags) (none refl) refl refl refl refl refl refl (unkept kept claims)
-    took_in Astrt (Stack flags) none pair claims = only_partner _ (Stack flags) (none refl) refl refl refl refl refl refl (unkept kept claims)
-    took_in Astrt (Ack flags resp) none pair claims =
-        cond_both (eqb resp 0) _ s (λ (t : Station). Took s t (Ack flags resp) u kept) (λ e. only_state _ (Ack flags resp) refl refl refl refl refl refl (unkept kept claims))
-        (λ e. nothing_took s (Ack flags resp) (stays_same s, took_nothing s) (unkept kept claims))
-    took_in Astrt (Data flags resp num body) none pair claims =
-        cond_both (eqb resp 0) _ s (λ (t : Station). Took s t (Data flags resp num body) u kept) (λ e. begun (pair e refl))
-        (λ e. nothing_took s (Data flags resp num body) (stays_same s, took_nothing s) (unkept kept (λ k. sym (and_left (eqb resp 0) (is_next s u) e) ∙ claims k)))
+    took_packet : (has_packet effects && is_next s u) ≡ true → kept ≡ true → TookPacket s left m u
+    took_packet takes was =
+        let both = and_parts (has_packet effects) (is_next s u) takes in
+        let l = packet_lawful s m u.tag effects s.state lawful both.0 in
+        let d = data_is m l.0 in
+        let k = taking true (ap (λ (b : Bool). b && kept) takes ∙ was) in
+        record {
+          flags = d.flags;
+          resp = d.resp;
+          num = d.num;
+          body = d.body;
+          message = d.message;
+          from = (l.1).from;
+          to = (l.1).to;
+          next = eqb-true u.number (s.received + 1) both.1;
+          partner = partner_by effects s ∙ either (has_partner effects) (sym (l.1).from);
+          taken = k.taken ∙ ap (λ (n : MessageValue). s.taken ++ body_of n ∷ []) d.message;
+          received = k.received;
+        }
       where
-        begun : IsOfPair s u.tag → Took s (data_arrived (record s { state = Running }) u body kept) (Data flags resp num body) u kept
-        begun p =
-            let k = responded_stays (record s { state = Running }) u.response in
-            let stays = k.0 in let nothing = k.1 in
-            data_took (responded (record s { state = Running }) u.response) (record { earlier = stays.earlier; period = stays.period; packets = stays.packets }, record { partner = nothing.partner; taken = nothing.taken; received = nothing.received })
-            flags resp num body p (is_next (record s { state = Running }) u) kept (λ f. eqb-true u.number (s.received + 1) f) (λ f. (and_parts (eqb resp 0) (is_next s u) (claims f)).1)
-    took_in Running (Strt flags) none pair claims = only_state _ (Strt flags) refl refl refl refl refl refl (unkept kept claims)
-    took_in Running (Ack flags resp) none pair claims = nothing_took _ (Ack flags resp) (responded_stays s u.response) (unkept kept claims)
-    took_in Running (Nak flags reason resp) none pair claims =
-        let k = responded_stays s u.response in let stays = k.0 in let nothing = k.1 in
-        only_state (set_back (responded s u.response)) (Nak flags reason resp) stays.earlier stays.period stays.packets nothing.partner nothing.taken nothing.received (unkept kept claims)
-    took_in Running (Rep flags num) none pair claims = asked_took (eqb u.number s.received) (Rep flags num) (unkept kept claims)
-    took_in Running (Data flags resp num body) none pair claims =
-        data_took (responded s u.response) (responded_stays s u.response) flags resp num body (pair refl refl) (is_next s u) kept (λ f. eqb-true u.number (s.received + 1) f) claims
-    took_in state m none pair claims = nothing_took s m (stays_same s, took_nothing s) (unkept kept claims)
+        either : (b : Bool) → Some u.tag.period ≡ s.partner → cond b (Some u.tag.period) s.partner ≡ s.partner
+        either true e = e
+        either false e = refl
 
-damaged_stays : (s : Station) (state : State) (reason : NakReason) → Stays s (damaged_in state reason s) × TookNothing s (damaged_in state reason s)
-damaged_stays s Running reason = (record { earlier = refl; period = refl; packets = refl }, record { partner = refl; taken = refl; received = refl })
-damaged_stays s Halted reason = (stays_same s, took_nothing s)
-damaged_stays s Istrt reason = (stays_same s, took_nothing s)
-damaged_stays s Astrt reason = (stays_same s, took_nothing s)
+    of_row : (is_starting s.state ≡ true → HasNone s) → (kept ≡ true → (has_packet effects && is_next s u) ≡ true) → TookBy s left m u kept
+    of_row none claims = go kept refl
+      where
+        unpacked : kept ≡ false → TakesBy m u kept s left false
+        unpacked e = taking false (and_right (has_packet effects && is_next s u) kept e)
+
+        no_packet : (b : Bool) → has_partner effects ≡ b → kept ≡ false → TookBy s left m u kept
+        no_packet true e none_kept =
+            let k = unpacked none_kept in let r = k.received in
+            inr (inl (
+              record {
+                partner = partner_by effects s ∙ ap (λ (b : Bool). cond b (Some u.tag.period) s.partner) e;
+                taken = k.taken;
+                received = omega arith;
+                none = none (partner_lawful s m u.tag effects s.state lawful e);
+              },
+              none_kept,
+            ))
+        no_packet false e none_kept =
+            let k = unpacked none_kept in let r = k.received in
+            inl (record { partner = partner_by effects s ∙ ap (λ (b : Bool). cond b (Some u.tag.period) s.partner) e; taken = k.taken; received = omega arith }, none_kept)
+
+        go : (k : Bool) → kept ≡ k → TookBy s left m u kept
+        go true was = inr (inr (took_packet (claims was) was, was))
+        go false was = no_packet (has_partner effects) refl was
+
+damaged_took : (s : Station) (u : Truth) (m : MessageValue) (kept b : Bool) (reason : NakReason) → kept ≡ false → Took s (cond b (station_book.counts reason s) s) m u kept
+damaged_took s u m kept true reason none = (record { earlier = refl; period = refl; packets = refl }, inl (record { partner = refl; taken = refl; received = refl }, none))
+damaged_took s u m kept false reason none = (record { earlier = refl; period = refl; packets = refl }, inl (record { partner = refl; taken = refl; received = refl }, none))
 
 -- what is claimed to be kept can be taken
 pub claim_allowed : (takes kept : Bool) → keep_refusal takes kept ≡ None → kept ≡ true → takes ≡ true
@@ -292,17 +287,17 @@ claim_allowed true kept e claims = refl
 claim_allowed false true e claims = absurd cc
 claim_allowed false false e claims = claims
 
-sound_claim : (s : Station) (m : MessageValue) (u : Truth) (kept : Bool) → arrival_refusal crossed s (Sound m u) kept ≡ None → kept ≡ true → takes_in s.state s m u ≡ true
-sound_claim s m u kept = go (crossed (standing s) m u.tag)
+sound_claim : (s : Station) (m : MessageValue) (u : Truth) (kept : Bool) → arrival_refusal judged s (Sound m u) kept ≡ None → kept ≡ true → takes s m u ≡ true
+sound_claim s m u kept = go (meets_needs judged s m u)
   where
-    go : (b : Bool) → cond b (Some CrossedPeriod) (keep_refusal (takes_in s.state s m u) kept) ≡ None → kept ≡ true → takes_in s.state s m u ≡ true
-    go true allowed = absurd cc
-    go false allowed = claim_allowed (takes_in s.state s m u) kept allowed
+    go : (b : Bool) → cond b (keep_refusal (takes s m u) kept) (Some CrossedPeriod) ≡ None → kept ≡ true → takes s m u ≡ true
+    go true allowed = claim_allowed (takes s m u) kept allowed
+    go false allowed = absurd cc
 
-pub arrival_took : (s : Station) (unit : SentUnit) (bytes : List ℕ) (arrival : ArrivalValue Truth) (kept : Bool) → ComesOf unit bytes arrival → (is_starting s.state ≡ true → HasNone s) → arrival_refusal crossed s arrival kept ≡ None → Took s (after_arrival s arrival kept) unit.message unit.known kept
-arrival_took s unit bytes (Sound m u) kept (Itself same) none allowed =
-    took_in s unit.known kept s.state unit.message none
-    (λ reads numbered. acts_of_pair s unit.message unit.known.tag reads numbered (not_crossed s unit.message unit.known kept allowed))
-    (sound_claim s unit.message unit.known kept allowed)
-arrival_took s unit bytes HeaderBad kept BadHeader none allowed = nothing_took s unit.known kept _ unit.message (damaged_stays s s.state HeaderCheck) (unkept kept (claim_allowed false kept allowed))
-arrival_took s unit bytes DataBad kept BadData none allowed = nothing_took s unit.known kept _ unit.message (damaged_stays s s.state DataCheck) (unkept kept (claim_allowed false kept allowed))
+pub arrival_took : (s : Station) (unit : SentUnit) (bytes : List ℕ) (arrival : ArrivalValue Truth) (kept : Bool) → ComesOf unit bytes arrival → (is_starting s.state ≡ true → HasNone s) → arrival_refusal judged s arrival kept ≡ None → Took s (after_arrival s arrival kept) unit.message unit.known kept
+arrival_took s unit bytes (Sound m u) kept (Itself same) none allowed = (
+  effects_stay s unit.known unit.message kept (row s.state unit.message).effects,
+  of_row s unit.known unit.message kept (row s.state unit.message).effects (rows_lawful s unit.known.tag s.state unit.message (not_crossed s unit.message unit.known kept allowed)) none (sound_claim s unit.message unit.known kept allowed),
+)
+arrival_took s unit bytes HeaderBad kept BadHeader none allowed = damaged_took s unit.known unit.message kept (counts_damage s.state) HeaderCheck (unkept kept (claim_allowed false kept allowed))
+arrival_took s unit bytes DataBad kept BadData none allowed = damaged_took s unit.known unit.message kept (counts_damage s.state) DataCheck (unkept kept (claim_allowed false kept allowed))

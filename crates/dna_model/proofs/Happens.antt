@@ -17,14 +17,16 @@ use Rattle.dna_model.specs.declared.state.StationEvent.TheVariants.{Start, Halt}
 use Rattle.dna_model.specs.declared.refusal.StationRefusal.{StationRefusal}
 use Rattle.dna_model.specs.declared.refusal.StepRefusal.{StepRefusal}
 use Rattle.dna_model.specs.declared.refusal.StepRefusal.TheVariants.{HintOrder}
-use Rattle.dna_model.specs.Station.{user_refusal, after_event}
+use Rattle.dna_model.specs.Table.{user_refusal}
+use Rattle.dna_model.specs.Rules.{Rules}
+use Rattle.dna_model.specs.Station.{after_event}
 use Rattle.dna_model.specs.Delivery.{begins}
-use Rattle.dna_model.specs.Periods.{PeriodRule}
-use Rattle.dna_model.specs.Sending.{sending_refusal, after_sending}
-use Rattle.dna_model.specs.Truth.{Truth, truth_of}
-use Rattle.dna_model.specs.Arriving.{ArrivalValue, Sound, HeaderBad, DataBad, arrival_refusal, after_arrival}
+use Rattle.dna_model.specs.Truth.{Truth}
+use Rattle.dna_model.specs.Book.{ArrivalValue, Sound, HeaderBad, DataBad}
+use Rattle.dna_model.specs.StationBook.{sending_refusal, after_sending, truth_of, arrival_refusal, after_arrival}
 use Rattle.dna_model.specs.Line.{SentUnit, damage, coming_by, coming}
-use Rattle.dna_model.specs.Node.{Node, does, user_step, sends, sent_step, met, comes, receives, step}
+use Rattle.dna_model.specs.Machine.{does, user_step, sends, sent_step, met, comes, receives, unless_refused}
+use Rattle.dna_model.specs.Node.{Node, station_machine, step}
 
 -- what comes of a unit with these bytes: its message with its truth, where they are the unit's; or damage
 pub data ComesOf (unit : SentUnit) (bytes : List ℕ) : ArrivalValue Truth → Type 0 where
@@ -37,63 +39,68 @@ event_of Start = events.Start
 event_of Halt = events.Halt
 
 -- the half that a record leaves
-pub data Happens (rule : PeriodRule) (own other : Half Node SentUnit) : Record → Half Node SentUnit → Type 0 where
-  Nothing : (event : Event) → begins event ≡ false → Happens rule own other (User event) (stepped own own.state)
+pub data Happens (rules : Rules) (own other : Half Node SentUnit) : Record → Half Node SentUnit → Type 0 where
+  Nothing : (event : Event) → begins event ≡ false → Happens rules own other (User event) (stepped own own.state)
   UserEvent : (event : StationEvent) → user_refusal own.state.station.state event ≡ None →
-      Happens rule own other (User (event_of event)) (stepped own (record own.state { station = after_event own.state.station event }))
+      Happens rules own other (User (event_of event)) (stepped own (record own.state { station = after_event own.state.station event }))
   Sending : (bytes : List ℕ) (m : MessageValue) → reading bytes ≡ read_as.Sound m → sending_refusal own.state.station m ≡ None →
-      Happens rule own other (Sent bytes) (stepped_sending own (record own.state { station = after_sending own.state.station m }) (record { bytes = bytes; message = m; known = truth_of own.state.station m }))
+      Happens rules own other (Sent bytes) (stepped_sending own (record own.state { station = after_sending own.state.station m }) (record { bytes = bytes; message = m; known = truth_of own.state.station m }))
   Receipt : (hint : ℕ) (kept : Bool) (bytes : List ℕ) (unit : SentUnit) (arrival : ArrivalValue Truth) → slice_get other.sent hint ≡ Some unit → own.state.front ≤ hint → ComesOf unit bytes arrival →
-      arrival_refusal rule own.state.station arrival kept ≡ None →
-      Happens rule own other (Received hint kept bytes) (stepped own (record { station = after_arrival own.state.station arrival kept; front = hint + 1 }))
+      arrival_refusal rules own.state.station arrival kept ≡ None →
+      Happens rules own other (Received hint kept bytes) (stepped own (record own.state { station = after_arrival own.state.station arrival kept; front = hint + 1 }))
 
-module _ (rule : PeriodRule) (own other h : Half Node SentUnit) where
-  left : (r : Record) (g : Half Node SentUnit) → Happens rule own other r g → ◌≡◌ {A = Outcome Node SentUnit StepRefusal} (Made g) (Made h) → Happens rule own other r h
-  left r g p e = subst (λ x. Happens rule own other r x) (one_half {Z = StepRefusal} g h e) p
+module _ (rules : Rules) (own other h : Half Node SentUnit) where
+  left : (r : Record) (g : Half Node SentUnit) → Happens rules own other r g → ◌≡◌ {A = Outcome Node SentUnit StepRefusal} (Made g) (Made h) → Happens rules own other r h
+  left r g p e = subst (λ x. Happens rules own other r x) (one_half {Z = StepRefusal} g h e) p
 
-  does_happens : (event : StationEvent) (o : Option StationRefusal) → user_refusal own.state.station.state event ≡ o → answered own other (does own.state event o) ≡ Made h → Happens rule own other (User (event_of event)) h
-  does_happens event None allowed made = left _ _ (UserEvent event allowed) made
-  does_happens event (Some refusal) allowed made = absurd cc
+  event_happens : (event : Event) → answered own other (user_step (station_machine rules) own.state event) ≡ Made h → Happens rules own other (User event) h
+  event_happens events.Start made = go Start _ refl made
+    where
+      go : (event : StationEvent) (o : Option StationRefusal) → user_refusal own.state.station.state event ≡ o → answered own other (does own.state (unless_refused o (after_event own.state.station event))) ≡ Made h → Happens rules own other (User (event_of event)) h
+      go event None allowed made = left _ _ (UserEvent event allowed) made
+      go event (Some refusal) allowed made = absurd cc
+  event_happens events.Halt made = left _ _ (UserEvent Halt refl) made
+  event_happens (events.Open link) made = left _ _ (Nothing (events.Open link) refl) made
+  event_happens (events.Accept partner link) made = left _ _ (Nothing (events.Accept partner link) refl) made
+  event_happens (events.Reject partner link) made = left _ _ (Nothing (events.Reject partner link) refl) made
+  event_happens (events.In link bytes) made = left _ _ (Nothing (events.In link bytes) refl) made
+  event_happens (events.Up link bytes) made = left _ _ (Nothing (events.Up link bytes) refl) made
+  event_happens (events.Close link) made = left _ _ (Nothing (events.Close link) refl) made
 
-  event_happens : (event : Event) → answered own other (user_step own.state event) ≡ Made h → Happens rule own other (User event) h
-  event_happens events.Start made = does_happens Start _ refl made
-  event_happens events.Halt made = does_happens Halt _ refl made
-  event_happens event made = left _ _ (Nothing event refl) made
-
-  sends_happens : (bytes : List ℕ) (m : MessageValue) (o : Option StationRefusal) → reading bytes ≡ read_as.Sound m → sending_refusal own.state.station m ≡ o → answered own other (sends own.state bytes m o) ≡ Made h → Happens rule own other (Sent bytes) h
+  sends_happens : (bytes : List ℕ) (m : MessageValue) (o : Option StationRefusal) → reading bytes ≡ read_as.Sound m → sending_refusal own.state.station m ≡ o → answered own other (sends own.state bytes m (unless_refused o (after_sending own.state.station m, truth_of own.state.station m))) ≡ Made h → Happens rules own other (Sent bytes) h
   sends_happens bytes m None read allowed made = left _ _ (Sending bytes m read allowed) made
   sends_happens bytes m (Some refusal) read allowed made = absurd cc
 
-  sent_happens : (bytes : List ℕ) (r : ReadingValue) → reading bytes ≡ r → answered own other (sent_step own.state bytes r) ≡ Made h → Happens rule own other (Sent bytes) h
+  sent_happens : (bytes : List ℕ) (r : ReadingValue) → reading bytes ≡ r → answered own other (sent_step (station_machine rules) own.state bytes r) ≡ Made h → Happens rules own other (Sent bytes) h
   sent_happens bytes (read_as.Sound m) read made = sends_happens bytes m _ read refl made
   sent_happens bytes read_as.HeaderBad read made = absurd cc
   sent_happens bytes read_as.DataBad read made = absurd cc
   sent_happens bytes (read_as.Malformed departure) read made = absurd cc
 
   module _ (hint : ℕ) (kept : Bool) (bytes : List ℕ) (unit : SentUnit) (there : slice_get other.sent hint ≡ Some unit) (ahead : own.state.front ≤ hint) where
-    met_happens : (arrival : ArrivalValue Truth) → ComesOf unit bytes arrival → (o : Option StationRefusal) → arrival_refusal rule own.state.station arrival kept ≡ o → concluded own (met own.state hint arrival kept o) ≡ Made h → Happens rule own other (Received hint kept bytes) h
+    met_happens : (arrival : ArrivalValue Truth) → ComesOf unit bytes arrival → (o : Option StationRefusal) → arrival_refusal rules own.state.station arrival kept ≡ o → concluded own (met own.state (hint + 1) (unless_refused o (after_arrival own.state.station arrival kept))) ≡ Made h → Happens rules own other (Received hint kept bytes) h
     met_happens arrival of_unit None allowed made = left _ _ (Receipt hint kept bytes unit arrival there ahead of_unit allowed) made
     met_happens arrival of_unit (Some refusal) allowed made = absurd cc
 
-    damage_happens : (r : ReadingValue) → concluded own (comes rule own.state hint kept (damage r)) ≡ Made h → Happens rule own other (Received hint kept bytes) h
+    damage_happens : (r : ReadingValue) → concluded own (comes (station_machine rules) own.state (hint + 1) kept (damage r)) ≡ Made h → Happens rules own other (Received hint kept bytes) h
     damage_happens read_as.HeaderBad made = met_happens HeaderBad BadHeader _ refl made
     damage_happens read_as.DataBad made = met_happens DataBad BadData _ refl made
     damage_happens (read_as.Sound m) made = absurd cc
     damage_happens (read_as.Malformed departure) made = absurd cc
 
-    comes_happens : (same : Bool) (r : ReadingValue) → bytes_eq bytes unit.bytes ≡ same → concluded own (comes rule own.state hint kept (coming_by same unit r)) ≡ Made h → Happens rule own other (Received hint kept bytes) h
+    comes_happens : (same : Bool) (r : ReadingValue) → bytes_eq bytes unit.bytes ≡ same → concluded own (comes (station_machine rules) own.state (hint + 1) kept (coming_by same unit r)) ≡ Made h → Happens rules own other (Received hint kept bytes) h
     comes_happens true r same made = met_happens (Sound unit.message unit.known) (Itself ((bytes_eq-Decides bytes unit.bytes).0 same)) _ refl made
     comes_happens false r same made = damage_happens r made
 
-  read_happens : (hint : ℕ) (kept : Bool) (bytes : List ℕ) (o : Option SentUnit) → slice_get other.sent hint ≡ o → read own (receives rule own.state hint kept bytes) o ≡ Made h → Happens rule own other (Received hint kept bytes) h
+  read_happens : (hint : ℕ) (kept : Bool) (bytes : List ℕ) (o : Option SentUnit) → slice_get other.sent hint ≡ o → read own (receives (station_machine rules) own.state hint kept bytes) o ≡ Made h → Happens rules own other (Received hint kept bytes) h
   read_happens hint kept bytes None there made = absurd cc
   read_happens hint kept bytes (Some unit) there made = go (nat_lt hint own.state.front) refl made
     where
-      go : (b : Bool) → nat_lt hint own.state.front ≡ b → concluded own (cond b (Err HintOrder) (comes rule own.state hint kept (coming unit bytes))) ≡ Made h → Happens rule own other (Received hint kept bytes) h
+      go : (b : Bool) → nat_lt hint own.state.front ≡ b → concluded own (cond b (Err HintOrder) (comes (station_machine rules) own.state (hint + 1) kept (coming unit bytes))) ≡ Made h → Happens rules own other (Received hint kept bytes) h
       go true e made = absurd cc
       go false e made = comes_happens hint kept bytes unit there (ltb-false hint own.state.front e) (bytes_eq bytes unit.bytes) (reading bytes) refl made
 
-  pub happens : (r : Record) → advance (step rule) own other r ≡ Made h → Happens rule own other r h
+  pub happens : (r : Record) → advance (step rules) own other r ≡ Made h → Happens rules own other r h
   happens (Sent bytes) made = sent_happens bytes (reading bytes) refl made
   happens (Received hint kept bytes) made = read_happens hint kept bytes (slice_get other.sent hint) refl made
   happens (User event) made = event_happens event made

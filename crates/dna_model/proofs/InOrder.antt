@@ -10,8 +10,10 @@ use Rattle.dna_model.specs.Station.{Station, PastPeriod, past, after_event}
 use Rattle.dna_model.specs.Delivery.{periods}
 use Rattle.dna_model.specs.Line.{SentUnit}
 use Rattle.dna_model.proofs.NumberedSteps.{at_pushed}
-use Rattle.dna_model.proofs.DeliveredSteps.{Stays, TookPacket}
-use Rattle.dna_model.proofs.Partnered.{is_data, Partnered}
+use Rattle.dna_model.proofs.Effects.{Stays}
+use Rattle.dna_model.proofs.DeliveredSteps.{TookPacket}
+use Rattle.dna_model.proofs.StationNumbers.{is_data}
+use Rattle.dna_model.proofs.Partnered.{Partnered}
 
 -- a packet was taken in this period, from a data message among the first ones of the other side
 pub record TakenFrom (other : List SentUnit) (front q : ℕ) (partner : Option ℕ) : Type 0 where

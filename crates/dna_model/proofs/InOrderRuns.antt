@@ -7,38 +7,26 @@ use Rattle.two_nodes.specs.Kept.{IsKept}
 use Rattle.two_nodes.proofs.Order.{slice_get-append}
 use Rattle.ddcmp_msg.specs.Message.{MessageValue, Data, Ack, Nak, Rep, Strt, Stack}
 use Rattle.capture.specs.declared.record.Record.{Record}
+use Rattle.dna_model.specs.declared.head.Head.{Head}
 use Rattle.dna_model.specs.declared.state.StationEvent.TheVariants.{Start, Halt}
-use Rattle.dna_model.specs.Station.{Station, past, all_given}
+use Rattle.dna_model.specs.Station.{Station, new_station, past, all_given}
 use Rattle.dna_model.specs.Delivery.{AreAmong, all_taken}
-use Rattle.dna_model.specs.Periods.{crossed}
-use Rattle.dna_model.specs.Sending.{after_sending}
-use Rattle.dna_model.specs.Arriving.{after_arrival}
+use Rattle.dna_model.specs.Rules.{judged}
+use Rattle.dna_model.specs.StationBook.{after_sending}
+use Rattle.dna_model.specs.StationBook.{after_arrival}
 use Rattle.dna_model.specs.Line.{SentUnit}
 use Rattle.dna_model.specs.Node.{Node, new_node}
 use Rattle.dna_model.specs.Pair.{pair, start}
 use Rattle.dna_model.proofs.Happens.{Happens, Nothing, UserEvent, Sending, Receipt, happens}
 use Rattle.dna_model.proofs.StationNumbers.{unit_of}
 use Rattle.dna_model.proofs.StationBounds.{IsSound}
-use Rattle.dna_model.proofs.DeliveredSteps.{Offers, Stays, TookBy, arrival_took}
+use Rattle.dna_model.proofs.Effects.{Stays, sending_stays}
+use Rattle.dna_model.proofs.DeliveredSteps.{Offers, TookBy, arrival_took}
 use Rattle.dna_model.proofs.DeliveredRuns.{delivers_from}
 use Rattle.dna_model.proofs.DeliveredCaptures.{BothCaptured, captured_kept, start_captured}
 use Rattle.dna_model.proofs.Partnered.{Partnered, new_partnered, event_partnered, sending_partnered, receipt_partnered}
 use Rattle.dna_model.proofs.InOrder.{TakesInOrder, all_from, all_rising, takes_beside, takes_last, takes_none, takes_start, takes_packet}
 use Rattle.dna_model.proofs.Among.{taken_among_given}
-
--- a sending takes nothing
-record TakesNothing (s t : Station) : Type 0 where
-  earlier : t.earlier ≡ s.earlier
-  partner : t.partner ≡ s.partner
-  taken : t.taken ≡ s.taken
-
-sending_takes : (s : Station) (m : MessageValue) → TakesNothing s (after_sending s m)
-sending_takes s (Data flags resp num body) = record { earlier = refl; partner = refl; taken = refl }
-sending_takes s (Ack flags resp) = record { earlier = refl; partner = refl; taken = refl }
-sending_takes s (Nak flags reason resp) = record { earlier = refl; partner = refl; taken = refl }
-sending_takes s (Rep flags num) = record { earlier = refl; partner = refl; taken = refl }
-sending_takes s (Strt flags) = record { earlier = refl; partner = refl; taken = refl }
-sending_takes s (Stack flags) = record { earlier = refl; partner = refl; taken = refl }
 
 -- of a node beside the units of the other
 pub record OwnOrder (n : Node) (own other : List SentUnit) : Type 0 where
@@ -55,7 +43,7 @@ module _ (own other : Half Node SentUnit) (h : IsSound own.state own.sent other.
   receipt_takes hint kept unit t there ahead stays (inr (inr (x, e))) =
       takes_packet own.state.station t other.sent own.sent own.state.front hint unit there ahead o.count other.state.station theirs p.takes stays x
 
-  order_own : (r : Record) (left : Half Node SentUnit) → Happens crossed own other r left → OwnOrder left.state left.sent other.sent
+  order_own : (r : Record) (left : Half Node SentUnit) → Happens judged own other r left → OwnOrder left.state left.sent other.sent
   order_own r left (Nothing event none) = p
   order_own r left (UserEvent Start allowed) = record { partnered = event_partnered own.state own.sent other.sent Start h p.partnered; takes = takes_start own.state.station other.sent own.state.front p.takes }
   order_own r left (UserEvent Halt allowed) = record {
@@ -63,7 +51,7 @@ module _ (own other : Half Node SentUnit) (h : IsSound own.state own.sent other.
     takes = takes_last own.state.station _ other.sent own.state.front p.takes refl refl refl;
   }
   order_own r left (Sending bytes m read allowed) =
-      let t = sending_takes own.state.station m in
+      let t = sending_stays own.state.station m in
       record {
         partnered = sending_partnered own.state own.sent other.sent bytes m h p.partnered;
         takes = takes_last own.state.station (after_sending own.state.station m) other.sent own.state.front p.takes t.earlier t.partner t.taken;
@@ -77,7 +65,7 @@ module _ (own other : Half Node SentUnit) (h : IsSound own.state own.sent other.
 
 module _ (own other : Half Node SentUnit) (p : OwnOrder other.state other.sent own.sent) where
   -- the other side, beside what this record left
-  order_other : (r : Record) (left : Half Node SentUnit) → Happens crossed own other r left → OwnOrder other.state other.sent left.sent
+  order_other : (r : Record) (left : Half Node SentUnit) → Happens judged own other r left → OwnOrder other.state other.sent left.sent
   order_other r left (Nothing event none) = p
   order_other r left (UserEvent event allowed) = p
   order_other r left (Sending bytes m read allowed) = record {
@@ -96,14 +84,14 @@ pub record BothInOrder (w : World Node SentUnit) (of_a of_b : List Record) : Typ
 pub order_kept : IsKept pair BothInOrder
 order_kept = record {
   by_a = λ w made_a made_b r h c made.
-      let what = happens crossed w.a w.b h r made in
+      let what = happens judged w.a w.b h r made in
       record {
         captured = captured_kept.by_a w made_a made_b r h c.captured made;
         a_order = order_own w.a w.b c.captured.both.sound.of_a c.captured.both.a_offers c.b_order.partnered c.a_order r h what;
         b_order = order_other w.a w.b c.b_order r h what;
       };
   by_b = λ w made_a made_b r h c made.
-      let what = happens crossed w.b w.a h r made in
+      let what = happens judged w.b w.a h r made in
       record {
         captured = captured_kept.by_b w made_a made_b r h c.captured made;
         a_order = order_other w.b w.a c.a_order r h what;
@@ -111,17 +99,17 @@ order_kept = record {
       };
 }
 
-new_takes : TakesInOrder new_node.station [] 0
+new_takes : TakesInOrder new_station [] 0
 new_takes = record {
-  from = all_from [] (past new_node.station) [] 0 (λ q x at. absurd cc) (λ q r x y less at_q at_r. absurd cc) (inl refl) (λ q x at. absurd cc);
-  rising = all_rising [] (past new_node.station) [] 0 (λ q x at. absurd cc) (λ q r x y less at_q at_r. absurd cc) (inl refl) (λ q x at. absurd cc);
+  from = all_from [] (past new_station) [] 0 (λ q x at. absurd cc) (λ q r x y less at_q at_r. absurd cc) (inl refl) (λ q x at. absurd cc);
+  rising = all_rising [] (past new_station) [] 0 (λ q x at. absurd cc) (λ q r x y less at_q at_r. absurd cc) (inl refl) (λ q x at. absurd cc);
 }
 
-new_order : OwnOrder new_node [] []
-new_order = record { partnered = new_partnered new_node.station; takes = new_takes }
+new_order : (head : Head) → OwnOrder (new_node head) [] []
+new_order head = record { partnered = new_partnered new_station; takes = new_takes }
 
-pub start_order : BothInOrder start [] []
-start_order = record { captured = start_captured; a_order = new_order; b_order = new_order }
+pub start_order : (head_a head_b : Head) → BothInOrder (start head_a head_b) [] []
+start_order head_a head_b = record { captured = start_captured head_a head_b; a_order = new_order head_a; b_order = new_order head_b }
 
 pub a_among : (w : World Node SentUnit) (of_a of_b : List Record) → BothInOrder w of_a of_b → AreAmong (all_taken w.a.state.station) (all_given w.b.state.station)
 a_among w of_a of_b h = taken_among_given w.a.state.station w.b.state.station (delivers_from w.a.state.station w.b.state.station h.captured.both.a_delivers) h.a_order.takes.rising

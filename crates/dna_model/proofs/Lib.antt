@@ -1,11 +1,18 @@
 -- what a record alone tells
-pub mod Tells
 -- worked rows
 mod RowUnits
 mod Rows
 mod TransferRows
 mod OrderRows
 mod StationRows
+-- a pair for each rule of the station
+mod PairUnits
+mod PairRowsUser
+mod PairRowsSending
+mod PairRowsHalted
+mod PairRowsIstrt
+mod PairRowsAstrt
+mod PairRowsRunning
 -- worked rows of links
 mod LinkRowMessages
 mod LinkRowSteps
@@ -19,10 +26,14 @@ mod LinkWindowRows
 mod LinkRunRows
 -- what holds of one station, and its cut to what a node keeps
 mod Modulo
+-- what is tested of a message that may be sent
+pub mod Checks
+mod Effects
 mod Ordered
 mod CutSending
 mod CutArriving
 mod CutLabel
+mod MachineSame
 mod CutNode
 mod Loads
 -- what holds of one flow, and its cut to what a node keeps
@@ -41,19 +52,21 @@ mod NumberedSteps
 mod Happens
 mod StationNumbers
 mod StationBounds
+mod Lawful
 mod ReceiptBounds
 mod RunBounds
 -- what is delivered, in every run
 mod Delivered
 mod DeliveredSteps
-mod CutTaken
 mod DeliveredRuns
 mod Places
-mod DeliveredCaptures
+pub mod DeliveredCaptures
+mod Offered
 mod Partnered
 mod InOrder
 mod Among
 mod InOrderRuns
+mod OfferedRuns
 -- the links of both sides, in every run
 mod LinkTables
 mod LinkWords

@@ -1,5 +1,5 @@
 -- Which periods the data messages of a side belong to: their own periods rise, and those of one period have one partner.
-use Rattle.std.proofs.Common.{◌≡◌, ℕ, ◌<◌, ◌≤◌, ◌⊎◌, inl, inr, Bool, true, false, Some, List, [], ◌∷◌, ◌++◌, length, refl, sym, ap, ◌∙◌, arith}
+use Rattle.std.proofs.Common.{◌≡◌, ℕ, ◌<◌, ◌≤◌, ◌⊎◌, inl, inr, Bool, true, Some, List, [], ◌∷◌, ◌++◌, length, refl, sym, ap, ◌∙◌, arith}
 use Rattle.std.specs.Prelude.{slice_get}
 use Rattle.std.proofs.lemmas.Option.{slice_get_within}
 use Rattle.ddcmp_msg.specs.Message.{MessageValue, Data, Ack, Nak, Rep, Strt, Stack}
@@ -7,20 +7,17 @@ use Rattle.dna_model.specs.declared.state.StationEvent.{StationEvent}
 use Rattle.dna_model.specs.declared.state.StationEvent.TheVariants.{Start, Halt}
 use Rattle.dna_model.specs.Station.{Station, given, after_event}
 use Rattle.dna_model.specs.Delivery.{periods}
-use Rattle.dna_model.specs.Sending.{after_sending}
+use Rattle.dna_model.specs.StationBook.{after_sending}
 use Rattle.dna_model.specs.Truth.{Truth}
 use Rattle.dna_model.specs.Line.{SentUnit}
 use Rattle.dna_model.specs.Node.{Node}
 use Rattle.dna_model.proofs.NumberedSteps.{at_pushed}
 use Rattle.dna_model.proofs.Numbered.{IsGiven}
-use Rattle.dna_model.proofs.StationNumbers.{limits, data_number, unit_of}
-use Rattle.dna_model.proofs.StationBounds.{HasNone, IsSound, StaysAs, sending_stays}
+use Rattle.dna_model.proofs.StationNumbers.{limits, is_data, data_number, unit_of}
+use Rattle.dna_model.proofs.StationBounds.{HasNone, IsSound}
 use Rattle.dna_model.proofs.Delivered.{IsOffered}
-use Rattle.dna_model.proofs.DeliveredSteps.{Offers, Stays, TookBy, Took}
-
-abbrev pub is_data : MessageValue → Bool
-is_data (Data flags resp num body) = true
-is_data m = false
+use Rattle.dna_model.proofs.Effects.{Stays, StaysAs, sending_stays}
+use Rattle.dna_model.proofs.DeliveredSteps.{Offers, TookBy, Took}
 
 pub record Partnered (s : Station) (own : List SentUnit) : Type 0 where
   pub rise : (i j : ℕ) (u v : SentUnit) → i < j → slice_get own i ≡ Some u → slice_get own j ≡ Some v → u.known.tag.period ≤ v.known.tag.period

@@ -7,26 +7,26 @@ use Rattle.two_nodes.specs.Kept.{IsKept}
 use Rattle.two_nodes.proofs.Order.{slice_get-append}
 use Rattle.ddcmp_msg.specs.Message.{MessageValue, Data, Ack, Nak, Rep, Strt, Stack}
 use Rattle.capture.specs.declared.record.Record.{Record}
-use Rattle.dna_model.specs.declared.state.State.{State}
-use Rattle.dna_model.specs.declared.state.State.TheVariants.{Halted, Istrt, Astrt, Running}
+use Rattle.dna_model.specs.declared.head.Head.{Head}
 use Rattle.dna_model.specs.declared.state.StationEvent.TheVariants.{Start, Halt}
 use Rattle.dna_model.specs.Station.{Station, PastPeriod, past, packets_of, all_given, after_event}
-use Rattle.dna_model.specs.Periods.{crossed}
-use Rattle.dna_model.specs.Sending.{is_new, sending_refusal_in, after_sending, with_packet}
-use Rattle.dna_model.specs.Truth.{Truth, truth_of}
+use Rattle.dna_model.specs.Rules.{judged}
+use Rattle.dna_model.specs.Truth.{Truth}
+use Rattle.dna_model.specs.StationBook.{is_new, sending_refusal, after_sending, with_packet, truth_of}
 use Rattle.dna_model.specs.Delivery.{BeginsWith, CarriesItsPacket}
-use Rattle.dna_model.specs.Arriving.{after_arrival}
+use Rattle.dna_model.specs.StationBook.{after_arrival}
 use Rattle.dna_model.specs.Line.{SentUnit}
 use Rattle.dna_model.specs.Node.{Node}
 use Rattle.dna_model.specs.Pair.{pair, start}
-use Rattle.dna_model.proofs.Ordered.{data_passed}
+use Rattle.dna_model.proofs.Checks.{sending_passed}
 use Rattle.dna_model.proofs.Happens.{Happens, Nothing, UserEvent, Sending, Receipt, happens}
 use Rattle.dna_model.proofs.NumberedSteps.{at_pushed}
 use Rattle.dna_model.proofs.StationNumbers.{unit_of}
 use Rattle.dna_model.proofs.StationBounds.{IsSound}
 use Rattle.dna_model.proofs.RunBounds.{BothSound, sound_kept, start_sound}
 use Rattle.dna_model.proofs.Delivered.{begins_same}
-use Rattle.dna_model.proofs.DeliveredSteps.{arrival_took, packet_there, packets_begin}
+use Rattle.dna_model.proofs.DeliveredSteps.{arrival_took, packet_there, sending_begins}
+use Rattle.dna_model.proofs.Effects.{sending_stays}
 
 -- an item behind a list
 item_behind : {X : Type 0} (xs ys : List X) (i : ℕ) → slice_get (xs ++ ys) (length xs + i) ≡ slice_get ys i
@@ -64,26 +64,19 @@ given_more s t earlier more = record {
 }
 
 given_sending : (s : Station) (m : MessageValue) → BeginsWith (all_given (after_sending s m)) (all_given s)
-given_sending s (Data flags resp num body) = given_more s (after_sending s (Data flags resp num body)) refl (packets_begin (is_new s) s.packets body)
-given_sending s (Ack flags resp) = begins_same (all_given s)
-given_sending s (Nak flags reason resp) = begins_same (all_given s)
-given_sending s (Rep flags num) = begins_same (all_given s)
-given_sending s (Strt flags) = begins_same (all_given s)
-given_sending s (Stack flags) = begins_same (all_given s)
+given_sending s m = given_more s (after_sending s m) (sending_stays s m).earlier (sending_begins s m)
 
 -- ---- what is sent
 
-sent_at_place : (s : Station) (state : State) (m : MessageValue) → sending_refusal_in state s m ≡ None → CarriesItsPacket (all_given (after_sending s m)) m (truth_of s m)
-sent_at_place s Running (Data flags resp num body) e =
-    item_behind (packets_of s.earlier) (with_packet (is_new s) s.packets body) (s.next_to_send - 1) ∙ packet_there s (is_new s) body refl (data_passed s num resp body e).2
-sent_at_place s Halted (Data flags resp num body) e = absurd cc
-sent_at_place s Istrt (Data flags resp num body) e = absurd cc
-sent_at_place s Astrt (Data flags resp num body) e = absurd cc
-sent_at_place s state (Ack flags resp) e = tt
-sent_at_place s state (Nak flags reason resp) e = tt
-sent_at_place s state (Rep flags num) e = tt
-sent_at_place s state (Strt flags) e = tt
-sent_at_place s state (Stack flags) e = tt
+sent_at_place : (s : Station) (m : MessageValue) → sending_refusal s m ≡ None → CarriesItsPacket (all_given (after_sending s m)) m (truth_of s m)
+sent_at_place s (Data flags resp num body) e =
+    item_behind (packets_of s.earlier) (with_packet (is_new s) s.packets body) (s.next_to_send - 1)
+    ∙ packet_there s (is_new s) body refl (sending_passed s (Data flags resp num body) refl e).1.1.1.0
+sent_at_place s (Ack flags resp) e = tt
+sent_at_place s (Nak flags reason resp) e = tt
+sent_at_place s (Rep flags num) e = tt
+sent_at_place s (Strt flags) e = tt
+sent_at_place s (Stack flags) e = tt
 
 -- ---- any record
 
@@ -91,7 +84,7 @@ module _ (own other : Half Node SentUnit) (h : IsSound own.state own.sent other.
   places_still : (t : Station) → BeginsWith (all_given t) (all_given own.state.station) → AtPlaces t own.sent
   places_still t b i unit at = carried_still unit.message unit.known (all_given own.state.station) (all_given t) (p i unit at) b
 
-  places_left : (r : Record) (left : Half Node SentUnit) → Happens crossed own other r left → AtPlaces left.state.station left.sent
+  places_left : (r : Record) (left : Half Node SentUnit) → Happens judged own other r left → AtPlaces left.state.station left.sent
   places_left r left (Nothing event none) = p
   places_left r left (UserEvent Start allowed) = places_still (after_event own.state.station Start) (given_start own.state.station)
   places_left r left (UserEvent Halt allowed) = p
@@ -99,7 +92,7 @@ module _ (own other : Half Node SentUnit) (h : IsSound own.state own.sent other.
     where
       go : (unit : SentUnit) → {i : ℕ} → (slice_get own.sent i ≡ Some unit) ⊎ ((i ≡ length own.sent) × (unit_of own.state.station bytes m ≡ unit)) → CarriesItsPacket (all_given (after_sending own.state.station m)) unit.message unit.known
       go unit {i} (inl a) = places_still (after_sending own.state.station m) (given_sending own.state.station m) i unit a
-      go unit (inr a) = subst (λ (x : SentUnit). CarriesItsPacket (all_given (after_sending own.state.station m)) x.message x.known) a.1 (sent_at_place own.state.station own.state.station.state m allowed)
+      go unit (inr a) = subst (λ (x : SentUnit). CarriesItsPacket (all_given (after_sending own.state.station m)) x.message x.known) a.1 (sent_at_place own.state.station m allowed)
   places_left r left (Receipt hint kept bytes unit arrival there ahead of_unit allowed) =
       let stays = (arrival_took own.state.station unit bytes arrival kept of_unit h.none allowed).0 in
       places_still (after_arrival own.state.station arrival kept) (given_same own.state.station (after_arrival own.state.station arrival kept) stays.earlier stays.packets)
@@ -117,15 +110,15 @@ pub places_kept : IsKept pair places_property
 places_kept = record {
   by_a = λ w made_a made_b r h both made. record {
     sound = sound_kept.by_a w made_a made_b r h both.sound made;
-    of_a = places_left w.a w.b both.sound.of_a both.of_a r h (happens crossed w.a w.b h r made);
+    of_a = places_left w.a w.b both.sound.of_a both.of_a r h (happens judged w.a w.b h r made);
     of_b = both.of_b;
   };
   by_b = λ w made_a made_b r h both made. record {
     sound = sound_kept.by_b w made_a made_b r h both.sound made;
     of_a = both.of_a;
-    of_b = places_left w.b w.a both.sound.of_b both.of_b r h (happens crossed w.b w.a h r made);
+    of_b = places_left w.b w.a both.sound.of_b both.of_b r h (happens judged w.b w.a h r made);
   };
 }
 
-pub start_at_places : BothAtPlaces start
-start_at_places = record { sound = start_sound; of_a = λ i unit at. absurd cc; of_b = λ i unit at. absurd cc }
+pub start_at_places : (head_a head_b : Head) → BothAtPlaces (start head_a head_b)
+start_at_places head_a head_b = record { sound = start_sound head_a head_b; of_a = λ i unit at. absurd cc; of_b = λ i unit at. absurd cc }

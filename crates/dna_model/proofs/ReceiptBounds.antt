@@ -1,251 +1,161 @@
--- The bounds of DDCMP are kept by a receipt; and a message that is acted on comes within them.
-use Rattle.std.proofs.Common.{◌≡◌, ℕ, ◌+◌, ◌≤◌, Bool, true, false, ◌&&◌, not, eqb, ltb, leb, cond, Option, Some, None, List, length, refl, sym, ap, ◌∙◌, subst, arith, eqb-true, ltb-true}
+-- The bounds of DDCMP are kept by a receipt, effect by effect; and a message that is acted on comes within them.
+use Rattle.std.proofs.Common.{◌≡◌, ℕ, ◌+◌, ◌-◌, ◌≤◌, Bool, true, false, ◌&&◌, eqb, ltb, leb, cond, Some, None, List, [], ◌∷◌, fold, length, refl, sym, ap, ◌∙◌, arith, eqb-true, ltb-true}
 use Rattle.std.specs.Prelude.{slice_get}
-use Rattle.std.proofs.lemmas.Bool.{and_parts, cond_both, not-false}
+use Rattle.std.proofs.lemmas.Bool.{and_parts}
 use Rattle.std.proofs.lemmas.Option.{slice_get_within}
-use Rattle.ddcmp_msg.specs.Message.{MessageValue, Data, Ack, Nak, Rep, Strt, Stack}
 use Rattle.ddcmp_msg.specs.declared.nak_reason.NakReason.{NakReason}
 use Rattle.ddcmp_msg.specs.declared.nak_reason.NakReason.TheVariants.{HeaderCheck, DataCheck}
 use Rattle.dna_model.specs.declared.state.State.{State}
-use Rattle.dna_model.specs.declared.state.State.TheVariants.{Halted, Istrt, Astrt, Running}
-use Rattle.dna_model.specs.declared.tag.Tag.{Tag}
-use Rattle.dna_model.specs.declared.refusal.StationRefusal.TheVariants.{CrossedPeriod}
+use Rattle.dna_model.specs.Table.{WINDOW, Effect, GoTo, TakePartner, Respond, SetBack, TakePacket, AnswerRep, row, counts_damage}
+use Rattle.dna_model.specs.Rules.{judged}
 use Rattle.dna_model.specs.Station.{Station, given}
-use Rattle.dna_model.specs.Periods.{is_period, is_fresh, is_of_pair, crossed_in, crossed}
 use Rattle.dna_model.specs.Truth.{Truth}
-use Rattle.dna_model.specs.Arriving.{ArrivalValue, Sound, HeaderBad, DataBad, standing, is_next, acknowledged_by, responded, set_back, with_data, data_arrived, asked, arrived_in, damaged_in, arrival_refusal, keep_refusal, takes_in, after_arrival}
-use Rattle.dna_model.specs.Bounds.{NumbersAreNear, reads_numbers, IsWithin}
+use Rattle.dna_model.specs.Book.{ArrivalValue, Sound, HeaderBad, DataBad, body_of}
+use Rattle.dna_model.specs.StationBook.{meets_needs, acknowledged_by, is_next, with_data, asked, does, station_book, arrival_refusal, after_arrival}
+use Rattle.dna_model.specs.Bounds.{IsNear as IsNearEffect, AreNear, IsWithin}
 use Rattle.dna_model.specs.Line.{SentUnit}
 use Rattle.dna_model.specs.Node.{Node}
 use Rattle.dna_model.proofs.Ordered.{arrival_ordered}
+use Rattle.dna_model.proofs.Effects.{by_response, by_packet, by_rep}
+use Rattle.dna_model.proofs.CutNode.{not_crossed}
 use Rattle.dna_model.proofs.Happens.{ComesOf, Itself, BadHeader, BadData}
-use Rattle.dna_model.proofs.Numbered.{Numbers, IsNear, AreNumbered, IsPresent, AcksFrom, IsGiven, NumberNear, near}
+use Rattle.dna_model.proofs.Numbered.{IsNear, AreNumbered, IsPresent, AcksFrom, IsGiven, NumberNear, near}
 use Rattle.dna_model.proofs.NumberedSteps.{present_further, present_received, present_acknowledged, present_new}
-use Rattle.dna_model.proofs.StationNumbers.{limits, numbers_of, view, AsksForHighest, data_number, responses}
+use Rattle.dna_model.proofs.StationNumbers.{limits, numbers_of, view, AsksForHighest, has_response, is_data}
 use Rattle.dna_model.proofs.StationBounds.{is_starting, HasNone, IsTold, IsSound}
+use Rattle.dna_model.proofs.Lawful.{IsOfPair, goes, IsLawfulEffect, AreLawful, rows_lawful}
 
--- ---- the rule on periods
+-- ---- what a message says of its RESP and its NUM
 
-known_period : (o : Option ℕ) (period : ℕ) → is_period o period ≡ true → o ≡ Some period
-known_period None period e = absurd cc
-known_period (Some known) period e = ap Some (eqb-true known period e)
+acks_of : (u : Truth) (last most : ℕ) (has : Bool) → has ≡ true → AcksFrom limits last most (cond has (u.response ∷ []) []) → (last ≤ u.response) × (u.response ≤ most)
+acks_of u last most true e acks = let a = acks.0 in (omega arith, acks.1)
+acks_of u last most false e acks = absurd cc
 
--- a message of the pair
-pub record IsOfPair (s : Station) (tag : Tag) : Type 0 where
-  pub from : s.partner ≡ Some tag.period
-  pub to : tag.partner ≡ Some s.period
+near_of : (u : Truth) (received : ℕ) (has : Bool) → has ≡ true → NumberNear limits (cond has (Some u.number) None) received → (received ≤ u.number + (WINDOW - 1)) × (u.number ≤ received + WINDOW)
+near_of u received true e number = number
+near_of u received false e number = absurd cc
 
-of_pair : (s : Station) (tag : Tag) → is_of_pair (standing s) tag ≡ true → IsOfPair s tag
-of_pair s tag e =
-    let p = and_parts (is_period s.partner tag.period) (is_period tag.partner s.period) e in
-    record { from = known_period s.partner tag.period p.0; to = known_period tag.partner s.period p.1 }
-
-behind_test : (a b : Bool) → a ≡ true → (a && not b) ≡ false → b ≡ true
-behind_test true b e f = not-false b f
-behind_test false b e f = absurd cc
-
--- whether a message's RESP or NUM is looked at
-abbrev pub is_numbered : MessageValue → Bool
-is_numbered (Strt flags) = false
-is_numbered (Stack flags) = false
-is_numbered m = true
-
-pair_in : (state : State) (m : MessageValue) (fresh pair : Bool) → reads_numbers state m ≡ true → is_numbered m ≡ true → crossed_in state m fresh pair ≡ false → pair ≡ true
-pair_in Running (Ack flags resp) fresh pair reads numbered e = not-false pair e
-pair_in Running (Nak flags reason resp) fresh pair reads numbered e = not-false pair e
-pair_in Running (Rep flags num) fresh pair reads numbered e = not-false pair e
-pair_in Running (Data flags resp num body) fresh pair reads numbered e = not-false pair e
-pair_in Running (Strt flags) fresh pair reads numbered e = absurd cc
-pair_in Running (Stack flags) fresh pair reads numbered e = absurd cc
-pair_in Astrt (Data flags resp num body) fresh pair reads numbered e = behind_test (eqb resp 0) pair reads e
-pair_in Astrt (Ack flags resp) fresh pair reads numbered e = absurd cc
-pair_in Astrt (Nak flags reason resp) fresh pair reads numbered e = absurd cc
-pair_in Astrt (Rep flags num) fresh pair reads numbered e = absurd cc
-pair_in Astrt (Strt flags) fresh pair reads numbered e = absurd cc
-pair_in Astrt (Stack flags) fresh pair reads numbered e = absurd cc
-pair_in Halted m fresh pair reads numbered e = absurd cc
-pair_in Istrt m fresh pair reads numbered e = absurd cc
-
--- a message whose numbers are looked at is of the pair
-pub acts_of_pair : (s : Station) (m : MessageValue) (tag : Tag) → reads_numbers s.state m ≡ true → is_numbered m ≡ true → crossed (standing s) m tag ≡ false → IsOfPair s tag
-acts_of_pair s m tag reads numbered e = of_pair s tag (pair_in s.state m (is_fresh (standing s) tag) (is_of_pair (standing s) tag) reads numbered e)
-
-pub not_crossed : (s : Station) (m : MessageValue) (u : Truth) (kept : Bool) → arrival_refusal crossed s (Sound m u) kept ≡ None → crossed (standing s) m u.tag ≡ false
-not_crossed s m u kept = go (crossed (standing s) m u.tag) refl
-  where
-    go : (b : Bool) → crossed (standing s) m u.tag ≡ b → cond b (Some CrossedPeriod) (keep_refusal (takes_in s.state s m u) kept) ≡ None → crossed (standing s) m u.tag ≡ false
-    go true e allowed = absurd cc
-    go false e allowed = e
-
--- ---- a message comes within the bounds
-
-numbers_near : (s : Station) (m : MessageValue) (u : Truth) → AcksFrom limits s.acknowledged (given s) (responses m u) → NumberNear limits (data_number m u) s.received → s.received ≤ u.given → u.given ≤ s.received + 255 → AsksForHighest m u → NumbersAreNear s m u
-numbers_near s (Data flags resp num body) u acks number least most asks =
-    let a = acks.0 in (record { least = omega arith; most = acks.1 }, record { least = number.0; most = number.1 })
-numbers_near s (Ack flags resp) u acks number least most asks = let a = acks.0 in record { least = omega arith; most = acks.1 }
-numbers_near s (Nak flags reason resp) u acks number least most asks = let a = acks.0 in record { least = omega arith; most = acks.1 }
-numbers_near s (Rep flags num) u acks number least most asks = record { least = omega arith; most = omega arith }
-numbers_near s (Strt flags) u acks number least most asks = tt
-numbers_near s (Stack flags) u acks number least most asks = tt
-
-no_numbers : (s : Station) (m : MessageValue) (u : Truth) → is_numbered m ≡ false → NumbersAreNear s m u
-no_numbers s (Data flags resp num body) u e = absurd cc
-no_numbers s (Ack flags resp) u e = absurd cc
-no_numbers s (Nak flags reason resp) u e = absurd cc
-no_numbers s (Rep flags num) u e = absurd cc
-no_numbers s (Strt flags) u e = tt
-no_numbers s (Stack flags) u e = tt
+given_of : (u : Truth) (has : Bool) → has ≡ true → IsGiven limits (cond has (Some u.number) None) u.given → u.number ≤ u.given
+given_of u true e number = number.0
+given_of u false e number = absurd cc
 
 module _ (n : Node) (own other : List SentUnit) (h : IsSound n own other) (theirs : AreNumbered view limits other own) (k : ℕ) (unit : SentUnit) (there : slice_get other k ≡ Some unit) (coming : n.front ≤ k) where
   is_near : IsOfPair n.station unit.known.tag → IsNear limits (numbers_of n.station) (view unit)
   is_near pair = near view limits own other n.front (numbers_of n.station) theirs h.present k unit there coming pair.from pair.to
 
+  -- ---- a message comes within the bounds
+
+  module _ (asks : AsksForHighest unit.message unit.known) where
+    effect_near : (now : State) (effect : Effect) → IsLawfulEffect n.station unit.message unit.known.tag now effect → IsNearEffect n.station unit.known effect
+    effect_near now Respond l = let a = acks_of unit.known n.station.acknowledged (given n.station) (has_response unit.message) l.1 (is_near l.2).acks in record { least = a.0; most = a.1 }
+    effect_near now TakePacket l = let a = near_of unit.known n.station.received (is_data unit.message) l.1 (is_near l.2).number in let p = a.0 in record { least = omega arith; most = a.1 }
+    effect_near now AnswerRep l = let x = is_near l.1 in let e = asks l.0 in let p = x.given_least in let q = x.given_most in record { least = omega arith; most = omega arith }
+    effect_near now (GoTo state) l = tt
+    effect_near now TakePartner l = tt
+    effect_near now SetBack l = tt
+
+    effects_near : (now : State) (effects : List Effect) → AreLawful n.station unit.message unit.known.tag now effects → AreNear n.station unit.known effects
+    effects_near now [] l = tt
+    effects_near now (effect ∷ next) l = (effect_near now effect l.0, effects_near (goes now effect) next l.1)
+
+  lawful_row : meets_needs judged n.station unit.message unit.known ≡ true → AreLawful n.station unit.message unit.known.tag n.station.state (row n.station.state unit.message).effects
+  lawful_row met = rows_lawful n.station unit.known.tag n.station.state unit.message met
+
   -- a message that is met, and not refused by the rule on periods, is within the bounds
-  pub within : (period : ℕ) → IsTold period unit → crossed (standing n.station) unit.message unit.known.tag ≡ false → IsWithin n.station unit.message unit.known
-  within period told e = record { wire_numbers = told.spelled; near = λ reads. go (is_numbered unit.message) refl reads }
-    where
-      go : (b : Bool) → is_numbered unit.message ≡ b → reads_numbers n.station.state unit.message ≡ true → NumbersAreNear n.station unit.message unit.known
-      go false f reads = no_numbers n.station unit.message unit.known f
-      go true f reads =
-          let x = is_near (acts_of_pair n.station unit.message unit.known.tag reads f e) in
-          numbers_near n.station unit.message unit.known x.acks x.number x.given_least x.given_most told.asks
+  pub within : (period : ℕ) → IsTold period unit → meets_needs judged n.station unit.message unit.known ≡ true → IsWithin n.station unit.message unit.known
+  within period told met = record { wire_numbers = told.spelled; near = effects_near told.asks n.station.state (row n.station.state unit.message).effects (lawful_row met) }
 
   -- ---- and the receipt keeps what holds
 
+  -- behind some effects
+  record IsMet (now : State) (t : Station) : Type 0 where
+    state : t.state ≡ now
+    period : t.period ≡ n.station.period
+    packets : t.packets ≡ n.station.packets
+    none : is_starting now ≡ true → HasNone t
+    partner : IsOfPair n.station unit.known.tag → t.partner ≡ n.station.partner
+    present : IsPresent view limits own other (k + 1) (numbers_of t)
+
+  unchanged : IsMet n.station.state n.station
+  unchanged = record {
+    state = refl;
+    period = refl;
+    packets = refl;
+    none = h.none;
+    partner = λ pair. refl;
+    present = present_further view limits own other n.front (k + 1) (numbers_of n.station) h.present (omega arith);
+  }
+
+  module _ (lawful_number : IsGiven limits (view unit).number unit.known.given) (lawful_acks : AcksFrom limits unit.known.received unit.known.received (view unit).acks) (kept : Bool) where
+    does_met : (now : State) (t : Station) (effect : Effect) → IsLawfulEffect n.station unit.message unit.known.tag now effect → IsMet now t → IsMet (goes now effect) (does unit.message unit.known kept t effect)
+    does_met now t (GoTo state) l m = record { state = refl; period = m.period; packets = m.packets; none = λ e. let x = m.none (l e) in record { received = x.received; acknowledged = x.acknowledged; packets = x.packets }; partner = m.partner; present = m.present }
+    does_met now t TakePartner l m =
+        let x = m.none l in
+        let given_same : given t ≡ given n.station = ap length m.packets in
+        let few = h.present.few in
+        record {
+          state = m.state;
+          period = m.period;
+          packets = m.packets;
+          none = λ e. record { received = x.received; acknowledged = x.acknowledged; packets = x.packets };
+          partner = λ pair. sym pair.from;
+          present = present_new view limits own other (k + 1) (numbers_of (does unit.message unit.known kept t TakePartner)) x.received x.acknowledged (let e : length t.packets ≡ 0 = ap length x.packets in omega arith)
+              (λ i v at same.
+              let q = m.present.up_to i v at same in let g = q.given in let r = q.received in let y = q.last in
+              record { given = omega arith; received = omega arith; last = omega arith });
+        }
+    does_met now t SetBack l m = record { state = m.state; period = m.period; packets = m.packets; none = λ e. let x = m.none e in record { received = x.received; acknowledged = x.acknowledged; packets = x.packets }; partner = m.partner; present = m.present }
+    does_met now t Respond l m = by_response unit.message unit.known kept t (IsMet now) m (λ e.
+        let less = ltb-true t.acknowledged unit.known.response (and_parts _ _ e).0 in
+        let fits = (acks_of unit.known unit.known.received unit.known.received (has_response unit.message) l.1 lawful_acks).1 in
+        record {
+          state = m.state;
+          period = m.period;
+          packets = m.packets;
+          none = λ e. absurd (let f = l.0 in cc);
+          partner = m.partner;
+          present = present_acknowledged view limits own other (k + 1) (k + 1) (numbers_of t) m.present (omega arith) k unit there (omega arith) (m.partner l.2 ∙ (l.2).from) unit.known.response (omega arith) fits fits;
+        })
+    does_met now t TakePacket l m = by_packet unit.message unit.known kept t (IsMet now) m (λ e.
+        let next = eqb-true unit.known.number (t.received + 1) e in
+        let fits = given_of unit.known (is_data unit.message) l.1 lawful_number in
+        record {
+          state = m.state;
+          period = m.period;
+          packets = m.packets;
+          none = λ e. absurd (let f = l.0 in cc);
+          partner = m.partner;
+          present = present_received view limits own other (k + 1) (k + 1) (numbers_of t) m.present (omega arith) k unit there (omega arith) (m.partner l.2 ∙ (l.2).from) (t.received + 1) (t.received + 1) (omega arith) (omega arith) (omega arith);
+        }) (record { state = m.state; period = m.period; packets = m.packets; none = λ e. let x = m.none e in record { received = x.received; acknowledged = x.acknowledged; packets = x.packets }; partner = m.partner; present = m.present })
+    does_met now t AnswerRep l m = by_rep unit.message unit.known kept t (IsMet now) m (record { state = m.state; period = m.period; packets = m.packets; none = λ e. let x = m.none e in record { received = x.received; acknowledged = x.acknowledged; packets = x.packets }; partner = m.partner; present = m.present })
+
+    all_met : (effects : List Effect) (now : State) (t : Station) → AreLawful n.station unit.message unit.known.tag now effects → IsMet now t → IsMet (fold goes now effects) (fold (does unit.message unit.known kept) t effects)
+    all_met [] now t l m = m
+    all_met (effect ∷ next) now t l m = all_met next (goes now effect) (does unit.message unit.known kept t effect) l.1 (does_met now t effect l.0 m)
+
   -- what a receipt leaves
-  record IsMet (t : Station) : Type 0 where
+  record IsLeft (t : Station) : Type 0 where
     period : t.period ≡ n.station.period
     none : is_starting t.state ≡ true → HasNone t
     present : IsPresent view limits own other (k + 1) (numbers_of t)
 
-  further : IsPresent view limits own other (k + 1) (numbers_of n.station)
-  further = present_further view limits own other n.front (k + 1) (numbers_of n.station) h.present (omega arith)
+  met_left : (now : State) (t : Station) → IsMet now t → IsLeft t
+  met_left now t m = record { period = m.period; none = λ e. m.none (ap is_starting (sym m.state) ∙ e); present = m.present }
 
-  unchanged : IsMet n.station
-  unchanged = record { period = refl; none = h.none; present = further }
+  damaged_left : (reason : NakReason) (b : Bool) → IsLeft (cond b (station_book.counts reason n.station) n.station)
+  damaged_left reason true = let u = unchanged in record { period = refl; none = λ e. let x = h.none e in record { received = x.received; acknowledged = x.acknowledged; packets = x.packets }; present = u.present }
+  damaged_left reason false = met_left n.station.state n.station unchanged
 
-  -- the numbers stay, and startup is over
-  over : (t : Station) → t.period ≡ n.station.period → is_starting t.state ≡ false → numbers_of t ≡ numbers_of n.station → IsMet t
-  over t period state numbers = record {
-    period = period;
-    none = λ e. absurd cc;
-    present = subst (λ (x : Numbers). IsPresent view limits own other (k + 1) x) (sym numbers) further;
-  }
-
-  -- another partner, while nothing is received or acknowledged
-  with_partner : (t : Station) → is_starting n.station.state ≡ true → t.period ≡ n.station.period → t.received ≡ n.station.received → t.acknowledged ≡ n.station.acknowledged → t.packets ≡ n.station.packets → IsMet t
-  with_partner t starting period received acknowledged packets =
-      let none = h.none starting in
-      let given_same : given t ≡ given n.station = ap length packets in
-      let few = h.present.few in
-      record {
-        period = period;
-        none = λ e. record { received = received ∙ none.received; acknowledged = acknowledged ∙ none.acknowledged; packets = packets ∙ none.packets };
-        present = present_new view limits own other (k + 1) (numbers_of t) (received ∙ none.received) (acknowledged ∙ none.acknowledged) (omega arith)
-            (λ i m at same.
-            let q = h.present.up_to i m at (same ∙ period) in let g = q.given in let r = q.received in let l = q.last in
-            record { given = omega arith; received = omega arith; last = omega arith });
-      }
-
-  -- in RUNNING, of the pair
-  record IsRunning (t : Station) : Type 0 where
-    period : t.period ≡ n.station.period
-    running : is_starting t.state ≡ false
-    from : t.partner ≡ Some unit.known.tag.period
-    present : IsPresent view limits own other (k + 1) (numbers_of t)
-
-  ran : (t : Station) → IsRunning t → IsMet t
-  ran t r = record { period = r.period; none = λ e. absurd (let f = r.running in cc); present = r.present }
-
-  -- a RESP of what the sender had received
-  acknowledged_met : (t : Station) → IsRunning t → (resp : ℕ) → resp ≤ unit.known.received → IsRunning (responded t resp)
-  acknowledged_met t r resp fits = go (ltb t.acknowledged resp && leb resp (given t)) refl
-    where
-      go : (b : Bool) → (ltb t.acknowledged resp && leb resp (given t)) ≡ b → IsRunning (acknowledged_by b t resp)
-      go false e = r
-      go true e =
-          let l = ltb-true t.acknowledged resp (and_parts _ _ e).0 in
-          record {
-            period = r.period;
-            running = r.running;
-            from = r.from;
-            present = present_acknowledged view limits own other (k + 1) (k + 1) (numbers_of t) r.present (omega arith) k unit there (omega arith) r.from resp (omega arith) fits fits;
-          }
-
-  -- a packet with a number that was given
-  taken_met : (t : Station) → IsRunning t → (next kept : Bool) (body : List ℕ) → (next ≡ true → t.received + 1 ≤ unit.known.given) → IsRunning (with_data next kept t body)
-  taken_met t r true true body fits = record {
-    period = r.period;
-    running = r.running;
-    from = r.from;
-    present = present_received view limits own other (k + 1) (k + 1) (numbers_of t) r.present (omega arith) k unit there (omega arith) r.from (t.received + 1) (t.received + 1) (omega arith) (omega arith) (fits refl);
-  }
-  taken_met t r true false body fits = record { period = r.period; running = r.running; from = r.from; present = r.present }
-  taken_met t r false kept body fits = r
-
-  asked_met : (t : Station) → IsRunning t → (b : Bool) → IsRunning (asked b t)
-  asked_met t r true = r
-  asked_met t r false = record { period = r.period; running = r.running; from = r.from; present = r.present }
-
-  set_back_met : (t : Station) → IsRunning t → IsRunning (set_back t)
-  set_back_met t r = record { period = r.period; running = r.running; from = r.from; present = r.present }
-
-  responded_received : (t : Station) (resp : ℕ) → (responded t resp).received ≡ t.received
-  responded_received t resp = go (ltb t.acknowledged resp && leb resp (given t))
-    where
-      go : (b : Bool) → (acknowledged_by b t resp).received ≡ t.received
-      go true = refl
-      go false = refl
-
-  data_met : (t : Station) → IsRunning t → (body : List ℕ) (kept : Bool) → unit.known.response ≤ unit.known.received → unit.known.number ≤ unit.known.given → IsRunning (data_arrived t unit.known body kept)
-  data_met t r body kept response number =
-      taken_met (responded t unit.known.response) (acknowledged_met t r unit.known.response response) (is_next t unit.known) kept body
-      (λ e. let f = eqb-true unit.known.number (t.received + 1) e in let g = responded_received t unit.known.response in omega arith)
-
-  in_running : (t : Station) → IsOfPair n.station unit.known.tag → t.period ≡ n.station.period → is_starting t.state ≡ false → numbers_of t ≡ numbers_of n.station → IsRunning t
-  in_running t pair period running numbers = record {
-    period = period;
-    running = running;
-    from = ap (λ (x : Numbers). x.partner) numbers ∙ pair.from;
-    present = (over t period running numbers).present;
-  }
-
-  met_in : (state : State) (m : MessageValue) (kept : Bool) → n.station.state ≡ state →
-      (reads_numbers state m ≡ true → is_numbered m ≡ true → IsOfPair n.station unit.known.tag) →
-      IsGiven limits (data_number m unit.known) unit.known.given → AcksFrom limits unit.known.received unit.known.received (responses m unit.known) →
-      IsMet (arrived_in state n.station m unit.known kept)
-  met_in Istrt (Strt flags) kept is pair number acks = with_partner _ (ap is_starting is) refl refl refl refl
-  met_in Istrt (Stack flags) kept is pair number acks = with_partner _ (ap is_starting is) refl refl refl refl
-  met_in Astrt (Strt flags) kept is pair number acks = with_partner _ (ap is_starting is) refl refl refl refl
-  met_in Astrt (Stack flags) kept is pair number acks = with_partner _ (ap is_starting is) refl refl refl refl
-  met_in Astrt (Ack flags resp) kept is pair number acks = cond_both (eqb resp 0) _ n.station IsMet (λ e. over _ refl refl refl) (λ e. unchanged)
-  met_in Astrt (Data flags resp num body) kept is pair number acks =
-      cond_both (eqb resp 0) _ n.station IsMet (λ e. ran _ (data_met _ (in_running (record n.station { state = Running }) (pair e refl) refl refl refl) body kept acks.1 number.0)) (λ e. unchanged)
-  met_in Running (Strt flags) kept is pair number acks = over _ refl refl refl
-  met_in Running (Ack flags resp) kept is pair number acks = ran _ (acknowledged_met _ (in_running n.station (pair refl refl) refl (ap is_starting is) refl) unit.known.response acks.1)
-  met_in Running (Nak flags reason resp) kept is pair number acks = ran _ (set_back_met _ (acknowledged_met _ (in_running n.station (pair refl refl) refl (ap is_starting is) refl) unit.known.response acks.1))
-  met_in Running (Rep flags num) kept is pair number acks = ran _ (asked_met _ (in_running n.station (pair refl refl) refl (ap is_starting is) refl) (eqb unit.known.number n.station.received))
-  met_in Running (Data flags resp num body) kept is pair number acks = ran _ (data_met _ (in_running n.station (pair refl refl) refl (ap is_starting is) refl) body kept acks.1 number.0)
-  met_in state m kept is pair number acks = unchanged
-
-  damaged_met : (state : State) (reason : NakReason) → n.station.state ≡ state → IsMet (damaged_in state reason n.station)
-  damaged_met Running reason is = over _ refl (ap is_starting is) refl
-  damaged_met Halted reason is = unchanged
-  damaged_met Istrt reason is = unchanged
-  damaged_met Astrt reason is = unchanged
-
-  arrival_met : (bytes : List ℕ) (arrival : ArrivalValue Truth) (kept : Bool) → ComesOf unit bytes arrival → arrival_refusal crossed n.station arrival kept ≡ None → IsMet (after_arrival n.station arrival kept)
-  arrival_met bytes (Sound m u) kept (Itself same) allowed =
+  arrival_left : (bytes : List ℕ) (arrival : ArrivalValue Truth) (kept : Bool) → ComesOf unit bytes arrival → arrival_refusal judged n.station arrival kept ≡ None → IsLeft (after_arrival n.station arrival kept)
+  arrival_left bytes (Sound m u) kept (Itself same) allowed =
       let lawful = theirs.lawful k unit there in
-      met_in n.station.state unit.message kept refl
-      (λ reads numbered. acts_of_pair n.station unit.message unit.known.tag reads numbered (not_crossed n.station unit.message unit.known kept allowed))
-      lawful.number lawful.acks
-  arrival_met bytes HeaderBad kept BadHeader allowed = damaged_met n.station.state HeaderCheck refl
-  arrival_met bytes DataBad kept BadData allowed = damaged_met n.station.state DataCheck refl
+      met_left _ _ (all_met lawful.number lawful.acks kept (row n.station.state unit.message).effects n.station.state n.station (lawful_row (not_crossed n.station unit.message unit.known kept allowed)) unchanged)
+  arrival_left bytes HeaderBad kept BadHeader allowed = damaged_left HeaderCheck (counts_damage n.station.state)
+  arrival_left bytes DataBad kept BadData allowed = damaged_left DataCheck (counts_damage n.station.state)
 
-  pub sound_receipt : (bytes : List ℕ) (arrival : ArrivalValue Truth) (kept : Bool) → ComesOf unit bytes arrival → arrival_refusal crossed n.station arrival kept ≡ None → IsSound (record { station = after_arrival n.station arrival kept; front = k + 1 }) own other
+  pub sound_receipt : (bytes : List ℕ) (arrival : ArrivalValue Truth) (kept : Bool) → ComesOf unit bytes arrival → arrival_refusal judged n.station arrival kept ≡ None → IsSound (record n { station = after_arrival n.station arrival kept; front = k + 1 }) own other
   sound_receipt bytes arrival kept of_unit allowed =
-      let m = arrival_met bytes arrival kept of_unit allowed in
+      let m = arrival_left bytes arrival kept of_unit allowed in
       record {
         ordered = arrival_ordered n.station arrival kept h.ordered;
         none = m.none;

@@ -3,10 +3,11 @@ use Rattle.std.proofs.Common.{◌≡◌, ℕ, false, List, [], ◌∷◌}
 use Rattle.two_nodes.specs.Nodes.{World, Run, Outcome, advance}
 use Rattle.ddcmp_msg.specs.declared.flags.Flags.{Flags}
 use Rattle.capture.specs.declared.record.Record.{Record}
+use Rattle.dna_model.specs.declared.head.Head.{Head}
 use Rattle.dna_model.specs.declared.refusal.StepRefusal.{StepRefusal}
 use Rattle.dna_model.specs.Line.{SentUnit}
 use Rattle.dna_model.specs.Node.{Node}
-use Rattle.dna_model.specs.Pair.{pair, start}
+use Rattle.dna_model.specs.Pair.{pair, start, IsRun}
 
 abbrev pub STRT : List ℕ
 STRT = 0x05 ∷ 0x06 ∷ 0xc0 ∷ 0 ∷ 0 ∷ 1 ∷ 0x75 ∷ 0x95 ∷ []
@@ -70,6 +71,19 @@ NAK_BUFFER0 = 0x05 ∷ 2 ∷ 8 ∷ 0 ∷ 0 ∷ 1 ∷ 0xba ∷ 0x35 ∷ []
 abbrev pub NAK_OVERRUN1 : List ℕ
 NAK_OVERRUN1 = 0x05 ∷ 2 ∷ 9 ∷ 1 ∷ 0 ∷ 1 ∷ 0xea ∷ 0x09 ∷ []
 
+-- the heads of the rows: node 1.1 is side a, node 1.2 side b
+abbrev pub head_1 : Head
+head_1 = record { own = 0x401; peer = 0x402 }
+
+abbrev pub head_2 : Head
+head_2 = record { own = 0x402; peer = 0x401 }
+
+abbrev pub start_of_rows : World Node SentUnit
+start_of_rows = start head_1 head_2
+
+abbrev pub IsRowRun : (of_a of_b : List Record) → Type 0
+IsRowRun of_a of_b = IsRun head_1 head_2 of_a of_b
+
 -- no flag is set
 abbrev pub plain : Flags
 plain = record { quick_sync = false; select = false }
@@ -77,11 +91,11 @@ plain = record { quick_sync = false; select = false }
 -- The records of a and of b are made, and what becomes of one more of b
 pub record EndsAt (as' bs : List Record) (of_b : Record) (outcome : Outcome Node SentUnit StepRefusal) : Type 0 where
   pub world : World Node SentUnit
-  pub run : Run pair start as' bs world
+  pub run : Run pair start_of_rows as' bs world
   pub becomes : advance pair.node_b world.b world.a of_b ≡ outcome
 
 -- the same of one more of a
 pub record EndsAtA (as' bs : List Record) (of_a : Record) (outcome : Outcome Node SentUnit StepRefusal) : Type 0 where
   pub world : World Node SentUnit
-  pub run : Run pair start as' bs world
+  pub run : Run pair start_of_rows as' bs world
   pub becomes : advance pair.node_a world.a world.b of_a ≡ outcome

@@ -9,8 +9,7 @@ use Rattle.capture.specs.declared.record.Record.TheVariants.{Sent, Received, Use
 use Rattle.capture.specs.declared.event.Event.TheVariants.{Start, Halt}
 use Rattle.dna_model.specs.declared.refusal.StationRefusal.TheVariants.{WrongState, WrongResponse, WrongKeep, CrossedPeriod, WrongUserEvent}
 use Rattle.dna_model.specs.declared.refusal.StepRefusal.TheVariants.{NotAMessage, HintOrder, Undetected, Station as OfStation}
-use Rattle.dna_model.specs.Pair.{start, IsRun}
-use Rattle.dna_model.proofs.RowUnits.{STRT, STACK, ACK0, ACK1, EndsAt}
+use Rattle.dna_model.proofs.RowUnits.{STRT, STACK, ACK0, ACK1, EndsAt, IsRowRun, start_of_rows}
 
 abbrev first_start_lost_a : List Record
 first_start_lost_a = User Start ∷ Sent STRT ∷ Sent STRT ∷ Received 0 false STACK ∷ Sent ACK0 ∷ []
@@ -18,7 +17,7 @@ first_start_lost_a = User Start ∷ Sent STRT ∷ Sent STRT ∷ Received 0 false
 abbrev first_start_lost_b : List Record
 first_start_lost_b = User Start ∷ Received 1 false STRT ∷ Sent STACK ∷ Received 2 false ACK0 ∷ []
 
-first_start_lost : IsRun first_start_lost_a first_start_lost_b
+first_start_lost : IsRowRun first_start_lost_a first_start_lost_b
 unfolding reading is_good check_of after_byte shift
 first_start_lost = (_, OfA refl (OfA refl (OfA refl (OfB refl (OfB refl (OfB refl (OfA refl (OfA refl (OfB refl Done)))))))))
 
@@ -26,23 +25,23 @@ first_start_lost = (_, OfA refl (OfA refl (OfA refl (OfB refl (OfB refl (OfB ref
 abbrev both_sides_start_of : List Record
 both_sides_start_of = User Start ∷ Sent STRT ∷ Received 0 false STRT ∷ Sent STACK ∷ Received 1 false STACK ∷ Sent ACK0 ∷ Received 2 false ACK0 ∷ []
 
-both_sides_start : IsRun both_sides_start_of both_sides_start_of
+both_sides_start : IsRowRun both_sides_start_of both_sides_start_of
 unfolding reading is_good check_of after_byte shift
 both_sides_start =
     (_, OfA refl (OfA refl (OfB refl (OfB refl (OfA refl (OfA refl (OfB refl (OfB refl (OfA refl (OfA refl (OfB refl (OfB refl (OfA refl (OfB refl Done))))))))))))))
 
-two_empty_captures : IsRun [] []
+two_empty_captures : IsRowRun [] []
 two_empty_captures = (_, Done)
 
 -- a STRT with its first byte damaged comes and changes nothing; the next one is sound
-damaged_start : IsRun (User Start ∷ Sent STRT ∷ Sent STRT ∷ []) (User Start ∷ Received 0 false (0x85 ∷ 0x06 ∷ 0xc0 ∷ 0 ∷ 0 ∷ 1 ∷ 0x75 ∷ 0x95 ∷ []) ∷ Received 1 false STRT ∷ [])
+damaged_start : IsRowRun (User Start ∷ Sent STRT ∷ Sent STRT ∷ []) (User Start ∷ Received 0 false (0x85 ∷ 0x06 ∷ 0xc0 ∷ 0 ∷ 0 ∷ 1 ∷ 0x75 ∷ 0x95 ∷ []) ∷ Received 1 false STRT ∷ [])
 unfolding reading is_good check_of after_byte shift
 damaged_start = (_, OfA refl (OfA refl (OfA refl (OfB refl (OfB refl (OfB refl Done))))))
 
 -- the bytes that are sent are no message
 not_a_message : EndsAt [] [] (Sent (0 ∷ [])) (Refused NotAMessage)
 unfolding reading is_good check_of after_byte shift
-not_a_message = record { world = start; run = Done; becomes = refl }
+not_a_message = record { world = start_of_rows; run = Done; becomes = refl }
 
 -- the same unit comes twice
 hint_goes_back : EndsAt (User Start ∷ Sent STRT ∷ []) (User Start ∷ Received 0 false STRT ∷ []) (Received 0 false STRT) (Refused HintOrder)
@@ -51,7 +50,7 @@ hint_goes_back = record { world = _; run = OfA refl (OfA refl (OfB refl (OfB ref
 
 -- no order goes on: the unit is not sent yet
 nobody_can_go_on : EndsAt [] [] (Received 0 false STRT) Waits
-nobody_can_go_on = record { world = start; run = Done; becomes = refl }
+nobody_can_go_on = record { world = start_of_rows; run = Done; becomes = refl }
 
 -- a STACK comes where an ACK was sent, and no block check shows it
 changed_unit : EndsAt first_start_lost_a (User Start ∷ Received 1 false STRT ∷ Sent STACK ∷ []) (Received 2 false STACK) (Refused Undetected)
@@ -61,7 +60,7 @@ changed_unit = record { world = _; run = OfA refl (OfA refl (OfA refl (OfB refl 
 -- STRT is sent before the start
 start_unasked : EndsAt [] [] (Sent STRT) (Refused (OfStation WrongState))
 unfolding reading is_good check_of after_byte shift
-start_unasked = record { world = start; run = Done; becomes = refl }
+start_unasked = record { world = start_of_rows; run = Done; becomes = refl }
 
 -- an ACK of a data message that never came is sent
 acknowledges_what_never_came : EndsAt (User Start ∷ Received 0 false STRT ∷ Sent STACK ∷ []) (User Start ∷ Sent STRT ∷ Received 0 false STACK ∷ []) (Sent ACK1) (Refused (OfStation WrongResponse))
@@ -91,22 +90,22 @@ starts_twice = record { world = _; run = OfB refl Done; becomes = refl }
 -- ---- each row of the startup table once more
 
 -- in HALTED every arrival is ignored
-halted_ignores : IsRun (Received 0 false STRT ∷ []) (User Start ∷ Sent STRT ∷ [])
+halted_ignores : IsRowRun (Received 0 false STRT ∷ []) (User Start ∷ Sent STRT ∷ [])
 unfolding reading is_good check_of after_byte shift
 halted_ignores = (_, OfB refl (OfB refl (OfA refl Done)))
 
 -- a STACK that is repeated changes nothing in RUNNING
-repeated_stack : IsRun (User Start ∷ Sent STRT ∷ Received 0 false STACK ∷ Sent ACK0 ∷ Received 1 false STACK ∷ Sent ACK0 ∷ []) (User Start ∷ Received 0 false STRT ∷ Sent STACK ∷ Sent STACK ∷ Received 2 false ACK0 ∷ [])
+repeated_stack : IsRowRun (User Start ∷ Sent STRT ∷ Received 0 false STACK ∷ Sent ACK0 ∷ Received 1 false STACK ∷ Sent ACK0 ∷ []) (User Start ∷ Received 0 false STRT ∷ Sent STACK ∷ Sent STACK ∷ Received 2 false ACK0 ∷ [])
 unfolding reading is_good check_of after_byte shift
 repeated_stack = (_, OfA refl (OfA refl (OfB refl (OfB refl (OfB refl (OfB refl (OfA refl (OfA refl (OfA refl (OfA refl (OfB refl Done)))))))))))
 
 -- b starts again while a is in ASTRT: a goes with the new period
-partner_starts_again : IsRun (User Start ∷ Received 0 false STRT ∷ Received 1 false STRT ∷ Sent STACK ∷ Received 2 false ACK0 ∷ []) (User Start ∷ Sent STRT ∷ User Halt ∷ User Start ∷ Sent STRT ∷ Received 0 false STACK ∷ Sent ACK0 ∷ [])
+partner_starts_again : IsRowRun (User Start ∷ Received 0 false STRT ∷ Received 1 false STRT ∷ Sent STACK ∷ Received 2 false ACK0 ∷ []) (User Start ∷ Sent STRT ∷ User Halt ∷ User Start ∷ Sent STRT ∷ Received 0 false STACK ∷ Sent ACK0 ∷ [])
 unfolding reading is_good check_of after_byte shift
 partner_starts_again = (_, OfB refl (OfB refl (OfB refl (OfB refl (OfB refl (OfA refl (OfA refl (OfA refl (OfA refl (OfB refl (OfB refl (OfA refl Done))))))))))))
 
 -- b starts again while a is in RUNNING: a halts, and may start
-partner_restarts : IsRun (User Start ∷ Sent STRT ∷ Received 0 false STACK ∷ Received 1 false STRT ∷ User Start ∷ Sent STRT ∷ []) (User Start ∷ Received 0 false STRT ∷ Sent STACK ∷ User Halt ∷ User Start ∷ Sent STRT ∷ [])
+partner_restarts : IsRowRun (User Start ∷ Sent STRT ∷ Received 0 false STACK ∷ Received 1 false STRT ∷ User Start ∷ Sent STRT ∷ []) (User Start ∷ Received 0 false STRT ∷ Sent STACK ∷ User Halt ∷ User Start ∷ Sent STRT ∷ [])
 unfolding reading is_good check_of after_byte shift
 partner_restarts = (_, OfA refl (OfA refl (OfB refl (OfB refl (OfB refl (OfB refl (OfB refl (OfB refl (OfA refl (OfA refl (OfA refl (OfA refl Done))))))))))))
 
@@ -124,6 +123,6 @@ unfolding reading is_good check_of after_byte shift
 ack_of_an_earlier_start = record { world = _; run = OfA refl (OfA refl (OfA refl (OfB refl (OfB refl (OfB refl (OfA refl (OfA refl (OfB refl (OfB refl (OfB refl Done)))))))))); becomes = refl }
 
 -- but in ISTRT it is ignored
-ack_before_any_answer : IsRun (User Start ∷ Sent STRT ∷ Received 0 false STACK ∷ Sent ACK0 ∷ []) (restarted_b ++ Received 1 false ACK0 ∷ Sent STRT ∷ [])
+ack_before_any_answer : IsRowRun (User Start ∷ Sent STRT ∷ Received 0 false STACK ∷ Sent ACK0 ∷ []) (restarted_b ++ Received 1 false ACK0 ∷ Sent STRT ∷ [])
 unfolding reading is_good check_of after_byte shift
 ack_before_any_answer = (_, OfA refl (OfA refl (OfB refl (OfB refl (OfB refl (OfA refl (OfA refl (OfB refl (OfB refl (OfB refl (OfB refl Done)))))))))))

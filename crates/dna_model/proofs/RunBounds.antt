@@ -3,9 +3,11 @@ use Rattle.std.proofs.Common.{List, [], refl, arith}
 use Rattle.two_nodes.specs.Nodes.{Half, World}
 use Rattle.two_nodes.specs.Kept.{IsKept}
 use Rattle.capture.specs.declared.record.Record.{Record}
-use Rattle.dna_model.specs.Periods.{crossed}
+use Rattle.dna_model.specs.declared.head.Head.{Head}
+use Rattle.dna_model.specs.Rules.{judged}
 use Rattle.dna_model.specs.Line.{SentUnit}
 use Rattle.dna_model.specs.Node.{Node, new_node}
+use Rattle.dna_model.specs.Station.{new_station}
 use Rattle.dna_model.specs.Bounds.{IsBounded}
 use Rattle.dna_model.specs.Pair.{pair, start}
 use Rattle.dna_model.proofs.Ordered.{new_ordered}
@@ -21,30 +23,30 @@ pub record BothSound (w : World Node SentUnit) : Type 0 where
   pub of_b : IsSound w.b.state w.b.sent w.a.sent
 
 module _ (own other : Half Node SentUnit) (h : IsSound own.state own.sent other.sent) (theirs : IsSound other.state other.sent own.sent) where
-  sound_own : (r : Record) (left : Half Node SentUnit) → Happens crossed own other r left → IsSound left.state left.sent other.sent
+  sound_own : (r : Record) (left : Half Node SentUnit) → Happens judged own other r left → IsSound left.state left.sent other.sent
   sound_own r left (Nothing event none) = h
   sound_own r left (UserEvent event allowed) = sound_event own.state own.sent other.sent event h
   sound_own r left (Sending bytes m read allowed) = sound_sending own.state own.sent other.sent bytes m h read allowed
   sound_own r left (Receipt hint kept bytes unit arrival there ahead of_unit allowed) = sound_receipt own.state own.sent other.sent h theirs.messages hint unit there ahead bytes arrival kept of_unit allowed
 
-  sound_other : (r : Record) (left : Half Node SentUnit) → Happens crossed own other r left → IsSound other.state other.sent left.sent
+  sound_other : (r : Record) (left : Half Node SentUnit) → Happens judged own other r left → IsSound other.state other.sent left.sent
   sound_other r left (Nothing event none) = theirs
   sound_other r left (UserEvent event allowed) = theirs
   sound_other r left (Sending bytes m read allowed) = sound_beside other.state other.sent own.sent (unit_of own.state.station bytes m) theirs
   sound_other r left (Receipt hint kept bytes unit arrival there ahead of_unit allowed) = theirs
 
-new_sound : IsSound new_node [] []
-new_sound = record {
+new_sound : (head : Head) → IsSound (new_node head) [] []
+new_sound head = record {
   ordered = new_ordered;
   none = λ e. absurd cc;
   met = omega arith;
   told = λ i u at. absurd cc;
   messages = none_numbered view limits [];
-  present = present_new view limits [] [] 0 (numbers_of new_node.station) refl refl (omega arith) (λ i u at same. absurd cc);
+  present = present_new view limits [] [] 0 (numbers_of new_station) refl refl (omega arith) (λ i u at same. absurd cc);
 }
 
-pub start_sound : BothSound start
-start_sound = record { of_a = new_sound; of_b = new_sound }
+pub start_sound : (head_a head_b : Head) → BothSound (start head_a head_b)
+start_sound head_a head_b = record { of_a = new_sound head_a; of_b = new_sound head_b }
 
 abbrev pub sound_property : World Node SentUnit → List Record → List Record → Type 0
 sound_property w of_a of_b = BothSound w
@@ -52,10 +54,10 @@ sound_property w of_a of_b = BothSound w
 pub sound_kept : IsKept pair sound_property
 sound_kept = record {
   by_a = λ w made_a made_b r h sound made.
-      let what = happens crossed w.a w.b h r made in
+      let what = happens judged w.a w.b h r made in
       record { of_a = sound_own w.a w.b sound.of_a sound.of_b r h what; of_b = sound_other w.a w.b sound.of_a sound.of_b r h what };
   by_b = λ w made_a made_b r h sound made.
-      let what = happens crossed w.b w.a h r made in
+      let what = happens judged w.b w.a h r made in
       record { of_a = sound_other w.b w.a sound.of_b sound.of_a r h what; of_b = sound_own w.b w.a sound.of_b sound.of_a r h what };
 }
 

@@ -8,10 +8,13 @@ use Rattle.dna_model.specs.declared.state.State.TheVariants.{Halted, Istrt, Astr
 use Rattle.dna_model.specs.declared.state.StationEvent.{StationEvent}
 use Rattle.dna_model.specs.declared.state.StationEvent.TheVariants.{Start, Halt}
 use Rattle.dna_model.specs.Station.{Station, given, after_event}
-use Rattle.dna_model.specs.Sending.{sending_refusal, sending_refusal_in, after_sending}
+use Rattle.dna_model.specs.Table.{checks}
+use Rattle.dna_model.specs.Book.{failed}
+use Rattle.dna_model.specs.StationBook.{passes, sending_refusal, after_sending}
 use Rattle.dna_model.specs.Bounds.{IsOrdered, HasWireNumbers}
 use Rattle.dna_model.specs.Line.{SentUnit}
 use Rattle.dna_model.specs.Node.{Node}
+use Rattle.dna_model.proofs.Effects.{StaysAs, sending_stays}
 use Rattle.dna_model.proofs.Ordered.{event_ordered, sending_ordered}
 use Rattle.dna_model.proofs.Numbered.{Numbers, AreNumbered, IsPresent}
 use Rattle.dna_model.proofs.NumberedSteps.{at_pushed, numbered_beside, present_beside, numbered_sending, present_sending, present_new}
@@ -86,33 +89,20 @@ sound_event n own other Halt h = halted n own other h
 
 -- ---- a sending
 
--- a sending leaves all but what was given, what comes next, and the causes
-pub record StaysAs (s t : Station) : Type 0 where
-  pub state : t.state ≡ s.state
-  pub period : t.period ≡ s.period
-  pub partner : t.partner ≡ s.partner
-  pub received : t.received ≡ s.received
-  pub acknowledged : t.acknowledged ≡ s.acknowledged
-
-pub sending_stays : (s : Station) (m : MessageValue) → StaysAs s (after_sending s m)
-sending_stays s (Data flags resp num body) = record { state = refl; period = refl; partner = refl; received = refl; acknowledged = refl }
-sending_stays s (Ack flags resp) = record { state = refl; period = refl; partner = refl; received = refl; acknowledged = refl }
-sending_stays s (Nak flags reason resp) = record { state = refl; period = refl; partner = refl; received = refl; acknowledged = refl }
-sending_stays s (Rep flags num) = record { state = refl; period = refl; partner = refl; received = refl; acknowledged = refl }
-sending_stays s (Strt flags) = record { state = refl; period = refl; partner = refl; received = refl; acknowledged = refl }
-sending_stays s (Stack flags) = record { state = refl; period = refl; partner = refl; received = refl; acknowledged = refl }
-
 -- before RUNNING no packet is given
-nothing_given : (s : Station) (state : State) (m : MessageValue) → sending_refusal_in state s m ≡ None → is_starting state ≡ true → (after_sending s m).packets ≡ s.packets
-nothing_given s Istrt (Data flags resp num body) e starting = absurd cc
-nothing_given s Astrt (Data flags resp num body) e starting = absurd cc
-nothing_given s Halted (Data flags resp num body) e starting = absurd cc
-nothing_given s Running (Data flags resp num body) e starting = absurd cc
-nothing_given s state (Ack flags resp) e starting = refl
-nothing_given s state (Nak flags reason resp) e starting = refl
-nothing_given s state (Rep flags num) e starting = refl
-nothing_given s state (Strt flags) e starting = refl
-nothing_given s state (Stack flags) e starting = refl
+nothing_given : (s : Station) (m : MessageValue) → sending_refusal s m ≡ None → is_starting s.state ≡ true → (after_sending s m).packets ≡ s.packets
+nothing_given s (Data flags resp num body) e starting = absurd (in_running s.state e starting)
+  where
+    in_running : (state : State) → failed (passes s (Data flags resp num body)) (checks state (Data flags resp num body)) ≡ None → is_starting state ≡ true → ⊥
+    in_running Running e starting = cc
+    in_running Halted e starting = cc
+    in_running Istrt e starting = cc
+    in_running Astrt e starting = cc
+nothing_given s (Ack flags resp) e starting = refl
+nothing_given s (Nak flags reason resp) e starting = refl
+nothing_given s (Rep flags num) e starting = refl
+nothing_given s (Strt flags) e starting = refl
+nothing_given s (Stack flags) e starting = refl
 
 sending_numbers : (s : Station) (m : MessageValue) → record (numbers_of s) { given = given (after_sending s m); last = s.received } ≡ numbers_of (after_sending s m)
 sending_numbers s (Data flags resp num body) = refl
@@ -140,7 +130,7 @@ module _ (n : Node) (own other : List SentUnit) (bytes : List ℕ) (m : MessageV
         ordered = sending_ordered n.station h.ordered m allowed;
         none = λ e.
             let k = h.none (ap is_starting (sym stays.state) ∙ e) in
-            record { received = stays.received ∙ k.received; acknowledged = stays.acknowledged ∙ k.acknowledged; packets = nothing_given n.station n.station.state m allowed (ap is_starting (sym stays.state) ∙ e) ∙ k.packets };
+            record { received = stays.received ∙ k.received; acknowledged = stays.acknowledged ∙ k.acknowledged; packets = nothing_given n.station m allowed (ap is_starting (sym stays.state) ∙ e) ∙ k.packets };
         met = h.met;
         told = sending_told;
         messages = numbered_sending view limits own other n.front (numbers_of n.station) (given (after_sending n.station m)) n.station.received (unit_of n.station bytes m) h.messages h.present h.met (sending_is n.station h.ordered bytes m allowed);

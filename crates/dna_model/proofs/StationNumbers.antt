@@ -1,36 +1,47 @@
 -- The numbers of DDCMP as numbered messages: a side goes by its period, at most 255 are outstanding, and each RESP is the last number
 -- received.
-use Rattle.std.proofs.Common.{◌≡◌, ℕ, ◌+◌, ◌≤◌, Bool, true, false, Option, Some, None, List, [], ◌∷◌, length, refl, arith, eqb-true, length-append}
+use Rattle.std.proofs.Common.{◌≡◌, ℕ, ◌+◌, ◌-◌, ◌≤◌, Bool, true, false, cond, Option, Some, None, List, [], ◌∷◌, length, refl, arith, eqb-true, length-append}
 use Rattle.ddcmp_msg.specs.Message.{MessageValue, Data, Ack, Nak, Rep, Strt, Stack}
-use Rattle.dna_model.specs.declared.state.State.{State}
-use Rattle.dna_model.specs.declared.state.State.TheVariants.{Halted, Istrt, Astrt, Running}
 use Rattle.dna_model.specs.Station.{Station, given, wire}
-use Rattle.dna_model.specs.Sending.{is_new, sending_refusal, sending_refusal_in, after_sending, with_packet}
-use Rattle.dna_model.specs.Truth.{Truth, truth_of}
+use Rattle.dna_model.specs.Table.{WINDOW}
+use Rattle.dna_model.specs.Truth.{Truth}
+use Rattle.dna_model.specs.StationBook.{is_new, sending_refusal, after_sending, truth_of, with_packet}
 use Rattle.dna_model.specs.Bounds.{IsOrdered, HasWireNumbers}
 use Rattle.dna_model.specs.Line.{SentUnit}
-use Rattle.dna_model.proofs.Ordered.{passed, data_passed, sending_ordered}
+use Rattle.dna_model.proofs.Ordered.{sending_ordered}
+use Rattle.dna_model.proofs.Checks.{sending_passed}
 use Rattle.dna_model.proofs.Numbered.{Limits, Numbers, Numbered}
 use Rattle.dna_model.proofs.NumberedSteps.{IsSending}
 
 abbrev pub limits : Limits
-limits = record { within = 255; reach = 254; back = 0 }
+limits = record { within = WINDOW; reach = WINDOW - 1; back = 0 }
 
 -- the numbers of a station now
 abbrev pub numbers_of : Station → Numbers
 numbers_of s = record { name = s.period; partner = s.partner; given = given s; received = s.received; acknowledged = s.acknowledged; last = s.received }
 
+-- the messages that have a RESP, those that have a packet, and the one that asks for the highest number
+abbrev pub has_response : MessageValue → Bool
+has_response (Data flags resp num body) = true
+has_response (Ack flags resp) = true
+has_response (Nak flags reason resp) = true
+has_response m = false
+
+abbrev pub is_data : MessageValue → Bool
+is_data (Data flags resp num body) = true
+is_data m = false
+
+abbrev pub is_rep : MessageValue → Bool
+is_rep (Rep flags num) = true
+is_rep m = false
+
 -- the number of a data message
 abbrev pub data_number : MessageValue → Truth → Option ℕ
-data_number (Data flags resp num body) u = Some u.number
-data_number m u = None
+data_number m u = cond (is_data m) (Some u.number) None
 
 -- the RESP of a message
 abbrev pub responses : MessageValue → Truth → List ℕ
-responses (Data flags resp num body) u = u.response ∷ []
-responses (Ack flags resp) u = u.response ∷ []
-responses (Nak flags reason resp) u = u.response ∷ []
-responses m u = []
+responses m u = cond (has_response m) (u.response ∷ []) []
 
 abbrev pub view : SentUnit → Numbered
 view unit = record {
@@ -42,39 +53,33 @@ view unit = record {
 
 -- a REP's number is the highest given
 abbrev pub AsksForHighest : MessageValue → Truth → Type 0
-AsksForHighest (Rep flags num) u = u.number ≡ u.given
-AsksForHighest m u = Unit {0}
+AsksForHighest m u = is_rep m ≡ true → u.number ≡ u.given
 
 -- the unit of a message that a station sends
 abbrev pub unit_of : Station → List ℕ → MessageValue → SentUnit
 unit_of s bytes m = record { bytes = bytes; message = m; known = truth_of s m }
 
 module _ (s : Station) (o : IsOrdered s) (bytes : List ℕ) where
-  spelled_in : (state : State) (m : MessageValue) → sending_refusal_in state s m ≡ None → HasWireNumbers m (truth_of s m)
-  spelled_in Running (Data flags resp num body) e = let p = data_passed s num resp body e in (eqb-true resp (wire s.received) p.1, eqb-true num (wire s.next_to_send) p.0)
-  spelled_in Running (Ack flags resp) e = eqb-true resp (wire s.received) (passed _ _ _ e).0
-  spelled_in Running (Nak flags reason resp) e = eqb-true resp (wire s.received) (passed _ _ _ e).0
-  spelled_in Running (Rep flags num) e = eqb-true num (wire (given s)) (passed _ _ _ (passed _ _ _ e).1).0
-  spelled_in Halted m e = absurd cc
-  spelled_in Istrt (Strt flags) e = tt
-  spelled_in Istrt m e = absurd cc
-  spelled_in Astrt (Stack flags) e = tt
-  spelled_in Astrt m e = absurd cc
-  spelled_in Running m e = absurd cc
-
   -- the bytes of what is sent are the wire values of its numbers
   pub sent_spelled : (m : MessageValue) → sending_refusal s m ≡ None → HasWireNumbers m (truth_of s m)
-  sent_spelled m e = spelled_in s.state m e
+  sent_spelled (Data flags resp num body) e =
+      let p = sending_passed s (Data flags resp num body) refl e in
+      record { response = eqb-true resp (wire s.received) p.1.0; number = eqb-true num (wire s.next_to_send) p.0 }
+  sent_spelled (Ack flags resp) e = record { response = eqb-true resp (wire s.received) (sending_passed s (Ack flags resp) refl e).0; number = refl }
+  sent_spelled (Nak flags reason resp) e = record { response = eqb-true resp (wire s.received) (sending_passed s (Nak flags reason resp) refl e).0; number = refl }
+  sent_spelled (Rep flags num) e = record { response = refl; number = eqb-true num (wire (given s)) (sending_passed s (Rep flags num) refl e).1.0 }
+  sent_spelled (Strt flags) e = record { response = refl; number = refl }
+  sent_spelled (Stack flags) e = record { response = refl; number = refl }
 
   pub sent_asks : (m : MessageValue) → AsksForHighest m (truth_of s m)
-  sent_asks (Rep flags num) = refl
-  sent_asks (Data flags resp num body) = tt
-  sent_asks (Ack flags resp) = tt
-  sent_asks (Nak flags reason resp) = tt
-  sent_asks (Strt flags) = tt
-  sent_asks (Stack flags) = tt
+  sent_asks (Rep flags num) is = refl
+  sent_asks (Data flags resp num body) is = absurd cc
+  sent_asks (Ack flags resp) is = absurd cc
+  sent_asks (Nak flags reason resp) is = absurd cc
+  sent_asks (Strt flags) is = absurd cc
+  sent_asks (Stack flags) is = absurd cc
 
-  few : given s ≤ s.acknowledged + 255
+  few : given s ≤ s.acknowledged + WINDOW
   few = o.few
 
   -- what is sent was lawful, and follows the numbers of its sender

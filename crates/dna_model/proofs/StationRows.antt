@@ -7,9 +7,8 @@ use Rattle.dna_model.specs.declared.state.StationEvent.TheVariants.{Start, Halt}
 use Rattle.dna_model.specs.declared.refusal.StationRefusal.{StationRefusal}
 use Rattle.dna_model.specs.declared.refusal.StationRefusal.TheVariants.{WindowFull, NoCause}
 use Rattle.dna_model.specs.Station.{Station, new_station, after_event, wire}
-use Rattle.dna_model.specs.Sending.{sending_refusal, after_sending}
-use Rattle.dna_model.specs.Truth.{truth_of}
-use Rattle.dna_model.specs.Arriving.{Sound, after_arrival}
+use Rattle.dna_model.specs.StationBook.{sending_refusal, after_sending, truth_of, after_arrival}
+use Rattle.dna_model.specs.Book.{Sound}
 use Rattle.dna_model.proofs.RowUnits.{plain}
 
 -- in RUNNING, with nothing sent or received

@@ -1,14 +1,13 @@
 -- What holds at any time of a station's own numbers, and of the numbers of what it meets. It is what makes numbers modulo 256 tell all.
-use Rattle.std.specs.Prelude.{◌≡◌, ℕ, ◌+◌, ◌<◌, ◌≤◌, Bool, true, false, ◌==◌, Some, slice_get}
+use Rattle.std.specs.Prelude.{◌≡◌, ℕ, ◌+◌, ◌<◌, ◌≤◌, true, Some, List, [], ◌∷◌, slice_get}
 use Rattle.two_nodes.specs.Nodes.{Half}
-use Rattle.ddcmp_msg.specs.Message.{MessageValue, Data, Ack, Nak, Rep}
-use Rattle.dna_model.specs.declared.state.State.{State}
-use Rattle.dna_model.specs.declared.state.State.TheVariants.{Astrt, Running}
+use Rattle.ddcmp_msg.specs.Message.{MessageValue}
+use Rattle.dna_model.specs.Table.{WINDOW, Effect, Respond, TakePacket, AnswerRep, row}
+use Rattle.dna_model.specs.Rules.{judged}
 use Rattle.dna_model.specs.Station.{Station, given, wire}
-use Rattle.dna_model.specs.Periods.{crossed}
-use Rattle.dna_model.specs.Sending.{WINDOW}
 use Rattle.dna_model.specs.Truth.{Truth}
-use Rattle.dna_model.specs.Arriving.{standing}
+use Rattle.dna_model.specs.Book.{resp_of, num_of}
+use Rattle.dna_model.specs.StationBook.{meets_needs}
 use Rattle.dna_model.specs.Line.{SentUnit}
 use Rattle.dna_model.specs.Node.{Node}
 
@@ -20,12 +19,9 @@ pub record IsOrdered (s : Station) : Type 0 where
   pub few : given s ≤ s.acknowledged + WINDOW
 
 -- the bytes of a message are the wire values of the numbers that they stand for
-abbrev pub HasWireNumbers : MessageValue → Truth → Type 0
-HasWireNumbers (Data flags resp num body) u = (resp ≡ wire u.response) × (num ≡ wire u.number)
-HasWireNumbers (Ack flags resp) u = resp ≡ wire u.response
-HasWireNumbers (Nak flags reason resp) u = resp ≡ wire u.response
-HasWireNumbers (Rep flags num) u = num ≡ wire u.number
-HasWireNumbers m u = Unit {0}
+pub record HasWireNumbers (m : MessageValue) (u : Truth) : Type 0 where
+  pub response : resp_of m ≡ wire u.response
+  pub number : num_of m ≡ wire u.number
 
 -- a response is from the receiver's highest acknowledged through its highest given
 pub record ResponseIsNear (s : Station) (response : ℕ) : Type 0 where
@@ -34,31 +30,30 @@ pub record ResponseIsNear (s : Station) (response : ℕ) : Type 0 where
 
 -- a data number differs from the receiver's last one by -254 to 255
 pub record NumberIsNear (s : Station) (number : ℕ) : Type 0 where
-  pub least : s.received ≤ number + 254
-  pub most : number ≤ s.received + 255
+  pub least : s.received < number + WINDOW
+  pub most : number ≤ s.received + WINDOW
 
 -- a REP's number is from the receiver's last one through 255 above it
 pub record RepIsNear (s : Station) (number : ℕ) : Type 0 where
   pub least : s.received ≤ number
-  pub most : number ≤ s.received + 255
+  pub most : number ≤ s.received + WINDOW
 
-abbrev pub NumbersAreNear : Station → MessageValue → Truth → Type 0
-NumbersAreNear s (Data flags resp num body) u = ResponseIsNear s u.response × NumberIsNear s u.number
-NumbersAreNear s (Ack flags resp) u = ResponseIsNear s u.response
-NumbersAreNear s (Nak flags reason resp) u = ResponseIsNear s u.response
-NumbersAreNear s (Rep flags num) u = RepIsNear s u.number
-NumbersAreNear s m u = Unit {0}
+-- what an effect asks of the numbers
+abbrev pub IsNear : Station → Truth → Effect → Type 0
+IsNear s u Respond = ResponseIsNear s u.response
+IsNear s u TakePacket = NumberIsNear s u.number
+IsNear s u AnswerRep = RepIsNear s u.number
+IsNear s u effect = Unit {0}
 
--- whether a message's numbers are looked at in this state
-abbrev pub reads_numbers : State → MessageValue → Bool
-reads_numbers Astrt (Data flags resp num body) = resp == 0
-reads_numbers Running m = true
-reads_numbers state m = false
+-- and all effects of a row
+abbrev pub AreNear : Station → Truth → List Effect → Type 0
+AreNear s u [] = Unit {0}
+AreNear s u (effect ∷ next) = IsNear s u effect × AreNear s u next
 
--- a message that this station meets within the bounds, if it looks at its numbers
+-- a message that this station meets within the bounds, as far as it looks at its numbers
 pub record IsWithin (s : Station) (m : MessageValue) (u : Truth) : Type 0 where
   pub wire_numbers : HasWireNumbers m u
-  pub near : reads_numbers s.state m ≡ true → NumbersAreNear s m u
+  pub near : AreNear s u (row s.state m).effects
 
 -- ---- in a run
 
@@ -67,4 +62,4 @@ pub record IsWithin (s : Station) (m : MessageValue) (u : Truth) : Type 0 where
 pub record IsBounded (own other : Half Node SentUnit) : Type 0 where
   pub ordered : IsOrdered own.state.station
   pub within : (k : ℕ) (unit : SentUnit) → slice_get other.sent k ≡ Some unit → own.state.front ≤ k →
-      crossed (standing own.state.station) unit.message unit.known.tag ≡ false → IsWithin own.state.station unit.message unit.known
+      meets_needs judged own.state.station unit.message unit.known ≡ true → IsWithin own.state.station unit.message unit.known

@@ -1,6 +1,7 @@
 -- What a station in RUNNING may answer with a NAK: the open causes of each reason (DDCMP 4.1, NAK message). That a NAK wants an open
 -- cause, and uses it up, is this project's own.
 use Rattle.std.specs.Prelude.{ℕ, ◌+◌, ◌-◌, Bool, true, nat_lt}
+use Rattle.ddcmp_msg.specs.Message.{MessageValue, Nak}
 use Rattle.ddcmp_msg.specs.declared.nak_reason.NakReason.{NakReason}
 use Rattle.ddcmp_msg.specs.declared.nak_reason.NakReason.TheVariants.{HeaderCheck, DataCheck, RepResponse, NoBuffer}
 
@@ -39,3 +40,12 @@ without_cause DataCheck c = record c { data_check = c.data_check - 1 }
 without_cause RepResponse c = record c { rep_response = c.rep_response - 1 }
 without_cause NoBuffer c = record c { no_buffer = c.no_buffer - 1 }
 without_cause reason c = c
+
+-- of a message that is sent: whether it may be, and what it leaves
+abbrev pub may_nak : MessageValue → Causes → Bool
+may_nak (Nak flags reason resp) c = has_cause reason c
+may_nak m c = true
+
+abbrev pub after_nak : MessageValue → Causes → Causes
+after_nak (Nak flags reason resp) c = without_cause reason c
+after_nak m c = c

@@ -1,18 +1,23 @@
--- What a reader must believe of the protocols, lowest first
+-- What a reader must believe of the protocols, lowest first: the tables, and then what they are read by
 pub mod Causes
+pub mod Table
+pub mod Rules
+pub mod Book
 pub mod Station
-pub mod Periods
-pub mod Sending
 pub mod Truth
+pub mod StationBook
+pub mod WireStation
+pub mod WireBook
+pub mod Cut
 pub mod Delivery
-pub mod Arriving
+pub mod Offered
 pub mod Line
+pub mod Machine
 pub mod Node
 pub mod Bounds
-pub mod WireStation
-pub mod Cut
 pub mod Pair
 pub mod WireNode
+pub mod Tells
 pub mod Seen
 pub mod Verdict
 -- The logical links of one node: what look-ups and segments are; the tables, over any flow; the true flow and the one that a node keeps

@@ -5,7 +5,7 @@ use Rattle.ddcmp_msg.specs.Message.{MessageValue}
 use Rattle.ddcmp_msg.specs.Reading.{ReadingValue, reading, Malformed}
 use Rattle.ddcmp_msg.specs.Reading as read
 use Rattle.dna_model.specs.Truth.{Truth}
-use Rattle.dna_model.specs.Arriving.{ArrivalValue, Sound, HeaderBad, DataBad}
+use Rattle.dna_model.specs.Book.{ArrivalValue, Sound, HeaderBad, DataBad}
 
 -- A unit that was sent: its bytes, the message that they are, and what is known of it beside the line
 pub record UnitOf (K : Type 0) : Type 0 where

@@ -1,14 +1,13 @@
--- One DDCMP station, on numbers without a bound (DDCMP 4.1, station variables), and what its user does. What it may send stands
--- in `Sending`, what an arrival does to it in `Arriving`; what refuses a step and what the step does are said apart.
-use Rattle.std.specs.Prelude.{ℕ, ◌+◌, Option, Some, None, List, [], ◌∷◌, ◌++◌, length, flat_map}
+-- One DDCMP station, on numbers without a bound (DDCMP 4.1, station variables), and what its user does. What it may send
+-- and what an arrival does to it stands in `Table`, with its words in `StationBook`.
+use Rattle.std.specs.Prelude.{ℕ, ◌+◌, Option, None, List, [], ◌∷◌, ◌++◌, length, flat_map}
 use Rattle.wire_base.specs.Seq.{wire_value}
 use Rattle.dna_model.specs.declared.state.State.{State}
-use Rattle.dna_model.specs.declared.state.State.TheVariants.{Halted, Istrt}
+use Rattle.dna_model.specs.declared.state.State.TheVariants.{Halted}
 use Rattle.dna_model.specs.declared.state.StationEvent.{StationEvent}
 use Rattle.dna_model.specs.declared.state.StationEvent.TheVariants.{Start, Halt}
-use Rattle.dna_model.specs.declared.refusal.StationRefusal.{StationRefusal}
-use Rattle.dna_model.specs.declared.refusal.StationRefusal.TheVariants.{WrongUserEvent}
 use Rattle.dna_model.specs.Causes.{Causes, no_causes}
+use Rattle.dna_model.specs.Table.{state_after}
 
 -- What a period that is over came to: its partner, all packets given in it, and all packets taken. No check and no step goes by it
 pub record PastPeriod : Type 0 where
@@ -63,20 +62,14 @@ new_station = record {
 
 -- ---- what the user does
 
--- start in HALTED, else 14; halt in every state
-abbrev pub user_refusal : State → StationEvent → Option StationRefusal
-user_refusal Halted Start = None
-user_refusal state Start = Some WrongUserEvent
-user_refusal state Halt = None
-
 abbrev pub past : Station → PastPeriod
 past s = record { partner = s.partner; given = s.packets; taken = s.taken }
 
--- Start leads to ISTRT and begins a period: no number is received, given or acknowledged and the next to send is 1, all packets and
--- causes are dropped, and there is no partner period. Halt leads to HALTED
+-- A start begins a period: no number is received, given or acknowledged and the next to send is 1, all packets and
+-- causes are dropped, and there is no partner period
 abbrev pub after_event : Station → StationEvent → Station
 after_event s Start = record {
-  state = Istrt;
+  state = state_after Start;
   period = s.period + 1;
   partner = None;
   received = 0;
@@ -87,7 +80,7 @@ after_event s Start = record {
   taken = [];
   earlier = s.earlier ++ past s ∷ [];
 }
-after_event s Halt = record s { state = Halted }
+after_event s Halt = record s { state = state_after Halt }
 
 -- ---- what was given over all periods
 

@@ -3,7 +3,6 @@ use Rattle.std.specs.Prelude.{ℕ, ◌+◌, ◌-◌, length}
 use Rattle.ddcmp_msg.specs.Message.{MessageValue, Data, Ack, Nak, Rep}
 use Rattle.dna_model.specs.declared.tag.Tag.{Tag}
 use Rattle.dna_model.specs.Station.{Station, given, packets_of}
-use Rattle.dna_model.specs.Sending.{after_sending}
 
 -- A number that the message does not have is 0 here, and nothing looks at it
 pub record Truth : Type 0 where
@@ -52,7 +51,3 @@ truth_after s after m = record {
   given = given after;
   acknowledged = after.acknowledged;
 }
-
--- of a message that this station sends
-abbrev pub truth_of : Station → MessageValue → Truth
-truth_of s m = truth_after s (after_sending s m) m

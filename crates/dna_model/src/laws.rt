@@ -1,20 +1,23 @@
 //! What holds of the definitions in `specs/`, whatever the code does, for the proofs of callers to cite. `L` is the type of the
 //! labels that a node puts beside packets.
 
-ghost use Rattle.std.specs.Prelude.{◌≡◌, ℕ, ◌+◌, ◌<◌, ◌≤◌, Bool, false, Some, None, List, slice_get};
+ghost use Rattle.std.specs.Prelude.{◌≡◌, ℕ, ◌+◌, ◌<◌, ◌≤◌, Bool, true, false, Some, None, List, slice_get};
 ghost use Rattle.two_nodes.specs.Nodes.{Half, World, Run, advance};
 ghost use Rattle.ddcmp_msg.specs.Message.{MessageValue};
 ghost use Rattle.capture.specs.declared.record.Record.{Record};
 ghost use Rattle.dna_model.specs.declared.state.StationEvent.{StationEvent};
+ghost use Rattle.dna_model.specs.declared.head.Head.{Head};
 ghost use Rattle.dna_model.specs.declared.tag.Tag.{Tag};
 ghost use Rattle.dna_model.specs.Station.{Station, new_station, given, all_given, after_event};
 ghost use Rattle.dna_model.specs.Delivery.{AreAmong, CarriesItsPacket, DeliversFrom, all_taken, delivered, taken_by_period};
-ghost use Rattle.dna_model.specs.Periods.{PeriodRule, crossed};
-ghost use Rattle.dna_model.specs.Sending.{sending_refusal, after_sending, gives_number};
+ghost use Rattle.dna_model.specs.Offered.{Delivers, given_by_period, offered};
+ghost use Rattle.dna_model.specs.Rules.{Rules, judged};
 ghost use Rattle.dna_model.specs.Truth.{Truth};
-ghost use Rattle.dna_model.specs.Arriving.{ArrivalValue, standing, arrival_refusal, after_arrival};
-ghost use Rattle.dna_model.specs.Arriving as arriving;
-ghost use Rattle.dna_model.specs.WireStation.{HeldPacket, WireStation, load, with_label, wire_after_event, wire_after_label, wire_sending_refusal, wire_after_sending, gives_new, label_again, wire_arrival_refusal, wire_after_arrival, wire_taken};
+ghost use Rattle.dna_model.specs.Book.{ArrivalValue};
+ghost use Rattle.dna_model.specs.Book as arriving;
+ghost use Rattle.dna_model.specs.StationBook.{sending_refusal, after_sending, gives_number, meets_needs, arrival_refusal, after_arrival};
+ghost use Rattle.dna_model.specs.WireStation.{HeldPacket, WireStation, load, with_label, wire_after_event, wire_after_label};
+ghost use Rattle.dna_model.specs.WireBook.{wire_sending_refusal, wire_after_sending, gives_new, label_again, wire_arrival_refusal, wire_after_arrival, wire_taken};
 ghost use Rattle.dna_model.specs.Bounds.{IsBounded, IsOrdered, IsWithin};
 ghost use Rattle.dna_model.specs.Line.{SentUnit};
 ghost use Rattle.dna_model.specs.Node.{Node, new_node, step};
@@ -29,8 +32,10 @@ use two_nodes::{always, simulation};
 
 /// In every run, the numbers of each station are in order, and what it may still meet is within the bounds.
 pub fn numbers_within_bounds()
-    ensures of_a { (w : World Node SentUnit) (of_a of_b : List Record) → Run pair start of_a of_b w → IsBounded w.a w.b }
-    ensures of_b { (w : World Node SentUnit) (of_a of_b : List Record) → Run pair start of_a of_b w → IsBounded w.b w.a }
+    ensures of_a { (head_a head_b : Head) (w : World Node SentUnit) (of_a of_b : List Record)
+        → Run pair (start head_a head_b) of_a of_b w → IsBounded w.a w.b }
+    ensures of_b { (head_a head_b : Head) (w : World Node SentUnit) (of_a of_b : List Record)
+        → Run pair (start head_a head_b) of_a of_b w → IsBounded w.b w.a }
 {
     always::<Brand>();
 }
@@ -38,32 +43,50 @@ pub fn numbers_within_bounds()
 /// In every run, what a station took in a period is a beginning of what the other gave in the period that it goes with; where it
 /// goes with none, it is nothing.
 pub fn delivered_in_order()
-    ensures of_a { (w : World Node SentUnit) (of_a of_b : List Record)
-        → Run pair start of_a of_b w → DeliversFrom w.a.state.station w.b.state.station }
-    ensures of_b { (w : World Node SentUnit) (of_a of_b : List Record)
-        → Run pair start of_a of_b w → DeliversFrom w.b.state.station w.a.state.station }
+    ensures of_a { (head_a head_b : Head) (w : World Node SentUnit) (of_a of_b : List Record)
+        → Run pair (start head_a head_b) of_a of_b w → DeliversFrom w.a.state.station w.b.state.station }
+    ensures of_b { (head_a head_b : Head) (w : World Node SentUnit) (of_a of_b : List Record)
+        → Run pair (start head_a head_b) of_a of_b w → DeliversFrom w.b.state.station w.a.state.station }
 
     // What it took is the data of the kept receipts of its capture.
-    ensures a_captured { (w : World Node SentUnit) (of_a of_b : List Record)
-        → Run pair start of_a of_b w → delivered of_a ≡ taken_by_period w.a.state.station }
-    ensures b_captured { (w : World Node SentUnit) (of_a of_b : List Record)
-        → Run pair start of_a of_b w → delivered of_b ≡ taken_by_period w.b.state.station }
+    ensures a_captured { (head_a head_b : Head) (w : World Node SentUnit) (of_a of_b : List Record)
+        → Run pair (start head_a head_b) of_a of_b w → delivered of_a ≡ taken_by_period w.a.state.station }
+    ensures b_captured { (head_a head_b : Head) (w : World Node SentUnit) (of_a of_b : List Record)
+        → Run pair (start head_a head_b) of_a of_b w → delivered of_b ≡ taken_by_period w.b.state.station }
 
     // Over all periods it stands in order among all that the other gave.
-    ensures a_among { (w : World Node SentUnit) (of_a of_b : List Record)
-        → Run pair start of_a of_b w → AreAmong (all_taken w.a.state.station) (all_given w.b.state.station) }
-    ensures b_among { (w : World Node SentUnit) (of_a of_b : List Record)
-        → Run pair start of_a of_b w → AreAmong (all_taken w.b.state.station) (all_given w.a.state.station) }
+    ensures a_among { (head_a head_b : Head) (w : World Node SentUnit) (of_a of_b : List Record)
+        → Run pair (start head_a head_b) of_a of_b w → AreAmong (all_taken w.a.state.station) (all_given w.b.state.station) }
+    ensures b_among { (head_a head_b : Head) (w : World Node SentUnit) (of_a of_b : List Record)
+        → Run pair (start head_a head_b) of_a of_b w → AreAmong (all_taken w.b.state.station) (all_given w.a.state.station) }
 {
+    always::<Brand>();
+}
+
+/// In every run, what the units of a capture offer in each period is what its station gave. So what was delivered is a beginning of
+/// what was offered, both read off the captures alone; the run tells which period goes with which.
+pub fn captures_deliver_in_order()
+    ensures a_offered { (head_a head_b : Head) (w : World Node SentUnit) (of_a of_b : List Record)
+        → Run pair (start head_a head_b) of_a of_b w → offered of_a ≡ given_by_period w.a.state.station }
+    ensures b_offered { (head_a head_b : Head) (w : World Node SentUnit) (of_a of_b : List Record)
+        → Run pair (start head_a head_b) of_a of_b w → offered of_b ≡ given_by_period w.b.state.station }
+    ensures a_delivers { (head_a head_b : Head) (w : World Node SentUnit) (of_a of_b : List Record)
+        → Run pair (start head_a head_b) of_a of_b w → Delivers w.a.state.station of_a of_b }
+    ensures b_delivers { (head_a head_b : Head) (w : World Node SentUnit) (of_a of_b : List Record)
+        → Run pair (start head_a head_b) of_a of_b w → Delivers w.b.state.station of_b of_a }
+{
+    delivered_in_order();
     always::<Brand>();
 }
 
 /// In every run, each data message carries the packet at its place among all packets that its sender ever gave.
 pub fn packets_at_their_places()
-    ensures of_a { (w : World Node SentUnit) (of_a of_b : List Record) → Run pair start of_a of_b w
+    ensures of_a { (head_a head_b : Head) (w : World Node SentUnit) (of_a of_b : List Record)
+        → Run pair (start head_a head_b) of_a of_b w
         → (i : ℕ) (unit : SentUnit) → slice_get w.a.sent i ≡ Some unit
         → CarriesItsPacket (all_given w.a.state.station) unit.message unit.known }
-    ensures of_b { (w : World Node SentUnit) (of_a of_b : List Record) → Run pair start of_a of_b w
+    ensures of_b { (head_a head_b : Head) (w : World Node SentUnit) (of_a of_b : List Record)
+        → Run pair (start head_a head_b) of_a of_b w
         → (i : ℕ) (unit : SentUnit) → slice_get w.b.sent i ≡ Some unit
         → CarriesItsPacket (all_given w.b.state.station) unit.message unit.known }
 {
@@ -118,10 +141,10 @@ pub fn cut_label<L>()
 /// From what is kept, a sound message that comes within the bounds is refused for the same reasons, and changes it as it
 /// changes the station; and so does damage. The packet that is answered is the one that the station takes.
 pub fn cut_arrival<L>()
-    ensures refusal { (all : List (HeldPacket L)) (s : Station) (rule : PeriodRule) (m : MessageValue) (u : Truth) (kept : Bool)
-        → AreLabelled all s → IsOrdered s → (rule (standing s) m u.tag ≡ false → IsWithin s m u)
-        → arrival_refusal rule s (arriving.Sound m u) kept
-        ≡ wire_arrival_refusal rule (cut all s) (arriving.Sound m u.tag) kept }
+    ensures refusal { (all : List (HeldPacket L)) (s : Station) (rules : Rules) (m : MessageValue) (u : Truth) (kept : Bool)
+        → AreLabelled all s → IsOrdered s → (meets_needs rules s m u ≡ true → IsWithin s m u)
+        → arrival_refusal rules s (arriving.Sound m u) kept
+        ≡ wire_arrival_refusal rules (cut all s) (arriving.Sound m u.tag) kept }
     ensures step { (all : List (HeldPacket L)) (s : Station) (m : MessageValue) (u : Truth) (kept : Bool)
         → AreLabelled all s → IsOrdered s → IsWithin s m u
         → cut all (after_arrival s (arriving.Sound m u) kept)
@@ -145,21 +168,22 @@ pub fn counts_rise_by_one<L>()
         → load (wire_after_arrival w arrival kept) ≤ load w + 1 }
 {}
 
-/// In a world within the bounds the same becomes of a record at a node that runs as at the node on true numbers, seen as the
+/// In a world within the bounds the same becomes of a record at a wire node as at the node on true numbers, seen as the
 /// former sees it. No packet has a label.
 pub fn cut_record<L>()
-    ensures start { new_wire_node {L = L} ≡ cut_node new_node }
+    ensures start { (head : Head) → new_wire_node {L = L} head ≡ cut_node (new_node head) }
     ensures outcome { (own other : Half Node SentUnit) (r : Record) → IsBounded own other
-        → advance (wire_step crossed) (cut_half (seen {L = L}) own) (cut_half seen other) r ≡ cut_outcome seen (advance (step crossed) own other r) }
+        → advance (wire_step judged) (cut_half (seen {L = L}) own) (cut_half seen other) r ≡ cut_outcome seen (advance (step judged) own other r) }
 {}
 
-/// The runs of two nodes that run are just what they see of the runs of the two nodes on true numbers; and after such a run the same
+/// The runs of two wire nodes are just what they see of the runs of the two nodes on true numbers; and after such a run the same
 /// becomes of each record.
-pub fn running_nodes_see_right<L>()
-    ensures of_true { (w : World Node SentUnit) (of_a of_b : List Record) → Run pair start of_a of_b w
-        → Run wire_pair (wire_start {L = L}) of_a of_b (cut_world seen w) }
-    ensures of_running { (end : World (WireNode L) WireUnit) (of_a of_b : List Record) → Run wire_pair wire_start of_a of_b end
-        → IsSeen end of_a of_b }
+pub fn wire_nodes_see_right<L>()
+    ensures of_true { (head_a head_b : Head) (w : World Node SentUnit) (of_a of_b : List Record)
+        → Run pair (start head_a head_b) of_a of_b w
+        → Run wire_pair (wire_start {L = L} head_a head_b) of_a of_b (cut_world seen w) }
+    ensures of_wire { (head_a head_b : Head) (end : World (WireNode L) WireUnit) (of_a of_b : List Record)
+        → Run wire_pair (wire_start head_a head_b) of_a of_b end → IsSeen head_a head_b end of_a of_b }
 {
     simulation::<Brand>();
 }

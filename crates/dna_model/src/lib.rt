@@ -1,26 +1,29 @@
 //! What a reader must believe of the protocols: one station, one node with its line, the run of two captures and the
 //! verdict on them, as definitions in `specs/`, with the few types that code and definitions share; the same station and node
-//! as they run, on numbers modulo 256; and laws of all these. It decides nothing, runs nothing and touches no file and no
+//! on numbers modulo 256 (the wire station, the wire node); and laws of all these. It decides nothing and touches no file and no
 //! memory: the machines above are proved to follow these definitions.
 #![tactic(auto)]
 
 mod finding;
+mod head;
 pub mod laws;
 mod link_event;
 pub mod link_laws;
 mod link_refusal;
 pub mod link_run_laws;
 mod link_tag;
+mod nodes;
 mod port;
 mod refusal;
 mod state;
 mod tag;
 
 pub use finding::{Cause, Finding};
+pub use head::Head;
 pub use laws::{
-    counts_rise_by_one, cut_arrival, cut_event, cut_label, cut_record, cut_sending,
-    delivered_in_order, numbers_in_order, numbers_within_bounds, packets_at_their_places,
-    running_nodes_see_right,
+    captures_deliver_in_order, counts_rise_by_one, cut_arrival, cut_event, cut_label, cut_record,
+    cut_sending, delivered_in_order, numbers_in_order, numbers_within_bounds,
+    packets_at_their_places, wire_nodes_see_right,
 };
 pub use link_event::LinkEvent;
 pub use link_laws::{cut_flow, cut_link_steps};
@@ -30,6 +33,7 @@ pub use link_run_laws::{
     wire_links_see_right,
 };
 pub use link_tag::LinkTag;
+pub use nodes::{TrueNodes, WireNodes};
 pub use port::{LinkTest, Phase, Port};
 pub use refusal::{StationRefusal, StepRefusal};
 pub use state::{State, StationEvent};

@@ -8,22 +8,26 @@ use Rattle.two_nodes.specs.Nodes as any
 use Rattle.capture.specs.declared.record.Record.TheVariants.{Sent, Received, User}
 use Rattle.capture.specs.declared.event.Event.{Event}
 use Rattle.ddcmp_msg.specs.Reading.{reading}
+use Rattle.dna_model.specs.declared.head.Head.{Head}
 use Rattle.dna_model.specs.declared.refusal.StepRefusal.{StepRefusal}
-use Rattle.dna_model.specs.Periods.{crossed}
-use Rattle.dna_model.specs.WireNode.{WireUnit, wire_sent_step, wire_user_step, wire_receives, wire_step, wire_tag}
+use Rattle.dna_model.specs.Rules.{judged}
+use Rattle.dna_model.specs.WireNode.{WireUnit, wire_sent_step, wire_user_step, wire_receives, wire_step}
+use Rattle.dna_model.specs.WireBook.{wire_tag}
 use Rattle.pair_judge.specs.declared.line.Line.{Line}
 use Rattle.pair_judge.specs.declared.end.End.{End}
 use Rattle.pair_judge.specs.Unit.{unit_of}
 use Rattle.pair_judge.specs.Lines.{Shows}
-use Rattle.pair_judge.specs.Receipts.{node_at, node_of, IsReceived}
-use Rattle.pair_judge.specs.Making.{StandsFor, IsMade}
+use Rattle.pair_judge.specs.Receipts.{IsReceived, came, node_at, node_of, station_move}
+use Rattle.pair_judge.specs.Making.{IsMade, StandsFor, move}
 use Rattle.pair_judge.specs.Summary.{counted}
-use Rattle.pair_judge.specs.Wire.{RunHalf, RunNode, RunStation}
+use Rattle.pair_judge.specs.Wire.{JudgeHalf, JudgeNode, JudgeStation}
 
 -- the state of the half
-pub state_is : (own : End) (incoming : Line) (mine : RunHalf) → StandsFor own incoming mine → mine.state ≡ node_of own.station incoming
+pub state_is : (own : End) (incoming : Line) (mine : JudgeHalf) → StandsFor own incoming mine → mine.state ≡ node_of own.head own.station incoming
 state_is own incoming mine stands =
-    ap (λ (s : RunStation). node_at s mine.state.front) stands.station ∙ ap (node_at own.station) stands.front
+    ap (λ (h : Head). node_at h mine.state.station mine.state.front) stands.head
+    ∙ ap (λ (s : JudgeStation). node_at own.head s mine.state.front) stands.station
+    ∙ ap (node_at own.head own.station) stands.front
 
 -- the line after one more unit was sent
 pub pushed : (before after : Line) (sent : List WireUnit) (unit : WireUnit) → Shows before sent → after.gone ≡ before.gone → after.units.items ≡ before.units.items ++ unit ∷ [] → Shows after (sent ++ unit ∷ [])
@@ -41,68 +45,72 @@ same_line before after sent same shows = record {
 
 -- ---- a sending
 
-pub sending_made : (old new : End) (incoming : Line) (bytes : List ℕ) (mine theirs : RunHalf) → StandsFor old incoming mine → Shows incoming theirs.sent → ((front : ℕ) → wire_sent_step (node_at old.station front) bytes (reading bytes) ≡ Sends (node_at new.station front) (unit_of bytes (wire_tag old.station))) → new.line.units.items ≡ old.line.units.items ++ unit_of bytes (wire_tag old.station) ∷ [] → new.line.gone ≡ old.line.gone → new.counts ≡ counted old.counts (Sent bytes) → IsMade old new incoming incoming (Sent bytes) mine theirs
-sending_made old new incoming bytes mine theirs stands shows sends units gone counts = record {
-  next = stepped_sending mine (node_of new.station incoming) (unit_of bytes (wire_tag old.station));
+pub sending_made : (old new : End) (incoming : Line) (bytes : List ℕ) (mine theirs : JudgeHalf) → StandsFor old incoming mine → Shows incoming theirs.sent → ((head : Head) (front : ℕ) → wire_sent_step (node_at head old.station front) bytes (reading bytes) ≡ Sends (node_at head new.station front) (unit_of bytes (wire_tag old.station))) → new.line.units.items ≡ old.line.units.items ++ unit_of bytes (wire_tag old.station) ∷ [] → new.line.gone ≡ old.line.gone → new.head ≡ old.head → new.counts ≡ counted old.counts (Sent bytes) → IsMade (move old new incoming incoming) (Sent bytes) mine theirs
+sending_made old new incoming bytes mine theirs stands shows sends units gone head counts = record {
+  next = stepped_sending mine (node_of old.head new.station incoming) (unit_of bytes (wire_tag old.station));
   step_is =
-      ap (λ (n : RunNode). answered mine theirs (wire_sent_step n bytes (reading bytes))) (state_is old incoming mine stands)
-      ∙ ap (answered mine theirs) (sends incoming.gone);
+      ap (λ (n : JudgeNode). answered mine theirs (wire_sent_step n bytes (reading bytes))) (state_is old incoming mine stands)
+      ∙ ap (answered mine theirs) (sends old.head incoming.gone);
   stands = record {
+    head = sym head;
     station = refl;
     front = refl;
     sent = pushed old.line new.line mine.sent (unit_of bytes (wire_tag old.station)) stands.sent gone units;
   };
   incoming = shows;
+  same_head = head;
   same_front = gone;
   counts = counts;
 }
 
-pub sending_refused : (old : End) (incoming : Line) (bytes : List ℕ) (mine theirs : RunHalf) (refusal : StepRefusal) → StandsFor old incoming mine → ((front : ℕ) → wire_sent_step (node_at old.station front) bytes (reading bytes) ≡ Refuses refusal) → advance (wire_step crossed) mine theirs (Sent bytes) ≡ Refused refusal
+pub sending_refused : (old : End) (incoming : Line) (bytes : List ℕ) (mine theirs : JudgeHalf) (refusal : StepRefusal) → StandsFor old incoming mine → ((head : Head) (front : ℕ) → wire_sent_step (node_at head old.station front) bytes (reading bytes) ≡ Refuses refusal) → advance (wire_step judged) mine theirs (Sent bytes) ≡ Refused refusal
 sending_refused old incoming bytes mine theirs refusal stands refuses =
-    ap (λ (n : RunNode). answered mine theirs (wire_sent_step n bytes (reading bytes))) (state_is old incoming mine stands)
-    ∙ ap (answered mine theirs) (refuses incoming.gone)
+    ap (λ (n : JudgeNode). answered mine theirs (wire_sent_step n bytes (reading bytes))) (state_is old incoming mine stands)
+    ∙ ap (answered mine theirs) (refuses old.head incoming.gone)
 
 -- ---- a user event
 
-pub event_made : (old new : End) (incoming : Line) (event : Event) (mine theirs : RunHalf) → StandsFor old incoming mine → Shows incoming theirs.sent → ((front : ℕ) → wire_user_step (node_at old.station front) event ≡ Goes (node_at new.station front)) → new.line ≡ old.line → new.counts ≡ counted old.counts (User event) → IsMade old new incoming incoming (User event) mine theirs
-event_made old new incoming event mine theirs stands shows goes line counts = record {
-  next = stepped mine (node_of new.station incoming);
+pub event_made : (old new : End) (incoming : Line) (event : Event) (mine theirs : JudgeHalf) → StandsFor old incoming mine → Shows incoming theirs.sent → ((head : Head) (front : ℕ) → wire_user_step (node_at head old.station front) event ≡ Goes (node_at head new.station front)) → new.line ≡ old.line → new.head ≡ old.head → new.counts ≡ counted old.counts (User event) → IsMade (move old new incoming incoming) (User event) mine theirs
+event_made old new incoming event mine theirs stands shows goes line head counts = record {
+  next = stepped mine (node_of old.head new.station incoming);
   step_is =
-      ap (λ (n : RunNode). answered mine theirs (wire_user_step n event)) (state_is old incoming mine stands)
-      ∙ ap (answered mine theirs) (goes incoming.gone);
-  stands = record { station = refl; front = refl; sent = same_line old.line new.line mine.sent line stands.sent };
+      ap (λ (n : JudgeNode). answered mine theirs (wire_user_step n event)) (state_is old incoming mine stands)
+      ∙ ap (answered mine theirs) (goes old.head incoming.gone);
+  stands = record { head = sym head; station = refl; front = refl; sent = same_line old.line new.line mine.sent line stands.sent };
   incoming = shows;
+  same_head = head;
   same_front = ap (λ (l : Line). l.gone) line;
   counts = counts;
 }
 
-pub event_refused : (old : End) (incoming : Line) (event : Event) (mine theirs : RunHalf) (refusal : StepRefusal) → StandsFor old incoming mine → ((front : ℕ) → wire_user_step (node_at old.station front) event ≡ Refuses refusal) → advance (wire_step crossed) mine theirs (User event) ≡ Refused refusal
+pub event_refused : (old : End) (incoming : Line) (event : Event) (mine theirs : JudgeHalf) (refusal : StepRefusal) → StandsFor old incoming mine → ((head : Head) (front : ℕ) → wire_user_step (node_at head old.station front) event ≡ Refuses refusal) → advance (wire_step judged) mine theirs (User event) ≡ Refused refusal
 event_refused old incoming event mine theirs refusal stands refuses =
-    ap (λ (n : RunNode). answered mine theirs (wire_user_step n event)) (state_is old incoming mine stands)
-    ∙ ap (answered mine theirs) (refuses incoming.gone)
+    ap (λ (n : JudgeNode). answered mine theirs (wire_user_step n event)) (state_is old incoming mine stands)
+    ∙ ap (answered mine theirs) (refuses old.head incoming.gone)
 
 -- ---- a receipt
 
 -- a receipt of a unit that was sent
-reads_unit : (mine theirs : RunHalf) (n : RunNode) (hint : ℕ) (kept : Bool) (bytes : List ℕ) (unit : WireUnit) (r : Result RunNode StepRefusal) → mine.state ≡ n → slice_get theirs.sent hint ≡ Some unit → wire_receives crossed n hint kept bytes unit ≡ r → advance (wire_step crossed) mine theirs (Received hint kept bytes) ≡ concluded mine r
+reads_unit : (mine theirs : JudgeHalf) (n : JudgeNode) (hint : ℕ) (kept : Bool) (bytes : List ℕ) (unit : WireUnit) (r : Result JudgeNode StepRefusal) → mine.state ≡ n → slice_get theirs.sent hint ≡ Some unit → wire_receives judged n hint kept bytes unit ≡ r → advance (wire_step judged) mine theirs (Received hint kept bytes) ≡ concluded mine r
 reads_unit mine theirs n hint kept bytes unit r state was_sent receives_is =
-    ap (any.read mine (wire_receives crossed mine.state hint kept bytes)) was_sent
-    ∙ ap (λ (s : RunNode). concluded mine (wire_receives crossed s hint kept bytes unit)) state
+    ap (any.read mine (wire_receives judged mine.state hint kept bytes)) was_sent
+    ∙ ap (λ (s : JudgeNode). concluded mine (wire_receives judged s hint kept bytes unit)) state
     ∙ ap (concluded mine) receives_is
 
-pub receipt_made : (old new : End) (before after : Line) (hint : ℕ) (kept : Bool) (bytes : List ℕ) (mine theirs : RunHalf) → StandsFor old before mine → IsReceived old.station new.station before after hint kept bytes theirs.sent → new.line ≡ old.line → new.counts ≡ counted old.counts (Received hint kept bytes) → IsMade old new before after (Received hint kept bytes) mine theirs
-receipt_made old new before after hint kept bytes mine theirs stands received line counts = record {
-  next = stepped mine (node_of new.station after);
-  step_is = reads_unit mine theirs (node_of old.station before) hint kept bytes received.unit (Ok (node_of new.station after)) (state_is old before mine stands) received.was_sent received.step;
-  stands = record { station = refl; front = refl; sent = same_line old.line new.line mine.sent line stands.sent };
+pub receipt_made : (old new : End) (before after : Line) (hint : ℕ) (kept : Bool) (bytes : List ℕ) (mine theirs : JudgeHalf) → StandsFor old before mine → IsReceived (station_move old.station new.station before after) (came hint kept bytes) theirs.sent → new.line ≡ old.line → new.head ≡ old.head → new.counts ≡ counted old.counts (Received hint kept bytes) → IsMade (move old new before after) (Received hint kept bytes) mine theirs
+receipt_made old new before after hint kept bytes mine theirs stands received line head counts = record {
+  next = stepped mine (node_of old.head new.station after);
+  step_is = reads_unit mine theirs (node_of old.head old.station before) hint kept bytes received.unit (Ok (node_of old.head new.station after)) (state_is old before mine stands) received.was_sent (received.step old.head);
+  stands = record { head = sym head; station = refl; front = refl; sent = same_line old.line new.line mine.sent line stands.sent };
   incoming = received.shows;
+  same_head = head;
   same_front = ap (λ (l : Line). l.gone) line;
   counts = counts;
 }
 
-pub receipt_refused : (old : End) (before : Line) (hint : ℕ) (kept : Bool) (bytes : List ℕ) (mine theirs : RunHalf) (refusal : StepRefusal) → StandsFor old before mine → (unit : WireUnit) × (slice_get theirs.sent hint ≡ Some unit) × (wire_receives crossed (node_of old.station before) hint kept bytes unit ≡ Err refusal) → advance (wire_step crossed) mine theirs (Received hint kept bytes) ≡ Refused refusal
+pub receipt_refused : (old : End) (before : Line) (hint : ℕ) (kept : Bool) (bytes : List ℕ) (mine theirs : JudgeHalf) (refusal : StepRefusal) → StandsFor old before mine → (unit : WireUnit) × (slice_get theirs.sent hint ≡ Some unit) × ((head : Head) → wire_receives judged (node_of head old.station before) hint kept bytes unit ≡ Err refusal) → advance (wire_step judged) mine theirs (Received hint kept bytes) ≡ Refused refusal
 receipt_refused old before hint kept bytes mine theirs refusal stands fails =
-    reads_unit mine theirs (node_of old.station before) hint kept bytes fails.0 (Err refusal) (state_is old before mine stands) fails.1 fails.2
+    reads_unit mine theirs (node_of old.head old.station before) hint kept bytes fails.0 (Err refusal) (state_is old before mine stands) fails.1 (fails.2 old.head)
 
-pub receipt_waits : (hint : ℕ) (kept : Bool) (bytes : List ℕ) (mine theirs : RunHalf) → slice_get theirs.sent hint ≡ None → advance (wire_step crossed) mine theirs (Received hint kept bytes) ≡ Waits
-receipt_waits hint kept bytes mine theirs not_sent = ap (any.read mine (wire_receives crossed mine.state hint kept bytes)) not_sent
+pub receipt_waits : (hint : ℕ) (kept : Bool) (bytes : List ℕ) (mine theirs : JudgeHalf) → slice_get theirs.sent hint ≡ None → advance (wire_step judged) mine theirs (Received hint kept bytes) ≡ Waits
+receipt_waits hint kept bytes mine theirs not_sent = ap (any.read mine (wire_receives judged mine.state hint kept bytes)) not_sent

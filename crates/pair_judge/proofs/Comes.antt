@@ -9,13 +9,14 @@ use Rattle.ddcmp_msg.specs.Reading as read
 use Rattle.dna_model.specs.declared.refusal.StationRefusal.{StationRefusal}
 use Rattle.dna_model.specs.declared.refusal.StepRefusal.TheVariants.{HintOrder, Station as OfStation}
 use Rattle.dna_model.specs.declared.tag.Tag.{Tag}
-use Rattle.dna_model.specs.Arriving.{ArrivalValue, Sound}
-use Rattle.dna_model.specs.Periods.{crossed}
+use Rattle.dna_model.specs.Book.{ArrivalValue, Sound}
+use Rattle.dna_model.specs.Rules.{judged}
 use Rattle.dna_model.specs.Line.{damage, coming_by, coming}
-use Rattle.dna_model.specs.WireStation.{wire_arrival_refusal, wire_after_arrival}
-use Rattle.dna_model.specs.WireNode.{WireUnit, wire_met, wire_comes, wire_receives}
+use Rattle.dna_model.specs.WireBook.{wire_arrival_refusal, wire_after_arrival}
+use Rattle.dna_model.specs.Machine.{met, comes, unless_refused}
+use Rattle.dna_model.specs.WireNode.{WireUnit, wire_machine, wire_receives}
 use Rattle.pair_judge.specs.Unit.{IsSoundReading, message_of, unit_of}
-use Rattle.pair_judge.specs.Wire.{RunNode}
+use Rattle.pair_judge.specs.Wire.{JudgeNode}
 
 -- ---- what comes
 
@@ -40,20 +41,20 @@ coming_unsound unit bytes sound unsound = by_test (bytes_eq bytes unit.bytes) re
 -- ---- what a node makes of it
 
 -- the hint lies below the front
-pub receives_back : (n : RunNode) (hint : ℕ) (kept : Bool) (bytes : List ℕ) (unit : WireUnit) → hint < n.front → wire_receives crossed n hint kept bytes unit ≡ Err HintOrder
+pub receives_back : (n : JudgeNode) (hint : ℕ) (kept : Bool) (bytes : List ℕ) (unit : WireUnit) → hint < n.front → wire_receives judged n hint kept bytes unit ≡ Err HintOrder
 receives_back n hint kept bytes unit below =
-    ap (λ b. cond b (Err HintOrder) (wire_comes crossed n hint kept (coming unit bytes))) (lt-ltb hint n.front below)
+    ap (λ b. cond b (Err HintOrder) (comes (wire_machine judged) n (hint + 1) kept (coming unit bytes))) (lt-ltb hint n.front below)
 
 -- at or above the front it goes by what comes
-pub receives_at : (n : RunNode) (hint : ℕ) (kept : Bool) (bytes : List ℕ) (unit : WireUnit) (came : Option (ArrivalValue Tag)) → n.front ≤ hint → came ≡ coming unit bytes → wire_receives crossed n hint kept bytes unit ≡ wire_comes crossed n hint kept came
+pub receives_at : (n : JudgeNode) (hint : ℕ) (kept : Bool) (bytes : List ℕ) (unit : WireUnit) (came : Option (ArrivalValue Tag)) → n.front ≤ hint → came ≡ coming unit bytes → wire_receives judged n hint kept bytes unit ≡ comes (wire_machine judged) n (hint + 1) kept came
 receives_at n hint kept bytes unit came at_least is =
-    ap (λ b. cond b (Err HintOrder) (wire_comes crossed n hint kept (coming unit bytes))) (le-ltb hint n.front at_least)
-    ∙ ap (wire_comes crossed n hint kept) (sym is)
+    ap (λ b. cond b (Err HintOrder) (comes (wire_machine judged) n (hint + 1) kept (coming unit bytes))) (le-ltb hint n.front at_least)
+    ∙ ap (comes (wire_machine judged) n (hint + 1) kept) (sym is)
 
 -- the station goes by it
-pub comes_met : (n : RunNode) (hint : ℕ) (kept : Bool) (arrival : ArrivalValue Tag) → wire_arrival_refusal crossed n.station arrival kept ≡ None → wire_comes crossed n hint kept (Some arrival) ≡ Ok (record { station = wire_after_arrival n.station arrival kept; front = hint + 1 })
-comes_met n hint kept arrival free = ap (wire_met n hint arrival kept) free
+pub comes_met : (n : JudgeNode) (hint : ℕ) (kept : Bool) (arrival : ArrivalValue Tag) → wire_arrival_refusal judged n.station arrival kept ≡ None → comes (wire_machine judged) n (hint + 1) kept (Some arrival) ≡ Ok (record n { station = wire_after_arrival n.station arrival kept; front = hint + 1 })
+comes_met n hint kept arrival free = ap (λ (o : Option StationRefusal). met n (hint + 1) (unless_refused o (wire_after_arrival n.station arrival kept))) free
 
 -- the station refuses
-pub comes_refused : (n : RunNode) (hint : ℕ) (kept : Bool) (arrival : ArrivalValue Tag) (refusal : StationRefusal) → wire_arrival_refusal crossed n.station arrival kept ≡ Some refusal → wire_comes crossed n hint kept (Some arrival) ≡ Err (OfStation refusal)
-comes_refused n hint kept arrival refusal refused = ap (wire_met n hint arrival kept) refused
+pub comes_refused : (n : JudgeNode) (hint : ℕ) (kept : Bool) (arrival : ArrivalValue Tag) (refusal : StationRefusal) → wire_arrival_refusal judged n.station arrival kept ≡ Some refusal → comes (wire_machine judged) n (hint + 1) kept (Some arrival) ≡ Err (OfStation refusal)
+comes_refused n hint kept arrival refusal refused = ap (λ (o : Option StationRefusal). met n (hint + 1) (unless_refused o (wire_after_arrival n.station arrival kept))) refused

@@ -1,98 +1,125 @@
--- How what was read of a text grows.
-use Rattle.std.proofs.Common.{◌≡◌, ℕ, ◌+◌, ◌<◌, List, [], ◌∷◌, ◌++◌, Option, Some, None, sym, ap, subst, ◌∙◌, arith, length-append, append_assoc, append-nil}
+-- How what was read of a text grows with a side's next record.
+use Rattle.std.proofs.Common.{◌≡◌, ℕ, ◌+◌, ◌<◌, ◌≤◌, List, [], ◌∷◌, ◌++◌, length, Option, Some, None, Ok, refl, sym, ap, ap₂, subst, ◌∙◌, arith, length-append, append-nil}
 use Rattle.std.specs.Option.{IfSome}
-use Rattle.std.specs.List.{AllByRecursion}
 use Rattle.std.specs.Io.KnownBytes.{Consumes, IsAtEnd}
 use Rattle.capture.specs.declared.limit.TheConstants.{MAX_RECORDS}
+use Rattle.capture.specs.declared.fault.CaptureFault.{CaptureFault}
+use Rattle.capture.specs.declared.fault.CaptureFault.TheVariants.{Departs, Read, OutOfMemory, Failed}
 use Rattle.capture.specs.declared.record.Record.{Record}
-use Rattle.capture.specs.Text.{head_line, record_line, record_lines}
-use Rattle.capture.specs.Range.{IsNode, IsRecord}
-use Rattle.capture.specs.Reader.{CaptureState}
+use Rattle.capture.specs.declared.entry.Entry.{Entry}
+use Rattle.capture.specs.Entries.{record_with}
+use Rattle.capture.specs.Text.{record_line}
+use Rattle.capture.specs.Range.{IsRecord}
+use Rattle.capture.specs.Departing.{RecordDeparts}
+use Rattle.capture.specs.Reader.{CaptureState, FaultShows, NextGives}
+use Rattle.capture.specs.SoFar.{ToCome, TheEnd, coming, so_far, IsReadSoFar}
+use Rattle.dna_model.specs.declared.head.Head.{Head}
+use Rattle.pair_judge.specs.declared.course.Ahead.{Ahead}
 use Rattle.pair_judge.specs.declared.course.Ahead.TheVariants.{Unread, Waits, Ended}
-use Rattle.pair_judge.specs.Course.{IsRead}
+use Rattle.pair_judge.specs.declared.course.Course.{Course}
+use Rattle.pair_judge.specs.declared.end.End.{End}
+use Rattle.pair_judge.specs.Heads.{head_of}
+use Rattle.pair_judge.specs.Course.{IsRead, IsFaultOf, Track, along, behind, read_of, waiting}
 
--- ---- lists of records
+-- ---- what was read, by what comes next
 
-pub All-push : {X : Type 0} (P : X → Type 0) (xs : List X) (x : X) → AllByRecursion P xs → P x → AllByRecursion P (xs ++ x ∷ [])
-All-push P [] x all last = (last, tt)
-All-push P (y ∷ ys) x all last = (all.0, All-push P ys x all.1 last)
+module _ (text : Option (List ℕ)) (course : Course) (come : Option (List ℕ)) (made : List Record) where
+  -- with what the end of the judge has
+  pub read_unread : course.ahead ≡ Unread → IsRead (along text course come made)
+      → IsReadSoFar text (so_far course.capture.own course.capture.peer made (ToCome come)) × (course.capture.records ≡ length made)
+  read_unread is h =
+      let so = subst (λ (a : Ahead). IsReadSoFar text (so_far course.capture.own course.capture.peer (made ++ waiting course.capture.bytes a) (behind a come))) is h.so_far in
+      let count = subst (λ (a : Ahead). course.capture.records ≡ length (made ++ waiting course.capture.bytes a)) is h.count in
+      (subst (λ (rs : List Record). IsReadSoFar text (so_far course.capture.own course.capture.peer rs (ToCome come))) (append-nil made) so, count ∙ ap length (append-nil made))
 
-pub record_lines-push : (rs : List Record) (r : Record) → record_lines (rs ++ r ∷ []) ≡ record_lines rs ++ record_line r
-record_lines-push [] r = append-nil (record_line r)
-record_lines-push (s ∷ rs) r =
-    ap (λ bytes. record_line s ++ bytes) (record_lines-push rs r) ∙ sym (append_assoc (record_line s) (record_lines rs) (record_line r))
+  pub from_unread : course.ahead ≡ Unread → IsReadSoFar text (so_far course.capture.own course.capture.peer made (ToCome come)) → course.capture.records ≡ length made
+      → course.end.head ≡ record { own = course.capture.own; peer = course.capture.peer } → IsRead (along text course come made)
+  from_unread is so count head = record {
+    so_far = subst (λ (a : Ahead). IsReadSoFar text (so_far course.capture.own course.capture.peer (made ++ waiting course.capture.bytes a) (behind a come))) (sym is)
+        (subst (λ (rs : List Record). IsReadSoFar text (so_far course.capture.own course.capture.peer rs (ToCome come))) (sym (append-nil made)) so);
+    count = subst (λ (a : Ahead). course.capture.records ≡ length (made ++ waiting course.capture.bytes a)) (sym is) (count ∙ sym (ap length (append-nil made)));
+    head = head;
+  }
 
--- ---- known bytes
+  pub read_waits : (entry : Entry) → course.ahead ≡ Waits entry → IsRead (along text course come made)
+      → IsReadSoFar text (so_far course.capture.own course.capture.peer (made ++ record_with entry course.capture.bytes ∷ []) (ToCome come)) × (course.capture.records ≡ length (made ++ record_with entry course.capture.bytes ∷ []))
+  read_waits entry is h = (
+    subst (λ (a : Ahead). IsReadSoFar text (so_far course.capture.own course.capture.peer (made ++ waiting course.capture.bytes a) (behind a come))) is h.so_far,
+    subst (λ (a : Ahead). course.capture.records ≡ length (made ++ waiting course.capture.bytes a)) is h.count,
+  )
 
--- a piece that was read after a beginning
-consumes_on : (text before after : Option (List ℕ)) (read piece : List ℕ) → Consumes text before read → Consumes before after piece → Consumes text after (read ++ piece)
-consumes_on None before after read piece first second = tt
-consumes_on (Some t) None after read piece first second = absurd first
-consumes_on (Some t) (Some bs) None read piece first second = absurd second
-consumes_on (Some t) (Some bs) (Some cs) read piece first second =
-    first ∙ ap (λ xs. read ++ xs) second ∙ sym (append_assoc read piece cs)
+  pub from_waits : (entry : Entry) → course.ahead ≡ Waits entry → IsReadSoFar text (so_far course.capture.own course.capture.peer (made ++ record_with entry course.capture.bytes ∷ []) (ToCome come)) → course.capture.records ≡ length (made ++ record_with entry course.capture.bytes ∷ [])
+      → course.end.head ≡ record { own = course.capture.own; peer = course.capture.peer } → IsRead (along text course come made)
+  from_waits entry is so count head = record {
+    so_far = subst (λ (a : Ahead). IsReadSoFar text (so_far course.capture.own course.capture.peer (made ++ waiting course.capture.bytes a) (behind a come))) (sym is) so;
+    count = subst (λ (a : Ahead). course.capture.records ≡ length (made ++ waiting course.capture.bytes a)) (sym is) count;
+    head = head;
+  }
 
--- nothing is left behind a beginning
-consumes_all : (text come : Option (List ℕ)) (read : List ℕ) → Consumes text come read → IsAtEnd come → IfSome text (λ bytes. bytes ≡ read)
-consumes_all None come read first end = tt
-consumes_all (Some t) None read first end = absurd first
-consumes_all (Some t) (Some bs) read first end = first ∙ ap (λ xs. read ++ xs) end ∙ append-nil read
+  pub from_ended : course.ahead ≡ Ended → IsReadSoFar text (so_far course.capture.own course.capture.peer made TheEnd) → course.capture.records ≡ length made
+      → course.end.head ≡ record { own = course.capture.own; peer = course.capture.peer } → IsRead (along text course come made)
+  from_ended is so count head = record {
+    so_far = subst (λ (a : Ahead). IsReadSoFar text (so_far course.capture.own course.capture.peer (made ++ waiting course.capture.bytes a) (behind a come))) (sym is)
+        (subst (λ (rs : List Record). IsReadSoFar text (so_far course.capture.own course.capture.peer rs TheEnd)) (sym (append-nil made)) so);
+    count = subst (λ (a : Ahead). course.capture.records ≡ length (made ++ waiting course.capture.bytes a)) (sym is) (count ∙ sym (ap length (append-nil made)));
+    head = head;
+  }
 
--- ---- what was read
+-- ---- the next record
 
 -- a record that waited goes on as one that was read
-pub taken_up : (text come : Option (List ℕ)) (capture : CaptureState) (made : List Record) (r : Record) → IsRead text capture (Waits r) come made → IsRead text capture Unread come (made ++ r ∷ [])
-taken_up text come capture made r h =
-    let same : (made ++ r ∷ []) ++ [] ≡ made ++ r ∷ [] = append-nil (made ++ r ∷ []) in
-    record {
-      own_fits = h.own_fits;
-      peer_fits = h.peer_fits;
-      each = rw same h.each;
-      count = rw same h.count;
-      few = rw same h.few;
-      beginning = rw same h.beginning;
-    }
+pub taken_up : (text : Option (List ℕ)) (course : Course) (come : Option (List ℕ)) (made : List Record) (entry : Entry) → course.ahead ≡ Waits entry → IsRead (along text course come made)
+    → IsRead (along text (record course { ahead = Unread }) come (made ++ record_with entry course.capture.bytes ∷ []))
+taken_up text course come made entry is h =
+    let read = read_waits text course come made entry is h in
+    from_unread text (record course { ahead = Unread }) come (made ++ record_with entry course.capture.bytes ∷ []) refl read.0 read.1 h.head
 
 -- a record that was read goes on as one that waits
-pub put_back : (text come : Option (List ℕ)) (capture : CaptureState) (made : List Record) (r : Record) → IsRead text capture Unread come (made ++ r ∷ []) → IsRead text capture (Waits r) come made
-put_back text come capture made r h =
-    let same : (made ++ r ∷ []) ++ [] ≡ made ++ r ∷ [] = append-nil (made ++ r ∷ []) in
-    record {
-      own_fits = h.own_fits;
-      peer_fits = h.peer_fits;
-      each = rw same at h.each;
-      count = rw same at h.count;
-      few = rw same at h.few;
-      beginning = rw same at h.beginning;
-    }
+pub put_back : (text : Option (List ℕ)) (course : Course) (come : Option (List ℕ)) (made : List Record) (entry : Entry) → course.ahead ≡ Unread
+    → IsRead (along text course come (made ++ record_with entry course.capture.bytes ∷ [])) → IsRead (along text (record course { ahead = Waits entry }) come made)
+put_back text course come made entry is h =
+    let read = read_unread text course come (made ++ record_with entry course.capture.bytes ∷ []) is h in
+    from_waits text (record course { ahead = Waits entry }) come made entry refl read.0 read.1 h.head
 
--- one more record was read
-pub read_on : (text before after : Option (List ℕ)) (old new : CaptureState) (made : List Record) (r : Record) → IsRead text old Unread before made → new.own ≡ old.own → new.peer ≡ old.peer → IsRecord r → old.records < MAX_RECORDS → new.records ≡ old.records + 1 → Consumes before after (record_line r) → IsRead text new Unread after (made ++ r ∷ [])
-read_on text before after old new made r h own peer is_record few count consumes =
-    let same : (made ++ r ∷ []) ++ [] ≡ made ++ r ∷ [] = append-nil (made ++ r ∷ []) in
-    let was : made ++ [] ≡ made = append-nil made in
-    let read : head_line old.own old.peer ++ record_lines made ++ record_line r ≡ head_line new.own new.peer ++ record_lines (made ++ r ∷ []) =
-    append_assoc (head_line old.own old.peer) (record_lines made) (record_line r)
-    ∙ ap (λ bytes. head_line old.own old.peer ++ bytes) (sym (record_lines-push made r))
-    ∙ ap (λ own. head_line own old.peer ++ record_lines (made ++ r ∷ [])) (sym own)
-    ∙ ap (λ peer. head_line new.own peer ++ record_lines (made ++ r ∷ [])) (sym peer) in
-    let before_it : Consumes text before (head_line old.own old.peer ++ record_lines made) = rw was at h.beginning in
-    record {
-      own_fits = subst IsNode (sym own) h.own_fits;
-      peer_fits = subst IsNode (sym peer) h.peer_fits;
-      each = rw same (All-push IsRecord made r (rw was at h.each) is_record);
-      count = rw same (omega (arith, length-append made (r ∷ []), rw was at h.count));
-      few = rw same (omega (arith, length-append made (r ∷ []), rw was at h.count));
-      beginning = rw same (subst (Consumes text after) read (consumes_on text before after _ _ before_it consumes));
-    }
+-- what was read of a text that is read on
+pub record GrowingLaws : Type 0 where
+  pub one_more : (text before after : Option (List ℕ)) (own peer : ℕ) (rs : List Record) (r : Record) → IsReadSoFar text (so_far own peer rs (ToCome before)) → length rs < MAX_RECORDS → IsRecord r → Consumes before after (record_line r) → IsReadSoFar text (so_far own peer (rs ++ r ∷ []) (ToCome after))
+  pub ended : (text before : Option (List ℕ)) (own peer : ℕ) (rs : List Record) → IsReadSoFar text (so_far own peer rs (ToCome before)) → IsAtEnd before → IsReadSoFar text (so_far own peer rs TheEnd)
 
--- the end was found
-pub ended : (text before after : Option (List ℕ)) (old new : CaptureState) (made : List Record) → IsRead text old Unread before made → new.own ≡ old.own → new.peer ≡ old.peer → new.records ≡ old.records → IsAtEnd before → IsRead text new Ended after made
-ended text before after old new made h own peer count end = record {
-  own_fits = subst IsNode (sym own) h.own_fits;
-  peer_fits = subst IsNode (sym peer) h.peer_fits;
-  each = h.each;
-  count = count ∙ h.count;
-  few = h.few;
-  beginning = rw (own, peer) (consumes_all text before _ h.beginning end);
-}
+-- the head stays
+same_head : (old new : CaptureState) → new.own ≡ old.own → new.peer ≡ old.peer → ◌≡◌ {A = Head} (record { own = old.own; peer = old.peer }) (record { own = new.own; peer = new.peer })
+same_head old new own peer = ap₂ (λ (o p : ℕ). record { own = o; peer = p }) (sym own) (sym peer)
+
+module _ (laws : GrowingLaws) (text : Option (List ℕ)) (old new : Course) (before after : Option (List ℕ)) (made : List Record) (unread : old.ahead ≡ Unread) (same_end : new.end ≡ old.end) (own : new.capture.own ≡ old.capture.own) (peer : new.capture.peer ≡ old.capture.peer) (h : IsRead (along text old before made)) where
+  head_on : new.end.head ≡ record { own = new.capture.own; peer = new.capture.peer }
+  head_on = ap (λ (e : End). e.head) same_end ∙ h.head ∙ same_head old.capture new.capture own peer
+
+  -- one more record was read
+  pub read_on : (r : Record) → new.ahead ≡ Unread → NextGives old.capture new.capture before after (Ok (Some r)) → IsRead (along text new after (made ++ r ∷ []))
+  read_on r is gives =
+      let read = read_unread text old before made unread h in
+      let few = gives.1 in
+      let count = read.1 in
+      let so = laws.one_more text before after old.capture.own old.capture.peer made r read.0 (omega arith) gives.0 gives.4 in
+      from_unread text new after (made ++ r ∷ []) is (rw (own, peer) so) (gives.2 ∙ ap (λ n. n + 1) read.1 ∙ sym (length-append made (r ∷ []))) head_on
+
+  -- the end was found
+  pub ended : new.ahead ≡ Ended → NextGives old.capture new.capture before after (Ok None) → IsRead (along text new after made)
+  ended is gives =
+      let read = read_unread text old before made unread h in
+      from_ended text new after made is (rw (own, peer) (laws.ended text before old.capture.own old.capture.peer made read.0 gives.0)) (gives.1 ∙ read.1) head_on
+
+-- the line at hand departs
+pub faulty : (text : Option (List ℕ)) (course : Course) (come : Option (List ℕ)) (made : List Record) (fault : CaptureFault) → course.ahead ≡ Unread → IsRead (along text course come made) → FaultShows (RecordDeparts course.capture.records) (course.capture.records + 2) come fault → IsFaultOf (along text course come made) fault
+faulty text course come made (Departs kind line) is h shows =
+    let count = h.count in (
+      is,
+      record {
+        departs = subst (λ (a : Ahead). IfSome (coming (behind a come)) (RecordDeparts (length (made ++ waiting course.capture.bytes course.ahead)) kind)) (sym is)
+            (subst (λ (n : ℕ). IfSome come (RecordDeparts n kind)) h.count shows.1);
+        line_is = shows.0 ∙ ap (λ n. n + 2) h.count;
+      },
+    )
+faulty text course come made Read is h shows = tt
+faulty text course come made OutOfMemory is h shows = tt
+faulty text course come made Failed is h shows = tt

@@ -1,108 +1,156 @@
 -- How the judge ends: its finding is a verdict on all captures that go on behind what was read.
-use Rattle.std.proofs.Common.{◌≡◌, ℕ, List, [], ◌∷◌, ◌++◌, Option, sym, subst, ◌∙◌, append-nil, append_assoc}
+use Rattle.std.proofs.Common.{◌≡◌, ℕ, List, [], ◌∷◌, ◌++◌, length, Option, refl, sym, ap, subst, ◌∙◌, append-nil, append_assoc}
 use Rattle.capture.specs.declared.record.Record.{Record}
+use Rattle.capture.specs.Entries.{record_with}
+use Rattle.capture.specs.SoFar.{Behind, TheEnd, GoesOn, GoesOnBy}
+use Rattle.wire_base.specs.declared.side.Side.TheVariants.{A, B}
 use Rattle.wire_base.specs.declared.side.Side.{Side}
+use Rattle.dna_model.specs.declared.head.Head.{Head}
+use Rattle.dna_model.specs.declared.refusal.StepRefusal.{StepRefusal}
 use Rattle.dna_model.specs.declared.finding.Cause.{Cause}
+use Rattle.dna_model.specs.declared.finding.Cause.TheVariants.{Step, NoSuchUnit, NoOrder}
 use Rattle.dna_model.specs.declared.finding.Finding.{Finding}
 use Rattle.dna_model.specs.declared.finding.Finding.TheVariants.{Accepted, Refused}
 use Rattle.dna_model.specs.Verdict.{IsVerdict}
 use Rattle.pair_judge.specs.declared.course.Ahead.{Ahead}
 use Rattle.pair_judge.specs.declared.course.Ahead.TheVariants.{Unread, Waits, Ended}
 use Rattle.pair_judge.specs.declared.course.Course.{Course}
-use Rattle.pair_judge.specs.Course.{IsRead, waiting}
-use Rattle.pair_judge.specs.Reached.{HasReached, GoesOn, IsFound}
+use Rattle.pair_judge.specs.Course.{IsRead, Track, behind, having_made, read_of, waiting, IsWaiting}
+use Rattle.pair_judge.specs.Finding.{EndsWhere}
+use Rattle.pair_judge.specs.Reached.{HasReached, IsFound}
 
 -- ---- what goes on behind what was read
 
-behind : (ahead : Ahead) (read all : List Record) → GoesOn ahead read all → (rest : List Record) × (all ≡ read ++ rest)
-behind Unread read all goes = goes
-behind (Waits r) read all goes = goes
-behind Ended read all goes = ([], goes ∙ sym (append-nil read))
+goes_behind : (ahead : Ahead) (come : Option (List ℕ)) (read all : List Record) → GoesOnBy (behind ahead come) read all → (rest : List Record) × (all ≡ read ++ rest)
+goes_behind Unread come read all goes = goes
+goes_behind (Waits entry) come read all goes = goes
+goes_behind Ended come read all goes = ([], goes ∙ sym (append-nil read))
 
-pub goes_any : (ahead : Ahead) (made all : List Record) → GoesOn ahead (made ++ waiting ahead) all → (rest : List Record) × (all ≡ made ++ rest)
-goes_any ahead made all goes =
-    let b = behind ahead (made ++ waiting ahead) all goes in
-    (waiting ahead ++ b.0, b.1 ∙ append_assoc made (waiting ahead) b.0)
+module _ (t : Track) (made : List Record) (all : List Record) where
+  pub goes_any : GoesOn (read_of (having_made t made)) all → (rest : List Record) × (all ≡ made ++ rest)
+  goes_any goes =
+      let b = goes_behind t.course.ahead t.come (made ++ waiting t.course.capture.bytes t.course.ahead) all goes in
+      (waiting t.course.capture.bytes t.course.ahead ++ b.0, b.1 ∙ append_assoc made (waiting t.course.capture.bytes t.course.ahead) b.0)
 
-pub goes_read : (ahead : Ahead) (made : List Record) (r : Record) (all : List Record) → GoesOn ahead ((made ++ r ∷ []) ++ waiting ahead) all → (rest : List Record) × (all ≡ made ++ r ∷ rest)
-goes_read ahead made r all goes =
-    let b = behind ahead ((made ++ r ∷ []) ++ waiting ahead) all goes in
-    (waiting ahead ++ b.0, b.1 ∙ append_assoc (made ++ r ∷ []) (waiting ahead) b.0 ∙ append_assoc made (r ∷ []) (waiting ahead ++ b.0))
+  pub goes_read : (r : Record) → GoesOn (read_of (having_made t (made ++ r ∷ []))) all → (rest : List Record) × (all ≡ made ++ r ∷ rest)
+  goes_read r goes =
+      let b = goes_behind t.course.ahead t.come ((made ++ r ∷ []) ++ waiting t.course.capture.bytes t.course.ahead) all goes in
+      (waiting t.course.capture.bytes t.course.ahead ++ b.0, b.1 ∙ append_assoc (made ++ r ∷ []) (waiting t.course.capture.bytes t.course.ahead) b.0 ∙ append_assoc made (r ∷ []) (waiting t.course.capture.bytes t.course.ahead ++ b.0))
 
-pub goes_waits : (ahead : Ahead) (made : List Record) (r : Record) (all : List Record) → ahead ≡ Waits r → GoesOn ahead (made ++ waiting ahead) all → (rest : List Record) × (all ≡ made ++ r ∷ rest)
-goes_waits ahead made r all is goes =
-    let at_waits : GoesOn (Waits r) (made ++ r ∷ []) all = subst (λ (x : Ahead). GoesOn x (made ++ waiting x) all) is goes in
-    (at_waits.0, at_waits.1 ∙ append_assoc made (r ∷ []) at_waits.0)
+  pub goes_waits : (r : Record) → IsWaiting t.course.capture.bytes t.course.ahead r → GoesOn (read_of (having_made t made)) all → (rest : List Record) × (all ≡ made ++ r ∷ rest)
+  goes_waits r w goes =
+      let bytes = t.course.capture.bytes in
+      let by_entry : GoesOnBy (behind (Waits w.entry) t.come) (made ++ record_with w.entry bytes ∷ []) all = subst (λ (x : Ahead). GoesOnBy (behind x t.come) (made ++ waiting bytes x) all) w.ahead_is goes in
+      let at_waits : GoesOnBy (behind (Waits w.entry) t.come) (made ++ r ∷ []) all = subst (λ (x : Record). GoesOnBy (behind (Waits w.entry) t.come) (made ++ x ∷ []) all) w.is by_entry in
+      (at_waits.0, at_waits.1 ∙ append_assoc made (r ∷ []) at_waits.0)
 
-pub goes_ended : (ahead : Ahead) (made all : List Record) → ahead ≡ Ended → GoesOn ahead (made ++ waiting ahead) all → all ≡ made
-goes_ended ahead made all is goes =
-    let at_end : all ≡ made ++ [] = subst (λ (x : Ahead). GoesOn x (made ++ waiting x) all) is goes in
-    at_end ∙ append-nil made
+  pub goes_ended : t.course.ahead ≡ Ended → GoesOn (read_of (having_made t made)) all → all ≡ made
+  goes_ended is goes =
+      let at_end : all ≡ made ++ [] = subst (λ (x : Ahead). GoesOnBy (behind x t.come) (made ++ waiting t.course.capture.bytes x) all) is goes in
+      at_end ∙ append-nil made
 
-verdict_at : (all_a all_b xs ys : List Record) (finding : Finding) → all_a ≡ xs → all_b ≡ ys → IsVerdict xs ys finding → IsVerdict all_a all_b finding
-verdict_at all_a all_b xs ys finding ea eb v =
-    subst (λ (as_a : List Record). IsVerdict as_a all_b finding) (sym ea) (subst (λ (as_b : List Record). IsVerdict xs as_b finding) (sym eb) v)
+at_the_end : (ahead : Ahead) (come : Option (List ℕ)) → ahead ≡ Ended → behind ahead come ≡ TheEnd
+at_the_end ahead come is = ap (λ (x : Ahead). behind x come) is
+
+-- the same of the same heads
+pub at_heads : (head_a head_b head_a' head_b' : Head) (xs ys : List Record) (finding : Finding) → head_a' ≡ head_a → head_b' ≡ head_b → IsVerdict head_a head_b xs ys finding → IsVerdict head_a' head_b' xs ys finding
+at_heads head_a head_b head_a' head_b' xs ys finding same_a same_b v =
+    subst (λ (h : Head). IsVerdict h head_b' xs ys finding) (sym same_a) (subst (λ (h : Head). IsVerdict head_a h xs ys finding) (sym same_b) v)
 
 -- ---- the endings
 
-module _ (text_a text_b : Option (List ℕ)) (a b : Course) (come_a come_b : Option (List ℕ)) (made_a made_b : List Record) where
-  refusal_found : (side : Side) (place : ℕ) (cause : Cause) (was_a was_b : List Record) → IsRead text_a a.capture a.ahead come_a was_a → IsRead text_b b.capture b.ahead come_b was_b → ((all_a all_b : List Record) → GoesOn a.ahead (was_a ++ waiting a.ahead) all_a → GoesOn b.ahead (was_b ++ waiting b.ahead) all_b → IsVerdict all_a all_b (Refused side place cause)) → IsFound text_a text_b a b come_a come_b (Refused side place cause)
-  refusal_found side place cause was_a was_b read_a read_b verdict = record {
-    made_a = was_a;
-    made_b = was_b;
+-- the two sides, and the heads and records of the run so far
+module _ (a b : Track) (head_a head_b : Head) (same_a : a.course.end.head ≡ head_a) (same_b : b.course.end.head ≡ head_b) (place : ℕ) where
+  verdict_at : (all_a all_b xs ys : List Record) (finding : Finding) → all_a ≡ xs → all_b ≡ ys → IsVerdict head_a head_b xs ys finding → IsVerdict a.course.end.head b.course.end.head all_a all_b finding
+  verdict_at all_a all_b xs ys finding ea eb v =
+      at_heads head_a head_b a.course.end.head b.course.end.head all_a all_b finding same_a same_b
+      (subst (λ (of_a : List Record). IsVerdict head_a head_b of_a all_b finding) (sym ea) (subst (λ (of_b : List Record). IsVerdict head_a head_b xs of_b finding) (sym eb) v))
+
+  -- a's next record is refused
+  pub a_fails : (refusal : StepRefusal) (r : Record) → IsRead (having_made a (a.made ++ r ∷ [])) → IsRead b → ((rest_a rest_b : List Record) → IsVerdict head_a head_b (a.made ++ r ∷ rest_a) (b.made ++ rest_b) (Refused A place (Step refusal))) → IsFound a b (Refused A place (Step refusal))
+  a_fails refusal r read_a read_b law = record {
+    made_a = a.made ++ r ∷ [];
+    made_b = b.made;
     read_a = read_a;
     read_b = read_b;
-    verdict = verdict;
-    whole = tt;
+    verdict = λ all_a all_b goes_a goes_b.
+        let x = goes_read a a.made all_a r goes_a in
+        let y = goes_any b b.made all_b goes_b in
+        verdict_at all_a all_b (a.made ++ r ∷ x.0) (b.made ++ y.0) (Refused A place (Step refusal)) x.1 y.1 (law x.0 y.0);
+    ends = tt;
     counts = λ e. cc;
   }
 
-  -- a's next record is refused
-  pub a_fails : (side : Side) (place : ℕ) (cause : Cause) (r : Record) → IsRead text_a a.capture a.ahead come_a (made_a ++ r ∷ []) → IsRead text_b b.capture b.ahead come_b made_b → ((rest_a rest_b : List Record) → IsVerdict (made_a ++ r ∷ rest_a) (made_b ++ rest_b) (Refused side place cause)) → IsFound text_a text_b a b come_a come_b (Refused side place cause)
-  a_fails side place cause r read_a read_b law = refusal_found side place cause (made_a ++ r ∷ []) made_b read_a read_b (λ all_a all_b goes_a goes_b.
-      let x = goes_read a.ahead made_a r all_a goes_a in
-      let y = goes_any b.ahead made_b all_b goes_b in
-      verdict_at all_a all_b (made_a ++ r ∷ x.0) (made_b ++ y.0) (Refused side place cause) x.1 y.1 (law x.0 y.0))
-
   -- b's next record is refused
-  pub b_fails : (side : Side) (place : ℕ) (cause : Cause) (r : Record) → IsRead text_a a.capture a.ahead come_a made_a → IsRead text_b b.capture b.ahead come_b (made_b ++ r ∷ []) → ((rest_a rest_b : List Record) → IsVerdict (made_a ++ rest_a) (made_b ++ r ∷ rest_b) (Refused side place cause)) → IsFound text_a text_b a b come_a come_b (Refused side place cause)
-  b_fails side place cause r read_a read_b law = refusal_found side place cause made_a (made_b ++ r ∷ []) read_a read_b (λ all_a all_b goes_a goes_b.
-      let x = goes_any a.ahead made_a all_a goes_a in
-      let y = goes_read b.ahead made_b r all_b goes_b in
-      verdict_at all_a all_b (made_a ++ x.0) (made_b ++ r ∷ y.0) (Refused side place cause) x.1 y.1 (law x.0 y.0))
-
-  -- both wait
-  pub both_wait : (side : Side) (place : ℕ) (cause : Cause) (r s : Record) → IsRead text_a a.capture a.ahead come_a made_a → IsRead text_b b.capture b.ahead come_b made_b → a.ahead ≡ Waits r → b.ahead ≡ Waits s → ((rest_a rest_b : List Record) → IsVerdict (made_a ++ r ∷ rest_a) (made_b ++ s ∷ rest_b) (Refused side place cause)) → IsFound text_a text_b a b come_a come_b (Refused side place cause)
-  both_wait side place cause r s read_a read_b ahead_a ahead_b law = refusal_found side place cause made_a made_b read_a read_b (λ all_a all_b goes_a goes_b.
-      let x = goes_waits a.ahead made_a r all_a ahead_a goes_a in
-      let y = goes_waits b.ahead made_b s all_b ahead_b goes_b in
-      verdict_at all_a all_b (made_a ++ r ∷ x.0) (made_b ++ s ∷ y.0) (Refused side place cause) x.1 y.1 (law x.0 y.0))
-
-  -- a waits and b has ended
-  pub a_waits : (side : Side) (place : ℕ) (cause : Cause) (r : Record) → IsRead text_a a.capture a.ahead come_a made_a → IsRead text_b b.capture b.ahead come_b made_b → a.ahead ≡ Waits r → b.ahead ≡ Ended → ((rest_a : List Record) → IsVerdict (made_a ++ r ∷ rest_a) made_b (Refused side place cause)) → IsFound text_a text_b a b come_a come_b (Refused side place cause)
-  a_waits side place cause r read_a read_b ahead_a ahead_b law = refusal_found side place cause made_a made_b read_a read_b (λ all_a all_b goes_a goes_b.
-      let x = goes_waits a.ahead made_a r all_a ahead_a goes_a in
-      verdict_at all_a all_b (made_a ++ r ∷ x.0) made_b (Refused side place cause) x.1 (goes_ended b.ahead made_b all_b ahead_b goes_b) (law x.0))
-
-  -- b waits and a has ended
-  pub b_waits : (side : Side) (place : ℕ) (cause : Cause) (r : Record) → IsRead text_a a.capture a.ahead come_a made_a → IsRead text_b b.capture b.ahead come_b made_b → a.ahead ≡ Ended → b.ahead ≡ Waits r → ((rest_b : List Record) → IsVerdict made_a (made_b ++ r ∷ rest_b) (Refused side place cause)) → IsFound text_a text_b a b come_a come_b (Refused side place cause)
-  b_waits side place cause r read_a read_b ahead_a ahead_b law = refusal_found side place cause made_a made_b read_a read_b (λ all_a all_b goes_a goes_b.
-      let y = goes_waits b.ahead made_b r all_b ahead_b goes_b in
-      verdict_at all_a all_b made_a (made_b ++ r ∷ y.0) (Refused side place cause) (goes_ended a.ahead made_a all_a ahead_a goes_a) y.1 (law y.0))
-
-  -- both have ended
-  pub both_ended : IsVerdict made_a made_b Accepted → IsRead text_a a.capture a.ahead come_a made_a → IsRead text_b b.capture b.ahead come_b made_b → a.ahead ≡ Ended → b.ahead ≡ Ended → HasReached a.end b.end made_a made_b → IsFound text_a text_b a b come_a come_b Accepted
-  both_ended law read_a read_b ahead_a ahead_b reached = record {
-    made_a = made_a;
-    made_b = made_b;
+  pub b_fails : (refusal : StepRefusal) (r : Record) → IsRead a → IsRead (having_made b (b.made ++ r ∷ [])) → ((rest_a rest_b : List Record) → IsVerdict head_a head_b (a.made ++ rest_a) (b.made ++ r ∷ rest_b) (Refused B place (Step refusal))) → IsFound a b (Refused B place (Step refusal))
+  b_fails refusal r read_a read_b law = record {
+    made_a = a.made;
+    made_b = b.made ++ r ∷ [];
     read_a = read_a;
     read_b = read_b;
-    verdict = λ all_a all_b goes_a goes_b. verdict_at all_a all_b made_a made_b Accepted (goes_ended a.ahead made_a all_a ahead_a goes_a) (goes_ended b.ahead made_b all_b ahead_b goes_b) law;
-    whole = (ahead_a, ahead_b);
+    verdict = λ all_a all_b goes_a goes_b.
+        let x = goes_any a a.made all_a goes_a in
+        let y = goes_read b b.made all_b r goes_b in
+        verdict_at all_a all_b (a.made ++ x.0) (b.made ++ r ∷ y.0) (Refused B place (Step refusal)) x.1 y.1 (law x.0 y.0);
+    ends = tt;
+    counts = λ e. cc;
+  }
+
+  -- both wait
+  pub both_wait : (r s : Record) → IsRead a → IsRead b → IsWaiting a.course.capture.bytes a.course.ahead r → IsWaiting b.course.capture.bytes b.course.ahead s → ((rest_a rest_b : List Record) → IsVerdict head_a head_b (a.made ++ r ∷ rest_a) (b.made ++ s ∷ rest_b) (Refused A place NoOrder)) → IsFound a b (Refused A place NoOrder)
+  both_wait r s read_a read_b ahead_a ahead_b law = record {
+    made_a = a.made;
+    made_b = b.made;
+    read_a = read_a;
+    read_b = read_b;
+    verdict = λ all_a all_b goes_a goes_b.
+        let x = goes_waits a a.made all_a r ahead_a goes_a in
+        let y = goes_waits b b.made all_b s ahead_b goes_b in
+        verdict_at all_a all_b (a.made ++ r ∷ x.0) (b.made ++ s ∷ y.0) (Refused A place NoOrder) x.1 y.1 (law x.0 y.0);
+    ends = tt;
+    counts = λ e. cc;
+  }
+
+  -- a waits and b has ended
+  pub a_waits : (r : Record) → IsRead a → IsRead b → IsWaiting a.course.capture.bytes a.course.ahead r → b.course.ahead ≡ Ended → ((rest_a : List Record) → IsVerdict head_a head_b (a.made ++ r ∷ rest_a) b.made (Refused A place NoSuchUnit)) → IsFound a b (Refused A place NoSuchUnit)
+  a_waits r read_a read_b ahead_a ahead_b law = record {
+    made_a = a.made;
+    made_b = b.made;
+    read_a = read_a;
+    read_b = read_b;
+    verdict = λ all_a all_b goes_a goes_b.
+        let x = goes_waits a a.made all_a r ahead_a goes_a in
+        verdict_at all_a all_b (a.made ++ r ∷ x.0) b.made (Refused A place NoSuchUnit) x.1 (goes_ended b b.made all_b ahead_b goes_b) (law x.0);
+    ends = at_the_end b.course.ahead b.come ahead_b;
+    counts = λ e. cc;
+  }
+
+  -- b waits and a has ended
+  pub b_waits : (r : Record) → IsRead a → IsRead b → a.course.ahead ≡ Ended → IsWaiting b.course.capture.bytes b.course.ahead r → ((rest_b : List Record) → IsVerdict head_a head_b a.made (b.made ++ r ∷ rest_b) (Refused B place NoSuchUnit)) → IsFound a b (Refused B place NoSuchUnit)
+  b_waits r read_a read_b ahead_a ahead_b law = record {
+    made_a = a.made;
+    made_b = b.made;
+    read_a = read_a;
+    read_b = read_b;
+    verdict = λ all_a all_b goes_a goes_b.
+        let y = goes_waits b b.made all_b r ahead_b goes_b in
+        verdict_at all_a all_b a.made (b.made ++ r ∷ y.0) (Refused B place NoSuchUnit) (goes_ended a a.made all_a ahead_a goes_a) y.1 (law y.0);
+    ends = at_the_end a.course.ahead a.come ahead_a;
+    counts = λ e. cc;
+  }
+
+  -- both have ended
+  pub both_ended : IsVerdict head_a head_b a.made b.made Accepted → IsRead a → IsRead b → a.course.ahead ≡ Ended → b.course.ahead ≡ Ended → HasReached a.course.end b.course.end a.made b.made → IsFound a b Accepted
+  both_ended law read_a read_b ahead_a ahead_b reached = record {
+    made_a = a.made;
+    made_b = b.made;
+    read_a = read_a;
+    read_b = read_b;
+    verdict = λ all_a all_b goes_a goes_b. verdict_at all_a all_b a.made b.made Accepted (goes_ended a a.made all_a ahead_a goes_a) (goes_ended b b.made all_b ahead_b goes_b) law;
+    ends = (at_the_end a.course.ahead a.come ahead_a, at_the_end b.course.ahead b.come ahead_b);
     counts = λ e. (reached.counts_a, reached.counts_b);
   }
 
 -- the place that is named is this one
-pub at_place : (text_a text_b : Option (List ℕ)) (a b : Course) (come_a come_b : Option (List ℕ)) (side : Side) (cause : Cause) (named place : ℕ) → named ≡ place → IsFound text_a text_b a b come_a come_b (Refused side place cause) → IsFound text_a text_b a b come_a come_b (Refused side named cause)
-at_place text_a text_b a b come_a come_b side cause named place is found =
-    subst (λ (n : ℕ). IsFound text_a text_b a b come_a come_b (Refused side n cause)) (sym is) found
+pub at_place : (a b : Track) (side : Side) (cause : Cause) (named place : ℕ) → named ≡ place → IsFound a b (Refused side place cause) → IsFound a b (Refused side named cause)
+at_place a b side cause named place is found = subst (λ (n : ℕ). IsFound a b (Refused side n cause)) (sym is) found

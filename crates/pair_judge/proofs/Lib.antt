@@ -4,7 +4,7 @@ pub mod Advances
 pub mod Courses
 pub mod Turns
 pub mod Found
-pub mod Texts
 pub mod Starts
 pub mod Faults
+pub mod Clauses
 pub mod Seen

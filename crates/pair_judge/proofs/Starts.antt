@@ -1,27 +1,39 @@
 -- Two sides whose heads have been read, and what holds of the two between turns.
-use Rattle.std.proofs.Common.{◌≡◌, ℕ, ◌+◌, List, [], length, drop, Option, Result, Ok, Err, refl, sym, subst, ◌∙◌, arith}
+use Rattle.std.proofs.Common.{◌≡◌, ℕ, ◌+◌, ◌≤◌, List, [], ◌++◌, length, drop, Option, refl, sym, ap, subst, ◌∙◌, arith, append-nil, length-append}
+use Rattle.std.proofs.lemmas.List.Sums.{count_by-le-length}
+use Rattle.capture.specs.declared.limit.TheConstants.{MAX_RECORDS}
+use Rattle.capture.specs.SoFar.{TheEnd}
+use Rattle.dna_model.specs.declared.finding.Finding.{Finding}
+use Rattle.dna_model.specs.declared.finding.Finding.TheVariants.{Accepted}
+use Rattle.dna_model.specs.Machine.{is_sent}
+use Rattle.pair_judge.specs.declared.course.Ahead.{Ahead}
+use Rattle.pair_judge.specs.declared.course.Ahead.TheVariants.{Unread, Waits, Ended}
+use Rattle.pair_judge.specs.declared.judging.Found.{Found}
+use Rattle.pair_judge.specs.declared.summary.SideSummary.{SideSummary}
+use Rattle.pair_judge.specs.Counting.{is_received, is_damaged, is_kept, is_start}
+use Rattle.pair_judge.specs.Finding.{EndsWhere, IsFoundIn}
+use Rattle.pair_judge.specs.Summary.{summary_of, HasRoom}
+use Rattle.pair_judge.proofs.Found.{at_heads}
 use Rattle.two_nodes.specs.Nodes.{Done}
 use Rattle.dna_model.specs.WireNode.{WireUnit, new_wire_node}
 use Rattle.capture.specs.declared.record.Record.{Record}
 use Rattle.pair_judge.specs.declared.course.Course.{Course}
-use Rattle.pair_judge.specs.declared.fault.JudgeFault.{JudgeFault}
-use Rattle.pair_judge.specs.declared.judging.Found.{Found}
 use Rattle.pair_judge.specs.declared.line.Line.{Line}
-use Rattle.pair_judge.specs.Course.{MayRead}
+use Rattle.pair_judge.specs.Course.{IsRead, MayRead, Track, along, behind, having_made, read_of, waiting}
 use Rattle.pair_judge.specs.Lines.{Shows}
 use Rattle.pair_judge.specs.Making.{StandsFor}
-use Rattle.pair_judge.specs.Reached.{IsUnderWay}
+use Rattle.pair_judge.specs.Reached.{IsFound, IsUnderWay}
 use Rattle.pair_judge.specs.Opened.{OpensAt}
-use Rattle.pair_judge.specs.Wire.{run_start}
+use Rattle.pair_judge.specs.Wire.{judge_start}
 
--- as many records are made as turns were taken, and no call of a reader failed
-pub record HasTaken (text_a text_b : Option (List ℕ)) (a b : Course) (come_a come_b : Option (List ℕ)) (turns : ℕ) : Type 0 where
+-- as many records are made as turns were taken
+pub record HasTaken (a b : Track) (turns : ℕ) : Type 0 where
   pub made_a : List Record
   pub made_b : List Record
-  pub under_way : IsUnderWay text_a text_b a b come_a come_b made_a made_b
+  pub under_way : IsUnderWay (having_made a made_a) (having_made b made_b)
   pub count : length made_a + length made_b ≡ turns
-  pub may_read_a : MayRead a
-  pub may_read_b : MayRead b
+  pub may_read_a : MayRead a.course
+  pub may_read_b : MayRead b.course
 
 nothing_sent : (line : Line) → line.gone ≡ 0 → line.units.items ≡ [] → Shows line []
 nothing_sent line gone units = record {
@@ -29,14 +41,15 @@ nothing_sent line gone units = record {
   rest = units ∙ sym (subst (λ (n : ℕ). drop {A = WireUnit} n [] ≡ []) (sym gone) refl);
 }
 
-stands : (text_own text_other : Option (List ℕ)) (own other : Course) (come_own come_other : Option (List ℕ)) → OpensAt text_own own come_own → OpensAt text_other other come_other → StandsFor own.end other.end.line (record { state = new_wire_node; sent = [] })
+stands : (text_own text_other : Option (List ℕ)) (own other : Course) (come_own come_other : Option (List ℕ)) → OpensAt text_own own come_own → OpensAt text_other other come_other → StandsFor own.end other.end.line (record { state = new_wire_node own.end.head; sent = [] })
 stands text_own text_other own other come_own come_other o p = record {
+  head = refl;
   station = sym o.station;
   front = sym p.gone;
   sent = nothing_sent own.end.line o.gone o.units;
 }
 
-pub started : (text_a text_b : Option (List ℕ)) (a b : Course) (come_a come_b : Option (List ℕ)) → OpensAt text_a a come_a → OpensAt text_b b come_b → HasTaken text_a text_b a b come_a come_b 0
+pub started : (text_a text_b : Option (List ℕ)) (a b : Course) (come_a come_b : Option (List ℕ)) → OpensAt text_a a come_a → OpensAt text_b b come_b → HasTaken (along text_a a come_a []) (along text_b b come_b []) 0
 started text_a text_b a b come_a come_b o p = record {
   made_a = [];
   made_b = [];
@@ -44,7 +57,7 @@ started text_a text_b a b come_a come_b o p = record {
     read_a = o.read;
     read_b = p.read;
     reached = record {
-      world = run_start;
+      world = judge_start a.end.head b.end.head;
       run = Done;
       stands_a = stands text_a text_b a b come_a come_b o p;
       stands_b = stands text_b text_a b a come_b come_a p o;
@@ -57,10 +70,44 @@ started text_a text_b a b come_a come_b o p = record {
   may_read_b = p.may_read;
 }
 
--- an error of one result is that of another
-abbrev IsFault : JudgeFault → Result Found JudgeFault → Type 0
-IsFault f (Ok found) = Unit {0}
-IsFault f (Err g) = f ≡ g
+-- ---- at the end
 
-pub same_fault : (f g : JudgeFault) → ◌≡◌ {A = Result Found JudgeFault} (Err f) (Err g) → f ≡ g
-same_fault f g e = subst (IsFault f) e refl
+-- a finding of the turn is one of the two texts
+pub found_in : (a b : Track) (found : Found) → IsFound a b found.finding → found.summary.a ≡ a.course.end.counts → found.summary.b ≡ b.course.end.counts → IsFoundIn a.text b.text found
+found_in a b found f counts_a counts_b = record {
+  read_a = read_of (having_made a f.made_a);
+  read_b = read_of (having_made b f.made_b);
+  from_a = f.read_a.so_far;
+  from_b = f.read_b.so_far;
+  verdict = λ all_a all_b goes_a goes_b. at_heads a.course.end.head b.course.end.head _ _ all_a all_b found.finding (sym f.read_a.head) (sym f.read_b.head) (f.verdict all_a all_b goes_a goes_b);
+  ends = f.ends;
+  counts = λ is. counted is f.ends (f.counts is);
+}
+  where
+    nothing_waits : (t : Track) (made : List Record) → (read_of t).behind ≡ TheEnd → made ≡ made ++ waiting t.course.capture.bytes t.course.ahead
+    nothing_waits t made ended = by_ahead t.course.ahead ended
+      where
+        by_ahead : (ahead : Ahead) → behind ahead t.come ≡ TheEnd → made ≡ made ++ waiting t.course.capture.bytes ahead
+        by_ahead Unread e = absurd (cc)
+        by_ahead (Waits entry) e = absurd (cc)
+        by_ahead Ended e = sym (append-nil made)
+
+    counted : found.finding ≡ Accepted → EndsWhere found.finding (read_of a).behind (read_of b).behind → (a.course.end.counts ≡ summary_of f.made_a) × (b.course.end.counts ≡ summary_of f.made_b)
+        → (found.summary.a ≡ summary_of (f.made_a ++ waiting a.course.capture.bytes a.course.ahead)) × (found.summary.b ≡ summary_of (f.made_b ++ waiting b.course.capture.bytes b.course.ahead))
+    counted is ends counts =
+        let both = subst (λ (finding : Finding). EndsWhere finding (read_of a).behind (read_of b).behind) is ends in
+        (counts_a ∙ counts.0 ∙ ap summary_of (nothing_waits a f.made_a both.0), counts_b ∙ counts.1 ∙ ap summary_of (nothing_waits b f.made_b both.1))
+
+-- ---- room
+
+pub has_room : (s : SideSummary) (made : List Record) → s ≡ summary_of made → length made ≤ MAX_RECORDS → HasRoom s
+has_room s made e few =
+    let sent = count_by-le-length is_sent made in
+    let received = count_by-le-length is_received made in
+    let damaged = count_by-le-length is_damaged made in
+    let kept = count_by-le-length is_kept made in
+    let periods = count_by-le-length is_start made in
+    rw e (record { records = omega arith; sent = omega arith; received = omega arith; damaged = omega arith; kept = omega arith; periods = omega arith })
+
+pub few_made : (t : Track) → IsRead t → length t.made ≤ MAX_RECORDS
+few_made t h = omega (arith, h.so_far.fits.few, length-append t.made (waiting t.course.capture.bytes t.course.ahead))

@@ -3,18 +3,19 @@ use Rattle.std.proofs.Common.{◌≡◌, ℕ, ◌+◌, Bool, true, false, cond, 
 use Rattle.std.proofs.lemmas.List.Sums.{sum_by_push}
 use Rattle.two_nodes.specs.Nodes.{Run}
 use Rattle.capture.specs.declared.record.Record.{Record}
-use Rattle.dna_model.specs.Pair.{is_sent}
+use Rattle.dna_model.specs.declared.head.Head.{Head}
+use Rattle.dna_model.specs.Machine.{is_sent}
 use Rattle.pair_judge.specs.declared.line.Line.{Line}
 use Rattle.pair_judge.specs.declared.end.End.{End}
 use Rattle.pair_judge.specs.declared.summary.SideSummary.{SideSummary}
 use Rattle.pair_judge.specs.Counting.{is_received, is_damaged, is_kept, is_start, more_if}
 use Rattle.pair_judge.specs.Summary.{summary_of, counted}
-use Rattle.pair_judge.specs.Making.{StandsFor, IsMade}
+use Rattle.pair_judge.specs.Making.{IsMade, Move, StandsFor, move}
 use Rattle.pair_judge.specs.Lines.{Shows}
 use Rattle.pair_judge.specs.declared.course.Course.{Course}
-use Rattle.pair_judge.specs.Course.{MayRead, IsBlocked}
+use Rattle.pair_judge.specs.Course.{IsBlocked, IsRead, MayRead, Track, WaitsAt, along}
 use Rattle.pair_judge.specs.Reached.{HasReached, IsHeldUp}
-use Rattle.pair_judge.specs.Wire.{RunHalf, run_pair, run_start}
+use Rattle.pair_judge.specs.Wire.{JudgeWorld, JudgeHalf, judge_pair, judge_start}
 
 -- ---- counts
 
@@ -39,32 +40,39 @@ summary_of-push rs r =
 
 -- `incoming` led to the side that made it
 pub record IsSame (old new : End) (after : Line) : Type 0 where
+  pub head : new.head ≡ old.head
   pub station : new.station ≡ old.station
   pub counts : new.counts ≡ old.counts
   pub line : new.line ≡ after
 
+-- a run from the start with the heads of these ends
+started_so : (a b a' b' : End) {made_a made_b : List Record} {w : JudgeWorld} → a'.head ≡ a.head → b'.head ≡ b.head → Run judge_pair (judge_start a.head b.head) made_a made_b w → Run judge_pair (judge_start a'.head b'.head) made_a made_b w
+started_so a b a' b' {made_a} {made_b} {w} same_a same_b run =
+    subst (λ (h : Head). Run judge_pair (judge_start h b'.head) made_a made_b w) (sym same_a) (subst (λ (h : Head). Run judge_pair (judge_start a.head h) made_a made_b w) (sym same_b) run)
+
 -- the other side stands for the same half
-pub stands_on : (own own' other other' : End) (after : Line) (r : Record) (mine theirs : RunHalf) → StandsFor other own.line theirs → IsMade own own' other.line after r mine theirs → IsSame other other' after → StandsFor other' own'.line theirs
+pub stands_on : (own own' other other' : End) (after : Line) (r : Record) (mine theirs : JudgeHalf) → StandsFor other own.line theirs → IsMade (move own own' other.line after) r mine theirs → IsSame other other' after → StandsFor other' own'.line theirs
 stands_on own own' other other' after r mine theirs stands made same = record {
+  head = stands.head ∙ sym same.head;
   station = stands.station ∙ sym same.station;
   front = stands.front ∙ sym made.same_front;
   sent = rw same.line made.incoming;
 }
 
-pub reached_by_a : (a a' b b' : End) (after : Line) (made_a made_b : List Record) (r : Record) → (h : HasReached a b made_a made_b) → (m : IsMade a a' b.line after r h.world.a h.world.b) → IsSame b b' after → Run run_pair run_start (made_a ++ r ∷ []) made_b (record { a = m.next; b = h.world.b }) → HasReached a' b' (made_a ++ r ∷ []) made_b
+pub reached_by_a : (a a' b b' : End) (after : Line) (made_a made_b : List Record) (r : Record) → (h : HasReached a b made_a made_b) → (m : IsMade (move a a' b.line after) r h.world.a h.world.b) → IsSame b b' after → Run judge_pair (judge_start a.head b.head) (made_a ++ r ∷ []) made_b (record { a = m.next; b = h.world.b }) → HasReached a' b' (made_a ++ r ∷ []) made_b
 reached_by_a a a' b b' after made_a made_b r h m same run = record {
   world = record { a = m.next; b = h.world.b };
-  run = run;
+  run = started_so a b a' b' m.same_head same.head run;
   stands_a = rw same.line m.stands;
   stands_b = stands_on a a' b b' after r h.world.a h.world.b h.stands_b m same;
   counts_a = m.counts ∙ ap (λ (s : SideSummary). counted s r) h.counts_a ∙ sym (summary_of-push made_a r);
   counts_b = same.counts ∙ h.counts_b;
 }
 
-pub reached_by_b : (a a' b b' : End) (after : Line) (made_a made_b : List Record) (r : Record) → (h : HasReached a b made_a made_b) → (m : IsMade b b' a.line after r h.world.b h.world.a) → IsSame a a' after → Run run_pair run_start made_a (made_b ++ r ∷ []) (record { a = h.world.a; b = m.next }) → HasReached a' b' made_a (made_b ++ r ∷ [])
+pub reached_by_b : (a a' b b' : End) (after : Line) (made_a made_b : List Record) (r : Record) → (h : HasReached a b made_a made_b) → (m : IsMade (move b b' a.line after) r h.world.b h.world.a) → IsSame a a' after → Run judge_pair (judge_start a.head b.head) made_a (made_b ++ r ∷ []) (record { a = h.world.a; b = m.next }) → HasReached a' b' made_a (made_b ++ r ∷ [])
 reached_by_b a a' b b' after made_a made_b r h m same run = record {
   world = record { a = h.world.a; b = m.next };
-  run = run;
+  run = started_so a b a' b' same.head m.same_head run;
   stands_a = stands_on b b' a a' after r h.world.b h.world.a h.stands_a m same;
   stands_b = rw same.line m.stands;
   counts_a = same.counts ∙ h.counts_a;
@@ -79,9 +87,9 @@ next_place s made e = ap (λ (x : SideSummary). x.records) e
 pub reached_still : (a a' b b' : End) (made_a made_b : List Record) → HasReached a b made_a made_b → IsSame a a' a.line → IsSame b b' b.line → HasReached a' b' made_a made_b
 reached_still a a' b b' made_a made_b h same_a same_b = record {
   world = h.world;
-  run = h.run;
-  stands_a = record { station = h.stands_a.station ∙ sym same_a.station; front = h.stands_a.front ∙ ap (λ (l : Line). l.gone) (sym same_b.line); sent = rw same_a.line h.stands_a.sent };
-  stands_b = record { station = h.stands_b.station ∙ sym same_b.station; front = h.stands_b.front ∙ ap (λ (l : Line). l.gone) (sym same_a.line); sent = rw same_b.line h.stands_b.sent };
+  run = started_so a b a' b' same_a.head same_b.head h.run;
+  stands_a = record { head = h.stands_a.head ∙ sym same_a.head; station = h.stands_a.station ∙ sym same_a.station; front = h.stands_a.front ∙ ap (λ (l : Line). l.gone) (sym same_b.line); sent = rw same_a.line h.stands_a.sent };
+  stands_b = record { head = h.stands_b.head ∙ sym same_b.head; station = h.stands_b.station ∙ sym same_b.station; front = h.stands_b.front ∙ ap (λ (l : Line). l.gone) (sym same_a.line); sent = rw same_b.line h.stands_b.sent };
   counts_a = same_a.counts ∙ h.counts_a;
   counts_b = same_b.counts ∙ h.counts_b;
 }
@@ -89,18 +97,27 @@ reached_still a a' b b' made_a made_b h same_a same_b = record {
 -- an end that is the same
 pub same_end : (old new : End) → new ≡ old → IsSame old new old.line
 same_end old new same = record {
+  head = ap (λ (e : End). e.head) same;
   station = ap (λ (e : End). e.station) same;
   counts = ap (λ (e : End). e.counts) same;
   line = ap (λ (e : End). e.line) same;
 }
 
 -- a side that is blocked is held up
-pub held_up : (text : Option (List ℕ)) (old : End) (new : Course) (before after : Line) (come : Option (List ℕ)) (made : List Record) → IsBlocked text old new before after come made → IsHeldUp new after
-held_up text old new before after come made m = record {
-  next = m.next;
-  ahead = m.ahead;
-  waits = λ mine theirs stands shows. m.waits mine theirs (subst (λ (e : End). StandsFor e before mine) m.same_end (subst (λ (l : Line). StandsFor new.end l mine) m.same_line stands)) (subst (λ (l : Line). Shows l theirs.sent) m.same_line shows);
+pub held_up : (m : Move) (t : Track) → IsBlocked m t → m.new ≡ t.course.end → IsHeldUp t.course m.after
+held_up m t blocked is = record {
+  next = blocked.next;
+  ahead = blocked.ahead;
+  waits = subst (λ (e : End). WaitsAt e m.after blocked.next) (sym blocked.still.same_end ∙ is) (subst (λ (l : Line). WaitsAt m.old l blocked.next) (sym blocked.still.same_line) blocked.waits);
 }
 
 pub may_read_still : (old new : Course) → new.capture ≡ old.capture → new.ahead ≡ old.ahead → MayRead old → MayRead new
 may_read_still old new capture ahead may = rw (capture, ahead) may
+
+-- of a side of which nothing moved but its line the same was read
+pub same_read : (text : Option (List ℕ)) (old new : Course) (come : Option (List ℕ)) (made : List Record) → new.capture ≡ old.capture → new.ahead ≡ old.ahead → new.end.head ≡ old.end.head → IsRead (along text old come made) → IsRead (along text new come made)
+same_read text old new come made capture ahead head h = record {
+  so_far = rw (capture, ahead) h.so_far;
+  count = rw (capture, ahead) h.count;
+  head = head ∙ rw capture h.head;
+}

@@ -1,16 +1,18 @@
--- One side of the judge beside the text of its capture: which records were read, and which of them were made.
-use Rattle.std.specs.Prelude.{◌≡◌, ℕ, ◌≤◌, List, [], ◌∷◌, ◌++◌, length, Option, Some, None, IfSome}
-use Rattle.std.specs.List.{AllByRecursion}
-use Rattle.std.specs.Io.KnownBytes.{Consumes}
+-- One side of the judge along the text of its capture: which records were read, and which of them were made.
+use Rattle.std.specs.Prelude.{◌≡◌, ℕ, List, [], ◌∷◌, ◌++◌, length, Option, Some, None}
 use Rattle.two_nodes.specs.Nodes.{advance}
 use Rattle.two_nodes.specs.Nodes as any
-use Rattle.capture.specs.declared.limit.TheConstants.{MAX_RECORDS}
+use Rattle.capture.specs.declared.fault.CaptureFault.{CaptureFault}
+use Rattle.capture.specs.declared.fault.CaptureFault.TheVariants as faults
 use Rattle.capture.specs.declared.phase.Phase.TheVariants.{Reading}
 use Rattle.capture.specs.declared.record.Record.{Record}
+use Rattle.capture.specs.declared.entry.Entry.{Entry}
+use Rattle.capture.specs.Entries.{record_with}
 use Rattle.capture.specs.Reader.{CaptureState}
-use Rattle.capture.specs.Text.{head_line, record_lines}
-use Rattle.capture.specs.Range.{IsNode, IsRecord, NumbersFit}
-use Rattle.dna_model.specs.Periods.{crossed}
+use Rattle.capture.specs.Range.{NumbersFit}
+use Rattle.capture.specs.SoFar.{Behind, ToCome, TheEnd, ReadSoFar, so_far, IsReadSoFar, DepartsBehind}
+use Rattle.dna_model.specs.declared.refusal.StepRefusal.{StepRefusal}
+use Rattle.dna_model.specs.Rules.{judged}
 use Rattle.dna_model.specs.WireNode.{wire_step}
 use Rattle.pair_judge.specs.declared.line.Line.{Line}
 use Rattle.pair_judge.specs.declared.end.End.{End}
@@ -19,77 +21,117 @@ use Rattle.pair_judge.specs.declared.course.Ahead.TheVariants.{Unread, Waits, En
 use Rattle.pair_judge.specs.declared.course.Course.{Course}
 use Rattle.pair_judge.specs.declared.course.Advance.{Advance}
 use Rattle.pair_judge.specs.declared.course.Advance.TheVariants as answers
+use Rattle.pair_judge.specs.Heads.{head_of}
 use Rattle.pair_judge.specs.Lines.{Shows}
-use Rattle.pair_judge.specs.Wire.{RunHalf}
-use Rattle.pair_judge.specs.Making.{StandsFor, IsMade}
+use Rattle.pair_judge.specs.Wire.{JudgeHalf}
+use Rattle.pair_judge.specs.Making.{Move, StandsFor, IsMade}
 
 -- the reader has not failed, and has not come to the end unseen
 abbrev pub MayReadAhead : Ahead → CaptureState → Type 0
 MayReadAhead Ended capture = Unit {0}
-MayReadAhead (Waits r) capture = (capture.phase ≡ Reading) × NumbersFit r
+MayReadAhead (Waits entry) capture = (capture.phase ≡ Reading) × NumbersFit (record_with entry capture.bytes)
 MayReadAhead Unread capture = capture.phase ≡ Reading
 
 abbrev pub MayRead : Course → Type 0
 MayRead course = MayReadAhead course.ahead course.capture
 
--- the record that was read and not made
-abbrev pub waiting : Ahead → List Record
-waiting Unread = []
-waiting (Waits r) = r ∷ []
-waiting Ended = []
+-- the record that was read and not made, where the reader keeps these bytes
+abbrev pub waiting : List ℕ → Ahead → List Record
+waiting bytes Unread = []
+waiting bytes (Waits entry) = record_with entry bytes ∷ []
+waiting bytes Ended = []
 
--- what was read is the beginning of the text, or all of it; `come` is what is to come
-abbrev pub IsBeginning : Ahead → Option (List ℕ) → Option (List ℕ) → List ℕ → Type 0
-IsBeginning Unread text come read = Consumes text come read
-IsBeginning (Waits r) text come read = Consumes text come read
-IsBeginning Ended text come read = IfSome text (λ bytes. bytes ≡ read)
+-- this record was read and waits, where the reader keeps its bytes
+pub record IsWaiting (bytes : List ℕ) (ahead : Ahead) (r : Record) : Type 0 where
+  pub entry : Entry
+  pub ahead_is : ahead ≡ Waits entry
+  pub is : record_with entry bytes ≡ r
 
--- of the text, the head, these records and the one that waits were read
-pub record IsRead (text : Option (List ℕ)) (capture : CaptureState) (ahead : Ahead) (come : Option (List ℕ)) (made : List Record) : Type 0 where
-  pub own_fits : IsNode capture.own
-  pub peer_fits : IsNode capture.peer
-  pub each : AllByRecursion IsRecord (made ++ waiting ahead)
-  pub count : capture.records ≡ length (made ++ waiting ahead)
-  pub few : length (made ++ waiting ahead) ≤ MAX_RECORDS
-  pub beginning : IsBeginning ahead text come (head_line capture.own capture.peer ++ record_lines (made ++ waiting ahead))
+-- what stands behind the records that were read, where this is what the reader has to give
+abbrev pub behind : Ahead → Option (List ℕ) → Behind
+behind Unread come = ToCome come
+behind (Waits entry) come = ToCome come
+behind Ended come = TheEnd
+
+-- A side with its text: its course, what is to come of the text, and the records that were made
+pub record Track : Type 0 where
+  pub text : Option (List ℕ)
+  pub course : Course
+  pub come : Option (List ℕ)
+  pub made : List Record
+
+abbrev pub along : Option (List ℕ) → Course → Option (List ℕ) → List Record → Track
+along text course come made = record { text = text; course = course; come = come; made = made }
+
+-- the same side with these records made
+abbrev pub having_made : Track → List Record → Track
+having_made t made = record t { made = made }
+
+-- what was read of its text: the records that were made, and the one that waits
+abbrev pub read_of : Track → ReadSoFar
+read_of t = so_far t.course.capture.own t.course.capture.peer (t.made ++ waiting t.course.capture.bytes t.course.ahead) (behind t.course.ahead t.come)
+
+-- that was read of its text, and its end is that of the node whose capture it is
+pub record IsRead (t : Track) : Type 0 where
+  pub so_far : IsReadSoFar t.text (read_of t)
+  pub count : t.course.capture.records ≡ length (t.made ++ waiting t.course.capture.bytes t.course.ahead)
+  pub head : t.course.end.head ≡ head_of (read_of t)
 
 -- the next record was read, or there is none
-abbrev pub NextIs : Option Record → Option (List ℕ) → Course → Option (List ℕ) → List Record → Type 0
-NextIs (Some r) text course come made = IsRead text course.capture course.ahead come (made ++ r ∷ [])
-NextIs None text course come made = IsRead text course.capture course.ahead come made
+abbrev pub NextIs : Option Entry → Track → Type 0
+NextIs (Some entry) t = IsRead (having_made t (t.made ++ record_with entry t.course.capture.bytes ∷ []))
+NextIs None t = IsRead t
 
-abbrev pub IsReadyFor : Course → Option Record → Type 0
-IsReadyFor course (Some r) = (course.ahead ≡ Unread) × (course.capture.phase ≡ Reading) × NumbersFit r
+abbrev pub IsReadyFor : Course → Option Entry → Type 0
+IsReadyFor course (Some entry) = (course.ahead ≡ Unread) × (course.capture.phase ≡ Reading) × NumbersFit (record_with entry course.capture.bytes)
 IsReadyFor course None = course.ahead ≡ Ended
 
+-- why the next record is not known: a line that departs is the one behind what was read, all of which was made
+abbrev pub IsFaultOf : Track → CaptureFault → Type 0
+IsFaultOf t (faults.Departs kind line) = (t.course.ahead ≡ Unread) × DepartsBehind (read_of t) kind line
+IsFaultOf t faults.Read = Unit {0}
+IsFaultOf t faults.OutOfMemory = Unit {0}
+IsFaultOf t faults.Failed = Unit {0}
+
+-- nothing moved
+pub record IsStill (m : Move) : Type 0 where
+  pub same_end : m.new ≡ m.old
+  pub same_line : m.after ≡ m.before
+
+-- the record waits for its unit, whatever the halves are that the two sides stand for
+abbrev pub WaitsAt : End → Line → Record → Type 0
+WaitsAt own incoming r = (mine theirs : JudgeHalf) → StandsFor own incoming mine → Shows incoming theirs.sent → advance (wire_step judged) mine theirs r ≡ any.Waits
+
 -- the next record was made
-pub record IsAdvanced (text : Option (List ℕ)) (old : End) (new : Course) (before after : Line) (come : Option (List ℕ)) (made : List Record) : Type 0 where
+pub record IsAdvanced (m : Move) (t : Track) : Type 0 where
   pub next : Record
-  pub read : IsRead text new.capture new.ahead come (made ++ next ∷ [])
-  pub unread : new.ahead ≡ Unread
-  pub made_it : (mine theirs : RunHalf) → StandsFor old before mine → Shows before theirs.sent → IsMade old new.end before after next mine theirs
+  pub read : IsRead (having_made t (t.made ++ next ∷ []))
+  pub unread : t.course.ahead ≡ Unread
+  pub made_it : (mine theirs : JudgeHalf) → StandsFor m.old m.before mine → Shows m.before theirs.sent → IsMade m next mine theirs
 
 -- the next record waits
-pub record IsBlocked (text : Option (List ℕ)) (old : End) (new : Course) (before after : Line) (come : Option (List ℕ)) (made : List Record) : Type 0 where
+pub record IsBlocked (m : Move) (t : Track) : Type 0 where
   pub next : Record
-  pub read : IsRead text new.capture new.ahead come made
-  pub ahead : new.ahead ≡ Waits next
-  pub waits : (mine theirs : RunHalf) → StandsFor old before mine → Shows before theirs.sent → advance (wire_step crossed) mine theirs next ≡ any.Waits
-  pub same_end : new.end ≡ old
-  pub same_line : after ≡ before
+  pub read : IsRead t
+  pub ahead : IsWaiting t.course.capture.bytes t.course.ahead next
+  pub waits : WaitsAt m.old m.before next
+  pub still : IsStill m
 
 -- there is no next record
-pub record HasEnded (text : Option (List ℕ)) (old : End) (new : Course) (before after : Line) (come : Option (List ℕ)) (made : List Record) : Type 0 where
-  pub read : IsRead text new.capture new.ahead come made
-  pub ahead : new.ahead ≡ Ended
-  pub same_end : new.end ≡ old
-  pub same_line : after ≡ before
+pub record HasEnded (m : Move) (t : Track) : Type 0 where
+  pub read : IsRead t
+  pub ahead : t.course.ahead ≡ Ended
+  pub still : IsStill m
 
-abbrev pub AdvanceIs : Advance → Option (List ℕ) → End → Course → Line → Line → Option (List ℕ) → List Record → Type 0
-AdvanceIs answers.Made text old new before after come made = IsAdvanced text old new before after come made
-AdvanceIs answers.Blocked text old new before after come made = IsBlocked text old new before after come made
-AdvanceIs answers.Ended text old new before after come made = HasEnded text old new before after come made
 -- the next record can't be made
-AdvanceIs (answers.Fails refusal) text old new before after come made =
-    (next : Record) × IsRead text new.capture new.ahead come (made ++ next ∷ []) × (new.end.counts ≡ old.counts)
-    × ((mine theirs : RunHalf) → StandsFor old before mine → Shows before theirs.sent → advance (wire_step crossed) mine theirs next ≡ any.Refused refusal)
+pub record IsRefused (m : Move) (t : Track) (refusal : StepRefusal) : Type 0 where
+  pub next : Record
+  pub read : IsRead (having_made t (t.made ++ next ∷ []))
+  pub counts : m.new.counts ≡ m.old.counts
+  pub refused : (mine theirs : JudgeHalf) → StandsFor m.old m.before mine → Shows m.before theirs.sent → advance (wire_step judged) mine theirs next ≡ any.Refused refusal
+
+abbrev pub AdvanceIs : Advance → Move → Track → Type 0
+AdvanceIs answers.Made m t = IsAdvanced m t
+AdvanceIs answers.Blocked m t = IsBlocked m t
+AdvanceIs answers.Ended m t = HasEnded m t
+AdvanceIs (answers.Fails refusal) m t = IsRefused m t refusal

@@ -1,32 +1,22 @@
--- What an answer of the judge says of the bytes that its two readers had left. Provisional: the public claim is that of an
--- acceptance and of a fault; what a refusal says is proved of the inner call (`IsFoundIn`).
+-- What an answer of the judge says of the bytes that its two readers had left.
 use Rattle.std.specs.Prelude.{◌≡◌, ℕ, List, Option, Result, Ok, Err, IfSome}
 use Rattle.capture.specs.declared.record.Record.{Record}
 use Rattle.capture.specs.Range.{IsText}
-use Rattle.dna_model.specs.declared.finding.Finding.{Finding}
-use Rattle.dna_model.specs.declared.finding.Finding.TheVariants as findings
-use Rattle.dna_model.specs.Delivery.{AreAmong, DeliversFrom, all_taken, delivered, taken_by_period}
+use Rattle.dna_model.specs.declared.head.Head.{Head}
+use Rattle.dna_model.specs.Offered.{Delivers}
 use Rattle.dna_model.specs.Pair.{IsRun}
-use Rattle.dna_model.specs.Station.{Station, all_given}
-use Rattle.dna_model.specs.Verdict.{IsVerdict}
 use Rattle.pair_judge.specs.declared.summary.Summary.{Summary}
 use Rattle.pair_judge.specs.declared.verdict.Verdict.{Verdict}
 use Rattle.pair_judge.specs.declared.verdict.Verdict.TheVariants.{Accepted, Refused}
 use Rattle.pair_judge.specs.declared.fault.JudgeFault.{JudgeFault}
-use Rattle.pair_judge.specs.Faulty.{IsJudgeFault}
+use Rattle.pair_judge.specs.declared.fault.JudgeFault.TheVariants.{Capture, OutOfMemory}
+use Rattle.pair_judge.specs.declared.fault.TextFault.TheVariants.{Departs, Read}
+use Rattle.pair_judge.specs.Faulty.{IsFaultyText}
+use Rattle.pair_judge.specs.Refusal.{IsRefusal}
 use Rattle.pair_judge.specs.Summary.{summary_of}
 
--- What a station took of the other one in a run, where these are the records of its capture.
-pub record Delivers (own other : Station) (of_own : List Record) : Type 0 where
-  -- in every period a beginning of what its partner period gave, and nothing where it has no partner
-  pub in_order : DeliversFrom own other
-  -- in every period the data of the kept receipts
-  pub captured : delivered of_own ≡ taken_by_period own
-  -- over all periods it stands, in order, among what the other one ever first sent
-  pub among : AreAmong (all_taken own) (all_given other)
-
--- The bytes are the texts of two captures, all of whose records are one run of the two specified stations; what each took was sent, in
--- order; and the summary counts the records.
+-- The bytes are the texts of two captures, all of whose records are one run of the two specified stations; what was delivered to each is,
+-- in order, of what the other side was offered; and the summary counts the records.
 pub record AreARun (text_a text_b : List ℕ) (summary : Summary) : Type 0 where
   pub own_a : ℕ
   pub peer_a : ℕ
@@ -36,25 +26,57 @@ pub record AreARun (text_a text_b : List ℕ) (summary : Summary) : Type 0 where
   pub of_b : List Record
   pub is_text_a : IsText own_a peer_a of_a text_a
   pub is_text_b : IsText own_b peer_b of_b text_b
-  pub run : IsRun of_a of_b
-  pub delivers_a : Delivers run.0.a.state.station run.0.b.state.station of_a
-  pub delivers_b : Delivers run.0.b.state.station run.0.a.state.station of_b
+  pub run : IsRun (record { own = own_a; peer = peer_a }) (record { own = own_b; peer = peer_b }) of_a of_b
+  pub delivers_a : Delivers run.0.a.state.station of_a of_b
+  pub delivers_b : Delivers run.0.b.state.station of_b of_a
   pub counts_a : summary.a ≡ summary_of of_a
   pub counts_b : summary.b ≡ summary_of of_b
 
--- where the readers tell their bytes
-abbrev pub IsAnswer : Option (List ℕ) → Option (List ℕ) → Result Verdict JudgeFault → Type 0
-IsAnswer text_a text_b (Ok (Accepted summary)) = IfSome text_a (λ bytes_a. IfSome text_b (λ bytes_b. AreARun bytes_a bytes_b summary))
-IsAnswer text_a text_b (Ok (Refused side place reason)) = Unit {0}
-IsAnswer text_a text_b (Err fault) = IsJudgeFault text_a text_b fault
+-- ---- the clauses of an answer
 
--- ---- the inner call, both ways
+abbrev pub Answer : Type 0
+Answer = Result Verdict JudgeFault
 
-abbrev pub IsRunWhere : Finding → List ℕ → List ℕ → Summary → Type 0
-IsRunWhere findings.Accepted text_a text_b summary = AreARun text_a text_b summary
-IsRunWhere (findings.Refused side place cause) text_a text_b summary = Unit {0}
+-- an acceptance, or a fault of memory or of a device
+abbrev pub AcceptsOrFails : Answer → Type 0
+AcceptsOrFails (Ok (Accepted summary)) = Unit {0}
+AcceptsOrFails (Ok (Refused side place reason)) = ⊥
+AcceptsOrFails (Err (Capture side (Departs kind line))) = ⊥
+AcceptsOrFails (Err (Capture side Read)) = Unit {0}
+AcceptsOrFails (Err OutOfMemory) = Unit {0}
 
--- An acceptance finds the records of both texts; and of whatever captures these bytes are the texts, the finding is the verdict.
-pub record IsFoundIn (finding : Finding) (summary : Summary) (text_a text_b : List ℕ) : Type 0 where
-  pub accepted : IsRunWhere finding text_a text_b summary
-  pub verdict : (own_a peer_a own_b peer_b : ℕ) (of_a of_b : List Record) → IsText own_a peer_a of_a text_a → IsText own_b peer_b of_b text_b → IsVerdict of_a of_b finding
+-- Exact: where these bytes are the texts of two captures that are a run, nothing else is answered.
+abbrev pub IsExact : List ℕ → List ℕ → Answer → Type 0
+IsExact bytes_a bytes_b answer =
+    (head_a head_b : Head) (of_a of_b : List Record) → IsText head_a.own head_a.peer of_a bytes_a → IsText head_b.own head_b.peer of_b bytes_b
+    → IsRun head_a head_b of_a of_b → AcceptsOrFails answer
+
+-- Accepted: the bytes are such texts.
+abbrev pub IsAcceptance : List ℕ → List ℕ → Answer → Type 0
+IsAcceptance bytes_a bytes_b (Ok (Accepted summary)) = AreARun bytes_a bytes_b summary
+IsAcceptance bytes_a bytes_b (Ok (Refused side place reason)) = Unit {0}
+IsAcceptance bytes_a bytes_b (Err fault) = Unit {0}
+
+-- where both readers tell their bytes
+abbrev pub IfTold : Option (List ℕ) → Option (List ℕ) → (List ℕ → List ℕ → Type 0) → Type 0
+IfTold text_a text_b says = IfSome text_a (λ bytes_a. IfSome text_b (λ bytes_b. says bytes_a bytes_b))
+
+-- Refused: of whatever the readers tell.
+abbrev pub IsRefusalWhere : Option (List ℕ) → Option (List ℕ) → Answer → Type 0
+IsRefusalWhere text_a text_b (Ok (Accepted summary)) = Unit {0}
+IsRefusalWhere text_a text_b (Ok (Refused side place reason)) = IsRefusal text_a text_b side place reason
+IsRefusalWhere text_a text_b (Err fault) = Unit {0}
+
+-- Faulty text: likewise.
+abbrev pub IsFaultyWhere : Option (List ℕ) → Option (List ℕ) → Answer → Type 0
+IsFaultyWhere text_a text_b (Ok verdict) = Unit {0}
+IsFaultyWhere text_a text_b (Err (Capture side (Departs kind line))) = IsFaultyText text_a text_b side kind line
+IsFaultyWhere text_a text_b (Err (Capture side Read)) = Unit {0}
+IsFaultyWhere text_a text_b (Err OutOfMemory) = Unit {0}
+
+-- All that is said of an answer but for the readers' counts
+pub record IsAnswer (text_a text_b : Option (List ℕ)) (answer : Answer) : Type 0 where
+  pub exact : IfTold text_a text_b (λ bytes_a bytes_b. IsExact bytes_a bytes_b answer)
+  pub accepted : IfTold text_a text_b (λ bytes_a bytes_b. IsAcceptance bytes_a bytes_b answer)
+  pub refused : IsRefusalWhere text_a text_b answer
+  pub faulty : IsFaultyWhere text_a text_b answer

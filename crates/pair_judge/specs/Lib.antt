@@ -1,7 +1,12 @@
--- What the summary counts, and what the judge keeps of a run for its own contracts
+-- What the summary counts, what an answer says, and what the judge keeps of a run for its own contracts
 pub mod Reason
 pub mod Counting
 pub mod Summary
+pub mod Heads
+pub mod Finding
+pub mod Faulty
+pub mod Refusal
+pub mod Judged
 pub mod Wire
 pub mod Unit
 pub mod Lines
@@ -9,7 +14,5 @@ pub mod Receipts
 pub mod Making
 pub mod Course
 pub mod Reached
-pub mod Faulty
-pub mod Judged
 pub mod Opened
 pub mod Answer

@@ -3,7 +3,7 @@ use Rattle.std.specs.Prelude.{◌≡◌}
 use Rattle.two_nodes.specs.Nodes.{Outcome, advance}
 use Rattle.two_nodes.specs.Nodes as any
 use Rattle.capture.specs.declared.record.Record.{Record}
-use Rattle.dna_model.specs.Periods.{crossed}
+use Rattle.dna_model.specs.Rules.{judged}
 use Rattle.dna_model.specs.WireNode.{wire_step}
 use Rattle.pair_judge.specs.declared.line.Line.{Line}
 use Rattle.pair_judge.specs.declared.end.End.{End}
@@ -11,42 +11,54 @@ use Rattle.pair_judge.specs.declared.making.Made.{Made}
 use Rattle.pair_judge.specs.declared.making.Made.TheVariants.{Done, Waits, Fails}
 use Rattle.pair_judge.specs.Lines.{Shows}
 use Rattle.pair_judge.specs.Summary.{counted}
-use Rattle.pair_judge.specs.Wire.{RunHalf}
+use Rattle.pair_judge.specs.Wire.{JudgeHalf}
 
 -- this end of the judge, with the line from the other side, stands for that half of the run
-pub record StandsFor (own : End) (incoming : Line) (half : RunHalf) : Type 0 where
+pub record StandsFor (own : End) (incoming : Line) (half : JudgeHalf) : Type 0 where
+  pub head : half.state.head ≡ own.head
   pub station : half.state.station ≡ own.station
   pub front : half.state.front ≡ incoming.gone
   pub sent : Shows own.line half.sent
 
+-- An end before and after one record, and the line that leads to it
+pub record Move : Type 0 where
+  pub old : End
+  pub new : End
+  pub before : Line
+  pub after : Line
+
+abbrev pub move : End → End → Line → Line → Move
+move old new before after = record { old = old; new = new; before = before; after = after }
+
 -- the record is made, and the end stands for the half after it
-pub record IsMade (old new : End) (before after : Line) (r : Record) (own other : RunHalf) : Type 0 where
-  pub next : RunHalf
-  pub step_is : advance (wire_step crossed) own other r ≡ any.Made next
-  pub stands : StandsFor new after next
-  pub incoming : Shows after other.sent
-  pub same_front : new.line.gone ≡ old.line.gone
-  pub counts : new.counts ≡ counted old.counts r
+pub record IsMade (m : Move) (r : Record) (own other : JudgeHalf) : Type 0 where
+  pub next : JudgeHalf
+  pub step_is : advance (wire_step judged) own other r ≡ any.Made next
+  pub stands : StandsFor m.new m.after next
+  pub incoming : Shows m.after other.sent
+  pub same_head : m.new.head ≡ m.old.head
+  pub same_front : m.new.line.gone ≡ m.old.line.gone
+  pub counts : m.new.counts ≡ counted m.old.counts r
 
-abbrev pub MadeIs : Made → End → End → Line → Line → Record → RunHalf → RunHalf → Type 0
-MadeIs Done old new before after r own other = IsMade old new before after r own other
+abbrev pub MadeIs : Made → Move → Record → JudgeHalf → JudgeHalf → Type 0
+MadeIs Done m r own other = IsMade m r own other
 -- the unit that the record names is not sent yet
-MadeIs (Waits back) old new before after r own other = advance (wire_step crossed) own other r ≡ any.Waits
-MadeIs (Fails refusal) old new before after r own other = advance (wire_step crossed) own other r ≡ any.Refused refusal
+MadeIs Waits m r own other = advance (wire_step judged) own other r ≡ any.Waits
+MadeIs (Fails refusal) m r own other = advance (wire_step judged) own other r ≡ any.Refused refusal
 
--- a record that waits is handed back, and leaves all as it was
-abbrev pub LeavesWaiting : Made → End → End → Line → Line → Record → Type 0
-LeavesWaiting Done old new before after r = Unit {0}
-LeavesWaiting (Waits back) old new before after r = (back ≡ r) × (new ≡ old) × (after ≡ before)
-LeavesWaiting (Fails refusal) old new before after r = Unit {0}
+-- a record that waits leaves all as it was
+abbrev pub LeavesWaiting : Made → Move → Type 0
+LeavesWaiting Done m = Unit {0}
+LeavesWaiting Waits m = (m.new ≡ m.old) × (m.after ≡ m.before)
+LeavesWaiting (Fails refusal) m = Unit {0}
 
 abbrev pub NeverWaits : Made → Type 0
 NeverWaits Done = Unit {0}
-NeverWaits (Waits back) = ⊥
+NeverWaits Waits = ⊥
 NeverWaits (Fails refusal) = Unit {0}
 
 -- a fact of a record that can't be made
 abbrev pub IfFails : Made → Type 0 → Type 0
 IfFails Done P = Unit {0}
-IfFails (Waits back) P = Unit {0}
+IfFails Waits P = Unit {0}
 IfFails (Fails refusal) P = P

@@ -9,62 +9,40 @@ use Rattle.dna_model.specs.declared.finding.Cause.TheVariants as causes
 use Rattle.pair_judge.specs.declared.reason.Reason.{Reason}
 use Rattle.pair_judge.specs.declared.reason.Reason.TheVariants.{NotAMessage, HintOrder, NoSuchUnit, NoOrder, Undetected, WrongState, WrongNumber, WrongResponse, WindowFull, Changed, NoCause, WrongKeep, CrossedPeriod, WrongUserEvent, BadPacket, WrongNode, BadNsp, NoLink, LinkState, WrongSegment, WrongAck, SegmentTooLong, LinkWindowFull, WrongDelivery, CrossedLink, AddressInUse}
 
-abbrev pub reason_number : Reason → ℕ
-reason_number NotAMessage = 1
-reason_number HintOrder = 2
-reason_number NoSuchUnit = 3
-reason_number NoOrder = 4
-reason_number Undetected = 5
-reason_number WrongState = 6
-reason_number WrongNumber = 7
-reason_number WrongResponse = 8
-reason_number WindowFull = 9
-reason_number Changed = 10
-reason_number NoCause = 11
-reason_number WrongKeep = 12
-reason_number CrossedPeriod = 13
-reason_number WrongUserEvent = 14
-reason_number BadPacket = 15
-reason_number WrongNode = 16
-reason_number BadNsp = 17
-reason_number NoLink = 18
-reason_number LinkState = 19
-reason_number WrongSegment = 20
-reason_number WrongAck = 21
-reason_number SegmentTooLong = 22
-reason_number LinkWindowFull = 23
-reason_number WrongDelivery = 24
-reason_number CrossedLink = 25
-reason_number AddressInUse = 26
+-- The table of the reasons: the number and the name that are printed
+abbrev pub reason_entry : Reason → ℕ × List ℕ
+reason_entry NotAMessage = (1, codes "NotAMessage")
+reason_entry HintOrder = (2, codes "HintOrder")
+reason_entry NoSuchUnit = (3, codes "NoSuchUnit")
+reason_entry NoOrder = (4, codes "NoOrder")
+reason_entry Undetected = (5, codes "Undetected")
+reason_entry WrongState = (6, codes "WrongState")
+reason_entry WrongNumber = (7, codes "WrongNumber")
+reason_entry WrongResponse = (8, codes "WrongResponse")
+reason_entry WindowFull = (9, codes "WindowFull")
+reason_entry Changed = (10, codes "Changed")
+reason_entry NoCause = (11, codes "NoCause")
+reason_entry WrongKeep = (12, codes "WrongKeep")
+reason_entry CrossedPeriod = (13, codes "CrossedPeriod")
+reason_entry WrongUserEvent = (14, codes "WrongUserEvent")
+reason_entry BadPacket = (15, codes "BadPacket")
+reason_entry WrongNode = (16, codes "WrongNode")
+reason_entry BadNsp = (17, codes "BadNsp")
+reason_entry NoLink = (18, codes "NoLink")
+reason_entry LinkState = (19, codes "LinkState")
+reason_entry WrongSegment = (20, codes "WrongSegment")
+reason_entry WrongAck = (21, codes "WrongAck")
+reason_entry SegmentTooLong = (22, codes "SegmentTooLong")
+reason_entry LinkWindowFull = (23, codes "LinkWindowFull")
+reason_entry WrongDelivery = (24, codes "WrongDelivery")
+reason_entry CrossedLink = (25, codes "CrossedLink")
+reason_entry AddressInUse = (26, codes "AddressInUse")
 
--- what is printed
+abbrev pub reason_number : Reason → ℕ
+reason_number reason = (reason_entry reason).0
+
 abbrev pub reason_name : Reason → List ℕ
-reason_name NotAMessage = codes "NotAMessage"
-reason_name HintOrder = codes "HintOrder"
-reason_name NoSuchUnit = codes "NoSuchUnit"
-reason_name NoOrder = codes "NoOrder"
-reason_name Undetected = codes "Undetected"
-reason_name WrongState = codes "WrongState"
-reason_name WrongNumber = codes "WrongNumber"
-reason_name WrongResponse = codes "WrongResponse"
-reason_name WindowFull = codes "WindowFull"
-reason_name Changed = codes "Changed"
-reason_name NoCause = codes "NoCause"
-reason_name WrongKeep = codes "WrongKeep"
-reason_name CrossedPeriod = codes "CrossedPeriod"
-reason_name WrongUserEvent = codes "WrongUserEvent"
-reason_name BadPacket = codes "BadPacket"
-reason_name WrongNode = codes "WrongNode"
-reason_name BadNsp = codes "BadNsp"
-reason_name NoLink = codes "NoLink"
-reason_name LinkState = codes "LinkState"
-reason_name WrongSegment = codes "WrongSegment"
-reason_name WrongAck = codes "WrongAck"
-reason_name SegmentTooLong = codes "SegmentTooLong"
-reason_name LinkWindowFull = codes "LinkWindowFull"
-reason_name WrongDelivery = codes "WrongDelivery"
-reason_name CrossedLink = codes "CrossedLink"
-reason_name AddressInUse = codes "AddressInUse"
+reason_name reason = (reason_entry reason).1
 
 abbrev pub reason_of_station : StationRefusal → Reason
 reason_of_station station.WrongState = WrongState

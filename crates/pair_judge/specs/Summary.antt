@@ -1,7 +1,7 @@
 -- What the summary of one side counts, over the records of its capture.
 use Rattle.std.specs.Prelude.{◌+◌, ◌<◌, ◌^◌, List, length, count_by}
 use Rattle.capture.specs.declared.record.Record.{Record}
-use Rattle.dna_model.specs.Pair.{is_sent}
+use Rattle.dna_model.specs.Machine.{is_sent}
 use Rattle.pair_judge.specs.Counting.{is_received, is_damaged, is_kept, is_start, more_if}
 use Rattle.pair_judge.specs.declared.summary.SideSummary.{SideSummary}
 

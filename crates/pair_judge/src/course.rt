@@ -1,34 +1,34 @@
 //! One side, along its capture.
 
-ghost use Rattle.std.specs.Prelude.{◌≡◌, ◌≢◌, IfOk, IfErr, OnOk, List, [], ◌∷◌, ◌++◌, Option, ℕ};
+ghost use Rattle.std.specs.Prelude.{◌≡◌, ◌≢◌, IfOk, IfErr, List, [], ◌∷◌, ◌++◌, Option, ℕ};
+ghost use Rattle.capture.specs.Faulty.{CountsReads, is_failed_read};
+ghost use Rattle.capture.specs.declared.record.Record.{Record};
+ghost use Rattle.capture.specs.Entries.{record_with};
 ghost use Rattle.capture.specs.Range.{NumbersFit};
 ghost use Rattle.capture.specs.declared.phase.Phase.TheVariants as Phase;
-ghost use Rattle.capture.specs.declared.record.Record.{Record};
 ghost use Rattle.capture.specs.Lines.{to_come};
 ghost use Rattle.capture.specs.declared.fault.CaptureFault.TheVariants as CaptureFault;
-ghost use Rattle.wire_base.specs.Tally.{CountedFault, tally_faults, tally_lent};
+ghost use Rattle.wire_base.specs.Tally.{tally_faults, tally_lent};
 ghost use Rattle.pair_judge.specs.Summary.{HasRoom};
-ghost use Rattle.pair_judge.specs.Course.{MayRead, IsRead, IsReadyFor, NextIs, AdvanceIs};
-ghost use Rattle.pair_judge.specs.Faulty.{IsCourseFault, course_fault_of};
+ghost use Rattle.pair_judge.specs.Course.{AdvanceIs, IsFaultOf, IsRead, IsReadyFor, MayRead, NextIs, along};
+ghost use Rattle.pair_judge.specs.Making.{move};
 
 use crate::end::End;
-use crate::fault::TextFault;
 use crate::line::Line;
 use crate::making::{Made, make};
-use capture::{CaptureFault, CaptureReader, Record};
+use capture::{CaptureFault, CaptureReader, Entry, text_read_on};
 use dna_model::StepRefusal;
 use std::alloc::AllocError;
 use std::io::Read;
-use std::mem;
 use wire_base::Tally;
 
 /// What comes next of a capture.
-#[derive(Debug, Drop)]
+#[derive(Clone, Copy, Debug, PartialEq, Eq)]
 pub enum Ahead {
     /// A record that is not read yet, or the end.
     Unread,
-    /// A record that was read and waits for its unit.
-    Waits(Record),
+    /// A record that was read and waits for its unit: that of this entry and the bytes that the reader keeps.
+    Waits(Entry),
     /// Nothing: all records were made.
     Ended,
 }
@@ -54,115 +54,94 @@ pub enum Advance {
     Fails(StepRefusal),
 }
 
-/// Why a side's next record is not known.
-#[derive(Clone, Copy, Debug, PartialEq, Eq)]
-pub enum CourseFault {
-    /// The text is faulty, or could not be read.
-    Text(TextFault),
-    /// There is no memory.
-    OutOfMemory,
-}
-
 impl Course {
     /// Makes the next record, which is read first where none waits. The line leads to this side from the other one.
     ///
-    /// `Text`: the next record can't be read. `OutOfMemory`: there is no room for it, or for the unit that it sends. The
-    /// course has no use after either.
+    /// `Departs`, `Read`: the next record can't be read. `OutOfMemory`: there is no room for the message of its event, or for the unit that it
+    /// sends. The course has no use after any of them.
     pub fn advance<R: Read>(
         &mut self,
         incoming: &mut Line,
         reader: &mut Tally<R>,
-    ) -> Result<Advance, CourseFault>
+    ) -> Result<Advance, CaptureFault>
         requires may_read { MayRead self.old }
         requires room { HasRoom self.old.end.counts }
         ensures advance { IfOk result (λ advance. (text : Option (List ℕ)) (made : List Record) →
-            IsRead text self.old.capture self.old.ahead (to_come self.old.capture.unread (R.remaining (tally_lent reader.old))) made →
-            AdvanceIs advance text self.old.end self.new incoming.old incoming.new
-            (to_come self.new.capture.unread (R.remaining (tally_lent reader.new))) made) }
+            IsRead (along text self.old (to_come self.old.capture.unread (R.remaining (tally_lent reader.old))) made) →
+            AdvanceIs advance (move self.old.end self.new.end incoming.old incoming.new)
+            (along text self.new (to_come self.new.capture.unread (R.remaining (tally_lent reader.new))) made)) }
         ensures may_read { IfOk result (λ _. MayRead self.new) }
+        ensures head { self.new.end.head ≡ self.old.end.head }
         ensures fault { IfErr result (λ fault. (text : Option (List ℕ)) (made : List Record) →
-            IsRead text self.old.capture self.old.ahead (to_come self.old.capture.unread (R.remaining (tally_lent reader.old))) made →
-            IsCourseFault text fault) }
-        ensures read { result ≡ Err (CourseFault.Text TextFault.Read) →
-            CountedFault (tally_faults reader.old) (tally_faults reader.new) }
-        ensures faults { OnOk result (tally_faults reader.new ≡ tally_faults reader.old) }
+            IsRead (along text self.old (to_come self.old.capture.unread (R.remaining (tally_lent reader.old))) made) →
+            IsFaultOf (along text self.old (to_come self.old.capture.unread (R.remaining (tally_lent reader.old))) made) fault) }
+        ensures first { IfErr result (λ fault. fault ≢ CaptureFault.Failed) }
+        ensures reads { CountsReads (is_failed_read result) (tally_faults reader.old) (tally_faults reader.new) }
     {
         match self.next(reader) {
-            Ok(Some(record)) => self.make(incoming, record),
+            Ok(Some(entry)) => self.make(incoming, entry),
             Ok(None) => Ok(Advance::Ended),
             Err(fault) => Err(fault),
         }
     }
 
     // The record that waits, or else the next one of the text; `None` at its end.
-    fn next<R: Read>(&mut self, reader: &mut Tally<R>) -> Result<Option<Record>, CourseFault>
+    #[inline(always)]
+    fn next<R: Read>(&mut self, reader: &mut Tally<R>) -> Result<Option<Entry>, CaptureFault>
         requires { MayRead self.old }
         ensures next { IfOk result (λ next. (text : Option (List ℕ)) (made : List Record) →
-            IsRead text self.old.capture self.old.ahead (to_come self.old.capture.unread (R.remaining (tally_lent reader.old))) made →
-            NextIs next text self.new (to_come self.new.capture.unread (R.remaining (tally_lent reader.new))) made) }
+            IsRead (along text self.old (to_come self.old.capture.unread (R.remaining (tally_lent reader.old))) made) →
+            NextIs next (along text self.new (to_come self.new.capture.unread (R.remaining (tally_lent reader.new))) made)) }
         ensures ahead { IfOk result (IsReadyFor self.new) }
         ensures fault { IfErr result (λ fault. (text : Option (List ℕ)) (made : List Record) →
-            IsRead text self.old.capture self.old.ahead (to_come self.old.capture.unread (R.remaining (tally_lent reader.old))) made →
-            IsCourseFault text fault) }
+            IsRead (along text self.old (to_come self.old.capture.unread (R.remaining (tally_lent reader.old))) made) →
+            IsFaultOf (along text self.old (to_come self.old.capture.unread (R.remaining (tally_lent reader.old))) made) fault) }
+        ensures first { IfErr result (λ fault. fault ≢ CaptureFault.Failed) }
         ensures end { self.new.end ≡ self.old.end }
-        ensures read { result ≡ Err (CourseFault.Text TextFault.Read) →
-            CountedFault (tally_faults reader.old) (tally_faults reader.new) }
-        ensures faults { OnOk result (tally_faults reader.new ≡ tally_faults reader.old) }
+        ensures reads { CountsReads (is_failed_read result) (tally_faults reader.old) (tally_faults reader.new) }
     {
-        match mem::replace(&mut self.ahead, Ahead::Unread) {
-            Ahead::Waits(record) => Ok(Some(record)),
-            Ahead::Ended => {
-                self.ahead = Ahead::Ended;
-                Ok(None)
+        text_read_on();
+        match self.ahead {
+            Ahead::Waits(entry) => {
+                self.ahead = Ahead::Unread;
+                Ok(Some(entry))
             }
-            Ahead::Unread => match self.capture.next(reader) {
-                Ok(Some(record)) => Ok(Some(record)),
+            Ahead::Ended => Ok(None),
+            Ahead::Unread => match self.capture.advance(reader) {
+                Ok(Some(entry)) => Ok(Some(entry)),
                 Ok(None) => {
                     self.ahead = Ahead::Ended;
                     Ok(None)
                 }
-                Err(fault) => Err(course_fault(fault)),
+                Err(fault) => Err(fault),
             },
         }
     }
 
-    // Makes this record, which was read.
-    fn make(&mut self, incoming: &mut Line, next: Record) -> Result<Advance, CourseFault>
+    // Makes the record of this entry, which was read, and of the bytes that the reader keeps.
+    #[inline(always)]
+    fn make(&mut self, incoming: &mut Line, entry: Entry) -> Result<Advance, CaptureFault>
         requires unread { self.old.ahead ≡ Ahead.Unread }
         requires reading { self.old.capture.phase ≡ Phase.Reading }
-        requires numbers { NumbersFit next }
+        requires numbers { NumbersFit (record_with entry self.old.capture.bytes) }
         requires room { HasRoom self.old.end.counts }
         ensures advance { IfOk result (λ advance. (text come : Option (List ℕ)) (made : List Record) →
-            IsRead text self.old.capture self.old.ahead come (made ++ next ∷ []) →
-            AdvanceIs advance text self.old.end self.new incoming.old incoming.new come made) }
+            IsRead (along text self.old come (made ++ record_with entry self.old.capture.bytes ∷ [])) →
+            AdvanceIs advance (move self.old.end self.new.end incoming.old incoming.new) (along text self.new come made)) }
         ensures may_read { IfOk result (λ _. MayRead self.new) }
         ensures capture { self.new.capture ≡ self.old.capture }
-        ensures fault { IfErr result (λ fault. fault ≡ CourseFault.OutOfMemory) }
+        ensures head { self.new.end.head ≡ self.old.end.head }
+        ensures fault { IfErr result (λ fault. fault ≡ CaptureFault.OutOfMemory) }
     {
-        match make(&mut self.end, incoming, next) {
+        let alloc = self.capture.alloc();
+        match make(alloc, &mut self.end, incoming, entry, self.capture.bytes()) {
             Ok(Made::Done) => Ok(Advance::Made),
-            Ok(Made::Waits(record)) => {
-                self.ahead = Ahead::Waits(record);
+            Ok(Made::Waits) => {
+                self.ahead = Ahead::Waits(entry);
                 Ok(Advance::Blocked)
             }
             Ok(Made::Fails(refusal)) => Ok(Advance::Fails(refusal)),
-            Err(AllocError) => Err(CourseFault::OutOfMemory),
+            Err(AllocError) => Err(CaptureFault::OutOfMemory),
         }
-    }
-}
-
-// The fault of a text that has not failed before.
-pub fn course_fault(fault: CaptureFault) -> CourseFault
-    requires { fault ≢ CaptureFault.Failed }
-    ensures value { result ≡ course_fault_of fault }
-    ensures read { (result ≡ CourseFault.Text TextFault.Read) → (fault ≡ CaptureFault.Read) }
-{
-    match fault {
-        CaptureFault::Syntax { line } => CourseFault::Text(TextFault::Syntax { line }),
-        CaptureFault::TooLong { line } => CourseFault::Text(TextFault::TooLong { line }),
-        CaptureFault::TooMany { line } => CourseFault::Text(TextFault::TooMany { line }),
-        CaptureFault::Read => CourseFault::Text(TextFault::Read),
-        CaptureFault::OutOfMemory => CourseFault::OutOfMemory,
-        CaptureFault::Failed => unreachable!(),
     }
 }

@@ -1,16 +1,13 @@
 //! Why there is no verdict.
 
+use capture::Departure;
 use wire_base::Side;
 
 /// What was wrong with the text of one side. Its lines are counted from 1 on, and line 1 is its head.
 #[derive(Clone, Copy, Debug, PartialEq, Eq)]
 pub enum TextFault {
-    /// The line departs from the format.
-    Syntax { line: u64 },
-    /// The line is too long, or has too many bytes.
-    TooLong { line: u64 },
-    /// The line comes after as many records as a capture may have.
-    TooMany { line: u64 },
+    /// The line departs from the format in this way.
+    Departs { kind: Departure, line: u64 },
     /// The reader failed. It counted that.
     Read,
 }

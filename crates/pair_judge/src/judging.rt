@@ -1,16 +1,18 @@
 //! The judge: both texts in turns, in one pass.
 
-ghost use Rattle.std.specs.Prelude.{◌≡◌, IfOk, IfErr, IfSome, OnOk, List, Option, ℕ, Err};
-ghost use Rattle.wire_base.specs.Tally.{CountedFault, tally_faults, tally_lent};
+ghost use Rattle.std.specs.Prelude.{◌≡◌, IfOk, IfErr, List, Option, ℕ, false};
+ghost use Rattle.wire_base.specs.Side.{other_side};
+ghost use Rattle.wire_base.specs.Tally.{tally_faults, tally_lent};
 ghost use Rattle.wire_base.specs.declared.side.Side.{Side};
+ghost use Rattle.capture.specs.Faulty.{CountsReads};
 ghost use Rattle.capture.specs.Lines.{to_come};
-ghost use Rattle.pair_judge.specs.declared.fault.TextFault.TheVariants as TextFault;
-ghost use Rattle.pair_judge.specs.Judged.{IsAnswer, IsFoundIn};
-ghost use Rattle.pair_judge.specs.Faulty.{IsJudgeFault, text_of};
-ghost use Rattle.pair_judge.specs.Opened.{OpensAt};
 ghost use Rattle.pair_judge.specs.Answer.{verdict_of};
+ghost use Rattle.pair_judge.specs.Faulty.{IsJudgeFault, is_failed_read_of};
+ghost use Rattle.pair_judge.specs.Finding.{IsFoundIn, of_side};
+ghost use Rattle.pair_judge.specs.Judged.{IfTold, IsAcceptance, IsExact, IsFaultyWhere, IsRefusalWhere};
+ghost use Rattle.pair_judge.specs.Opened.{OpensAt};
 
-use crate::course::{Ahead, Course, course_fault};
+use crate::course::{Ahead, Course};
 use crate::end::{End, Station};
 use crate::fault::JudgeFault;
 use crate::line::Line;
@@ -18,8 +20,8 @@ use crate::reason::Reason;
 use crate::summary::{SideSummary, Summary};
 use crate::turn::{side_fault, turn};
 use crate::verdict::Verdict;
-use capture::{CaptureReader, MAX_RECORDS, begun_list, no_head_begins_another, one_head_and_list};
-use dna_model::{Finding, delivered_in_order};
+use capture::{CaptureReader, MAX_RECORDS, text_read_on, whole_text};
+use dna_model::{Finding, Head, captures_deliver_in_order};
 use std::alloc::Global;
 use std::io::Read;
 use wire_base::{Side, Tally};
@@ -43,25 +45,35 @@ pub struct Found {
 /// hint received are held.
 ///
 /// `Accepted`: both texts are texts of captures, all records of both are one run of two stations whose numbers have no bound, what
-/// each station took was sent, in order, and the summary is the counts of the records. `Refused`: the record that is named, with
-/// its reason. `Capture`: the first fault met, at the side whose text it is in: the first line there that departs from the format,
-/// and how; `Read` only where that reader failed. `OutOfMemory`: a growth was refused. After any answer the readers have given
-/// what was read ahead, and nothing is said of the rest.
+/// was delivered to each side is, in order, of what the other was offered, and the summary is the counts of the records. Of two
+/// texts of captures that are a run nothing else is answered, but for want of memory and a failed read.
 ///
-/// The contract claims what is said of `Accepted`, of a text's faults and of `Read`, and nothing yet of `Refused`, of
-/// `OutOfMemory` and of the order of reading. For now packets are carried unread, and link events are not judged: a pair whose
-/// packets or link events no node allows is accepted.
+/// `Refused`: however the texts go on behind what was read of them by then, they are no run, and the named record is the place:
+/// it can't be made for this reason though all that it rests on can; or it waits for a unit that is never sent (`NoSuchUnit`); or
+/// neither side can go on (`NoOrder`).
+///
+/// `Capture`: the line of that side departs from the format as named, and all records before it, with those of the other side that
+/// were made, are a run; or a read of that side failed. `OutOfMemory`: a growth was refused. At every answer but a failed read of a
+/// side the count of its reader's failed calls stands as it stood. After any answer the readers have given what was read ahead, and nothing is said of the rest.
+///
+/// The contract says nothing of when `OutOfMemory` is answered, nor of the order of reading. For now packets are carried unread,
+/// and link events are not judged: a pair whose packets or link events no node allows is accepted.
 pub fn judge<R: Read, S: Read>(
     alloc: Global,
     a: &mut Tally<R>,
     b: &mut Tally<S>,
 ) -> Result<Verdict, JudgeFault>
-    ensures answer { IsAnswer (R.remaining (tally_lent a.old)) (S.remaining (tally_lent b.old)) result }
-    ensures read_a { result ≡ Err (JudgeFault.Capture Side.A TextFault.Read) →
-        CountedFault (tally_faults a.old) (tally_faults a.new) }
-    ensures read_b { result ≡ Err (JudgeFault.Capture Side.B TextFault.Read) →
-        CountedFault (tally_faults b.old) (tally_faults b.new) }
+    ensures exact { IfTold (R.remaining (tally_lent a.old)) (S.remaining (tally_lent b.old))
+        (λ bytes_a bytes_b. IsExact bytes_a bytes_b result) }
+    ensures accepted { IfTold (R.remaining (tally_lent a.old)) (S.remaining (tally_lent b.old))
+        (λ bytes_a bytes_b. IsAcceptance bytes_a bytes_b result) }
+    ensures refused { IsRefusalWhere (R.remaining (tally_lent a.old)) (S.remaining (tally_lent b.old)) result }
+    ensures faulty { IsFaultyWhere (R.remaining (tally_lent a.old)) (S.remaining (tally_lent b.old)) result }
+    ensures reads_a { CountsReads (is_failed_read_of Side.A result) (tally_faults a.old) (tally_faults a.new) }
+    ensures reads_b { CountsReads (is_failed_read_of Side.B result) (tally_faults b.old) (tally_faults b.new) }
 {
+    whole_text();
+    captures_deliver_in_order();
     match find(alloc, a, b) {
         Ok(found) => Ok(verdict(found)),
         Err(fault) => Err(fault),
@@ -82,26 +94,25 @@ fn verdict(found: Found) -> Verdict
     }
 }
 
-/// Finds whether the two texts are a run, and if not, where and why. It reads and fails as [`judge`] does.
-pub fn find<R: Read, S: Read>(
+// Finds whether the two texts are a run, and if not, where and why. It reads and fails as `judge` does.
+fn find<R: Read, S: Read>(
     alloc: Global,
     a: &mut Tally<R>,
     b: &mut Tally<S>,
 ) -> Result<Found, JudgeFault>
-    ensures found { IfOk result (λ found. IfSome (R.remaining (tally_lent a.old)) (λ text_a.
-        IfSome (S.remaining (tally_lent b.old)) (λ text_b. IsFoundIn found.finding found.summary text_a text_b))) }
+    ensures found { IfOk result (IsFoundIn (R.remaining (tally_lent a.old)) (S.remaining (tally_lent b.old))) }
     ensures fault { IfErr result (IsJudgeFault (R.remaining (tally_lent a.old)) (S.remaining (tally_lent b.old))) }
-    ensures read_a { result ≡ Err (JudgeFault.Capture Side.A TextFault.Read) →
-        CountedFault (tally_faults a.old) (tally_faults a.new) }
-    ensures read_b { result ≡ Err (JudgeFault.Capture Side.B TextFault.Read) →
-        CountedFault (tally_faults b.old) (tally_faults b.new) }
+    ensures reads_a { CountsReads (is_failed_read_of Side.A result) (tally_faults a.old) (tally_faults a.new) }
+    ensures reads_b { CountsReads (is_failed_read_of Side.B result) (tally_faults b.old) (tally_faults b.new) }
 {
-    begun_list();
-    no_head_begins_another();
-    one_head_and_list();
-    delivered_in_order();
-    let mut course_a = open(alloc, Side::A, a)?;
-    let mut course_b = open(alloc, Side::B, b)?;
+    let mut course_a = match open(alloc, Side::A, a) {
+        Ok(course) => course,
+        Err(fault) => return Err(fault),
+    };
+    let mut course_b = match open(alloc, Side::B, b) {
+        Ok(course) => course,
+        Err(fault) => return Err(fault),
+    };
     for _ in 0..MOST_TURNS {
         match turn(&mut course_a, &mut course_b, a, b) {
             Ok(None) => {}
@@ -123,19 +134,24 @@ fn open<R: Read>(alloc: Global, side: Side, reader: &mut Tally<R>) -> Result<Cou
     ensures opens { IfOk result (λ course. OpensAt (R.remaining (tally_lent reader.old)) course
         (to_come course.capture.unread (R.remaining (tally_lent reader.new)))) }
     ensures fault { IfErr result (λ fault. (text_a text_b : Option (List ℕ)) →
-        text_of side text_a text_b ≡ R.remaining (tally_lent reader.old) → IsJudgeFault text_a text_b fault) }
-    ensures read { (of : Side) → result ≡ Err (JudgeFault.Capture of TextFault.Read) →
-        (of ≡ side) × CountedFault (tally_faults reader.old) (tally_faults reader.new) }
-    ensures faults { OnOk result (tally_faults reader.new ≡ tally_faults reader.old) }
+        of_side side text_a text_b ≡ R.remaining (tally_lent reader.old) → IsJudgeFault text_a text_b fault) }
+    ensures reads { CountsReads (is_failed_read_of side result) (tally_faults reader.old) (tally_faults reader.new) }
+    ensures other { is_failed_read_of (other_side side) result ≡ false }
 {
+    text_read_on();
     let capture = match CaptureReader::open(alloc, reader) {
         Ok(capture) => capture,
-        Err(fault) => return Err(side_fault(side, course_fault(fault))),
+        Err(fault) => return Err(side_fault(side, fault)),
     };
     let Ok(station) = Station::new(alloc) else {
         return Err(JudgeFault::OutOfMemory);
     };
+    let head = Head {
+        own: capture.own(),
+        peer: capture.peer(),
+    };
     let end = End {
+        head,
         station,
         line: Line::new(alloc),
         counts: SideSummary::new(),

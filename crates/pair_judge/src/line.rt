@@ -3,7 +3,7 @@
 ghost use Rattle.std.specs.Prelude.{◌≡◌, ℕ, ◌+◌, ◌-◌, ◌^◌, ◌<◌, ◌≤◌, [], ◌∷◌, ◌++◌, length, drop, slice_get, OnOk};
 ghost use Rattle.std.specs.Option.{option_copied};
 
-use crate::held::Held;
+use crate::line_unit::LineUnit;
 use std::alloc::{AllocError, Global};
 use std::collections::VecDeque;
 
@@ -13,7 +13,7 @@ pub struct Line {
     /// How many units can't come any more: the first of those that are held has this number.
     pub gone: u64,
     /// The units that are held, oldest first.
-    pub units: VecDeque<Held>,
+    pub units: VecDeque<LineUnit>,
 }
 
 impl Line {
@@ -29,7 +29,7 @@ impl Line {
     }
 
     /// One more unit was sent.
-    pub fn push(&mut self, unit: Held) -> Result<(), AllocError>
+    pub fn push(&mut self, unit: LineUnit) -> Result<(), AllocError>
         ensures ok { OnOk result (self.new.units.items ≡ self.old.units.items ++ unit ∷ []) }
         ensures gone { self.new.gone ≡ self.old.gone }
     {
@@ -38,7 +38,7 @@ impl Line {
     }
 
     /// The unit with this number, if it was sent.
-    pub fn unit(&self, number: u64) -> Option<&Held>
+    pub fn unit(&self, number: u64) -> Option<&LineUnit>
         requires { self.now.gone ≤ number }
         ensures { option_copied result ≡ slice_get self.now.units.items (number - self.now.gone) }
     {

@@ -68,40 +68,49 @@ pub enum Reason {
 }
 
 impl Reason {
-    ghost use Rattle.pair_judge.specs.Reason.{reason_number};
+    ghost use Rattle.pair_judge.specs.Reason.{reason_name, reason_number};
+
+    // The table: each reason's number and name.
+    fn entry<'a>(self) -> (u8, &'a str)
+        ensures number { result.0 ≡ reason_number self }
+        ensures name { result.1.now ≡ reason_name self }
+    {
+        match self {
+            Reason::NotAMessage => (1, "NotAMessage"),
+            Reason::HintOrder => (2, "HintOrder"),
+            Reason::NoSuchUnit => (3, "NoSuchUnit"),
+            Reason::NoOrder => (4, "NoOrder"),
+            Reason::Undetected => (5, "Undetected"),
+            Reason::WrongState => (6, "WrongState"),
+            Reason::WrongNumber => (7, "WrongNumber"),
+            Reason::WrongResponse => (8, "WrongResponse"),
+            Reason::WindowFull => (9, "WindowFull"),
+            Reason::Changed => (10, "Changed"),
+            Reason::NoCause => (11, "NoCause"),
+            Reason::WrongKeep => (12, "WrongKeep"),
+            Reason::CrossedPeriod => (13, "CrossedPeriod"),
+            Reason::WrongUserEvent => (14, "WrongUserEvent"),
+            Reason::BadPacket => (15, "BadPacket"),
+            Reason::WrongNode => (16, "WrongNode"),
+            Reason::BadNsp => (17, "BadNsp"),
+            Reason::NoLink => (18, "NoLink"),
+            Reason::LinkState => (19, "LinkState"),
+            Reason::WrongSegment => (20, "WrongSegment"),
+            Reason::WrongAck => (21, "WrongAck"),
+            Reason::SegmentTooLong => (22, "SegmentTooLong"),
+            Reason::LinkWindowFull => (23, "LinkWindowFull"),
+            Reason::WrongDelivery => (24, "WrongDelivery"),
+            Reason::CrossedLink => (25, "CrossedLink"),
+            Reason::AddressInUse => (26, "AddressInUse"),
+        }
+    }
 
     /// Its number, 1 to 26.
     pub fn number(self) -> u8
         ensures { result ≡ reason_number self }
     {
-        match self {
-            Reason::NotAMessage => 1,
-            Reason::HintOrder => 2,
-            Reason::NoSuchUnit => 3,
-            Reason::NoOrder => 4,
-            Reason::Undetected => 5,
-            Reason::WrongState => 6,
-            Reason::WrongNumber => 7,
-            Reason::WrongResponse => 8,
-            Reason::WindowFull => 9,
-            Reason::Changed => 10,
-            Reason::NoCause => 11,
-            Reason::WrongKeep => 12,
-            Reason::CrossedPeriod => 13,
-            Reason::WrongUserEvent => 14,
-            Reason::BadPacket => 15,
-            Reason::WrongNode => 16,
-            Reason::BadNsp => 17,
-            Reason::NoLink => 18,
-            Reason::LinkState => 19,
-            Reason::WrongSegment => 20,
-            Reason::WrongAck => 21,
-            Reason::SegmentTooLong => 22,
-            Reason::LinkWindowFull => 23,
-            Reason::WrongDelivery => 24,
-            Reason::CrossedLink => 25,
-            Reason::AddressInUse => 26,
-        }
+        let (number, _) = self.entry();
+        number
     }
 
     /// The reason of a cause.
@@ -151,33 +160,7 @@ impl fmt::Display for Reason {
     ghost output = { λ reason. Some (reason_name reason) };
 
     fn fmt<W: fmt::Write>(&self, f: &mut fmt::Formatter<W>) -> fmt::Result {
-        match self {
-            Reason::NotAMessage => f.write_str("NotAMessage"),
-            Reason::HintOrder => f.write_str("HintOrder"),
-            Reason::NoSuchUnit => f.write_str("NoSuchUnit"),
-            Reason::NoOrder => f.write_str("NoOrder"),
-            Reason::Undetected => f.write_str("Undetected"),
-            Reason::WrongState => f.write_str("WrongState"),
-            Reason::WrongNumber => f.write_str("WrongNumber"),
-            Reason::WrongResponse => f.write_str("WrongResponse"),
-            Reason::WindowFull => f.write_str("WindowFull"),
-            Reason::Changed => f.write_str("Changed"),
-            Reason::NoCause => f.write_str("NoCause"),
-            Reason::WrongKeep => f.write_str("WrongKeep"),
-            Reason::CrossedPeriod => f.write_str("CrossedPeriod"),
-            Reason::WrongUserEvent => f.write_str("WrongUserEvent"),
-            Reason::BadPacket => f.write_str("BadPacket"),
-            Reason::WrongNode => f.write_str("WrongNode"),
-            Reason::BadNsp => f.write_str("BadNsp"),
-            Reason::NoLink => f.write_str("NoLink"),
-            Reason::LinkState => f.write_str("LinkState"),
-            Reason::WrongSegment => f.write_str("WrongSegment"),
-            Reason::WrongAck => f.write_str("WrongAck"),
-            Reason::SegmentTooLong => f.write_str("SegmentTooLong"),
-            Reason::LinkWindowFull => f.write_str("LinkWindowFull"),
-            Reason::WrongDelivery => f.write_str("WrongDelivery"),
-            Reason::CrossedLink => f.write_str("CrossedLink"),
-            Reason::AddressInUse => f.write_str("AddressInUse"),
-        }
+        let (_, name) = self.entry();
+        f.write_str(name)
     }
 }

@@ -10,11 +10,11 @@ ghost use Rattle.ddcmp_station.specs.Arrival.{arrival_view};
 ghost use Rattle.ddcmp_msg.specs.Reading.{reading};
 ghost use Rattle.pair_judge.specs.Counting.{shows_damage};
 ghost use Rattle.pair_judge.specs.Lines.{Shows};
-ghost use Rattle.pair_judge.specs.Receipts.{ReceiptIs, is_damage};
+ghost use Rattle.pair_judge.specs.Receipts.{ReceiptIs, came, is_damage, station_move};
 
 use crate::end::Station;
-use crate::held::Held;
 use crate::line::Line;
+use crate::line_unit::LineUnit;
 use ddcmp_msg::{Reading, read_unit};
 use ddcmp_station::{Arrival, StationFault};
 use dna_model::StepRefusal;
@@ -35,6 +35,7 @@ pub enum Receipt {
 ///
 /// It fails in this order: `HintOrder` where the unit or a later one came before; it waits where the unit is not sent yet;
 /// `Undetected` where the bytes are not the unit's and show no damage; and as the station refuses the arrival.
+#[inline(always)]
 pub fn receive(
     station: &mut Station,
     line: &mut Line,
@@ -45,7 +46,7 @@ pub fn receive(
     requires hint { hint < 2 ^ 63 }
     requires load { load station.old < 2 ^ 63 }
     ensures receipt { (sent : List WireUnit) → Shows line.old sent →
-        ReceiptIs result station.old station.new line.old line.new hint kept bytes.now sent }
+        ReceiptIs result (station_move station.old station.new line.old line.new) (came hint kept bytes.now) sent }
     ensures waits { result ≡ Receipt.Waits → (station.new ≡ station.old) × (line.new ≡ line.old) }
     ensures load { load station.new ≤ load station.old + 1 }
     ensures unchanged { (refusal : StepRefusal) → result ≡ Receipt.Fails refusal → station.new ≡ station.old }
@@ -76,29 +77,22 @@ pub fn receive(
 
 // What comes with these bytes for this unit: its message, or damage; or nothing that can come of it. Only bytes that read
 // as sound can be the unit's own.
-fn coming<'a>(unit: &Held, bytes: &'a [u8]) -> Option<Arrival<'a>>
+#[inline(always)]
+fn coming<'a>(unit: &LineUnit, bytes: &'a [u8]) -> Option<Arrival<'a>>
     ensures coming { option_map arrival_view result ≡ line.coming unit.now bytes.now }
     ensures damage { IfSome result (λ arrival. is_damage (arrival_view arrival) ≡ shows_damage (reading bytes.now)) }
 {
+    let own = unit.bytes();
     match read_unit(bytes) {
         Reading::Sound(message) => {
-            if bytes == unit.bytes() {
+            if bytes == own {
                 return Some(Arrival::Sound(message, unit.tag()));
             }
             None
         }
-        Reading::HeaderBad => {
-            let _own = unit.bytes();
-            Some(Arrival::HeaderBad)
-        }
-        Reading::DataBad => {
-            let _own = unit.bytes();
-            Some(Arrival::DataBad)
-        }
-        Reading::Malformed(_) => {
-            let _own = unit.bytes();
-            None
-        }
+        Reading::HeaderBad => Some(Arrival::HeaderBad),
+        Reading::DataBad => Some(Arrival::DataBad),
+        Reading::Malformed(_) => None,
     }
 }
 

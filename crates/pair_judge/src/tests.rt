@@ -1,6 +1,10 @@
 //! The judge on small pairs of texts, with answers told beforehand.
 
+mod reasons;
+mod refusals;
+
 use crate::{JudgeFault, Reason, SideSummary, Summary, TextFault, Verdict, judge};
+use capture::Departure;
 use std::test::Fail;
 use wire_base::{Side, Tally};
 
@@ -154,34 +158,14 @@ fn a_faulty_text_is_named_by_side_and_line(rt: HostRuntime) {
         let mut reader_a = Tally::new(text_a.as_bytes());
         let mut reader_b = Tally::new(text_b.as_bytes());
         let answer = judge(rt.alloc(), &mut reader_a, &mut reader_b);
-        let fault = TextFault::Syntax { line };
+        let fault = TextFault::Departs {
+            kind: Departure::Syntax,
+            line,
+        };
         assert_eq!(rt;
             answer,
             Err(JudgeFault::Capture { side, fault }),
             "{text_a}{text_b}"
         );
     }
-}
-
-#[test]
-fn a_reason_has_a_number_and_a_name(rt: HostRuntime) -> Result<(), Fail> {
-    let rows = [
-        (Reason::NotAMessage, 1, "NotAMessage"),
-        (Reason::HintOrder, 2, "HintOrder"),
-        (Reason::NoSuchUnit, 3, "NoSuchUnit"),
-        (Reason::NoOrder, 4, "NoOrder"),
-        (Reason::Undetected, 5, "Undetected"),
-        (Reason::WrongState, 6, "WrongState"),
-        (Reason::WrongResponse, 8, "WrongResponse"),
-        (Reason::WrongKeep, 12, "WrongKeep"),
-        (Reason::CrossedPeriod, 13, "CrossedPeriod"),
-        (Reason::WrongUserEvent, 14, "WrongUserEvent"),
-        (Reason::AddressInUse, 26, "AddressInUse"),
-    ];
-    for (reason, number, name) in rows {
-        assert_eq!(rt; reason.number(), number, "the number of {reason:?}");
-        let printed = format!(in rt.alloc(); "{reason}")?;
-        assert_eq!(rt; printed.as_str(), name);
-    }
-    Ok(())
 }

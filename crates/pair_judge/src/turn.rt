@@ -1,21 +1,22 @@
 //! Whose turn it is: one record of side a, as long as a is neither blocked nor at its end, and otherwise one of side b.
 
-ghost use Rattle.std.specs.Prelude.{◌≡◌, ◌+◌, IfOk, IfErr, OnOk, List, Option, ℕ, length, Err};
-ghost use Rattle.wire_base.specs.Tally.{CountedFault, tally_faults, tally_lent};
+ghost use Rattle.std.specs.Prelude.{◌≡◌, ◌≢◌, IfOk, IfErr, List, Option, ℕ, false};
+ghost use Rattle.wire_base.specs.Tally.{tally_faults, tally_lent};
 ghost use Rattle.wire_base.specs.declared.side.Side.{Side};
+ghost use Rattle.capture.specs.declared.fault.CaptureFault.TheVariants as CaptureFault;
 ghost use Rattle.capture.specs.declared.record.Record.{Record};
+ghost use Rattle.capture.specs.Faulty.{CountsReads};
 ghost use Rattle.capture.specs.Lines.{to_come};
-ghost use Rattle.pair_judge.specs.declared.fault.TextFault.TheVariants as TextFault;
-ghost use Rattle.pair_judge.specs.Reached.{IsHeldUp};
-ghost use Rattle.pair_judge.specs.Course.{MayRead, IsRead};
-ghost use Rattle.pair_judge.specs.Faulty.{IsJudgeFault, side_fault_of};
+ghost use Rattle.pair_judge.specs.Course.{MayRead, along};
+ghost use Rattle.pair_judge.specs.Faulty.{IsJudgeFault, is_failed_read_of, side_fault_of};
 ghost use Rattle.pair_judge.specs.Summary.{HasRoom};
-ghost use Rattle.pair_judge.specs.Reached.{IsUnderWay, TurnIs};
+ghost use Rattle.pair_judge.specs.Reached.{IsStopped, IsUnderWay, TurnIs};
 
-use crate::captures::{Running, endings};
-use crate::course::{Advance, Ahead, Course, CourseFault};
+use crate::captures::endings;
+use crate::course::{Advance, Course};
 use crate::fault::{JudgeFault, TextFault};
-use dna_model::{Cause, Finding};
+use capture::CaptureFault;
+use dna_model::{Cause, Finding, WireNodes};
 use std::io::Read;
 use two_nodes::reading_on;
 use wire_base::{Side, Tally};
@@ -34,101 +35,62 @@ pub fn turn<R: Read, S: Read>(
     requires room_a { HasRoom a.old.end.counts }
     requires room_b { HasRoom b.old.end.counts }
     ensures turn { IfOk result (λ turn. (text_a text_b : Option (List ℕ)) (made_a made_b : List Record) →
-        IsUnderWay text_a text_b a.old b.old
-        (to_come a.old.capture.unread (R.remaining (tally_lent reader_a.old)))
-        (to_come b.old.capture.unread (S.remaining (tally_lent reader_b.old))) made_a made_b →
-        TurnIs turn text_a text_b a.new b.new
-        (to_come a.new.capture.unread (R.remaining (tally_lent reader_a.new)))
-        (to_come b.new.capture.unread (S.remaining (tally_lent reader_b.new))) (length made_a + length made_b)) }
+        IsUnderWay (along text_a a.old (to_come a.old.capture.unread (R.remaining (tally_lent reader_a.old))) made_a)
+        (along text_b b.old (to_come b.old.capture.unread (S.remaining (tally_lent reader_b.old))) made_b) →
+        TurnIs turn (along text_a a.new (to_come a.new.capture.unread (R.remaining (tally_lent reader_a.new))) made_a)
+        (along text_b b.new (to_come b.new.capture.unread (S.remaining (tally_lent reader_b.new))) made_b)) }
     ensures may_read { IfOk result (λ _. MayRead a.new × MayRead b.new) }
     ensures fault { IfErr result (λ fault. (text_a text_b : Option (List ℕ)) (made_a made_b : List Record) →
-        IsUnderWay text_a text_b a.old b.old
-        (to_come a.old.capture.unread (R.remaining (tally_lent reader_a.old)))
-        (to_come b.old.capture.unread (S.remaining (tally_lent reader_b.old))) made_a made_b →
+        IsUnderWay (along text_a a.old (to_come a.old.capture.unread (R.remaining (tally_lent reader_a.old))) made_a)
+        (along text_b b.old (to_come b.old.capture.unread (S.remaining (tally_lent reader_b.old))) made_b) →
         IsJudgeFault text_a text_b fault) }
-    ensures read_a { result ≡ Err (JudgeFault.Capture Side.A TextFault.Read) →
-        CountedFault (tally_faults reader_a.old) (tally_faults reader_a.new) }
-    ensures read_b { result ≡ Err (JudgeFault.Capture Side.B TextFault.Read) →
-        CountedFault (tally_faults reader_b.old) (tally_faults reader_b.new) }
-    ensures faults_a { OnOk result (tally_faults reader_a.new ≡ tally_faults reader_a.old) }
-    ensures faults_b { OnOk result (tally_faults reader_b.new ≡ tally_faults reader_b.old) }
+    ensures reads_a { CountsReads (is_failed_read_of Side.A result) (tally_faults reader_a.old) (tally_faults reader_a.new) }
+    ensures reads_b { CountsReads (is_failed_read_of Side.B result) (tally_faults reader_b.old) (tally_faults reader_b.new) }
 {
     endings();
-    reading_on::<Running>();
+    reading_on::<WireNodes<()>>();
     match a.advance(&mut b.end.line, reader_a) {
         Ok(Advance::Made) => Ok(None),
         Ok(Advance::Fails(refusal)) => Ok(Some(refused(Side::A, a, Cause::Step(refusal)))),
-        Ok(Advance::Blocked) => blocked_turn(a, b, reader_b),
-        Ok(Advance::Ended) => ended_turn(a, b, reader_b),
+        Ok(Advance::Blocked) => turn_of_b(a, true, b, reader_b),
+        Ok(Advance::Ended) => turn_of_b(a, false, b, reader_b),
         Err(fault) => Err(side_fault(Side::A, fault)),
     }
 }
 
-// Side b's turn, where side a's next record waits: if b can't go on either, nobody can.
-fn blocked_turn<S: Read>(
+// Side b's turn, where side a waits or else has ended. If b can't go on either, the judge is at its end: nobody can go on, or
+// one side waits for a unit that the other, which has ended, never sends; or, where both have ended, the captures are a run.
+fn turn_of_b<S: Read>(
     a: &mut Course,
+    a_waits: bool,
     b: &mut Course,
     reader_b: &mut Tally<S>,
 ) -> Result<Option<Finding>, JudgeFault>
     requires may_read { MayRead b.old }
     requires room { HasRoom b.old.end.counts }
     ensures turn { IfOk result (λ turn. (text_a text_b come_a : Option (List ℕ)) (made_a made_b : List Record) →
-        IsUnderWay text_a text_b a.old b.old come_a
-        (to_come b.old.capture.unread (S.remaining (tally_lent reader_b.old))) made_a made_b →
-        IsHeldUp a.old b.old.end.line →
-        TurnIs turn text_a text_b a.new b.new come_a
-        (to_come b.new.capture.unread (S.remaining (tally_lent reader_b.new))) (length made_a + length made_b)) }
+        IsUnderWay (along text_a a.old come_a made_a)
+        (along text_b b.old (to_come b.old.capture.unread (S.remaining (tally_lent reader_b.old))) made_b) →
+        IsStopped a_waits a.old b.old.end.line →
+        TurnIs turn (along text_a a.new come_a made_a)
+        (along text_b b.new (to_come b.new.capture.unread (S.remaining (tally_lent reader_b.new))) made_b)) }
     ensures same { (a.new.capture ≡ a.old.capture) × (a.new.ahead ≡ a.old.ahead) }
     ensures may_read { IfOk result (λ _. MayRead b.new) }
-    ensures fault { IfErr result (λ fault. (text_a text_b : Option (List ℕ)) (made_b : List Record) →
-        IsRead text_b b.old.capture b.old.ahead (to_come b.old.capture.unread (S.remaining (tally_lent reader_b.old))) made_b →
+    ensures fault { IfErr result (λ fault. (text_a text_b come_a : Option (List ℕ)) (made_a made_b : List Record) →
+        IsUnderWay (along text_a a.old come_a made_a)
+        (along text_b b.old (to_come b.old.capture.unread (S.remaining (tally_lent reader_b.old))) made_b) →
         IsJudgeFault text_a text_b fault) }
-    ensures read { result ≡ Err (JudgeFault.Capture Side.B TextFault.Read) →
-        CountedFault (tally_faults reader_b.old) (tally_faults reader_b.new) }
-    ensures other { result ≡ Err (JudgeFault.Capture Side.A TextFault.Read) → ⊥ }
-    ensures faults { OnOk result (tally_faults reader_b.new ≡ tally_faults reader_b.old) }
+    ensures reads { CountsReads (is_failed_read_of Side.B result) (tally_faults reader_b.old) (tally_faults reader_b.new) }
+    ensures other { is_failed_read_of Side.A result ≡ false }
 {
     endings();
-    reading_on::<Running>();
+    reading_on::<WireNodes<()>>();
     match b.advance(&mut a.end.line, reader_b) {
         Ok(Advance::Made) => Ok(None),
         Ok(Advance::Fails(refusal)) => Ok(Some(refused(Side::B, b, Cause::Step(refusal)))),
-        Ok(Advance::Blocked) => Ok(Some(refused(Side::A, a, Cause::NoOrder))),
-        Ok(Advance::Ended) => Ok(Some(refused(Side::A, a, Cause::NoSuchUnit))),
-        Err(fault) => Err(side_fault(Side::B, fault)),
-    }
-}
-
-// Side b's turn, where side a has ended: if b has ended too, both captures are a run.
-fn ended_turn<S: Read>(
-    a: &mut Course,
-    b: &mut Course,
-    reader_b: &mut Tally<S>,
-) -> Result<Option<Finding>, JudgeFault>
-    requires may_read { MayRead b.old }
-    requires room { HasRoom b.old.end.counts }
-    ensures turn { IfOk result (λ turn. (text_a text_b come_a : Option (List ℕ)) (made_a made_b : List Record) →
-        IsUnderWay text_a text_b a.old b.old come_a
-        (to_come b.old.capture.unread (S.remaining (tally_lent reader_b.old))) made_a made_b →
-        a.old.ahead ≡ Ahead.Ended →
-        TurnIs turn text_a text_b a.new b.new come_a
-        (to_come b.new.capture.unread (S.remaining (tally_lent reader_b.new))) (length made_a + length made_b)) }
-    ensures same { (a.new.capture ≡ a.old.capture) × (a.new.ahead ≡ a.old.ahead) }
-    ensures may_read { IfOk result (λ _. MayRead b.new) }
-    ensures fault { IfErr result (λ fault. (text_a text_b : Option (List ℕ)) (made_b : List Record) →
-        IsRead text_b b.old.capture b.old.ahead (to_come b.old.capture.unread (S.remaining (tally_lent reader_b.old))) made_b →
-        IsJudgeFault text_a text_b fault) }
-    ensures read { result ≡ Err (JudgeFault.Capture Side.B TextFault.Read) →
-        CountedFault (tally_faults reader_b.old) (tally_faults reader_b.new) }
-    ensures other { result ≡ Err (JudgeFault.Capture Side.A TextFault.Read) → ⊥ }
-    ensures faults { OnOk result (tally_faults reader_b.new ≡ tally_faults reader_b.old) }
-{
-    endings();
-    reading_on::<Running>();
-    match b.advance(&mut a.end.line, reader_b) {
-        Ok(Advance::Made) => Ok(None),
-        Ok(Advance::Fails(refusal)) => Ok(Some(refused(Side::B, b, Cause::Step(refusal)))),
+        Ok(Advance::Blocked) if a_waits => Ok(Some(refused(Side::A, a, Cause::NoOrder))),
         Ok(Advance::Blocked) => Ok(Some(refused(Side::B, b, Cause::NoSuchUnit))),
+        Ok(Advance::Ended) if a_waits => Ok(Some(refused(Side::A, a, Cause::NoSuchUnit))),
         Ok(Advance::Ended) => Ok(Some(Finding::Accepted)),
         Err(fault) => Err(side_fault(Side::B, fault)),
     }
@@ -145,13 +107,21 @@ fn refused(side: Side, course: &Course, cause: Cause) -> Finding
     }
 }
 
-// The fault of one side's course.
-pub fn side_fault(side: Side, fault: CourseFault) -> JudgeFault
-    ensures value { result ≡ side_fault_of side fault }
-    ensures read { (of : Side) → result ≡ JudgeFault.Capture of TextFault.Read → (of ≡ side) × (fault ≡ CourseFault.Text TextFault.Read) }
+// The fault of one side's text, whose reader did not fail before.
+pub fn side_fault(side: Side, fault: CaptureFault) -> JudgeFault
+    requires { fault ≢ CaptureFault.Failed }
+    ensures { result ≡ side_fault_of side fault }
 {
     match fault {
-        CourseFault::Text(fault) => JudgeFault::Capture { side, fault },
-        CourseFault::OutOfMemory => JudgeFault::OutOfMemory,
+        CaptureFault::Departs { kind, line } => JudgeFault::Capture {
+            side,
+            fault: TextFault::Departs { kind, line },
+        },
+        CaptureFault::Read => JudgeFault::Capture {
+            side,
+            fault: TextFault::Read,
+        },
+        CaptureFault::OutOfMemory => JudgeFault::OutOfMemory,
+        CaptureFault::Failed => unreachable!(),
     }
 }

@@ -46,7 +46,7 @@ pub fn exchanged_sides<N: TwoNodes>()
         → Run N.nodes start xs ys end }
 {}
 
-/// All that a side has sent since the start are the units of its records.
+/// A side has sent as many units since the start as it has records that send one.
 pub fn units_sent<N: TwoNodes>()
     ensures of_a { (first_a first_b : N.State) (w : World N.State N.Sent) (xs ys : List N.Record)
         → Run N.nodes (start_world first_a first_b) xs ys w → length w.a.sent ≡ sent_by N.nodes xs }

@@ -1,9 +1,10 @@
 -- The check of a field is the one that makes its row, with the check behind it, a sum of copies of the generator.
-use Rattle.std.proofs.Common.{◌≡◌, ℕ, zero, suc, ◌+◌, ◌*◌, ◌/◌, ◌%◌, ◌^◌, ◌<◌, List, [], ◌∷◌, ◌++◌, length, take, get_or, fold, refl, sym, ap, ap₂, ◌∙◌, subst, arith, pow-add}
+use Rattle.std.proofs.Common.{◌≡◌, ℕ, zero, suc, ◌+◌, ◌*◌, ◌/◌, ◌%◌, ◌^◌, ◌<◌, List, [], ◌∷◌, ◌++◌, length, take, drop, get_or, fold, refl, sym, ap, ap₂, ◌∙◌, subst, arith, pow-add}
 use Rattle.std.specs.Int.Bits.{bit_xor, xor_self, xor_zero_r, xor_assoc, xor_comm, xor_block, xor_shr, xor_mod, xor_lt, xor_shifted}
 use Rattle.std.proofs.Math.Nat.{mul_assoc, mul-one}
-use Rattle.std.proofs.lemmas.List.Sums.{fold_more}
-use Rattle.wire_base.specs.BlockCheck.{row_of, generator, IsSumOfCopies, shift, shifted, after_byte, check_of}
+use Rattle.std.proofs.lemmas.List.Sums.{fold_more, fold-append}
+use Rattle.std.proofs.Math.Seq.{take-add}
+use Rattle.wire_base.specs.BlockCheck.{row_of, generator, IsSumOfCopies, shift, shifted, after_byte, after_zeros, check_of}
 use Rattle.wire_base.proofs.SumsOfCopies.{xor_cancel, xor_swap, same_from_xor, xor-mul_pow, xor_double, mul_pow-suc, IsSumOfCopies-xor, IsSumOfCopies_double, IsSumOfCopies-mul_pow, IsSumOfCopies_one, IsSumOfCopies_low, zero_below}
 
 -- each number of the list is a byte
@@ -73,6 +74,99 @@ after_byte_lt r b h k = shifted_lt 8 (bit_xor r b) (xor_lt 16 r b h (omega arith
 after_byte_leaves : (r b : ℕ) → IsSumOfCopies (bit_xor (bit_xor r b) (after_byte r b * 2 ^ 8))
 unfolding after_byte
 after_byte_leaves r b = shifted_leaves 8 (bit_xor r b)
+
+-- ---- the register is a sum without carry: of what each part of it, and each byte, leaves
+
+bit_times : (p q : ℕ) → p < 2 → q < 2 → bit_xor p q * 0xa001 ≡ bit_xor (p * 0xa001) (q * 0xa001)
+bit_times zero zero h k = refl
+bit_times zero (suc zero) h k = refl
+bit_times (suc zero) zero h k = refl
+bit_times (suc zero) (suc zero) h k = refl
+bit_times (suc (suc p)) q h k = absurd (omega arith)
+bit_times p (suc (suc q)) h k = absurd (omega arith)
+
+shift-xor : (a b : ℕ) → shift (bit_xor a b) ≡ bit_xor (shift a) (shift b)
+unfolding shift
+shift-xor a b =
+    ap₂ (λ x y. bit_xor x (y * 0xa001)) (xor_shr a b 1) (xor_mod a b 1)
+    ∙ ap (bit_xor (bit_xor (a / 2) (b / 2))) (bit_times (a % 2) (b % 2) (omega arith) (omega arith))
+    ∙ xor_swap (a / 2) (b / 2) (a % 2 * 0xa001) (b % 2 * 0xa001)
+
+shifted-xor : (k a b : ℕ) → shifted k (bit_xor a b) ≡ bit_xor (shifted k a) (shifted k b)
+shifted-xor zero a b = refl
+shifted-xor (suc k) a b = ap (shifted k) (shift-xor a b) ∙ shifted-xor k (shift a) (shift b)
+
+-- a byte goes in beside a byte of 0
+pub after_byte_beside : (r b : ℕ) → after_byte r b ≡ bit_xor (after_byte r 0) (after_byte b 0)
+unfolding after_byte
+after_byte_beside r b =
+    shifted-xor 8 r b ∙ ap₂ (λ x y. bit_xor (shifted 8 x) (shifted 8 y)) (sym (xor_zero_r r)) (sym (xor_zero_r b))
+
+after_zero-xor : (a b : ℕ) → after_byte (bit_xor a b) 0 ≡ bit_xor (after_byte a 0) (after_byte b 0)
+unfolding after_byte
+after_zero-xor a b =
+    ap (shifted 8) (xor_zero_r (bit_xor a b)) ∙ shifted-xor 8 a b ∙ ap₂ (λ x y. bit_xor (shifted 8 x) (shifted 8 y)) (sym (xor_zero_r a)) (sym (xor_zero_r b))
+
+-- the high byte of a register comes down
+after_zero_high : (h : ℕ) → after_byte (h * 2 ^ 8) 0 ≡ h
+unfolding after_byte shift
+after_zero_high h = shifted_high 8 h 0 ∙ xor_zero_r h
+
+pub after_zeros-xor : (n a b : ℕ) → after_zeros n (bit_xor a b) ≡ bit_xor (after_zeros n a) (after_zeros n b)
+unfolding after_zeros
+after_zeros-xor zero a b = refl
+after_zeros-xor (suc n) a b = ap (λ r. after_byte r 0) (after_zeros-xor n a b) ∙ after_zero-xor (after_zeros n a) (after_zeros n b)
+
+after_zeros-suc : (n r : ℕ) → after_zeros n (after_byte r 0) ≡ after_zeros (suc n) r
+unfolding after_zeros
+after_zeros-suc zero r = refl
+after_zeros-suc (suc n) r = ap (λ x. after_byte x 0) (after_zeros-suc n r)
+
+-- a register of 16 bits as its two bytes
+pub after_zeros_halves : (n r : ℕ) → after_zeros (suc n) r ≡ bit_xor (after_zeros (suc n) (r % 256)) (after_zeros n (r / 256))
+after_zeros_halves n r =
+    let low : r % 256 < 2 ^ 8 = omega arith in
+    let apart : r ≡ bit_xor (r / 256 * 2 ^ 8) (r % 256) = sym (xor_shifted (r / 256) 8 (r % 256) low ∙ omega arith) in
+    ap (after_zeros (suc n)) apart ∙ after_zeros-xor (suc n) (r / 256 * 2 ^ 8) (r % 256)
+    ∙ xor_comm (after_zeros (suc n) (r / 256 * 2 ^ 8)) (after_zeros (suc n) (r % 256))
+    ∙ ap (bit_xor (after_zeros (suc n) (r % 256))) (sym (after_zeros-suc n (r / 256 * 2 ^ 8)) ∙ ap (after_zeros n) (after_zero_high (r / 256)))
+
+-- what some bytes leave, each behind its zeros
+abbrev left_by : List ℕ → ℕ
+left_by [] = 0
+left_by (b ∷ bs) = bit_xor (after_zeros (suc (length bs)) b) (left_by bs)
+
+after_bytes : (r : ℕ) (bs : List ℕ) → fold after_byte r bs ≡ bit_xor (after_zeros (length bs) r) (left_by bs)
+unfolding after_zeros
+after_bytes r [] = sym (xor_zero_r r)
+after_bytes r (b ∷ bs) =
+    let n = length bs in
+    after_bytes (after_byte r b) bs
+    ∙ ap (λ x. bit_xor (after_zeros n x) (left_by bs)) (after_byte_beside r b)
+    ∙ ap (λ x. bit_xor x (left_by bs)) (after_zeros-xor n (after_byte r 0) (after_byte b 0) ∙ ap₂ bit_xor (after_zeros-suc n r) (after_zeros-suc n b))
+    ∙ xor_assoc (after_zeros (suc n) r) (after_zeros (suc n) b) (left_by bs)
+
+-- the first two of eight bytes meet the register's own
+pub after_eight_bytes : (r : ℕ) (bs : List ℕ) → length bs ≡ 8
+    → bit_xor (bit_xor (bit_xor (bit_xor (bit_xor (bit_xor (bit_xor (after_zeros 8 (bit_xor (r % 256) (get_or bs 0 0)))
+    (after_zeros 7 (bit_xor (r / 256) (get_or bs 1 0)))) (after_zeros 6 (get_or bs 2 0))) (after_zeros 5 (get_or bs 3 0))) (after_zeros 4 (get_or bs 4 0))) (after_zeros 3 (get_or bs 5 0)))
+    (after_zeros 2 (get_or bs 6 0))) (after_zeros 1 (get_or bs 7 0))
+    ≡ fold after_byte r bs
+after_eight_bytes r (b0 ∷ b1 ∷ b2 ∷ b3 ∷ b4 ∷ b5 ∷ b6 ∷ b7 ∷ []) eight =
+    let low = after_zeros 8 (r % 256) in
+    let high = after_zeros 7 (r / 256) in
+    let first = after_zeros 8 b0 in
+    let second = after_zeros 7 b1 in
+    let rest = left_by (b2 ∷ b3 ∷ b4 ∷ b5 ∷ b6 ∷ b7 ∷ []) in
+    let met : bit_xor (bit_xor (after_zeros 8 (bit_xor (r % 256) b0)) (after_zeros 7 (bit_xor (r / 256) b1))) rest ≡ fold after_byte r (b0 ∷ b1 ∷ b2 ∷ b3 ∷ b4 ∷ b5 ∷ b6 ∷ b7 ∷ []) =
+    ap₂ (λ x y. bit_xor (bit_xor x y) rest) (after_zeros-xor 8 (r % 256) b0) (after_zeros-xor 7 (r / 256) b1)
+    ∙ ap (λ z. bit_xor z rest) (xor_swap low first high second)
+    ∙ xor_assoc (bit_xor low high) (bit_xor first second) rest
+    ∙ ap₂ bit_xor (sym (after_zeros_halves 7 r)) (xor_assoc first second rest)
+    ∙ sym (after_bytes r (b0 ∷ b1 ∷ b2 ∷ b3 ∷ b4 ∷ b5 ∷ b6 ∷ b7 ∷ [])) in
+    let ends : after_zeros 1 b7 ≡ left_by (b7 ∷ []) = sym (xor_zero_r (after_zeros 1 b7)) in
+    rw ends (simp xor_assoc (simp xor_assoc at met))
+after_eight_bytes r bs eight = absurd (omega arith)
 
 -- ---- rows of bytes
 
@@ -148,6 +242,22 @@ check_from_copies field end h small copies =
     let low = IsSumOfCopies_low (bit_xor (row_of end) (check_of field)) (width field) behind in
     same_from_xor (row_of end) (check_of field) (zero_below (bit_xor (row_of end) (check_of field)) low (xor_lt 16 (row_of end) (check_of field) small (check_of_lt field h)))
 
+-- at the end of a field with its check behind it, and of no other, the register is 0
+pub copies_from_none : (bytes : List ℕ) → AreBytes bytes → check_of bytes ≡ 0 → IsSumOfCopies (row_of bytes)
+copies_from_none bytes h e =
+    subst IsSumOfCopies (ap (λ z. bit_xor (row_of bytes) (z * 2 ^ width bytes)) e ∙ ap (bit_xor (row_of bytes)) (none_times (2 ^ width bytes)) ∙ xor_zero_r (row_of bytes)) (check_leaves bytes h)
+  where
+    none_times : (n : ℕ) → 0 * n ≡ 0
+    none_times n = omega arith
+
+pub none_from_copies : (bytes : List ℕ) → AreBytes bytes → IsSumOfCopies (row_of bytes) → check_of bytes ≡ 0
+none_from_copies bytes h copies =
+    let row = row_of bytes in
+    let c = check_of bytes * 2 ^ width bytes in
+    let same : bit_xor row (bit_xor row c) ≡ c = sym (xor_assoc row row c) ∙ ap (λ z. bit_xor z c) (xor_self row) in
+    let behind = subst IsSumOfCopies same (IsSumOfCopies-xor row (bit_xor row c) copies (check_leaves bytes h)) in
+    zero_below (check_of bytes) (IsSumOfCopies_low (check_of bytes) (width bytes) behind) (check_of_lt bytes h)
+
 -- two rows that differ in one byte alone are not both sums of copies
 pub one_byte_shows : (before after : List ℕ) (x y : ℕ) → AreBytes before → x < 256 → y < 256
     → IsSumOfCopies (row_of (before ++ x ∷ after)) → IsSumOfCopies (row_of (before ++ y ∷ after)) → x ≡ y
@@ -173,3 +283,8 @@ check_of_none = refl
 pub check_of_more : (bytes : List ℕ) (i : ℕ) → i < length bytes → check_of (take (i + 1) bytes) ≡ after_byte (check_of (take i bytes)) (get_or bytes i 0)
 unfolding check_of
 check_of_more bytes i h = fold_more after_byte 0 bytes i 0 h
+
+-- the check of a field, some bytes at once
+pub check_of_piece : (bytes : List ℕ) (i n : ℕ) → check_of (take (i + n) bytes) ≡ fold after_byte (check_of (take i bytes)) (take n (drop i bytes))
+unfolding check_of
+check_of_piece bytes i n = ap (fold after_byte 0) (take-add i n bytes) ∙ fold-append after_byte 0 (take i bytes) (take n (drop i bytes))

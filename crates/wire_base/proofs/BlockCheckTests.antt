@@ -1,10 +1,10 @@
 -- `is_good` tells what `HasGoodCheck` says, and what follows for it.
-use Rattle.std.proofs.Common.{◌≡◌, ℕ, zero, suc, ◌+◌, ◌-◌, ◌*◌, ◌/◌, ◌%◌, ◌^◌, ◌<◌, ◌≤◌, Bool, true, false, eqb, leb, ◌&&◌, List, [], ◌∷◌, ◌++◌, length, length-append, length-drop, take, drop, get_or, refl, sym, ap, ap₂, ◌∙◌, subst, arith}
-use Rattle.std.proofs.lemmas.Bool.{eqb-true, eq-eqb, leb-true, le-leb}
+use Rattle.std.proofs.Common.{◌≡◌, ℕ, zero, suc, ◌+◌, ◌-◌, ◌/◌, ◌%◌, ◌^◌, ◌<◌, ◌≤◌, Bool, true, false, eqb, leb, ◌&&◌, inl, inr, List, [], ◌∷◌, ◌++◌, length, length-append, length-drop, take, drop, get_or, refl, sym, ap₂, ◌∙◌, subst, arith}
+use Rattle.std.proofs.lemmas.Bool.{cases_Bool, eqb-true, eq-eqb, leb-true, le-leb}
 use Rattle.std.proofs.lemmas.Bool.Decides.{nat_tests}
 use Rattle.std.proofs.lemmas.List.{get_or-drop, take-append-drop}
 use Rattle.wire_base.specs.BlockCheck.{row_of, IsSumOfCopies, HasGoodCheck, check_of, word_bytes, check_bytes, is_good}
-use Rattle.wire_base.proofs.BlockCheck.{AreBytes, check_of_lt, copies_from_check, check_from_copies}
+use Rattle.wire_base.proofs.BlockCheck.{AreBytes, check_of_lt, copies_from_none, none_from_copies, copies_from_check, check_from_copies}
 
 -- ---- parts of a row of bytes
 
@@ -86,17 +86,16 @@ pub not_good_short : (bytes : List ℕ) → length bytes < 2 → false ≡ is_go
 unfolding is_good
 not_good_short bytes short = grind (arith, nat_tests)
 
-pub is_good_long : (bytes : List ℕ) (check end : ℕ) → 2 ≤ length bytes → check ≡ check_of (take (length bytes - 2) bytes) → end ≡ row_of (drop (length bytes - 2) bytes) → eqb check end ≡ is_good bytes
-unfolding is_good
-is_good_long bytes check end long e f =
-    let rest = length bytes - 2 in
-    ap₂ eqb e f ∙ sym (ap (λ b. b && eqb (check_of (take rest bytes)) (row_of (drop rest bytes))) (le-leb 2 (length bytes) long))
-
-pub row_of_two : (end : List ℕ) → length end ≡ 2 → row_of end ≡ get_or end 0 0 + 256 * get_or end 1 0
-row_of_two [] e = absurd (omega arith)
-row_of_two (a ∷ []) e = absurd (omega arith)
-row_of_two (a ∷ b ∷ []) e = omega arith
-row_of_two (a ∷ b ∷ c ∷ rest) e = absurd (omega arith)
+-- the test by what the register is at the end
+pub is_good_long : (bytes : List ℕ) → AreBytes bytes → 2 ≤ length bytes → eqb (check_of bytes) 0 ≡ is_good bytes
+is_good_long bytes h long = elim (cases_Bool (is_good bytes)) [
+  | inl good ↦ eq-eqb (check_of bytes) 0 (none_from_copies bytes h (good_from_test bytes h good).copies) ∙ sym good
+  | inr bad ↦
+      elim (cases_Bool (eqb (check_of bytes) 0)) [
+        | inl none ↦ absurd (let good = test_from_good bytes h (record { two_bytes = long; copies = copies_from_none bytes h (eqb-true (check_of bytes) 0 none) }) in cc)
+        | inr some ↦ some ∙ sym bad
+      ]
+]
 
 -- what is sent passes the test
 pub is_good-check : (field : List ℕ) → AreBytes field → is_good (field ++ check_bytes field) ≡ true

@@ -45,6 +45,11 @@ shifted (suc bits) register = shifted bits (shift register)
 unfoldable pub after_byte : ℕ → ℕ → ℕ
 after_byte register byte = shifted 8 (bit_xor register byte)
 
+-- the register after so many more bytes that are 0
+unfoldable pub after_zeros : ℕ → ℕ → ℕ
+after_zeros zero register = register
+after_zeros (suc bytes) register = after_byte (after_zeros bytes register) 0
+
 -- the check of a field: the register, 0 at first, after all its bytes
 unfoldable pub check_of : List ℕ → ℕ
 check_of field = fold after_byte 0 field

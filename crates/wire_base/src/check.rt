@@ -1,45 +1,44 @@
-ghost use Rattle.std.specs.Prelude.{◌≡◌, ◌↔◌, ℕ, ◌^◌, ◌<◌, ◌++◌, IsTrue};
-ghost use Rattle.wire_base.specs.BlockCheck.{HasGoodCheck, after_byte, check_of, is_good, shifted, word_bytes};
+ghost use Rattle.std.specs.Prelude.{◌≡◌, ◌↔◌, ℕ, ◌%◌, ◌^◌, ◌<◌, ◌++◌, length, fold, IsTrue};
+ghost use Rattle.wire_base.specs.BlockCheck.{HasGoodCheck, after_byte, check_of, is_good, word_bytes};
 
-/// What the eight bits of each byte leave in the register, so that a byte of a field costs one look-up.
-static AFTER_BITS: [u16; 256] = [
-    0x0000, 0xc0c1, 0xc181, 0x0140, 0xc301, 0x03c0, 0x0280, 0xc241, 0xc601, 0x06c0, 0x0780, 0xc741,
-    0x0500, 0xc5c1, 0xc481, 0x0440, 0xcc01, 0x0cc0, 0x0d80, 0xcd41, 0x0f00, 0xcfc1, 0xce81, 0x0e40,
-    0x0a00, 0xcac1, 0xcb81, 0x0b40, 0xc901, 0x09c0, 0x0880, 0xc841, 0xd801, 0x18c0, 0x1980, 0xd941,
-    0x1b00, 0xdbc1, 0xda81, 0x1a40, 0x1e00, 0xdec1, 0xdf81, 0x1f40, 0xdd01, 0x1dc0, 0x1c80, 0xdc41,
-    0x1400, 0xd4c1, 0xd581, 0x1540, 0xd701, 0x17c0, 0x1680, 0xd641, 0xd201, 0x12c0, 0x1380, 0xd341,
-    0x1100, 0xd1c1, 0xd081, 0x1040, 0xf001, 0x30c0, 0x3180, 0xf141, 0x3300, 0xf3c1, 0xf281, 0x3240,
-    0x3600, 0xf6c1, 0xf781, 0x3740, 0xf501, 0x35c0, 0x3480, 0xf441, 0x3c00, 0xfcc1, 0xfd81, 0x3d40,
-    0xff01, 0x3fc0, 0x3e80, 0xfe41, 0xfa01, 0x3ac0, 0x3b80, 0xfb41, 0x3900, 0xf9c1, 0xf881, 0x3840,
-    0x2800, 0xe8c1, 0xe981, 0x2940, 0xeb01, 0x2bc0, 0x2a80, 0xea41, 0xee01, 0x2ec0, 0x2f80, 0xef41,
-    0x2d00, 0xedc1, 0xec81, 0x2c40, 0xe401, 0x24c0, 0x2580, 0xe541, 0x2700, 0xe7c1, 0xe681, 0x2640,
-    0x2200, 0xe2c1, 0xe381, 0x2340, 0xe101, 0x21c0, 0x2080, 0xe041, 0xa001, 0x60c0, 0x6180, 0xa141,
-    0x6300, 0xa3c1, 0xa281, 0x6240, 0x6600, 0xa6c1, 0xa781, 0x6740, 0xa501, 0x65c0, 0x6480, 0xa441,
-    0x6c00, 0xacc1, 0xad81, 0x6d40, 0xaf01, 0x6fc0, 0x6e80, 0xae41, 0xaa01, 0x6ac0, 0x6b80, 0xab41,
-    0x6900, 0xa9c1, 0xa881, 0x6840, 0x7800, 0xb8c1, 0xb981, 0x7940, 0xbb01, 0x7bc0, 0x7a80, 0xba41,
-    0xbe01, 0x7ec0, 0x7f80, 0xbf41, 0x7d00, 0xbdc1, 0xbc81, 0x7c40, 0xb401, 0x74c0, 0x7580, 0xb541,
-    0x7700, 0xb7c1, 0xb681, 0x7640, 0x7200, 0xb2c1, 0xb381, 0x7340, 0xb101, 0x71c0, 0x7080, 0xb041,
-    0x5000, 0x90c1, 0x9181, 0x5140, 0x9301, 0x53c0, 0x5280, 0x9241, 0x9601, 0x56c0, 0x5780, 0x9741,
-    0x5500, 0x95c1, 0x9481, 0x5440, 0x9c01, 0x5cc0, 0x5d80, 0x9d41, 0x5f00, 0x9fc1, 0x9e81, 0x5e40,
-    0x5a00, 0x9ac1, 0x9b81, 0x5b40, 0x9901, 0x59c0, 0x5880, 0x9841, 0x8801, 0x48c0, 0x4980, 0x8941,
-    0x4b00, 0x8bc1, 0x8a81, 0x4a40, 0x4e00, 0x8ec1, 0x8f81, 0x4f40, 0x8d01, 0x4dc0, 0x4c80, 0x8c41,
-    0x4400, 0x84c1, 0x8581, 0x4540, 0x8701, 0x47c0, 0x4680, 0x8641, 0x8201, 0x42c0, 0x4380, 0x8341,
-    0x4100, 0x81c1, 0x8081, 0x4040,
-];
-
-/// What the eight bits of a byte leave in the register.
-fn after_bits(byte: u8) -> u16
-    ensures { result ≡ shifted 8 byte }
-{
-    AFTER_BITS[usize::from(byte)]
-}
+use crate::check_table::after_zeros;
 
 /// The register after one more byte of the field.
 fn after_byte(register: u16, byte: u8) -> u16
     ensures { result ≡ after_byte register byte }
 {
     let mixed = register ^ u16::from(byte);
-    (mixed >> 8) ^ after_bits((mixed & 0xff) as u8)
+    (mixed >> 8) ^ after_zeros(1, (mixed & 0xff) as u8)
+}
+
+/// The register after eight more bytes of the field. The first two meet the register's own bytes, and of each byte and of
+/// its number's worth of zeros behind it the table tells what is left.
+fn after_eight(register: u16, eight: &[u8]) -> u16
+    requires { length eight.now ≡ 8 }
+    ensures { result ≡ fold after_byte register eight.now }
+{
+    let low = (register & 0xff) as u8 ^ eight[0];
+    let high = (register >> 8) as u8 ^ eight[1];
+    after_zeros(8, low)
+        ^ after_zeros(7, high)
+        ^ after_zeros(6, eight[2])
+        ^ after_zeros(5, eight[3])
+        ^ after_zeros(4, eight[4])
+        ^ after_zeros(3, eight[5])
+        ^ after_zeros(2, eight[6])
+        ^ after_zeros(1, eight[7])
+}
+
+/// The check of a field whose bytes are some eights.
+fn check_of_eights(field: &[u8]) -> u16
+    requires { length field.now % 8 ≡ 0 }
+    ensures { result ≡ check_of field.now }
+{
+    let mut register = 0;
+    for i in 0..field.len() / 8 {
+        register = after_eight(register, &field[8 * i..8 * i + 8]);
+    }
+    register
 }
 
 /// The block check of a field (DDCMP 4.1, CRC-16 with the generator x^16 + x^15 + x^2 + 1, started at 0, each byte low
@@ -50,8 +49,9 @@ pub fn block_check(field: &[u8]) -> u16
     ensures good { HasGoodCheck (field.now ++ word_bytes result) }
     ensures alone { (word : ℕ) → word < 2 ^ 16 → HasGoodCheck (field.now ++ word_bytes word) → word ≡ result }
 {
-    let mut register = 0;
-    for byte in field {
+    let eights = field.len() / 8 * 8;
+    let mut register = check_of_eights(&field[..eights]);
+    for byte in &field[eights..] {
         register = after_byte(register, *byte);
     }
     register
@@ -66,8 +66,8 @@ pub fn checks(bytes: &[u8]) -> bool
     if bytes.len() < 2 {
         return false;
     }
-    let (field, check) = bytes.split_at(bytes.len() - 2);
-    block_check(field) == u16::from_le_bytes([check[0], check[1]])
+    // Of a field with its check the register is 0 at last.
+    block_check(bytes) == 0
 }
 
 #[cfg(test)]

@@ -5,6 +5,7 @@
 
 mod check;
 mod check_laws;
+mod check_table;
 mod plain_window;
 mod ring_window;
 mod seq;

@@ -92,7 +92,8 @@ fn a_cut_text_departs_in_the_line_of_the_cut(rt: HostRuntime) {
         let answer = if at_line_end {
             Ok(ended.saturating_sub(1))
         } else {
-            Err(CaptureFault::Syntax {
+            Err(CaptureFault::Departs {
+                kind: Departure::Syntax,
                 line: ended.saturating_add(1),
             })
         };

@@ -1,5 +1,5 @@
 use super::stepped::copied;
-use crate::CaptureFault;
+use crate::{CaptureFault, Departure};
 use std::alloc::{AllocError, Global};
 use std::process::Abort;
 
@@ -8,15 +8,30 @@ pub const HEAD: &[u8] = b"ddcap 1 1.1 1.2\n";
 /// How many records a text has, or its fault.
 pub type Answer = Result<u64, CaptureFault>;
 
-pub const SYNTAX_1: Answer = Err(CaptureFault::Syntax { line: 1 });
+pub const SYNTAX_1: Answer = Err(CaptureFault::Departs {
+    kind: Departure::Syntax,
+    line: 1,
+});
 
-pub const SYNTAX_2: Answer = Err(CaptureFault::Syntax { line: 2 });
+pub const SYNTAX_2: Answer = Err(CaptureFault::Departs {
+    kind: Departure::Syntax,
+    line: 2,
+});
 
-pub const SYNTAX_3: Answer = Err(CaptureFault::Syntax { line: 3 });
+pub const SYNTAX_3: Answer = Err(CaptureFault::Departs {
+    kind: Departure::Syntax,
+    line: 3,
+});
 
-pub const TOO_LONG_1: Answer = Err(CaptureFault::TooLong { line: 1 });
+pub const TOO_LONG_1: Answer = Err(CaptureFault::Departs {
+    kind: Departure::TooLong,
+    line: 1,
+});
 
-pub const TOO_LONG_2: Answer = Err(CaptureFault::TooLong { line: 2 });
+pub const TOO_LONG_2: Answer = Err(CaptureFault::Departs {
+    kind: Departure::TooLong,
+    line: 2,
+});
 
 /// Reads by one byte a call and by all: the same answer; an accepted text is written as it was.
 pub fn check(rt: &impl Abort, alloc: Global, text: &[u8], answer: Answer) {

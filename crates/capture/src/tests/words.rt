@@ -1,4 +1,6 @@
-use crate::{Bytes, Event, Record, address_of, is_node, number_of, positive_of};
+use crate::{
+    Bytes, CaptureFault, Departure, Event, Record, address_of, is_node, number_of, positive_of,
+};
 use std::test::Fail;
 
 #[test]
@@ -110,5 +112,23 @@ fn bytes_keep_what_they_were_made_of(rt: HostRuntime) -> Result<(), Fail> {
     assert!(rt; !bytes.is_empty());
     assert!(rt; bytes.into_vec().as_slice() == [1, 2].as_slice());
     assert!(rt; Bytes::new(Vec::new(rt.alloc())).is_empty());
+    Ok(())
+}
+
+#[test]
+fn a_departure_is_told_by_its_words(rt: HostRuntime) -> Result<(), Fail> {
+    let rows = [
+        (Departure::Syntax, "syntax", "line 1: syntax"),
+        (Departure::TooLong, "too long", "line 1: too long"),
+        (Departure::TooMany, "too many", "line 1: too many"),
+    ];
+    for (kind, words, told) in rows {
+        let fault = CaptureFault::Departs { kind, line: 1 };
+        let printed = format!(in rt.alloc(); "{kind}")?;
+        let printed_fault = format!(in rt.alloc(); "{fault}")?;
+        assert_eq!(rt; printed.as_str(), words);
+        assert!(rt; kind.words() == words.as_bytes(), "{words}");
+        assert_eq!(rt; printed_fault.as_str(), told);
+    }
     Ok(())
 }

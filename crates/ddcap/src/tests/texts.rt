@@ -2,8 +2,9 @@
 
 use super::pair::{NEVER, Shown};
 use crate::check::{print, print_out_of_memory};
-use crate::text::{FAILED, fault_status, fault_text, verdict_status, verdict_text};
-use pair_judge::{Reason, SideSummary, Summary, TextFault, Verdict};
+use crate::text::{FAILED, line_fault_text, verdict_status, verdict_text};
+use capture::Departure;
+use pair_judge::{Reason, SideSummary, Summary, Verdict};
 use std::test::Fail;
 use wire_base::{Side, Tally};
 
@@ -49,21 +50,17 @@ b records 18446744073709551615 sent 6 received 4 damaged 5 kept 1 periods 1 link
 #[test]
 fn a_fault_names_the_side_and_the_line(rt: HostRuntime) -> Result<(), Fail> {
     let rows = [
-        (TextFault::Syntax { line: 3 }, "a: line 3: syntax\n", 2),
-        (TextFault::TooLong { line: 20 }, "a: line 20: too long\n", 2),
+        (Departure::Syntax, 3, "a: line 3: syntax\n"),
+        (Departure::TooLong, 20, "a: line 20: too long\n"),
         (
-            TextFault::TooMany {
-                line: 1_000_000_000_002,
-            },
+            Departure::TooMany,
+            1_000_000_000_002,
             "a: line 1000000000002: too many\n",
-            2,
         ),
-        (TextFault::Read, "a: read failed\n", 3),
     ];
-    for (fault, text, status) in rows {
-        let printed = fault_text(rt.alloc(), Side::A, fault)?;
+    for (kind, line, text) in rows {
+        let printed = line_fault_text(rt.alloc(), Side::A, kind, line)?;
         assert_eq!(rt; printed.as_str(), text);
-        assert_eq!(rt; fault_status(fault), status, "the status of {text}");
     }
     Ok(())
 }

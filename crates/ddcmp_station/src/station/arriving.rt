@@ -1,24 +1,27 @@
 //! What an arrival does to a station.
 
-ghost use Rattle.std.specs.Prelude.{◌≡◌, ◌+◌, ◌^◌, ◌<◌, ◌≤◌, ◌==◌, ◌&&◌, ◌⊎◌, false, not, None, IfOk, OnOk, OnErr, IfErr};
+ghost use Rattle.std.specs.Prelude.{◌≡◌, ◌+◌, ◌^◌, ◌<◌, ◌≤◌, ◌==◌, ◌&&◌, ◌⊎◌, false, not, None, if◌then◌else◌, fold, IfOk, OnOk, OnErr, IfErr};
 ghost use Rattle.std.specs.Option.{option_copied};
 ghost use Rattle.ddcmp_msg.specs.Message.{view};
-ghost use Rattle.dna_model.specs.Arriving.{keep_refusal};
-ghost use Rattle.dna_model.specs.Arriving as arriving;
-ghost use Rattle.dna_model.specs.Periods.{crossed, crossed_in};
-ghost use Rattle.dna_model.specs.Periods as periods;
-ghost use Rattle.dna_model.specs.WireStation.{load, wire_standing, wire_takes_in, wire_arrival_refusal, wire_after_arrival, wire_taken, wire_responded, wire_data_arrived, wire_arrived_in, wire_damaged_in};
-ghost use Rattle.dna_model.specs.WireStation as spec;
+ghost use Rattle.ddcmp_msg.specs.declared.nak_reason.NakReason.TheVariants as nak;
+ghost use Rattle.dna_model.specs.Causes.{with_cause};
+ghost use Rattle.dna_model.specs.Table.{row};
+ghost use Rattle.dna_model.specs.Rules.{judged, meets};
+ghost use Rattle.dna_model.specs.Rules as rules;
+ghost use Rattle.dna_model.specs.Book.{num_of, has_packet, keep_refusal, damaged_by};
+ghost use Rattle.dna_model.specs.Book as arriving;
+ghost use Rattle.dna_model.specs.WireStation.{load};
+ghost use Rattle.dna_model.specs.WireBook.{wire_tag, wire_book, wire_is_next, with_next, wire_responded, wire_does, wire_arrival_refusal, wire_after_arrival, wire_taken};
 ghost use Rattle.ddcmp_station.specs.Arrival.{arrival_view};
 ghost use Rattle.ddcmp_station.specs.Fault.{IsRefused};
 
 use super::Station;
-use crate::{Arrival, Held, StationFault};
+use crate::{Arrival, HeldPacket, StationFault};
 use ddcmp_msg::{Message, NakReason};
 use dna_model::{State, StationRefusal, Tag};
 use wire_base::Window;
 
-impl<T: Copy, W: Window<Held<T>, 256>> Station<T, W> {
+impl<T: Copy, W: Window<HeldPacket<T>, 256>> Station<T, W> {
     /// This came, and the node kept its packet or did not (DDCMP 4.1, startup state table, data transfer). The answer is the
     /// packet that was taken, if one was. The counts that the station keeps are together below 2^63. Takes no memory.
     ///
@@ -48,11 +51,11 @@ impl<T: Copy, W: Window<Held<T>, 256>> Station<T, W> {
         kept: bool,
     ) -> Result<Option<&'a [u8]>, StationFault>
         requires { load self.old < 2 ^ 63 }
-        ensures allowed { OnOk result (wire_arrival_refusal crossed self.old (arrival_view arrival.entry) kept ≡ None) }
+        ensures allowed { OnOk result (wire_arrival_refusal judged self.old (arrival_view arrival.entry) kept ≡ None) }
         ensures ok { OnOk result (self.new ≡ wire_after_arrival self.old (arrival_view arrival.entry) kept) }
         ensures taken { IfOk result (λ taken. option_copied taken ≡ wire_taken self.old (arrival_view arrival.entry) kept) }
         ensures refused { IfErr result (λ fault.
-            IsRefused (wire_arrival_refusal crossed self.old (arrival_view arrival.entry) kept) fault) }
+            IsRefused (wire_arrival_refusal judged self.old (arrival_view arrival.entry) kept) fault) }
         ensures alone { IfErr result (λ fault. (fault ≡ StationFault.Refused StationRefusal.CrossedPeriod)
             ⊎ (fault ≡ StationFault.Refused StationRefusal.WrongKeep)) }
         ensures err { OnErr result (self.new ≡ self.old) }
@@ -73,53 +76,69 @@ impl<T: Copy, W: Window<Held<T>, 256>> Station<T, W> {
         kept: bool,
     ) -> Result<Option<&'a [u8]>, StationFault>
         requires { load self.old < 2 ^ 63 }
-        ensures allowed { OnOk result (wire_arrival_refusal crossed self.old (arriving.Sound (view message.entry) tag) kept ≡ None) }
+        ensures allowed { OnOk result (wire_arrival_refusal judged self.old (arriving.Sound (view message.entry) tag) kept ≡ None) }
         ensures ok { OnOk result (self.new ≡ wire_after_arrival self.old (arriving.Sound (view message.entry) tag) kept) }
         ensures taken { IfOk result (λ taken. option_copied taken ≡ wire_taken self.old (arriving.Sound (view message.entry) tag) kept) }
         ensures refused { IfErr result (λ fault.
-            IsRefused (wire_arrival_refusal crossed self.old (arriving.Sound (view message.entry) tag) kept) fault) }
+            IsRefused (wire_arrival_refusal judged self.old (arriving.Sound (view message.entry) tag) kept) fault) }
         ensures alone { IfErr result (λ fault. (fault ≡ StationFault.Refused StationRefusal.CrossedPeriod)
             ⊎ (fault ≡ StationFault.Refused StationRefusal.WrongKeep)) }
         ensures err { OnErr result (self.new ≡ self.old) }
         ensures load { load self.new ≤ load self.old + 1 }
     {
-        if self.crosses(&message, tag) {
+        if !self.meets(&message, tag) {
             return Err(StationFault::Refused(StationRefusal::CrossedPeriod));
         }
         let takes = self.takes(&message);
         if !takes && kept {
             return Err(StationFault::Refused(StationRefusal::WrongKeep));
         }
-        self.take_step(&message, tag.period, kept);
+        self.take_step(&message, tag, kept);
         if takes && kept {
-            return Ok(body_of(message));
+            return Ok(Some(body_of(message)));
         }
         Ok(None)
     }
 
     // ---- what refuses
 
-    // Whether a message that is acted on in this state belongs to another pair of starts.
-    fn crosses(&self, message: &Message, tag: Tag) -> bool
-        ensures { result ≡ crossed (wire_standing self.now) (view message.now) tag }
+    // Whether the periods of a message are what its row needs.
+    fn meets(&self, message: &Message, tag: Tag) -> bool
+        ensures { result ≡ meets (row self.now.variables.state (view message.now)).needs (wire_tag self.now) tag }
     {
         let fresh = is_period(tag.partner, self.period);
         let of_pair = is_period(self.partner, tag.period) && fresh;
-        crosses_in(self.kept.state(), message, fresh, of_pair)
+        match self.variables.state() {
+            State::Halted => true,
+            State::Istrt => match message {
+                Message::Stack { .. } => fresh,
+                _ => true,
+            },
+            State::Astrt => match message {
+                Message::Stack { .. } => fresh,
+                Message::Ack { resp: 0, .. } | Message::Data { resp: 0, .. } => of_pair,
+                _ => true,
+            },
+            State::Running => match message {
+                Message::Strt { .. } => true,
+                _ => of_pair,
+            },
+        }
     }
 
     // Whether the packet of a message can be taken: data with the next number, where data is acted on.
     fn takes(&self, message: &Message) -> bool
-        ensures { result ≡ wire_takes_in self.now.kept.state self.now.kept (view message.now) }
+        ensures { result ≡ (has_packet (row self.now.variables.state (view message.now)).effects
+            && wire_is_next self.now.variables (num_of (view message.now))) }
     {
-        match self.kept.state() {
+        match self.variables.state() {
             State::Halted | State::Istrt => false,
             State::Astrt => match message {
-                Message::Data { resp: 0, num, .. } => self.kept.is_next(*num),
+                Message::Data { resp: 0, num, .. } => self.variables.is_next(*num),
                 _ => false,
             },
             State::Running => match message {
-                Message::Data { num, .. } => self.kept.is_next(*num),
+                Message::Data { num, .. } => self.variables.is_next(*num),
                 _ => false,
             },
         }
@@ -127,69 +146,84 @@ impl<T: Copy, W: Window<Held<T>, 256>> Station<T, W> {
 
     // ---- what it does
 
-    // The step of a sound message that was sent in this period of the other side.
-    fn take_step(&mut self, message: &Message, from: u64, kept: bool)
+    // The effects of a sound message, row by row.
+    fn take_step(&mut self, message: &Message, tag: Tag, kept: bool)
         requires { load self.old < 2 ^ 63 }
         ensures load { load self.new ≤ load self.old + 1 }
-        ensures step { self.new ≡ wire_arrived_in self.old.kept.state self.old (view message.now) from kept }
+        ensures step { self.new ≡ fold (wire_does (view message.now) tag kept) self.old
+            (row self.old.variables.state (view message.now)).effects }
     {
-        match self.kept.state() {
+        match self.variables.state() {
             State::Halted => {}
             State::Istrt => match message {
-                Message::Strt { .. } => {
-                    self.kept.go_to(State::Astrt);
-                    self.partner = Some(from);
-                }
-                Message::Stack { .. } => {
-                    self.kept.go_to(State::Running);
-                    self.partner = Some(from);
-                }
+                Message::Strt { .. } => self.join(tag.period, State::Astrt),
+                Message::Stack { .. } => self.join(tag.period, State::Running),
                 _ => {}
             },
             State::Astrt => match message {
-                Message::Strt { .. } => self.partner = Some(from),
-                Message::Stack { .. } => {
-                    self.kept.go_to(State::Running);
-                    self.partner = Some(from);
-                }
-                Message::Ack { resp: 0, .. } => self.kept.go_to(State::Running),
+                Message::Strt { .. } => self.partner = Some(tag.period),
+                Message::Stack { .. } => self.join(tag.period, State::Running),
+                Message::Ack { resp: 0, .. } => self.variables.go_to(State::Running),
                 Message::Data { resp: 0, num, .. } => {
-                    self.kept.go_to(State::Running);
+                    self.variables.go_to(State::Running);
                     self.receive_data(0, *num, kept);
                 }
                 _ => {}
             },
             State::Running => match message {
-                Message::Strt { .. } => self.kept.go_to(State::Halted),
+                Message::Strt { .. } => self.variables.go_to(State::Halted),
                 Message::Stack { .. } => {}
-                Message::Ack { resp, .. } => self.kept.respond(*resp),
+                Message::Ack { resp, .. } => self.variables.respond(*resp),
                 Message::Nak { resp, .. } => {
-                    self.kept.respond(*resp);
-                    self.kept.set_back();
+                    self.variables.respond(*resp);
+                    self.variables.set_back();
                 }
-                Message::Rep { num, .. } => {
-                    if !self.kept.is_received(*num) {
-                        self.causes.add(NakReason::RepResponse);
-                    }
-                }
+                Message::Rep { num, .. } => self.answer_rep(*num),
                 Message::Data { resp, num, .. } => self.receive_data(*resp, *num, kept),
             },
         }
     }
 
-    // Data in RUNNING: the next packet is taken, or there was no buffer for it; any other is ignored after its RESP.
+    // The partner is this period, and the start goes on to this state.
+    fn join(&mut self, partner: u64, state: State)
+        ensures { self.new ≡ record self.old {
+          variables = record self.old.variables { state = state };
+          partner = Some partner;
+        } }
+    {
+        self.partner = Some(partner);
+        self.variables.go_to(state);
+    }
+
+    // A REP of another number than the last received is a cause.
+    fn answer_rep(&mut self, num: u8)
+        requires { load self.old < 2 ^ 63 }
+        ensures load { load self.new ≤ load self.old + 1 }
+        ensures step { self.new ≡ record self.old {
+          causes = if num == self.old.variables.received then self.old.causes else with_cause nak.RepResponse self.old.causes;
+        } }
+    {
+        if !self.variables.is_received(num) {
+            self.causes.add(NakReason::RepResponse);
+        }
+    }
+
+    // Data in RUNNING: its RESP, and then its packet.
     fn receive_data(&mut self, resp: u8, num: u8, kept: bool)
         requires { load self.old < 2 ^ 63 }
         ensures load { load self.new ≤ load self.old + 1 }
-        ensures step { self.new ≡ wire_data_arrived self.old resp num kept }
+        ensures step { self.new ≡ record self.old {
+          variables = with_next (wire_is_next (wire_responded self.old.variables resp) num && kept) (wire_responded self.old.variables resp);
+          causes = if (wire_is_next (wire_responded self.old.variables resp) num && not kept)
+              then with_cause nak.NoBuffer self.old.causes else self.old.causes;
+        } }
     {
-        let next = self.kept.is_next(num);
-        self.kept.respond(resp);
-        if !next {
+        self.variables.respond(resp);
+        if !self.variables.is_next(num) {
             return;
         }
         if kept {
-            self.kept.receive();
+            self.variables.receive();
         } else {
             self.causes.add(NakReason::NoBuffer);
         }
@@ -203,7 +237,7 @@ impl<T: Copy, W: Window<Held<T>, 256>> Station<T, W> {
     ) -> Result<Option<&'a [u8]>, StationFault>
         requires { load self.old < 2 ^ 63 }
         ensures allowed { OnOk result (keep_refusal false kept ≡ None) }
-        ensures ok { OnOk result (self.new ≡ wire_damaged_in self.old.kept.state reason self.old) }
+        ensures ok { OnOk result (self.new ≡ damaged_by wire_book reason self.old) }
         ensures taken { IfOk result (λ taken. taken ≡ None) }
         ensures refused { IfErr result (λ fault. IsRefused (keep_refusal false kept) fault) }
         ensures alone { IfErr result (λ fault. fault ≡ StationFault.Refused StationRefusal.WrongKeep) }
@@ -213,7 +247,7 @@ impl<T: Copy, W: Window<Held<T>, 256>> Station<T, W> {
         if kept {
             return Err(StationFault::Refused(StationRefusal::WrongKeep));
         }
-        if let State::Running = self.kept.state() {
+        if let State::Running = self.variables.state() {
             self.causes.add(reason);
         }
         Ok(None)
@@ -222,7 +256,7 @@ impl<T: Copy, W: Window<Held<T>, 256>> Station<T, W> {
 
 // The period is known, and it is this one.
 fn is_period(known: Option<u64>, period: u64) -> bool
-    ensures { result ≡ periods.is_period known period }
+    ensures { result ≡ rules.is_period known period }
 {
     match known {
         Some(known) => known == period,
@@ -230,34 +264,12 @@ fn is_period(known: Option<u64>, period: u64) -> bool
     }
 }
 
-// Whether a message is acted on in this state though it is not fresh, or not of the pair.
-fn crosses_in(state: State, message: &Message, fresh: bool, of_pair: bool) -> bool
-    ensures { result ≡ crossed_in state (view message.now) fresh of_pair }
-{
-    match state {
-        State::Halted => false,
-        State::Istrt => match message {
-            Message::Stack { .. } => !fresh,
-            _ => false,
-        },
-        State::Astrt => match message {
-            Message::Stack { .. } => !fresh,
-            Message::Ack { resp: 0, .. } | Message::Data { resp: 0, .. } => !of_pair,
-            _ => false,
-        },
-        State::Running => match message {
-            Message::Strt { .. } => false,
-            _ => !of_pair,
-        },
-    }
-}
-
-// The packet of a message.
-fn body_of<'a>(message: Message<'a>) -> Option<&'a [u8]>
-    ensures { option_copied result ≡ spec.body_of (view message.entry) }
+// The data of a message, and none where it has none.
+fn body_of<'a>(message: Message<'a>) -> &'a [u8]
+    ensures { result.now ≡ arriving.body_of (view message.entry) }
 {
     match message {
-        Message::Data { body, .. } => Some(body),
-        _ => None,
+        Message::Data { body, .. } => body,
+        _ => &[],
     }
 }

@@ -1,22 +1,24 @@
 //! What a station's node may send, and what sending changes.
 
-ghost use Rattle.std.specs.Prelude.{◌≡◌, ◌<◌, ◌≤◌, ◌==◌, ◌+◌, IsTrue, true, false, None, length, not, nat_lt, IfOk, OnOk, OnErr, IfErr};
+ghost use Rattle.std.specs.Prelude.{◌≡◌, ◌<◌, ◌≤◌, ◌==◌, ◌+◌, ◌∷◌, [], IsTrue, true, false, None, Some, if◌then◌else◌, length, not, nat_lt, slice_get, IfOk, OnOk, OnErr, IfErr};
 ghost use Rattle.ddcmp_msg.specs.Message.{view};
 ghost use Rattle.dna_model.specs.Causes.{has_cause};
+ghost use Rattle.dna_model.specs.Table.{WINDOW, checks};
+ghost use Rattle.dna_model.specs.Book.{failed};
 ghost use Rattle.dna_model.specs.Station.{wire};
-ghost use Rattle.dna_model.specs.Sending.{WINDOW, check};
-ghost use Rattle.dna_model.specs.WireStation.{wire_refusal_in, wire_data_refusal, wire_is_new, wire_sending_refusal, wire_after_sending, load, gives_new, with_new};
+ghost use Rattle.dna_model.specs.WireStation.{load};
+ghost use Rattle.dna_model.specs.WireBook.{is_held_packet, wire_is_new, wire_passes, sends_packet, wire_sending_refusal, wire_after_sending, gives_new};
 ghost use Rattle.ddcmp_station.specs.Fault.{IsFault, is_of_repeats};
 ghost use Rattle.ddcmp_station.specs.Sent.{sent_as};
 
 use super::Station;
-use crate::{Held, SentAs, StationFault};
+use crate::{HeldPacket, SentAs, StationFault};
 use ddcmp_msg::{Message, NakReason};
 use dna_model::{State, StationRefusal, Tag};
 use std::alloc::AllocError;
 use wire_base::Window;
 
-impl<T: Copy, W: Window<Held<T>, 256>> Station<T, W> {
+impl<T: Copy, W: Window<HeldPacket<T>, 256>> Station<T, W> {
     /// Its node sent this message (DDCMP 4.1, startup state table, data transfer). The answer has the tag that the unit goes
     /// with; whether the message gave a new number, beside which a label may now be put; and of a packet that is sent again its
     /// label, if it has one. A new number takes memory for a copy of its packet, and no other message takes any.
@@ -49,7 +51,7 @@ impl<T: Copy, W: Window<Held<T>, 256>> Station<T, W> {
         ensures allowed { OnOk result (wire_sending_refusal self.old (view message.now) ≡ None) }
         ensures ok { OnOk result (self.new ≡ wire_after_sending self.old (view message.now)) }
         ensures answer { IfOk result (λ sent. sent ≡ sent_as self.old (view message.now)) }
-        ensures outstanding { IfOk result (λ sent. sent.first ≡ true → 0 < length self.new.kept.held) }
+        ensures outstanding { IfOk result (λ sent. sent.first ≡ true → 0 < length self.new.variables.held) }
         ensures refused { IfErr result (λ fault. IsFault (wire_sending_refusal self.old (view message.now))
             (gives_new self.old (view message.now)) fault) }
         ensures again { gives_new self.old (view message.now) ≡ false → IfErr result (λ fault. IsTrue (is_of_repeats fault)) }
@@ -62,13 +64,13 @@ impl<T: Copy, W: Window<Held<T>, 256>> Station<T, W> {
         let sent = self.sent_as(message);
         match message {
             Message::Data { body, .. } => {
-                if self.kept.is_new() {
+                if self.variables.is_new() {
                     if let Err(AllocError) = self.give(body) {
                         return Err(StationFault::OutOfMemory);
                     }
                     return Ok(sent);
                 }
-                self.kept.send_again();
+                self.variables.send_again();
                 Ok(sent)
             }
             Message::Nak { reason, .. } => {
@@ -90,8 +92,8 @@ impl<T: Copy, W: Window<Held<T>, 256>> Station<T, W> {
         match message {
             Message::Data { .. } => SentAs {
                 tag,
-                first: self.kept.is_new(),
-                label: self.kept.label_to_send(),
+                first: self.variables.is_new(),
+                label: self.variables.label_to_send(),
             },
             _ => SentAs {
                 tag,
@@ -103,19 +105,14 @@ impl<T: Copy, W: Window<Held<T>, 256>> Station<T, W> {
 
     // A packet of these bytes gets the next number. Where memory for it is refused, nothing changes.
     fn give(&mut self, body: &[u8]) -> Result<(), AllocError>
-        requires new { wire_is_new self.old.kept ≡ true }
-        requires room { length self.old.kept.held < 255 }
-        ensures ok { OnOk result (self.new ≡ record self.old {
-          kept = record self.old.kept {
-            ahead = self.old.kept.ahead + 1;
-            held = with_new true self.old.kept.held body.now;
-          };
-        }) }
+        requires new { wire_is_new self.old.variables ≡ true }
+        requires room { length self.old.variables.held < WINDOW }
+        ensures ok { OnOk result (self.new ≡ record self.old { variables = sends_packet self.old.variables body.now }) }
         ensures err { OnErr result (self.new ≡ self.old) }
     {
         let mut copy = Vec::new(self.alloc);
         copy.extend_from_slice(body)?;
-        self.kept.send_new(Held::new(copy))?;
+        self.variables.send_new(HeldPacket::new(copy))?;
         Ok(())
     }
 
@@ -125,7 +122,7 @@ impl<T: Copy, W: Window<Held<T>, 256>> Station<T, W> {
     fn refusal_to_send(&self, message: &Message) -> Option<StationRefusal>
         ensures { result ≡ wire_sending_refusal self.now (view message.now) }
     {
-        match self.kept.state() {
+        match self.variables.state() {
             State::Halted => Some(StationRefusal::WrongState),
             State::Istrt => match message {
                 Message::Strt { .. } => None,
@@ -140,7 +137,7 @@ impl<T: Copy, W: Window<Held<T>, 256>> Station<T, W> {
     }
 
     fn refusal_in_running(&self, message: &Message) -> Option<StationRefusal>
-        ensures { result ≡ wire_refusal_in State.Running self.now.kept self.now.causes (view message.now) }
+        ensures { result ≡ failed (wire_passes self.now (view message.now)) (checks State.Running (view message.now)) }
     {
         match message {
             Message::Ack { resp, .. } => self.refusal_of_response(*resp),
@@ -158,9 +155,9 @@ impl<T: Copy, W: Window<Held<T>, 256>> Station<T, W> {
 
     // RESP is the last number received.
     fn refusal_of_response(&self, resp: u8) -> Option<StationRefusal>
-        ensures { result ≡ check (resp == self.now.kept.received) StationRefusal.WrongResponse None }
+        ensures { result ≡ if resp == self.now.variables.received then None else Some StationRefusal.WrongResponse }
     {
-        if self.kept.is_received(resp) {
+        if self.variables.is_received(resp) {
             None
         } else {
             Some(StationRefusal::WrongResponse)
@@ -169,10 +166,11 @@ impl<T: Copy, W: Window<Held<T>, 256>> Station<T, W> {
 
     // A NAK of a reason that needs a cause has an open one.
     fn refusal_of_nak(&self, reason: NakReason, resp: u8) -> Option<StationRefusal>
-        ensures { result ≡ check (resp == self.now.kept.received) StationRefusal.WrongResponse
-            (check (has_cause reason self.now.causes) StationRefusal.NoCause None) }
+        ensures { result ≡ if resp == self.now.variables.received
+            then (if has_cause reason self.now.causes then None else Some StationRefusal.NoCause)
+            else Some StationRefusal.WrongResponse }
     {
-        if !self.kept.is_received(resp) {
+        if !self.variables.is_received(resp) {
             return Some(StationRefusal::WrongResponse);
         }
         if !self.causes.has(reason) {
@@ -183,13 +181,14 @@ impl<T: Copy, W: Window<Held<T>, 256>> Station<T, W> {
 
     // A REP asks for the answer to the highest number given, while one is outstanding.
     fn refusal_of_rep(&self, num: u8) -> Option<StationRefusal>
-        ensures { result ≡ check (not (length self.now.kept.held == 0)) StationRefusal.WrongState
-            (check (num == wire (self.now.kept.acknowledged + length self.now.kept.held)) StationRefusal.WrongNumber None) }
+        ensures { result ≡ if not (length self.now.variables.held == 0)
+            then (if num == wire (self.now.variables.acknowledged + length self.now.variables.held) then None else Some StationRefusal.WrongNumber)
+            else Some StationRefusal.WrongState }
     {
-        if !self.kept.is_outstanding() {
+        if !self.variables.is_outstanding() {
             return Some(StationRefusal::WrongState);
         }
-        if !self.kept.is_highest(num) {
+        if !self.variables.is_highest(num) {
             return Some(StationRefusal::WrongNumber);
         }
         None
@@ -197,33 +196,32 @@ impl<T: Copy, W: Window<Held<T>, 256>> Station<T, W> {
 
     // Data have the next number to send. A new packet has room in the window; one that is sent again is as first given.
     fn refusal_of_data(&self, resp: u8, num: u8, body: &[u8]) -> Option<StationRefusal>
-        ensures { result ≡ check (num == wire (self.now.kept.acknowledged + 1 + self.now.kept.ahead)) StationRefusal.WrongNumber
-            (check (resp == self.now.kept.received) StationRefusal.WrongResponse
-            (wire_data_refusal (wire_is_new self.now.kept) self.now.kept body.now)) }
+        ensures { result ≡ if num == wire (self.now.variables.acknowledged + 1 + self.now.variables.ahead)
+            then (if resp == self.now.variables.received
+            then (if (if wire_is_new self.now.variables then nat_lt (length self.now.variables.held) WINDOW else true)
+            then (if (if wire_is_new self.now.variables then true
+            else is_held_packet (slice_get self.now.variables.held self.now.variables.ahead) body.now)
+            then None
+            else Some StationRefusal.Changed)
+            else Some StationRefusal.WindowFull)
+            else Some StationRefusal.WrongResponse)
+            else Some StationRefusal.WrongNumber }
     {
-        if !self.kept.is_to_send(num) {
+        if !self.variables.is_to_send(num) {
             return Some(StationRefusal::WrongNumber);
         }
-        if !self.kept.is_received(resp) {
+        if !self.variables.is_received(resp) {
             return Some(StationRefusal::WrongResponse);
         }
-        if self.kept.is_new() {
-            return self.refusal_of_new();
+        if self.variables.is_new() {
+            if !self.variables.has_room() {
+                return Some(StationRefusal::WindowFull);
+            }
+            return None;
         }
-        if !self.kept.is_first_given(body) {
+        if !self.variables.is_first_given(body) {
             return Some(StationRefusal::Changed);
         }
         None
-    }
-
-    // Fewer packets are outstanding than may be.
-    fn refusal_of_new(&self) -> Option<StationRefusal>
-        ensures { result ≡ check (nat_lt (length self.now.kept.held) WINDOW) StationRefusal.WindowFull None }
-    {
-        if self.kept.has_room() {
-            None
-        } else {
-            Some(StationRefusal::WindowFull)
-        }
     }
 }

@@ -2,7 +2,7 @@ ghost use Rattle.std.specs.Prelude.{◌≡◌, ◌+◌, ◌^◌, ◌<◌, ◌≤
 ghost use Rattle.dna_model.specs.WireStation.{load};
 
 use super::{Answer, BODY, DONE, Given, PAIRED, STACK, START, Step, data, paired, sent_as, takes};
-use crate::{Arrival, Held, SentAs, State, Station, StationFault};
+use crate::{Arrival, HeldPacket, SentAs, State, Station, StationFault};
 use ddcmp_msg::Message;
 use std::alloc::{AllocError, Global};
 use std::process::Abort;
@@ -10,13 +10,13 @@ use wire_base::{PlainWindow, RingWindow, Window};
 
 // A station whose steps are counted, so that its own counts are known to be small.
 #[derive(Drop)]
-pub struct Bench<T: Copy, W: Window<Held<T>, 256>> {
+pub struct Bench<T: Copy, W: Window<HeldPacket<T>, 256>> {
     pub station: Station<T, W>,
     steps: u64,
     ghost light: { load station ≤ steps },
 }
 
-impl<T: Copy, W: Window<Held<T>, 256>> Bench<T, W> {
+impl<T: Copy, W: Window<HeldPacket<T>, 256>> Bench<T, W> {
     pub fn new(alloc: Global) -> Result<Self, AllocError> {
         Ok(Bench {
             station: Station::new(alloc)?,
@@ -25,7 +25,7 @@ impl<T: Copy, W: Window<Held<T>, 256>> Bench<T, W> {
     }
 }
 
-impl<W: Window<Held<u32>, 256>> Bench<u32, W> {
+impl<W: Window<HeldPacket<u32>, 256>> Bench<u32, W> {
     pub fn makes<'a>(&mut self, rt: &impl Abort, step: Step<'a>) -> Answer<'a> {
         assert!(rt; self.steps < 1_000_000);
         self.steps += 1;
@@ -49,12 +49,12 @@ impl<W: Window<Held<u32>, 256>> Bench<u32, W> {
 }
 
 // Sends the message; once more where memory is refused, since that changes nothing.
-fn sends<W: Window<Held<u32>, 256>>(
+fn sends<W: Window<HeldPacket<u32>, 256>>(
     station: &mut Station<u32, W>,
     message: &Message,
 ) -> Result<SentAs<u32>, StationFault>
     ensures load { load station.new ≤ load station.old }
-    ensures outstanding { IfOk result (λ sent. sent.first ≡ true → 0 < length station.new.kept.held) }
+    ensures outstanding { IfOk result (λ sent. sent.first ≡ true → 0 < length station.new.variables.held) }
 {
     match station.sent(message) {
         Ok(sent) => Ok(sent),
@@ -63,7 +63,7 @@ fn sends<W: Window<Held<u32>, 256>>(
     }
 }
 
-fn receives<'a, W: Window<Held<u32>, 256>>(
+fn receives<'a, W: Window<HeldPacket<u32>, 256>>(
     station: &mut Station<u32, W>,
     arrival: Arrival<'a>,
     kept: bool,
@@ -82,7 +82,7 @@ fn receives<'a, W: Window<Held<u32>, 256>>(
 pub type Row = (&'static str, Step<'static>, Answer<'static>, State, u64);
 
 // Makes the steps of a table, one after another, from a new station on.
-pub fn plays<W: Window<Held<u32>, 256> + Drop>(
+pub fn plays<W: Window<HeldPacket<u32>, 256> + Drop>(
     rt: &impl Abort,
     alloc: Global,
     rows: &[Row],
@@ -98,12 +98,12 @@ pub fn plays<W: Window<Held<u32>, 256> + Drop>(
 
 // The same over both windows.
 pub fn plays_over_both(rt: &impl Abort, alloc: Global, rows: &[Row]) -> Result<(), AllocError> {
-    plays::<PlainWindow<Held<u32>, 256>>(rt, alloc, rows)?;
-    plays::<RingWindow<Held<u32>, 256>>(rt, alloc, rows)
+    plays::<PlainWindow<HeldPacket<u32>, 256>>(rt, alloc, rows)?;
+    plays::<RingWindow<HeldPacket<u32>, 256>>(rt, alloc, rows)
 }
 
 // One station of a pair that is in RUNNING, each side after its first start.
-pub fn running<W: Window<Held<u32>, 256> + Drop>(
+pub fn running<W: Window<HeldPacket<u32>, 256> + Drop>(
     rt: &impl Abort,
     alloc: Global,
 ) -> Result<Bench<u32, W>, AllocError> {
@@ -114,7 +114,7 @@ pub fn running<W: Window<Held<u32>, 256> + Drop>(
 }
 
 // It makes these steps, one after another, with these answers.
-pub fn follows<W: Window<Held<u32>, 256>>(
+pub fn follows<W: Window<HeldPacket<u32>, 256>>(
     rt: &impl Abort,
     bench: &mut Bench<u32, W>,
     rows: &[(&'static str, Step<'static>, Answer<'static>)],
@@ -125,7 +125,7 @@ pub fn follows<W: Window<Held<u32>, 256>>(
 }
 
 // It sends the packets with the numbers from the first through the last.
-pub fn sends_all<W: Window<Held<u32>, 256>>(
+pub fn sends_all<W: Window<HeldPacket<u32>, 256>>(
     rt: &impl Abort,
     bench: &mut Bench<u32, W>,
     numbers: (u64, u64),
@@ -138,7 +138,7 @@ pub fn sends_all<W: Window<Held<u32>, 256>>(
 }
 
 // They come to it, and it takes them.
-pub fn takes_all<W: Window<Held<u32>, 256>>(
+pub fn takes_all<W: Window<HeldPacket<u32>, 256>>(
     rt: &impl Abort,
     bench: &mut Bench<u32, W>,
     numbers: (u64, u64),
@@ -150,7 +150,7 @@ pub fn takes_all<W: Window<Held<u32>, 256>>(
 }
 
 // They come to it, and it takes none.
-pub fn passes_all<W: Window<Held<u32>, 256>>(
+pub fn passes_all<W: Window<HeldPacket<u32>, 256>>(
     rt: &impl Abort,
     bench: &mut Bench<u32, W>,
     numbers: (u64, u64),

@@ -3,7 +3,7 @@ use super::{
     ACK, ALONE, Answer, BODY, DONE, HALT, PAIRED, STACK, START, STRT, Step, ack, comes, data,
     refused, rep, sent, takes,
 };
-use crate::{Arrival, Held, State, Station, StationRefusal, Tag};
+use crate::{Arrival, HeldPacket, State, Station, StationRefusal, Tag};
 use Step::{Comes, Sends, Takes};
 use std::alloc::{AllocError, Global};
 use std::process::Abort;
@@ -11,7 +11,7 @@ use std::test::Fail;
 use wire_base::{PlainWindow, RingWindow, Window};
 
 // Neither a start nor anything else has happened to it.
-fn is_new<W: Window<Held<u32>, 256> + Drop>(
+fn is_new<W: Window<HeldPacket<u32>, 256> + Drop>(
     rt: &impl Abort,
     alloc: Global,
 ) -> Result<(), AllocError> {
@@ -23,8 +23,8 @@ fn is_new<W: Window<Held<u32>, 256> + Drop>(
 
 #[test]
 fn a_new_station_is_halted_and_was_never_started(rt: HostRuntime) -> Result<(), Fail> {
-    is_new::<PlainWindow<Held<u32>, 256>>(&rt, rt.alloc())?;
-    is_new::<RingWindow<Held<u32>, 256>>(&rt, rt.alloc())?;
+    is_new::<PlainWindow<HeldPacket<u32>, 256>>(&rt, rt.alloc())?;
+    is_new::<RingWindow<HeldPacket<u32>, 256>>(&rt, rt.alloc())?;
     Ok(())
 }
 

@@ -3,7 +3,7 @@ use super::{
     Answer, BODY, DONE, OTHER, PAIRED, START, Step, ack, data, nak, paired, refused, rep, sent,
     sent_as,
 };
-use crate::{Arrival, Held, StationRefusal};
+use crate::{Arrival, HeldPacket, StationRefusal};
 use Step::{Comes, Labels, Sends};
 use ddcmp_msg::NakReason;
 use std::alloc::{AllocError, Global};
@@ -12,7 +12,7 @@ use std::test::Fail;
 use wire_base::{PlainWindow, RingWindow, Window};
 
 // The sender of 255 packets, of which 10 are acknowledged, asks for the answer to the next one.
-fn asks_across_the_wrap<W: Window<Held<u32>, 256> + Drop>(
+fn asks_across_the_wrap<W: Window<HeldPacket<u32>, 256> + Drop>(
     rt: &impl Abort,
     alloc: Global,
 ) -> Result<(), AllocError> {
@@ -31,7 +31,7 @@ fn asks_across_the_wrap<W: Window<Held<u32>, 256> + Drop>(
 }
 
 // The receiver of 255 packets is asked for the answer to the last of them, and to the next one.
-fn is_asked_across_the_wrap<W: Window<Held<u32>, 256> + Drop>(
+fn is_asked_across_the_wrap<W: Window<HeldPacket<u32>, 256> + Drop>(
     rt: &impl Abort,
     alloc: Global,
 ) -> Result<(), AllocError> {
@@ -50,7 +50,7 @@ fn is_asked_across_the_wrap<W: Window<Held<u32>, 256> + Drop>(
     Ok(())
 }
 
-fn labels_and_sends_again<W: Window<Held<u32>, 256> + Drop>(
+fn labels_and_sends_again<W: Window<HeldPacket<u32>, 256> + Drop>(
     rt: &impl Abort,
     alloc: Global,
 ) -> Result<(), AllocError> {
@@ -72,7 +72,7 @@ fn labels_and_sends_again<W: Window<Held<u32>, 256> + Drop>(
     Ok(())
 }
 
-fn sends_other_data<W: Window<Held<u32>, 256> + Drop>(
+fn sends_other_data<W: Window<HeldPacket<u32>, 256> + Drop>(
     rt: &impl Abort,
     alloc: Global,
 ) -> Result<(), AllocError> {
@@ -93,7 +93,7 @@ fn sends_other_data<W: Window<Held<u32>, 256> + Drop>(
     Ok(())
 }
 
-fn fills_the_window<W: Window<Held<u32>, 256> + Drop>(
+fn fills_the_window<W: Window<HeldPacket<u32>, 256> + Drop>(
     rt: &impl Abort,
     alloc: Global,
 ) -> Result<(), AllocError> {
@@ -113,7 +113,7 @@ fn fills_the_window<W: Window<Held<u32>, 256> + Drop>(
 }
 
 // Each way to get a cause, and the NAK that answers it.
-fn answers_each_cause<W: Window<Held<u32>, 256> + Drop>(
+fn answers_each_cause<W: Window<HeldPacket<u32>, 256> + Drop>(
     rt: &impl Abort,
     alloc: Global,
 ) -> Result<(), AllocError> {
@@ -154,7 +154,7 @@ fn answers_each_cause<W: Window<Held<u32>, 256> + Drop>(
 }
 
 // The sender of 300 packets, of which the 255th is lost.
-fn sends_three_hundred<W: Window<Held<u32>, 256> + Drop>(
+fn sends_three_hundred<W: Window<HeldPacket<u32>, 256> + Drop>(
     rt: &impl Abort,
     alloc: Global,
 ) -> Result<(), AllocError> {
@@ -181,7 +181,7 @@ fn sends_three_hundred<W: Window<Held<u32>, 256> + Drop>(
 }
 
 // Their receiver.
-fn takes_three_hundred<W: Window<Held<u32>, 256> + Drop>(
+fn takes_three_hundred<W: Window<HeldPacket<u32>, 256> + Drop>(
     rt: &impl Abort,
     alloc: Global,
 ) -> Result<(), AllocError> {
@@ -202,46 +202,46 @@ fn takes_three_hundred<W: Window<Held<u32>, 256> + Drop>(
 
 #[test]
 fn a_rep_is_told_by_its_number_across_the_wrap(rt: HostRuntime) -> Result<(), Fail> {
-    asks_across_the_wrap::<PlainWindow<Held<u32>, 256>>(&rt, rt.alloc())?;
-    asks_across_the_wrap::<RingWindow<Held<u32>, 256>>(&rt, rt.alloc())?;
-    is_asked_across_the_wrap::<PlainWindow<Held<u32>, 256>>(&rt, rt.alloc())?;
-    is_asked_across_the_wrap::<RingWindow<Held<u32>, 256>>(&rt, rt.alloc())?;
+    asks_across_the_wrap::<PlainWindow<HeldPacket<u32>, 256>>(&rt, rt.alloc())?;
+    asks_across_the_wrap::<RingWindow<HeldPacket<u32>, 256>>(&rt, rt.alloc())?;
+    is_asked_across_the_wrap::<PlainWindow<HeldPacket<u32>, 256>>(&rt, rt.alloc())?;
+    is_asked_across_the_wrap::<RingWindow<HeldPacket<u32>, 256>>(&rt, rt.alloc())?;
     Ok(())
 }
 
 #[test]
 fn the_label_comes_back(rt: HostRuntime) -> Result<(), Fail> {
-    labels_and_sends_again::<PlainWindow<Held<u32>, 256>>(&rt, rt.alloc())?;
-    labels_and_sends_again::<RingWindow<Held<u32>, 256>>(&rt, rt.alloc())?;
+    labels_and_sends_again::<PlainWindow<HeldPacket<u32>, 256>>(&rt, rt.alloc())?;
+    labels_and_sends_again::<RingWindow<HeldPacket<u32>, 256>>(&rt, rt.alloc())?;
     Ok(())
 }
 
 #[test]
 fn changed_data_are_refused(rt: HostRuntime) -> Result<(), Fail> {
-    sends_other_data::<PlainWindow<Held<u32>, 256>>(&rt, rt.alloc())?;
-    sends_other_data::<RingWindow<Held<u32>, 256>>(&rt, rt.alloc())?;
+    sends_other_data::<PlainWindow<HeldPacket<u32>, 256>>(&rt, rt.alloc())?;
+    sends_other_data::<RingWindow<HeldPacket<u32>, 256>>(&rt, rt.alloc())?;
     Ok(())
 }
 
 #[test]
 fn the_window_is_full_at_255(rt: HostRuntime) -> Result<(), Fail> {
-    fills_the_window::<PlainWindow<Held<u32>, 256>>(&rt, rt.alloc())?;
-    fills_the_window::<RingWindow<Held<u32>, 256>>(&rt, rt.alloc())?;
+    fills_the_window::<PlainWindow<HeldPacket<u32>, 256>>(&rt, rt.alloc())?;
+    fills_the_window::<RingWindow<HeldPacket<u32>, 256>>(&rt, rt.alloc())?;
     Ok(())
 }
 
 #[test]
 fn each_cause_is_answered_once(rt: HostRuntime) -> Result<(), Fail> {
-    answers_each_cause::<PlainWindow<Held<u32>, 256>>(&rt, rt.alloc())?;
-    answers_each_cause::<RingWindow<Held<u32>, 256>>(&rt, rt.alloc())?;
+    answers_each_cause::<PlainWindow<HeldPacket<u32>, 256>>(&rt, rt.alloc())?;
+    answers_each_cause::<RingWindow<HeldPacket<u32>, 256>>(&rt, rt.alloc())?;
     Ok(())
 }
 
 #[test]
 fn three_hundred_packets_survive_a_loss(rt: HostRuntime) -> Result<(), Fail> {
-    sends_three_hundred::<PlainWindow<Held<u32>, 256>>(&rt, rt.alloc())?;
-    sends_three_hundred::<RingWindow<Held<u32>, 256>>(&rt, rt.alloc())?;
-    takes_three_hundred::<PlainWindow<Held<u32>, 256>>(&rt, rt.alloc())?;
-    takes_three_hundred::<RingWindow<Held<u32>, 256>>(&rt, rt.alloc())?;
+    sends_three_hundred::<PlainWindow<HeldPacket<u32>, 256>>(&rt, rt.alloc())?;
+    sends_three_hundred::<RingWindow<HeldPacket<u32>, 256>>(&rt, rt.alloc())?;
+    takes_three_hundred::<PlainWindow<HeldPacket<u32>, 256>>(&rt, rt.alloc())?;
+    takes_three_hundred::<RingWindow<HeldPacket<u32>, 256>>(&rt, rt.alloc())?;
     Ok(())
 }

@@ -38,6 +38,15 @@ fn gives_the_published_checks(rt: HostRuntime) {
 }
 
 #[test]
+fn gives_the_published_check_of_all_bytes_in_turn(rt: HostRuntime) {
+    let mut field = [0u8; 256];
+    for place in 0..field.len() {
+        field[place] = place as u8;
+    }
+    assert_eq!(rt; block_check(&field), 0xbad3);
+}
+
+#[test]
 fn tells_a_field_with_its_check(rt: HostRuntime) {
     let rows: [(&str, &[u8], bool); 7] = [
         ("no byte", &[], false),

@@ -1,9 +1,8 @@
-use Rattle.std.proofs.Common.{◌+◌, ◌-◌, ap, sym, ◌∙◌, arith}
+use Rattle.std.proofs.Common.{refl, ap, sym, ◌∙◌, arith}
 use Rattle.wire_base.specs.Tally.{tally_lent}
-use Rattle.capture.specs.Departing.{RecordDeparts}
 use Rattle.capture.specs.Reading.{record_at}
 use Rattle.capture.specs.declared.hint.HintForm.TheVariants.{Number}
-use Rattle.capture.proofs.TakeLaws.{line_is, line_within, line_consumed, record_ok, record_departs, shown_at}
+use Rattle.capture.proofs.TakeLaws.{line_is, line_within, line_consumed, record_ok, record_departs}
 use Rattle.capture.proofs.reader.take_record.Goals as goal
 
 pub line-requires : goal.line-requires
@@ -40,4 +39,4 @@ returns-in-Err-Departs-record_of-clause-takes g c =
     let lt = found.0 in
     let read = rw (c.in-Err-Departs-record_of.field-0-is, c.line.ensures) at c.in-Err-Departs-record_of.ensures in
     let departs = record_departs c.in-Err-Departs-record_of.kind c.next.new.self.unread c.in-Ok-Some.len c.args.lines.now.taken _ (g.R.Read.remaining (tally_lent c.next.new.reader)) (omega arith) head found.1 found.2 found.3 read in
-    (rw (c.of_line.ensures, c.taken-number.ensures) (shown_at (RecordDeparts (c.args.lines.now.taken - 1)) (c.args.lines.now.taken + 1) _ c.in-Err-Departs-record_of.kind departs), same)
+    (rw c.taken-number.ensures (refl, departs), same)

@@ -1,12 +1,12 @@
 use Rattle.std.proofs.Common.{◌≡◌}
 use Rattle.wire_base.specs.Tally.{tally_faults, tally_lent}
 use Rattle.capture.specs.Lines.{to_come}
-use Rattle.ddcap.specs.Printed.{stream_of}
+use Rattle.ddcap.specs.Printed.{moved}
 use Rattle.ddcap.proofs.Listing.{HasListed}
 use Rattle.ddcap.proofs.show.list_records.Given as goal
 
 abbrev pub invariant-loop-number : goal.invariant-loop-number
 invariant-loop-number g l =
-    HasListed (g.A.Read.remaining (tally_lent l.fn.a)) l.capture (to_come l.capture.unread (g.A.Read.remaining (tally_lent l.a))) l.number
-    (stream_of g.O.Write.contents l.fn.out) (stream_of g.O.Write.contents l.out) l.page
+    HasListed (g.A.Read.remaining (tally_lent l.fn.a)) (to_come l.capture.unread (g.A.Read.remaining (tally_lent l.a))) l.capture l.number
+    (moved g.O.Write.contents l.fn.out l.out) l.page
     × (tally_faults l.a ≡ tally_faults l.fn.a)

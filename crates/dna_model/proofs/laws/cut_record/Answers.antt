@@ -4,6 +4,6 @@ use Rattle.dna_model.proofs.laws.cut_record.Goals as goal
 
 pub returns : goal.returns
 returns g c = record {
-  start = refl;
+  start = λ head. refl;
   outcome = λ own other r bounded. record_same own other bounded r;
 }

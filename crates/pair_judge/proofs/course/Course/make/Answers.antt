@@ -1,39 +1,37 @@
-use Rattle.std.proofs.Common.{sym, ap, subst, [], ◌∷◌, ◌++◌}
+use Rattle.std.proofs.Common.{List, ℕ, sym, subst, ◌∙◌, refl}
 use Rattle.capture.specs.declared.record.Record.{Record}
-use Rattle.capture.specs.Range.{NumbersFit}
-use Rattle.pair_judge.specs.declared.course.Ahead.{Ahead}
-use Rattle.pair_judge.specs.declared.course.Ahead.TheVariants.{Unread, Waits}
-use Rattle.pair_judge.specs.Course.{IsRead}
+use Rattle.capture.specs.Entries.{record_with}
+use Rattle.pair_judge.specs.declared.course.Ahead.TheVariants.{Waits}
+use Rattle.pair_judge.specs.declared.end.End.{End}
+use Rattle.pair_judge.specs.Course.{IsRead, WaitsAt, along}
 use Rattle.pair_judge.proofs.Courses.{put_back}
 use Rattle.pair_judge.proofs.course.Course.make.Goals as goal
 
 pub returns-in-Ok-Done-clause-advance : goal.returns-in-Ok-Done-clause-advance
 returns-in-Ok-Done-clause-advance c = λ text come made read. record {
-  next = c.args.next;
-  read = read;
+  next = record_with c.args.entry c.args.self.now.capture.bytes;
+  read = record { so_far = read.so_far; count = read.count; head = c.make.ensures.head ∙ read.head };
   unread = c.requires.unread;
-  made_it = rw c.in-Ok-Done.field-0-is at c.in-Ok-Done.ensures.made;
+  made_it = rw (c.in-Ok-Done.field-0-is, c.bytes.ensures) at c.in-Ok-Done.ensures.made;
 }
 
 pub returns-in-Ok-Waits-clause-advance : goal.returns-in-Ok-Waits-clause-advance
 returns-in-Ok-Waits-clause-advance c = λ text come made read.
     let left = rw c.in-Ok-Waits.field-0-is at c.in-Ok-Waits.ensures.waits in
-    let capture = c.args.self.now.capture in
-    let unread : IsRead text capture Unread come (made ++ c.args.next ∷ []) =
-    subst (λ (ahead : Ahead). IsRead text capture ahead come (made ++ c.args.next ∷ [])) c.requires.unread read in
+    let course = c.args.self.now in
+    let back = put_back text course come made c.args.entry c.requires.unread read in
     record {
-      next = c.args.next;
-      read = subst (λ (r : Record). IsRead text capture (Waits r) come made) (sym left.0) (put_back text come capture made c.args.next unread);
-      ahead = ap Waits left.0;
-      waits = rw c.in-Ok-Waits.field-0-is at c.in-Ok-Waits.ensures.made;
-      same_end = left.1;
-      same_line = left.2;
+      next = record_with c.args.entry course.capture.bytes;
+      read = subst (λ (e : End). IsRead (along text (record course { end = e; ahead = Waits c.args.entry }) come made)) (sym left.0) back;
+      ahead = record { entry = c.args.entry; ahead_is = refl; is = refl };
+      waits = rw (c.in-Ok-Waits.field-0-is, c.bytes.ensures) at c.in-Ok-Waits.ensures.made;
+      still = record { same_end = left.0; same_line = left.1 };
     }
 
-pub returns-in-Ok-Waits-clause-may_read : goal.returns-in-Ok-Waits-clause-may_read
-returns-in-Ok-Waits-clause-may_read c =
-    let left = rw c.in-Ok-Waits.field-0-is at c.in-Ok-Waits.ensures.waits in
-    (c.requires.reading, subst NumbersFit (sym left.0) c.requires.numbers)
-
 pub returns-in-Ok-Fails-clause-advance : goal.returns-in-Ok-Fails-clause-advance
-returns-in-Ok-Fails-clause-advance c = λ text come made read. (c.args.next, read, rw c.in-Ok-Fails.field-0-is at c.in-Ok-Fails.ensures.counts, rw c.in-Ok-Fails.field-0-is at c.in-Ok-Fails.ensures.made)
+returns-in-Ok-Fails-clause-advance c = λ text come made read. record {
+  next = record_with c.args.entry c.args.self.now.capture.bytes;
+  read = record { so_far = read.so_far; count = read.count; head = c.make.ensures.head ∙ read.head };
+  counts = rw c.in-Ok-Fails.field-0-is at c.in-Ok-Fails.ensures.counts;
+  refused = rw (c.in-Ok-Fails.field-0-is, c.bytes.ensures) at c.in-Ok-Fails.ensures.made;
+}

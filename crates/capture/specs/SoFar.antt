@@ -1,0 +1,50 @@
+-- A text as far as it was read.
+use Rattle.std.specs.Prelude.{◌≡◌, ℕ, ◌+◌, List, [], ◌++◌, length, Option, Some, IfSome}
+use Rattle.std.specs.Io.KnownBytes.{Consumes}
+use Rattle.capture.specs.declared.fault.Departure.{Departure}
+use Rattle.capture.specs.declared.record.Record.{Record}
+use Rattle.capture.specs.Text.{head_line, record_lines}
+use Rattle.capture.specs.Range.{IsCapture}
+use Rattle.capture.specs.Departing.{HeadDeparts, RecordDeparts}
+
+-- What stands behind the records that were read: these bytes are to come, where the reader tells them; or the text has ended.
+pub data Behind : Type 0 where
+  ToCome : (bytes : Option (List ℕ)) → Behind
+  TheEnd : Behind
+
+abbrev pub coming : Behind → Option (List ℕ)
+coming (ToCome bytes) = bytes
+coming TheEnd = Some []
+
+-- A head, the records that were read behind it, and what stands behind these
+pub record ReadSoFar : Type 0 where
+  pub own : ℕ
+  pub peer : ℕ
+  pub records : List Record
+  pub behind : Behind
+
+abbrev pub so_far : ℕ → ℕ → List Record → Behind → ReadSoFar
+so_far own peer records behind = record { own = own; peer = peer; records = records; behind = behind }
+
+-- The text begins so, and goes on with what is to come, if anything is.
+pub record IsReadSoFar (text : Option (List ℕ)) (read : ReadSoFar) : Type 0 where
+  pub fits : IsCapture read.own read.peer read.records
+  pub begins : Consumes text (coming read.behind) (head_line read.own read.peer ++ record_lines read.records)
+
+-- all records of a capture that begins with these, and has no more where its text has ended
+abbrev pub GoesOnBy : Behind → List Record → List Record → Type 0
+GoesOnBy (ToCome bytes) read all = (rest : List Record) × (all ≡ read ++ rest)
+GoesOnBy TheEnd read all = all ≡ read
+
+abbrev pub GoesOn : ReadSoFar → List Record → Type 0
+GoesOn read all = GoesOnBy read.behind read.records all
+
+-- The line behind what was read is this one, counted from the head's, which is 1; and it departs in this way.
+pub record DepartsBehind (read : ReadSoFar) (kind : Departure) (line : ℕ) : Type 0 where
+  pub departs : IfSome (coming read.behind) (RecordDeparts (length read.records) kind)
+  pub line_is : line ≡ length read.records + 2
+
+-- The head's line departs in this way.
+pub record HeadDepartsAt (text : Option (List ℕ)) (kind : Departure) (line : ℕ) : Type 0 where
+  pub departs : IfSome text (HeadDeparts kind)
+  pub line_is : line ≡ 1

@@ -1,0 +1,67 @@
+//! What the line of a record says beside its BYTES.
+
+ghost use Rattle.std.specs.Prelude.{◌≡◌};
+ghost use Rattle.capture.specs.Entries.{limit_of, record_with};
+
+use crate::bytes::Bytes;
+use crate::event::Event;
+use crate::limit::{MAX_MESSAGE, MAX_UNIT};
+use crate::record::Record;
+
+/// What the line of a record says but for its bytes, which stand beside it. It is small and owns nothing. The numbers are
+/// those of [`Record`] and [`Event`].
+#[derive(Clone, Copy, Debug, PartialEq, Eq)]
+pub enum Entry {
+    /// The bytes were sent as a unit.
+    Sent,
+    /// The bytes came for the unit of this hint, and the packet in it was kept, or not.
+    Received { kept: bool, hint: u64 },
+    /// The station was started.
+    Start,
+    /// The station was halted.
+    Halt,
+    /// A link was opened from here.
+    Open { link: u16 },
+    /// The call of the partner's link was accepted.
+    Accept { partner: u16, link: u16 },
+    /// The call of the partner's link was rejected.
+    Reject { partner: u16, link: u16 },
+    /// The bytes were handed in as a message.
+    In { link: u16 },
+    /// The bytes were delivered as a message.
+    Up { link: u16 },
+    /// A link was closed from here.
+    Close { link: u16 },
+}
+
+impl Entry {
+    /// The most bytes that may stand beside it; `None` where its line has no BYTES. Takes no memory.
+    pub fn limit(self) -> Option<usize>
+        ensures { result ≡ limit_of self }
+    {
+        match self {
+            Entry::Sent | Entry::Received { .. } => Some(MAX_UNIT),
+            Entry::In { .. } | Entry::Up { .. } => Some(MAX_MESSAGE),
+            Entry::Start | Entry::Halt | Entry::Open { .. } | Entry::Accept { .. } => None,
+            Entry::Reject { .. } | Entry::Close { .. } => None,
+        }
+    }
+
+    /// The record of this entry and these bytes, which it owns from then on. Takes no memory.
+    pub fn with(self, bytes: Bytes) -> Record
+        ensures { result ≡ record_with self bytes }
+    {
+        match self {
+            Entry::Sent => Record::Sent(bytes),
+            Entry::Received { kept, hint } => Record::Received { hint, kept, bytes },
+            Entry::Start => Record::User(Event::Start),
+            Entry::Halt => Record::User(Event::Halt),
+            Entry::Open { link } => Record::User(Event::Open { link }),
+            Entry::Accept { partner, link } => Record::User(Event::Accept { partner, link }),
+            Entry::Reject { partner, link } => Record::User(Event::Reject { partner, link }),
+            Entry::In { link } => Record::User(Event::In { link, bytes }),
+            Entry::Up { link } => Record::User(Event::Up { link, bytes }),
+            Entry::Close { link } => Record::User(Event::Close { link }),
+        }
+    }
+}

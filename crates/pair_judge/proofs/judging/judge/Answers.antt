@@ -1,0 +1,36 @@
+use Rattle.std.proofs.Common.{sym, subst, ap, Ok}
+use Rattle.wire_base.specs.Tally.{tally_lent}
+use Rattle.pair_judge.specs.declared.verdict.Verdict.{Verdict}
+use Rattle.pair_judge.specs.Judged.{IfTold, IsAcceptance, IsExact, IsRefusalWhere}
+use Rattle.pair_judge.proofs.Clauses.{RunLaws, WholeLaws, accepted_of_found, exact_of_fault, exact_of_found, refused_of_found}
+use Rattle.pair_judge.proofs.judging.judge.Goals as goal
+
+pub returns-in-Ok-clause-exact : goal.returns-in-Ok-clause-exact
+returns-in-Ok-clause-exact g c =
+    let w = c.whole_text.ensures in
+    let laws : WholeLaws = record { ended = w.ended; goes_on = w.goes_on; departs_nowhere = w.departs_nowhere; head_stands = w.head_stands } in
+    let text_a = g.R.Read.remaining (tally_lent c.args.a.now) in
+    let text_b = g.S.Read.remaining (tally_lent c.args.b.now) in
+    subst (λ (v : Verdict). IfTold text_a text_b (λ bytes_a bytes_b. IsExact bytes_a bytes_b (Ok v))) (sym c.verdict.ensures) (exact_of_found laws text_a text_b c.in-Ok.found c.in-Ok.ensures.found)
+
+pub returns-in-Ok-clause-accepted : goal.returns-in-Ok-clause-accepted
+returns-in-Ok-clause-accepted g c =
+    let w = c.whole_text.ensures in
+    let laws : WholeLaws = record { ended = w.ended; goes_on = w.goes_on; departs_nowhere = w.departs_nowhere; head_stands = w.head_stands } in
+    let d = c.captures_deliver_in_order.ensures in
+    let runs : RunLaws = record { a_delivers = d.a_delivers; b_delivers = d.b_delivers } in
+    let text_a = g.R.Read.remaining (tally_lent c.args.a.now) in
+    let text_b = g.S.Read.remaining (tally_lent c.args.b.now) in
+    subst (λ (v : Verdict). IfTold text_a text_b (λ bytes_a bytes_b. IsAcceptance bytes_a bytes_b (Ok v))) (sym c.verdict.ensures) (accepted_of_found laws runs text_a text_b c.in-Ok.found c.in-Ok.ensures.found)
+
+pub returns-in-Ok-clause-refused : goal.returns-in-Ok-clause-refused
+returns-in-Ok-clause-refused g c =
+    let text_a = g.R.Read.remaining (tally_lent c.args.a.now) in
+    let text_b = g.S.Read.remaining (tally_lent c.args.b.now) in
+    subst (λ (v : Verdict). IsRefusalWhere text_a text_b (Ok v)) (sym c.verdict.ensures) (refused_of_found text_a text_b c.in-Ok.found c.in-Ok.ensures.found)
+
+pub returns-in-Err-clause-exact : goal.returns-in-Err-clause-exact
+returns-in-Err-clause-exact g c =
+    let w = c.whole_text.ensures in
+    let laws : WholeLaws = record { ended = w.ended; goes_on = w.goes_on; departs_nowhere = w.departs_nowhere; head_stands = w.head_stands } in
+    exact_of_fault laws (g.R.Read.remaining (tally_lent c.args.a.now)) (g.S.Read.remaining (tally_lent c.args.b.now)) c.in-Err.fault c.in-Err.ensures.fault

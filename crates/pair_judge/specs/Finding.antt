@@ -1,0 +1,47 @@
+-- What was found of two texts: a verdict on all captures that go on behind what was read of them.
+use Rattle.std.specs.Prelude.{◌≡◌, ℕ, List, Option}
+use Rattle.wire_base.specs.declared.side.Side.{Side}
+use Rattle.wire_base.specs.declared.side.Side.TheVariants.{A, B}
+use Rattle.wire_base.specs.Side.{other_side}
+use Rattle.capture.specs.declared.record.Record.{Record}
+use Rattle.capture.specs.SoFar.{Behind, TheEnd, ReadSoFar, IsReadSoFar, GoesOn}
+use Rattle.dna_model.specs.declared.finding.Cause.{Cause}
+use Rattle.dna_model.specs.declared.finding.Cause.TheVariants.{Step, NoSuchUnit, NoOrder}
+use Rattle.dna_model.specs.declared.finding.Finding.{Finding}
+use Rattle.dna_model.specs.declared.finding.Finding.TheVariants.{Accepted, Refused}
+use Rattle.dna_model.specs.Verdict.{IsVerdict}
+use Rattle.pair_judge.specs.declared.judging.Found.{Found}
+use Rattle.pair_judge.specs.Heads.{head_of}
+use Rattle.pair_judge.specs.Summary.{summary_of}
+
+-- what a side has
+abbrev pub of_side : {X : Type 0} → Side → X → X → X
+of_side A a b = a
+of_side B a b = b
+
+-- that a unit is never sent is known where the text of its side was read to the end
+abbrev pub EndsFor : Cause → Behind → Type 0
+EndsFor (Step refusal) behind = Unit {0}
+EndsFor NoSuchUnit behind = behind ≡ TheEnd
+EndsFor NoOrder behind = Unit {0}
+
+abbrev pub EndsWhere : Finding → Behind → Behind → Type 0
+EndsWhere Accepted behind_a behind_b = (behind_a ≡ TheEnd) × (behind_b ≡ TheEnd)
+EndsWhere (Refused A place cause) behind_a behind_b = EndsFor cause behind_b
+EndsWhere (Refused B place cause) behind_a behind_b = EndsFor cause behind_a
+
+-- the verdict, however the captures go on behind what was read
+abbrev pub IsVerdictBehind : ReadSoFar → ReadSoFar → Finding → Type 0
+IsVerdictBehind read_a read_b finding =
+    (all_a all_b : List Record) → GoesOn read_a all_a → GoesOn read_b all_b → IsVerdict (head_of read_a) (head_of read_b) all_a all_b finding
+
+-- So much was read of the two texts, and of whatever goes on behind it this is the verdict; an acceptance comes with the
+-- counts of all records.
+pub record IsFoundIn (text_a text_b : Option (List ℕ)) (found : Found) : Type 0 where
+  pub read_a : ReadSoFar
+  pub read_b : ReadSoFar
+  pub from_a : IsReadSoFar text_a read_a
+  pub from_b : IsReadSoFar text_b read_b
+  pub verdict : IsVerdictBehind read_a read_b found.finding
+  pub ends : EndsWhere found.finding read_a.behind read_b.behind
+  pub counts : found.finding ≡ Accepted → (found.summary.a ≡ summary_of read_a.records) × (found.summary.b ≡ summary_of read_b.records)

@@ -1,0 +1,56 @@
+//! A unit that was sent and may still be received.
+
+ghost use Rattle.std.specs.Prelude.{◌≡◌};
+ghost use Rattle.ddcmp_msg.specs.Reading.{reading};
+
+use capture::Bytes;
+use ddcmp_station::Tag;
+use std::marker::Model;
+
+/// A unit that was sent: its bytes, which are a sound message, and its tag. A contract sees it as the unit of the
+/// definitions, whose message is what its bytes say.
+#[derive(Drop)]
+pub struct LineUnit {
+    bytes: Bytes,
+    tag: Tag,
+}
+
+impl Model for LineUnit {
+    ghost use Rattle.dna_model.specs.WireNode.{WireUnit};
+    ghost use Rattle.ddcmp_msg.specs.Reading.{reading};
+    ghost use Rattle.pair_judge.specs.Unit.{unit_of, IsSoundReading};
+
+    ghost Value = { WireUnit };
+
+    ghost view = { λ u. unit_of u.bytes u.tag };
+
+    ghost invariant = { λ u. IsSoundReading (reading u.bytes) };
+}
+
+impl LineUnit {
+    ghost use Rattle.pair_judge.specs.Unit.{unit_of, IsSoundReading};
+
+    /// These bytes with this tag.
+    pub fn new(bytes: Bytes, tag: Tag) -> LineUnit
+        requires { IsSoundReading (reading bytes) }
+        ensures { result ≡ unit_of bytes tag }
+    {
+        LineUnit { bytes, tag }
+    }
+
+    /// Its bytes.
+    pub fn bytes(&self) -> &[u8]
+        ensures bytes { result.now ≡ self.now.bytes }
+        ensures sound { IsSoundReading (reading self.now.bytes) }
+        ensures message { self.now ≡ unit_of self.now.bytes self.now.known }
+    {
+        self.bytes.as_slice()
+    }
+
+    /// The tag that it was sent with.
+    pub fn tag(&self) -> Tag
+        ensures { result ≡ self.now.known }
+    {
+        self.tag
+    }
+}
