@@ -34,3 +34,9 @@ pub mod TrueLinks
 pub mod WireLinks
 pub mod CutFlow
 pub mod CutLinks
+-- the links of both sides, in every run
+pub mod LinkRuns
+pub mod LinkBounds
+pub mod LinkDelivery
+pub mod LinkCaptures
+pub mod LinkRecords

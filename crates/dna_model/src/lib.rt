@@ -10,6 +10,7 @@ pub mod laws;
 mod link_event;
 pub mod link_laws;
 mod link_refusal;
+pub mod link_run_laws;
 mod link_tag;
 mod nodes;
 mod port;
@@ -27,6 +28,10 @@ pub use laws::{
 pub use link_event::LinkEvent;
 pub use link_laws::{cut_flow, cut_link_steps};
 pub use link_refusal::LinkRefusal;
+pub use link_run_laws::{
+    links_count_deliveries, links_deliver_in_order, links_read_off_captures, links_within_bounds,
+    wire_links_see_right,
+};
 pub use link_tag::LinkTag;
 pub use nodes::{TrueNodes, WireNodes};
 pub use port::{LinkTest, Phase, Port};
