@@ -34,3 +34,9 @@ pub mod TrueLinks
 pub mod WireLinks
 pub mod CutFlow
 pub mod CutLinks
+pub mod LinkRuns
+-- The node over both layers: what a packet carries, the true node, the wire node, the run
+pub mod Content
+pub mod Layers
+pub mod WireLayers
+pub mod LayersPair
