@@ -66,3 +66,5 @@ mod InOrder
 mod Among
 mod InOrderRuns
 mod OfferedRuns
+-- the node over both layers
+mod OnTop
