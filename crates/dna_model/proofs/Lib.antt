@@ -68,3 +68,5 @@ mod InOrderRuns
 mod OfferedRuns
 -- the node over both layers
 mod OnTop
+mod PlacesInOrder
+mod Joined
