@@ -82,3 +82,7 @@ mod LinkReadSteps
 mod LinkCounts
 mod LinkRunBounds
 mod LinkReached
+-- the node over both layers
+mod OnTop
+mod PlacesInOrder
+mod Joined

@@ -40,3 +40,8 @@ pub mod LinkBounds
 pub mod LinkDelivery
 pub mod LinkCaptures
 pub mod LinkRecords
+-- The node over both layers: what a packet carries, the true node, the wire node, the run
+pub mod Content
+pub mod Layers
+pub mod WireLayers
+pub mod LayersPair
