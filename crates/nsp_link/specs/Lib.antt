@@ -1,0 +1,2 @@
+-- What a contract sees of the types of this crate; the rules stand in `dna_model`
+pub mod Unsent

@@ -1,0 +1,12 @@
+//! The logical links of one node as a machine: it decides whether its user may do something, whether a message may be sent, and what
+//! an arrival does (NSP 4.0). It looks at no time, no file and no line, at a message only to compare it with what was handed in, first
+//! given or received, and at no order but the order of its calls.
+#![tactic(auto)]
+
+mod fault;
+mod piece;
+mod unsent;
+
+pub use dna_model::{LinkEvent, LinkRefusal, LinkTag};
+pub use fault::LinkFault;
+pub use piece::Piece;
