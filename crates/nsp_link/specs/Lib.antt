@@ -1,2 +1,3 @@
 -- What a contract sees of the types of this crate; the rules stand in `dna_model`
 pub mod Unsent
+pub mod Outstanding

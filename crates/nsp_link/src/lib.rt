@@ -4,6 +4,8 @@
 #![tactic(auto)]
 
 mod fault;
+mod last_sent;
+mod outstanding;
 mod piece;
 mod unsent;
 
