@@ -7,6 +7,7 @@ mod fault;
 mod last_sent;
 mod outstanding;
 mod piece;
+mod received;
 mod unsent;
 
 pub use dna_model::{LinkEvent, LinkRefusal, LinkTag};
