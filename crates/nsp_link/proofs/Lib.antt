@@ -1,3 +1,6 @@
 mod Pieces
 mod Words
 mod Arrived
+mod Delivery
+mod Acknowledged
+mod Holding

@@ -2,3 +2,5 @@
 pub mod Unsent
 pub mod Outstanding
 pub mod Received
+pub mod Fault
+pub mod Flow

@@ -4,6 +4,7 @@
 #![tactic(auto)]
 
 mod fault;
+mod flow;
 mod last_sent;
 mod outstanding;
 mod piece;

@@ -3,10 +3,14 @@
 ghost use Rattle.std.specs.Prelude.{◌≡◌, ◌+◌, ◌-◌, ◌<◌, ◌≤◌, ◌++◌, ◌∷◌, [], length, drop, slice_get, option_copied, nat_le, OnOk, OnErr};
 ghost use Rattle.wire_base.specs.Window.{empty_from};
 ghost use Rattle.dna_model.specs.Flow.{wire, distance};
+ghost use Rattle.std.specs.List.{AllByRecursion};
+ghost use Rattle.dna_packet.specs.AckWord.{IsAckWord};
+ghost use Rattle.nsp_link.specs.Flow.{acknowledged_words};
 ghost use Rattle.nsp_link.specs.Outstanding.{acknowledged_to};
 
 use crate::Piece;
-use crate::last_sent::REACH;
+use crate::last_sent::{REACH, is_of_data};
+use dna_packet::AckWord;
 use std::alloc::{AllocError, Global};
 use std::marker::Model;
 use wire_base::{PushFault, Seq, Window};
@@ -107,6 +111,19 @@ impl<W: Window<Piece, 4096> + Drop> Outstanding<W> {
         }
         if let Some(window) = &mut self.window {
             window.release(count);
+        }
+    }
+
+    /// Each of these words acknowledges, but those of the other subchannel. Takes no memory.
+    #[tactic(auto, using(crate::proofs::Acknowledged::words))]
+    pub fn acknowledge_all(&mut self, words: &[AckWord])
+        requires { AllByRecursion IsAckWord words.now }
+        ensures { self.new ≡ acknowledged_words words.now self.old }
+    {
+        for word in words {
+            if is_of_data(word.qualifier) {
+                self.acknowledge(word.number);
+            }
         }
     }
 }

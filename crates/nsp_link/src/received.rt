@@ -1,6 +1,6 @@
 //! The segments of a link that are received and not delivered.
 
-ghost use Rattle.std.specs.Prelude.{◌≡◌, ◌+◌, ◌-◌, ◌<◌, ◌≤◌, ◌==◌, ◌++◌, ◌∷◌, [], true, None, Some, length, drop, take, replicate, option_copied, OnOk, OnErr, IfOk};
+ghost use Rattle.std.specs.Prelude.{◌≡◌, ◌+◌, ◌-◌, ◌^◌, ◌<◌, ◌≤◌, ◌==◌, ◌++◌, ◌∷◌, [], true, None, Some, length, drop, take, replicate, option_copied, OnOk, OnErr, IfOk};
 ghost use Rattle.std.specs.VecDeque.{deque_len, deque_capacity};
 ghost use Rattle.dna_model.specs.Pieces.{in_order, in_whole_messages};
 ghost use Rattle.dna_model.specs.Pieces as spec;
@@ -63,6 +63,7 @@ impl Received {
         requires missing { is_missing_at (in_order self.old + above - 1) self.old ≡ true }
         ensures ok { OnOk result (self.new ≡ spec.hold (in_order self.old + above - 1) piece self.old) }
         ensures more { IfOk result (λ more. more ≡ in_order self.new - in_order self.old) }
+        ensures short { IfOk result (λ more. more < 2 ^ 63) }
         ensures err { OnErr result (self.new ≡ self.old) }
     {
         put(&mut self.pieces, self.whole, above, piece)?;
@@ -190,7 +191,8 @@ fn put(
 #[tactic(auto, using(crate::proofs::Arrived::runs))]
 fn run_from(pieces: &VecDeque<Option<Piece>>, from: usize) -> usize
     requires { from ≤ deque_len pieces.now }
-    ensures { result ≡ in_order (drop from pieces.now.items) }
+    ensures run { result ≡ in_order (drop from pieces.now.items) }
+    ensures short { result < 2 ^ 63 }
 {
     let mut run = 0;
     for place in from..pieces.len() {
