@@ -4,3 +4,4 @@ mod Arrived
 mod Delivery
 mod Acknowledged
 mod Holding
+mod Index

@@ -4,3 +4,5 @@ pub mod Outstanding
 pub mod Received
 pub mod Fault
 pub mod Flow
+pub mod Link
+pub mod Index

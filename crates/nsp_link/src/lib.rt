@@ -6,11 +6,15 @@
 mod fault;
 mod flow;
 mod last_sent;
+mod link;
+mod links;
 mod outstanding;
+mod passes;
 mod piece;
 mod received;
 mod unsent;
 
 pub use dna_model::{LinkEvent, LinkRefusal, LinkTag};
 pub use fault::LinkFault;
+pub use links::Links;
 pub use piece::Piece;
