@@ -2,7 +2,7 @@
 use Rattle.std.proofs.Common.{◌≡◌, ℕ, zero, suc, ◌+◌, ◌<◌, ◌≤◌, Bool, true, false, ◌&&◌, not, cond, Option, Some, None, List, [], ◌∷◌, ◌++◌, length, drop, get_or, set, map, refl, sym, subst, ap, ◌∙◌, arith, ltb, eqb}
 use Rattle.std.specs.Prelude.{slice_get, position, filter}
 use Rattle.std.specs.List.{position_or_len}
-use Rattle.std.specs.Option.{option_map}
+use Rattle.std.specs.Option.{option_map, IfSome}
 use Rattle.std.proofs.lemmas.Bool.{ltb-true, ltb-false, lt-ltb, le-ltb, eqb-true, eqb-false, eq-eqb, ne_eqb}
 use Rattle.std.proofs.lemmas.Option.{slice_get_within}
 use Rattle.std.proofs.lemmas.List.{drop_more, map-append}
@@ -292,3 +292,11 @@ pub link_lives : {D : Type 0} (test : LinkTest) (s : LinksOf D) (n : ℕ) (l : L
 link_lives test s n l of e is = passes_lives test l.port of (link_passes test s n l e is)
 
 pub ruleset found_links = (number_within, link_passes, link_lives)
+
+within_by : {D : Type 0} (test : LinkTest) (s : LinksOf D) (r : Option ℕ) → number_of test s ≡ r → IfSome r (λ n. n < length s.links)
+within_by test s None e = tt
+within_by test s (Some n) e = number_within test s n e
+
+-- a number that a look-up gave is that of a link
+pub found_number : {D : Type 0} (test : LinkTest) (s : LinksOf D) (r : Option ℕ) → r ≡ number_of test s → IfSome r (λ n. n < length s.links)
+found_number test s r e = within_by test s r (sym e)

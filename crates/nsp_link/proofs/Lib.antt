@@ -5,3 +5,4 @@ mod Delivery
 mod Acknowledged
 mod Holding
 mod Index
+mod Change

@@ -6,8 +6,10 @@ ghost use Rattle.dna_model.specs.Links.{number_of};
 ghost use Rattle.dna_model.specs.WireLinks.{new_wire_links};
 ghost use Rattle.std.specs.Ordering.{nat_cmp};
 ghost use Rattle.std.specs.BTreeMap.{get};
+ghost use Rattle.nsp_link.specs.Index.{is_of_live};
 ghost use Rattle.nsp_link.specs.Index as index;
 
+mod change;
 mod user;
 
 use crate::link::Link;
@@ -62,23 +64,21 @@ impl<W: Window<Piece, 4096> + Drop> Links<W> {
         }
     }
 
-    // The number of the first link that passes.
-    #[tactic(auto, using(crate::proofs::Index::searches, crate::proofs::Index::found_links))]
+    // The number of the first link that passes a test which only a live link passes.
     fn find(&self, test: LinkTest) -> Option<usize>
+        requires { is_of_live test ≡ true }
         ensures number { result ≡ number_of test self.now }
         ensures within { IfSome result (λ number. number < length self.now.links) }
     {
-        match test {
-            LinkTest::HasAddress { own } => holder_of(&self.holders, own),
-            LinkTest::LiveAt { .. }
-            | LinkTest::TheLink { .. }
-            | LinkTest::LiveTo { .. }
-            | LinkTest::OpenedAt { .. }
-            | LinkTest::CallingAt { .. }
-            | LinkTest::CalledBy { .. }
-            | LinkTest::BegunBy { .. }
-            | LinkTest::ActedOn { .. } => first_of(&self.links, &self.live, test),
-        }
+        first_of(&self.links, &self.live, test)
+    }
+
+    // The number of the link that got this own address last.
+    fn holder(&self, own: u16) -> Option<usize>
+        ensures number { result ≡ number_of (LinkTest.HasAddress own) self.now }
+        ensures within { IfSome result (λ number. number < length self.now.links) }
+    {
+        holder_of(&self.holders, own)
     }
 
     // The link with this number.

@@ -34,15 +34,4 @@ impl<W: Window<Piece, 4096> + Drop> Links<W> {
         self.close_link(number);
         Ok(())
     }
-
-    // The user closes the link with this number.
-    #[tactic(auto, using(crate::proofs::Index::changes))]
-    fn close_link(&mut self, number: usize)
-        requires within { number < length self.old.links }
-        requires live { (link : LinkOf WireFlow) → slice_get self.old.links number ≡ Some link → is_live link.port.phase ≡ true }
-        ensures { (link : LinkOf WireFlow) → slice_get self.old.links number ≡ Some link
-            → self.new ≡ changed number (in_phase Phase.Disconnecting link) self.old }
-    {
-        self.links[number].close();
-    }
 }
