@@ -1,13 +1,22 @@
 -- What a link that changes in its place makes of the links.
-use Rattle.std.proofs.Common.{◌≡◌, ℕ, ◌<◌, Bool, true, Option, Some, None, List, length, get_or, set, refl, sym, subst, ap, ◌∙◌}
-use Rattle.std.specs.Prelude.{slice_get}
+use Rattle.std.proofs.Common.{◌≡◌, ℕ, ◌<◌, Bool, true, false, not, cond, eqb, Option, Some, None, Result, Ok, Err, OnOk, IfErr, IsOk, List, length, get_or, set, refl, sym, subst, ap, ◌∙◌}
+use Rattle.std.specs.Prelude.{slice_get, filter}
+use Rattle.std.proofs.lemmas.List.{set-get_or}
+use Rattle.dna_model.specs.declared.link_refusal.LinkRefusal.{LinkRefusal}
+use Rattle.dna_model.specs.declared.link_refusal.LinkRefusal.TheVariants.{WrongDelivery}
+use Rattle.dna_model.specs.Flow.{Sending}
+use Rattle.dna_model.specs.LinkUser.{delivered}
+use Rattle.dna_model.specs.LinkSending.{carries, truth_of}
+use Rattle.nsp_link.specs.declared.fault.LinkFault.{LinkFault}
+use Rattle.nsp_link.specs.declared.fault.LinkFault.TheVariants.{Refused, OutOfMemory}
+use Rattle.nsp_link.specs.Fault.{IsFault}
 use Rattle.std.proofs.lemmas.Option.{slice_get_read}
 use Rattle.dna_model.specs.LinkTests.{is_live}
-use Rattle.dna_model.specs.Links.{LinkOf, LinksOf, changed}
-use Rattle.dna_model.specs.WireFlow.{WireFlow}
+use Rattle.dna_model.specs.Links.{LinkOf, LinksOf, changed, with_flow}
+use Rattle.dna_model.specs.WireFlow.{WireFlow, wire_flows, sending, delivers}
 use Rattle.dna_model.specs.WireLinks.{WireLinks}
 use Rattle.nsp_link.specs.Index.{IsIndexed}
-use Rattle.nsp_link.proofs.Index.{indexed_change}
+use Rattle.nsp_link.proofs.Index.{indexed_change, indexed_end}
 
 module _ (node peer : ℕ) (items : List (LinkOf WireFlow)) (s : WireLinks) (is : record { node = node; peer = peer; links = items } ≡ s) (n : ℕ) (l : LinkOf WireFlow) (within : n < length s.links) (there : l ≡ get_or items n l) where
   shown_within : n < length items
@@ -31,3 +40,41 @@ module _ (node peer : ℕ) (items : List (LinkOf WireFlow)) (s : WireLinks) (is 
   change_made f m e link found =
       ap (λ (k : LinkOf WireFlow). changed n k (record { node = node; peer = peer; links = items })) (e ∙ ap f (same_link link found))
       ∙ ap (λ (t : WireLinks). changed n (f link) t) is
+
+  -- one that stays as it was changes nothing
+  pub change_none : (m : LinkOf WireFlow) → m ≡ l → record { node = node; peer = peer; links = set items n m } ≡ s
+  change_none m e = ap (λ (xs : List (LinkOf WireFlow)). record { node = node; peer = peer; links = xs }) (ap (λ (k : LinkOf WireFlow). set items n k) (e ∙ there) ∙ set-get_or items n l) ∙ is
+
+  -- one that ends
+  pub end_indexed : (numbers : List ℕ) (holder : ℕ → Option ℕ) (m : LinkOf WireFlow) → IsIndexed items numbers holder → is_live m.port.phase ≡ false → m.port.own ≡ l.port.own → IsIndexed (set items n m) (filter (λ k. not (eqb k n)) numbers) holder
+  end_indexed numbers holder m index dead own = indexed_end items numbers holder n l m index link_there dead own
+
+  -- a message that is sent
+  pub carry_made : (step : LinkOf WireFlow → Result (Sending WireFlow (Unit {0})) LinkRefusal) (m : LinkOf WireFlow) → m ≡ with_flow m.flow l → step l ≡ Ok (sending m.flow) → (link : LinkOf WireFlow) → slice_get s.links n ≡ Some link → carries wire_flows s n link (step link) ≡ Ok (record { links = record { node = node; peer = peer; links = set items n m }; truth = truth_of wire_flows n link tt })
+  carry_made step m rest e link found =
+      ap (λ (r : Result (Sending WireFlow (Unit {0})) LinkRefusal). carries wire_flows s n link r) (ap step (sym (same_link link found)) ∙ e)
+      ∙ ap (λ (t : WireLinks). Ok (record { links = t; truth = truth_of wire_flows n link tt })) (sym (change_made (with_flow m.flow) m rest link found))
+
+  same_fault : (step : LinkOf WireFlow → Result (Sending WireFlow (Unit {0})) LinkRefusal) (new : Bool) (link : LinkOf WireFlow) → slice_get s.links n ≡ Some link → (fault : LinkFault) → IsFault (step l) new fault → IsFault (step link) true fault
+  same_fault step new link found (Refused refusal) h = ap step (sym (same_link link found)) ∙ h
+  same_fault step new link found OutOfMemory h = (subst (λ (k : LinkOf WireFlow). IsOk (step k)) (same_link link found) h.0, refl)
+
+  pub fault_made : {A : Type 0} (step : LinkOf WireFlow → Result (Sending WireFlow (Unit {0})) LinkRefusal) (new : Bool) (r : Result A LinkFault) → IfErr r (λ fault. IsFault (step l) new fault) → (link : LinkOf WireFlow) → slice_get s.links n ≡ Some link → IfErr r (λ fault. IsFault (step link) true fault)
+  fault_made step new (Ok x) h link found = h
+  fault_made step new (Err fault) h link found = same_fault step new link found fault h
+
+  pub refusal_made : {A : Type 0} (step : LinkOf WireFlow → Result (Sending WireFlow (Unit {0})) LinkRefusal) (r : Result A LinkRefusal) → IfErr r (λ refusal. step l ≡ Err refusal) → (link : LinkOf WireFlow) → slice_get s.links n ≡ Some link → IfErr r (λ refusal. step link ≡ Err refusal)
+  refusal_made step (Ok x) h link found = h
+  refusal_made step (Err refusal) h link found = ap step (sym (same_link link found)) ∙ h
+
+  -- a message that is delivered, or not
+  pub told_made : (message : List ℕ) (r : Bool) (m : LinkOf WireFlow) → m ≡ with_flow m.flow l → (r ≡ true → delivers message l.flow ≡ Some m.flow) → (r ≡ false → (delivers message l.flow ≡ None) × (m ≡ l)) → (link : LinkOf WireFlow) → slice_get s.links n ≡ Some link → delivered wire_flows n link s (delivers message link.flow) ≡ cond r (Ok (record { node = node; peer = peer; links = set items n m })) (Err WrongDelivery)
+  told_made message true m rest yes no link found =
+      ap (λ (o : Option WireFlow). delivered wire_flows n link s o) (ap (λ (k : LinkOf WireFlow). delivers message k.flow) (sym (same_link link found)) ∙ yes refl)
+      ∙ ap Ok (sym (change_made (with_flow m.flow) m rest link found))
+  told_made message false m rest yes no link found =
+      ap (λ (o : Option WireFlow). delivered wire_flows n link s o) (ap (λ (k : LinkOf WireFlow). delivers message k.flow) (sym (same_link link found)) ∙ (no refl).0)
+
+pub map_ok : {A E P Q : Type 0} (r : Result A E) → (P → Q) → OnOk r P → OnOk r Q
+map_ok (Ok x) f h = f h
+map_ok (Err e) f h = h

@@ -187,7 +187,7 @@ not_zero (k ∷ ns) =
 -- ---- a link that changes
 
 module _ {D : Type 0} where
-  live_set : (links : List (LinkOf D)) (n : ℕ) (l m : LinkOf D) → slice_get links n ≡ Some l → is_live m.port.phase ≡ is_live l.port.phase → live_numbers (set links n m) ≡ live_numbers links
+  pub live_set : (links : List (LinkOf D)) (n : ℕ) (l m : LinkOf D) → slice_get links n ≡ Some l → is_live m.port.phase ≡ is_live l.port.phase → live_numbers (set links n m) ≡ live_numbers links
   live_set [] n l m e same = absurd (cc)
   live_set (x ∷ links) zero l m e same =
       let here : x ≡ l = cc in
@@ -240,7 +240,7 @@ module _ {D : Type 0} where
 
   -- ---- one that begins
 
-  live_push : (links : List (LinkOf D)) (m : LinkOf D) → is_live m.port.phase ≡ true → live_numbers (links ++ m ∷ []) ≡ live_numbers links ++ length links ∷ []
+  pub live_push : (links : List (LinkOf D)) (m : LinkOf D) → is_live m.port.phase ≡ true → live_numbers (links ++ m ∷ []) ≡ live_numbers links ++ length links ∷ []
   live_push [] m lives = ap (λ (b : Bool). cond b (0 ∷ []) []) lives
   live_push (x ∷ links) m lives =
       ap (λ (ns : List ℕ). cond (is_live x.port.phase) (0 ∷ map suc ns) (map suc ns)) (live_push links m lives)

@@ -6,3 +6,4 @@ mod Acknowledged
 mod Holding
 mod Index
 mod Change
+mod Giving

@@ -1,10 +1,11 @@
 -- How the links of a node are found without a look at all that ever were: by the list of those that live, and by the last holder of
 -- each own address.
-use Rattle.std.specs.Prelude.{◌≡◌, ℕ, suc, Bool, false, ◌&&◌, Option, Some, None, List, [], ◌∷◌, map, slice_get, if◌then◌else◌, true}
+use Rattle.std.specs.Prelude.{◌≡◌, ℕ, suc, Bool, false, ◌&&◌, Option, Some, None, List, [], ◌∷◌, map, slice_get, slice_set, if◌then◌else◌, true}
 use Rattle.dna_model.specs.declared.port.LinkTest.{LinkTest}
 use Rattle.dna_model.specs.declared.port.LinkTest.TheVariants.{HasAddress}
 use Rattle.dna_model.specs.LinkTests.{is_live}
-use Rattle.dna_model.specs.Links.{LinkOf}
+use Rattle.dna_model.specs.Links.{LinkOf, forgotten}
+use Rattle.dna_model.specs.WireFlow.{WireFlow, wire_flows}
 
 -- ---- a search among some numbers
 
@@ -47,3 +48,13 @@ module _ {D : Type 0} where
     -- each link that has an own address is the holder of it
     pub has : (number own : ℕ) → own_at links number ≡ Some own → holder own ≡ Some number
     pub holds : (own number : ℕ) → holder own ≡ Some number → own_at links number ≡ Some own
+
+-- ---- an own address that is given again: the holder, which has ended, loses it
+
+abbrev pub forgotten_found : ℕ → Option (LinkOf WireFlow) → List (LinkOf WireFlow) → List (LinkOf WireFlow)
+forgotten_found number None links = links
+forgotten_found number (Some link) links = slice_set links number (forgotten wire_flows link)
+
+abbrev pub forgotten_at : (holder : Option ℕ) → List (LinkOf WireFlow) → List (LinkOf WireFlow)
+forgotten_at None links = links
+forgotten_at (Some number) links = forgotten_found number (slice_get links number) links

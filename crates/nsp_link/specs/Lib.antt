@@ -6,3 +6,4 @@ pub mod Fault
 pub mod Flow
 pub mod Link
 pub mod Index
+pub mod Phases

@@ -116,6 +116,7 @@ impl<W: Window<Piece, 4096> + Drop> Link<W> {
     pub fn hand_in(&mut self, alloc: Global, message: &[u8]) -> Result<(), AllocError>
         requires { is_live self.old.port.phase ≡ true }
         ensures ok { OnOk result (self.new ≡ with_flow (hands_in message.now self.old.flow) self.old) }
+        ensures rest { self.new ≡ with_flow self.new.flow self.old }
         ensures err { OnErr result (self.new ≡ self.old) }
     {
         match &mut self.flow {
@@ -236,6 +237,8 @@ impl<W: Window<Piece, 4096> + Drop> Link<W> {
         requires acks { AllByRecursion IsAckWord segment.now.acks.items }
         requires number { segment.now.number < 4096 }
         ensures ok { OnOk result (self.new ≡ running wire_flows of_partner (λ link. takes_segment (segment_view segment.now) tt link.flow) self.old) }
+        ensures lives { is_live self.new.port.phase ≡ true }
+        ensures own { self.new.port.own ≡ self.old.port.own }
         ensures err { OnErr result (self.new ≡ self.old) }
     {
         match &mut self.flow {

@@ -9,7 +9,9 @@ ghost use Rattle.std.specs.BTreeMap.{get};
 ghost use Rattle.nsp_link.specs.Index.{is_of_live};
 ghost use Rattle.nsp_link.specs.Index as index;
 
+mod arriving;
 mod change;
+mod sending;
 mod user;
 
 use crate::link::Link;

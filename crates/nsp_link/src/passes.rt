@@ -2,6 +2,7 @@
 
 ghost use Rattle.std.specs.Prelude.{◌≡◌};
 ghost use Rattle.dna_model.specs.LinkTests as tests;
+ghost use Rattle.nsp_link.specs.Phases as phases;
 
 use dna_model::{LinkTest, Phase, Port};
 
@@ -43,8 +44,8 @@ fn is_live(phase: Phase) -> bool
     !matches!(phase, Phase::Ended)
 }
 
-/// Whether a link is in Calling.
-pub fn is_calling(phase: Phase) -> bool
+// Whether a link is in Calling.
+fn is_calling(phase: Phase) -> bool
     ensures { result ≡ tests.is_calling phase }
 {
     matches!(phase, Phase::Calling)
@@ -56,8 +57,8 @@ fn is_called(phase: Phase) -> bool
     matches!(phase, Phase::Called)
 }
 
-/// Whether a link is in Confirming.
-pub fn is_confirming(phase: Phase) -> bool
+// Whether a link is in Confirming.
+fn is_confirming(phase: Phase) -> bool
     ensures { result ≡ tests.is_confirming phase }
 {
     matches!(phase, Phase::Confirming)
@@ -70,8 +71,8 @@ pub fn is_running(phase: Phase) -> bool
     matches!(phase, Phase::Running)
 }
 
-/// Whether a link is in DI.
-pub fn is_disconnecting(phase: Phase) -> bool
+// Whether a link is in DI.
+fn is_disconnecting(phase: Phase) -> bool
     ensures { result ≡ tests.is_disconnecting phase }
 {
     matches!(phase, Phase::Disconnecting)
@@ -89,4 +90,17 @@ pub fn takes_messages(phase: Phase) -> bool
     ensures { result ≡ tests.takes_messages phase }
 {
     matches!(phase, Phase::Calling | Phase::Confirming | Phase::Running)
+}
+
+/// Whether a link is in the phase that a message asks for: Calling, Confirming, RUN or DI.
+pub fn is_in(wanted: Phase, phase: Phase) -> bool
+    ensures { result ≡ phases.is_in wanted phase }
+{
+    match wanted {
+        Phase::Calling => is_calling(phase),
+        Phase::Confirming => is_confirming(phase),
+        Phase::Running => is_running(phase),
+        Phase::Disconnecting => is_disconnecting(phase),
+        Phase::Called | Phase::Ended => false,
+    }
 }
