@@ -1,6 +1,6 @@
 -- What a link that changes in its place makes of the links.
 use Rattle.std.proofs.Common.{◌≡◌, ℕ, ◌<◌, Bool, true, false, not, cond, eqb, Option, Some, None, Result, Ok, Err, OnOk, IfErr, IsOk, List, length, get_or, set, refl, sym, subst, ap, ◌∙◌}
-use Rattle.std.specs.Prelude.{slice_get, filter}
+use Rattle.std.specs.Prelude.{slice_get}
 use Rattle.std.proofs.lemmas.List.{set-get_or}
 use Rattle.dna_model.specs.declared.link_refusal.LinkRefusal.{LinkRefusal}
 use Rattle.dna_model.specs.declared.link_refusal.LinkRefusal.TheVariants.{WrongDelivery}
@@ -15,7 +15,7 @@ use Rattle.dna_model.specs.LinkTests.{is_live}
 use Rattle.dna_model.specs.Links.{LinkOf, LinksOf, changed, with_flow}
 use Rattle.dna_model.specs.WireFlow.{WireFlow, wire_flows, sending, delivers}
 use Rattle.dna_model.specs.WireLinks.{WireLinks}
-use Rattle.nsp_link.specs.Index.{IsIndexed}
+use Rattle.nsp_link.specs.Index.{IsIndexed, without}
 use Rattle.nsp_link.proofs.Index.{indexed_change, indexed_end}
 
 module _ (node peer : ℕ) (items : List (LinkOf WireFlow)) (s : WireLinks) (is : record { node = node; peer = peer; links = items } ≡ s) (n : ℕ) (l : LinkOf WireFlow) (within : n < length s.links) (there : l ≡ get_or items n l) where
@@ -46,7 +46,7 @@ module _ (node peer : ℕ) (items : List (LinkOf WireFlow)) (s : WireLinks) (is 
   change_none m e = ap (λ (xs : List (LinkOf WireFlow)). record { node = node; peer = peer; links = xs }) (ap (λ (k : LinkOf WireFlow). set items n k) (e ∙ there) ∙ set-get_or items n l) ∙ is
 
   -- one that ends
-  pub end_indexed : (numbers : List ℕ) (holder : ℕ → Option ℕ) (m : LinkOf WireFlow) → IsIndexed items numbers holder → is_live m.port.phase ≡ false → m.port.own ≡ l.port.own → IsIndexed (set items n m) (filter (λ k. not (eqb k n)) numbers) holder
+  pub end_indexed : (numbers : List ℕ) (holder : ℕ → Option ℕ) (m : LinkOf WireFlow) → IsIndexed items numbers holder → is_live m.port.phase ≡ false → m.port.own ≡ l.port.own → IsIndexed (set items n m) (without n numbers) holder
   end_indexed numbers holder m index dead own = indexed_end items numbers holder n l m index link_there dead own
 
   -- a message that is sent
@@ -69,11 +69,11 @@ module _ (node peer : ℕ) (items : List (LinkOf WireFlow)) (s : WireLinks) (is 
 
   -- a message that is delivered, or not
   pub told_made : (message : List ℕ) (r : Bool) (m : LinkOf WireFlow) → m ≡ with_flow m.flow l → (r ≡ true → delivers message l.flow ≡ Some m.flow) → (r ≡ false → (delivers message l.flow ≡ None) × (m ≡ l)) → (link : LinkOf WireFlow) → slice_get s.links n ≡ Some link → delivered wire_flows n link s (delivers message link.flow) ≡ cond r (Ok (record { node = node; peer = peer; links = set items n m })) (Err WrongDelivery)
-  told_made message true m rest yes no link found =
-      ap (λ (o : Option WireFlow). delivered wire_flows n link s o) (ap (λ (k : LinkOf WireFlow). delivers message k.flow) (sym (same_link link found)) ∙ yes refl)
+  told_made message true m rest told none link found =
+      ap (λ (o : Option WireFlow). delivered wire_flows n link s o) (ap (λ (k : LinkOf WireFlow). delivers message k.flow) (sym (same_link link found)) ∙ told refl)
       ∙ ap Ok (sym (change_made (with_flow m.flow) m rest link found))
-  told_made message false m rest yes no link found =
-      ap (λ (o : Option WireFlow). delivered wire_flows n link s o) (ap (λ (k : LinkOf WireFlow). delivers message k.flow) (sym (same_link link found)) ∙ (no refl).0)
+  told_made message false m rest told none link found =
+      ap (λ (o : Option WireFlow). delivered wire_flows n link s o) (ap (λ (k : LinkOf WireFlow). delivers message k.flow) (sym (same_link link found)) ∙ (none refl).0)
 
 pub map_ok : {A E P Q : Type 0} (r : Result A E) → (P → Q) → OnOk r P → OnOk r Q
 map_ok (Ok x) f h = f h

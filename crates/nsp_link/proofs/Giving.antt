@@ -1,14 +1,16 @@
 -- An own address that is given: to a link that begins, or to one that is answered; the ended link that had it loses it.
-use Rattle.std.proofs.Common.{◌≡◌, ℕ, zero, suc, ◌+◌, ◌<◌, ◌≤◌, Bool, true, false, not, cond, Option, Some, None, List, [], ◌∷◌, ◌++◌, length, set, map, refl, sym, subst, ap, ◌∙◌, arith, eqb}
-use Rattle.std.specs.Prelude.{slice_get}
-use Rattle.std.proofs.lemmas.Option.{slice_get_within}
+use Rattle.std.proofs.Common.{◌≡◌, ℕ, zero, suc, ◌+◌, ◌<◌, ◌≤◌, Bool, true, false, not, cond, Option, Some, None, List, [], ◌∷◌, ◌++◌, length, get_or, set, map, refl, sym, subst, ap, ◌∙◌, arith, eqb}
+use Rattle.std.specs.Prelude.{slice_get, position}
+use Rattle.std.proofs.lemmas.Option.{slice_get_within, slice_get_read}
 use Rattle.std.proofs.lemmas.Bool.{eqb-true, eqb-false, eq-eqb, ne_eqb}
-use Rattle.dna_model.specs.LinkTests.{is_live}
+use Rattle.dna_model.specs.LinkTests.{is_live, is_at}
 use Rattle.dna_model.specs.declared.port.LinkTest.TheVariants.{HasAddress}
-use Rattle.dna_model.specs.Links.{LinkOf, LinksOf, number_of, at_number, on_link, changed, forgotten, freed}
+use Rattle.dna_model.specs.Links.{LinkOf, LinksOf, number_of, at_number, on_link, begun, changed, forgotten, freed}
+use Rattle.dna_model.specs.LinkUser.{opened, answered}
+use Rattle.dna_model.specs.declared.port.Phase.{Phase}
 use Rattle.dna_model.specs.WireFlow.{WireFlow, wire_flows}
 use Rattle.dna_model.specs.WireLinks.{WireLinks}
-use Rattle.nsp_link.proofs.Index.{live_set, live_push}
+use Rattle.nsp_link.proofs.Index.{live_set, live_push, indexed_same, indexed_begin}
 use Rattle.nsp_link.specs.Index.{live_numbers, own_of, own_at, IsIndexed, forgotten_found, forgotten_at}
 
 -- ---- holders, as functions
@@ -174,3 +176,98 @@ module _ (links : List (LinkOf WireFlow)) (numbers : List ℕ) (h h' : ℕ → O
     live = sym (live_push (forgotten_at (h own) links) m lives
         ∙ ap (λ (ns : List ℕ). ns ++ length (forgotten_at (h own) links) ∷ []) (live_forgotten links (h own) ∙ sym index.live)
         ∙ ap (λ (k : ℕ). numbers ++ k ∷ []) (length_forgotten links (h own)))
+
+  slice_set_other : (xs : List (LinkOf WireFlow)) (k n : ℕ) (x : LinkOf WireFlow) → (n ≡ k → ⊥) → slice_get (set xs k x) n ≡ slice_get xs n
+  slice_set_other [] k n x apart = refl
+  slice_set_other (y ∷ xs) zero zero x apart = absurd (apart refl)
+  slice_set_other (y ∷ xs) zero (suc n) x apart = refl
+  slice_set_other (y ∷ xs) (suc k) zero x apart = refl
+  slice_set_other (y ∷ xs) (suc k) (suc n) x apart = slice_set_other xs k n x (λ e. apart (ap suc e))
+
+  still_by : (k n : ℕ) (o : Option (LinkOf WireFlow)) → (n ≡ k → ⊥) → slice_get (forgotten_found k o links) n ≡ slice_get links n
+  still_by k n None apart = refl
+  still_by k n (Some l) apart = slice_set_other links k n (forgotten wire_flows l) apart
+
+  module _ (n : ℕ) (l : LinkOf WireFlow) (there : slice_get links n ≡ Some l) (unowned : l.port.own ≡ None) where
+    not_holder : (k : ℕ) → h own ≡ Some k → n ≡ k → ⊥
+    not_holder k held same =
+        let mine : own_at links n ≡ Some own = ap (own_at links) same ∙ index.holds own k held in
+        let none : own_at links n ≡ None = ap own_of there ∙ unowned in
+        let both : None ≡ Some own = sym none ∙ mine in
+        absurd (cc)
+
+    still : (o : Option ℕ) → h own ≡ o → slice_get (forgotten_at o links) n ≡ Some l
+    still None is = there
+    still (Some k) is = still_by k n (slice_get links k) (not_holder k is) ∙ there
+
+    pub still_there : slice_get (forgotten_at (h own) links) n ≡ Some l
+    still_there = still (h own) refl
+
+    pub indexed_answer : is_live l.port.phase ≡ true → ((q : ℕ) → h' q ≡ cond (eqb own q) (Some n) (h q)) → IsIndexed (set (forgotten_at (h own) links) n m) numbers h'
+    indexed_answer lived given = record { live = live; has = gives_has (own_at links) h f' h' own n index.has index.holds fresh here others given; holds = gives_holds (own_at links) h f' h' own n index.has index.holds fresh here others given } where
+      f' : ℕ → Option ℕ
+      f' k = own_at (set (forgotten_at (h own) links) n m) k
+
+      fresh : own_at links n ≡ None
+      fresh = ap own_of there ∙ unowned
+
+      here : own_at (set (forgotten_at (h own) links) n m) n ≡ Some own
+      here = own_set_same (forgotten_at (h own) links) n m (slice_get_within (forgotten_at (h own) links) n l still_there) ∙ owns
+
+      others : (k : ℕ) → (k ≡ n → ⊥) → own_at (set (forgotten_at (h own) links) n m) k ≡ lost (h own) k (own_at links k)
+      others k apart = own_set_other (forgotten_at (h own) links) n k m apart ∙ own_forgotten links (h own) k
+
+      live : numbers ≡ live_numbers (set (forgotten_at (h own) links) n m)
+      live = index.live ∙ sym (live_forgotten links (h own)) ∙ sym (live_set (forgotten_at (h own) links) n l m still_there (lives ∙ sym lived))
+
+-- ---- the same, by what the calls tell
+
+pub called_index : (links ys : List (LinkOf WireFlow)) (numbers ms : List ℕ) (h : ℕ → Option ℕ) (m : LinkOf WireFlow) (n : ℕ) → IsIndexed links numbers h → is_live m.port.phase ≡ true → m.port.own ≡ None → ys ≡ links ++ m ∷ [] → ms ≡ numbers ++ n ∷ [] → n ≡ length links → IsIndexed ys ms h
+called_index links ys numbers ms h m n index lives none is are number =
+    indexed_same (links ++ m ∷ []) ys (numbers ++ length links ∷ []) ms h h (indexed_begin links numbers h m index lives none) is (are ∙ ap (λ (k : ℕ). numbers ++ k ∷ []) number) (λ q. refl)
+
+pub open_index : (links ys : List (LinkOf WireFlow)) (numbers ms : List ℕ) (h h' : ℕ → Option ℕ) (own n : ℕ) (m : LinkOf WireFlow) → IsIndexed links numbers h → m.port.own ≡ Some own → is_live m.port.phase ≡ true → ys ≡ forgotten_at (h own) links ++ m ∷ [] → ms ≡ numbers ++ n ∷ [] → n ≡ length links → ((q : ℕ) → h' q ≡ cond (eqb own q) (Some n) (h q)) → IsIndexed ys ms h'
+open_index links ys numbers ms h h' own n m index owns lives is are number given =
+    indexed_same (forgotten_at (h own) links ++ m ∷ []) ys (numbers ++ length links ∷ []) ms h' h'
+      (indexed_open links numbers h h' index own m owns lives (λ q. given q ∙ ap (λ (k : ℕ). cond (eqb own q) (Some k) (h q)) number))
+      is (are ∙ ap (λ (k : ℕ). numbers ++ k ∷ []) number) (λ q. refl)
+
+pub answer_index : (links ys : List (LinkOf WireFlow)) (numbers : List ℕ) (h h' : ℕ → Option ℕ) (own n : ℕ) (l m : LinkOf WireFlow) → IsIndexed links numbers h → slice_get links n ≡ Some l → l.port.own ≡ None → is_live l.port.phase ≡ true → m.port.own ≡ Some own → is_live m.port.phase ≡ true → ys ≡ set (forgotten_at (h own) links) n m → ((q : ℕ) → h' q ≡ cond (eqb own q) (Some n) (h q)) → IsIndexed ys numbers h'
+answer_index links ys numbers h h' own n l m index there unowned lived owns lives is given =
+    indexed_same (set (forgotten_at (h own) links) n m) ys numbers numbers h' h'
+      (indexed_answer links numbers h h' index own m owns lives n l there unowned lived given) is refl (λ q. refl)
+
+pub ruleset indexes = (indexed_same, called_index, open_index)
+
+-- ---- what the definitions make of it
+
+module _ (node peer : ℕ) (items : List (LinkOf WireFlow)) (s : WireLinks) (is : record { node = node; peer = peer; links = items } ≡ s) (own : ℕ) (h : Option ℕ) (held : position (λ (l : LinkOf WireFlow). is_at l.port.own own) items ≡ h) (ys : List (LinkOf WireFlow)) where
+  shown_freed : freed wire_flows own s ≡ record { node = node; peer = peer; links = forgotten_at h items }
+  shown_freed = ap (freed wire_flows own) (sym is) ∙ freed_is own (record { node = node; peer = peer; links = items }) h held
+
+  pub opened_made : ys ≡ forgotten_at h items ++ opened wire_flows own ∷ [] → record { node = node; peer = peer; links = ys } ≡ begun (opened wire_flows own) (freed wire_flows own s)
+  opened_made e =
+      ap (λ (xs : List (LinkOf WireFlow)). record { node = node; peer = peer; links = xs }) e
+      ∙ ap (begun (opened wire_flows own)) (sym shown_freed)
+
+  pub answered_made : (phase : Phase) (n : ℕ) (link : LinkOf WireFlow) → ys ≡ set (forgotten_at h items) n (answered wire_flows phase own link) → record { node = node; peer = peer; links = ys } ≡ changed n (answered wire_flows phase own link) (freed wire_flows own s)
+  answered_made phase n link e =
+      ap (λ (xs : List (LinkOf WireFlow)). record { node = node; peer = peer; links = xs }) e
+      ∙ ap (changed n (answered wire_flows phase own link)) (sym shown_freed)
+
+-- ---- the link that is answered
+
+pub link_at : (xs : List (LinkOf WireFlow)) (n : ℕ) (l : LinkOf WireFlow) → n < length xs → l ≡ get_or xs n l → slice_get xs n ≡ Some l
+link_at xs n l within there = slice_get_read xs (length xs) n l refl within there
+
+pub still_here : (links : List (LinkOf WireFlow)) (numbers : List ℕ) (h : ℕ → Option ℕ) → IsIndexed links numbers h → (own n : ℕ) (l : LinkOf WireFlow) → slice_get links n ≡ Some l → l.port.own ≡ None → slice_get (forgotten_at (h own) links) n ≡ Some l
+still_here links numbers h index own n l there unowned = still_there links numbers h (λ q. h q) index own (owned own) refl refl n l there unowned where
+  owned : ℕ → LinkOf WireFlow
+  owned address = opened wire_flows address
+
+pub one_link : (xs ys : List (LinkOf WireFlow)) (n : ℕ) (k l link : LinkOf WireFlow) → xs ≡ ys → k ≡ get_or xs n k → slice_get ys n ≡ Some l → Some l ≡ Some link → k ≡ link
+one_link xs ys n k l link same there still one =
+    let here : slice_get xs n ≡ Some l = ap (λ (zs : List (LinkOf WireFlow)). slice_get zs n) same ∙ still in
+    let mine : slice_get xs n ≡ Some k = link_at xs n k (slice_get_within xs n l here) there in
+    let both : Some k ≡ Some link = sym mine ∙ here ∙ one in
+    cc

@@ -1,6 +1,6 @@
 -- Links that are found by the list of those that live, and by the last holder of each own address.
 use Rattle.std.proofs.Common.{◌≡◌, ℕ, zero, suc, ◌+◌, ◌<◌, ◌≤◌, Bool, true, false, ◌&&◌, not, cond, Option, Some, None, List, [], ◌∷◌, ◌++◌, length, drop, get_or, set, map, refl, sym, subst, ap, ◌∙◌, arith, ltb, eqb}
-use Rattle.std.specs.Prelude.{slice_get, position, filter}
+use Rattle.std.specs.Prelude.{slice_get, position, remove}
 use Rattle.std.specs.List.{position_or_len}
 use Rattle.std.specs.Option.{option_map, IfSome}
 use Rattle.std.proofs.lemmas.Bool.{ltb-true, ltb-false, lt-ltb, le-ltb, eqb-true, eqb-false, eq-eqb, ne_eqb}
@@ -13,7 +13,7 @@ use Rattle.dna_model.specs.declared.port.LinkTest.{LinkTest}
 use Rattle.dna_model.specs.declared.port.LinkTest.TheVariants.{HasAddress, LiveAt, TheLink, LiveTo, OpenedAt, CallingAt, CalledBy, BegunBy, ActedOn}
 use Rattle.dna_model.specs.LinkTests.{is_live, is_at, is_calling, is_called, is_connected, passes}
 use Rattle.dna_model.specs.Links.{LinkOf, LinksOf, number_of}
-use Rattle.nsp_link.specs.Index.{live_numbers, own_of, own_at, IsIndexed, first_of, passes_in, passes_at, is_of_live}
+use Rattle.nsp_link.specs.Index.{live_numbers, own_of, own_at, IsIndexed, first_of, passes_in, passes_at, is_of_live, without}
 
 first_true : (a b : Bool) → (a && b) ≡ true → a ≡ true
 first_true true b e = refl
@@ -105,7 +105,7 @@ calling_lives Running e = refl
 calling_lives Disconnecting e = refl
 calling_lives Ended e = e
 
-called_lives : (phase : Phase) → is_called phase ≡ true → is_live phase ≡ true
+pub called_lives : (phase : Phase) → is_called phase ≡ true → is_live phase ≡ true
 called_lives Calling e = refl
 called_lives Called e = refl
 called_lives Confirming e = refl
@@ -167,22 +167,49 @@ eqb_suc : (r : Bool) (a b : ℕ) → eqb a b ≡ r → eqb (suc a) (suc b) ≡ r
 eqb_suc true a b e = eq-eqb (suc a) (suc b) (ap suc (eqb-true a b e))
 eqb_suc false a b e = ne_eqb (suc a) (suc b) (λ same. eqb-false a b e (omega arith))
 
-cond_suc : (b : Bool) (k : ℕ) (rest : List ℕ) → cond b (suc k ∷ map suc rest) (map suc rest) ≡ map suc (cond b (k ∷ rest) rest)
-cond_suc true k rest = refl
-cond_suc false k rest = refl
+later_by : (b : Bool) (k : ℕ) (rest without_rest : List ℕ) → cond b (map suc rest) (suc k ∷ map suc without_rest) ≡ map suc (cond b rest (k ∷ without_rest))
+later_by true k rest without_rest = refl
+later_by false k rest without_rest = refl
 
-not_live_later : (ns : List ℕ) (n : ℕ) → filter (λ k. not (eqb k (suc n))) (map suc ns) ≡ map suc (filter (λ k. not (eqb k n)) ns)
-not_live_later [] n = refl
-not_live_later (k ∷ ns) n =
-    ap (λ (rest : List ℕ). cond (not (eqb (suc k) (suc n))) (suc k ∷ rest) rest) (not_live_later ns n)
-    ∙ ap (λ (b : Bool). cond (not b) (suc k ∷ map suc (filter (λ k. not (eqb k n)) ns)) (map suc (filter (λ k. not (eqb k n)) ns))) (eqb_suc (eqb k n) k n refl)
-    ∙ cond_suc (not (eqb k n)) k (filter (λ k. not (eqb k n)) ns)
+without_later : (ns : List ℕ) (n : ℕ) → without (suc n) (map suc ns) ≡ map suc (without n ns)
+without_later [] n = refl
+without_later (k ∷ ns) n =
+    ap (λ (rest : List ℕ). cond (eqb (suc k) (suc n)) (map suc ns) (suc k ∷ rest)) (without_later ns n)
+    ∙ ap (λ (b : Bool). cond b (map suc ns) (suc k ∷ map suc (without n ns))) (eqb_suc (eqb k n) k n refl)
+    ∙ later_by (eqb k n) k ns (without n ns)
 
-not_zero : (ns : List ℕ) → filter (λ k. not (eqb k 0)) (map suc ns) ≡ map suc ns
-not_zero [] = refl
-not_zero (k ∷ ns) =
-    ap (λ (b : Bool). cond (not b) (suc k ∷ filter (λ k. not (eqb k 0)) (map suc ns)) (filter (λ k. not (eqb k 0)) (map suc ns))) (ne_eqb (suc k) 0 (λ e. absurd (omega arith)))
-    ∙ ap (λ (rest : List ℕ). suc k ∷ rest) (not_zero ns)
+without_zero : (ns : List ℕ) → without 0 (map suc ns) ≡ map suc ns
+without_zero [] = refl
+without_zero (k ∷ ns) =
+    ap (λ (b : Bool). cond b (map suc ns) (suc k ∷ without 0 (map suc ns))) (ne_eqb (suc k) 0 (λ e. absurd (omega arith)))
+    ∙ ap (λ (rest : List ℕ). suc k ∷ rest) (without_zero ns)
+
+abbrev pub removed : Option ℕ → List ℕ → List ℕ
+removed None xs = xs
+removed (Some place) xs = remove xs place
+
+removed_later : (x : ℕ) (xs : List ℕ) (o : Option ℕ) → removed (option_map suc o) (x ∷ xs) ≡ x ∷ removed o xs
+removed_later x xs None = refl
+removed_later x xs (Some place) = refl
+
+removed_by : (x : ℕ) (xs : List ℕ) (n : ℕ) (b : Bool) → eqb x n ≡ b → without n xs ≡ removed (position (λ k. eqb k n) xs) xs → cond b xs (x ∷ without n xs) ≡ removed (position (λ k. eqb k n) (x ∷ xs)) (x ∷ xs)
+removed_by x xs n true e later = sym (ap (λ (o : Option ℕ). removed o (x ∷ xs)) (position_here (λ k. eqb k n) x xs e))
+removed_by x xs n false e later =
+    ap (λ (rest : List ℕ). x ∷ rest) later
+    ∙ sym (removed_later x xs (position (λ k. eqb k n) xs))
+    ∙ sym (ap (λ (o : Option ℕ). removed o (x ∷ xs)) (position_there (λ k. eqb k n) x xs e))
+
+without_is : (xs : List ℕ) (n : ℕ) → without n xs ≡ removed (position (λ k. eqb k n) xs) xs
+without_is [] n = refl
+without_is (x ∷ xs) n = removed_by x xs n (eqb x n) refl (without_is xs n)
+
+pub taken_away : (xs : List ℕ) (n place : ℕ) → position (λ k. eqb k n) xs ≡ Some place → remove xs place ≡ without n xs
+taken_away xs n place e = sym (without_is xs n ∙ ap (λ (o : Option ℕ). removed o xs) e)
+
+pub not_among : (xs : List ℕ) (n : ℕ) → position (λ k. eqb k n) xs ≡ None → xs ≡ without n xs
+not_among xs n e = sym (without_is xs n ∙ ap (λ (o : Option ℕ). removed o xs) e)
+
+pub ruleset taking_away = (taken_away, not_among)
 
 -- ---- a link that changes
 
@@ -216,26 +243,26 @@ module _ {D : Type 0} where
 
   -- ---- one that ends
 
-  live_end : (links : List (LinkOf D)) (n : ℕ) (m : LinkOf D) → n < length links → is_live m.port.phase ≡ false → live_numbers (set links n m) ≡ filter (λ k. not (eqb k n)) (live_numbers links)
+  live_end : (links : List (LinkOf D)) (n : ℕ) (m : LinkOf D) → n < length links → is_live m.port.phase ≡ false → live_numbers (set links n m) ≡ without n (live_numbers links)
   live_end [] n m h dead = absurd (omega arith)
   live_end (x ∷ links) zero m h dead =
       ap (λ (b : Bool). cond b (0 ∷ map suc (live_numbers links)) (map suc (live_numbers links))) dead
       ∙ by_live (is_live x.port.phase) where
-    by_live : (b : Bool) → map suc (live_numbers links) ≡ filter (λ k. not (eqb k 0)) (cond b (0 ∷ map suc (live_numbers links)) (map suc (live_numbers links)))
-    by_live true = sym (ap (λ (b : Bool). cond (not b) (0 ∷ filter (λ k. not (eqb k 0)) (map suc (live_numbers links))) (filter (λ k. not (eqb k 0)) (map suc (live_numbers links)))) (eq-eqb 0 0 refl) ∙ not_zero (live_numbers links))
-    by_live false = sym (not_zero (live_numbers links))
+    by_live : (b : Bool) → map suc (live_numbers links) ≡ without 0 (cond b (0 ∷ map suc (live_numbers links)) (map suc (live_numbers links)))
+    by_live true = sym (ap (λ (b : Bool). cond b (map suc (live_numbers links)) (0 ∷ without 0 (map suc (live_numbers links)))) (eq-eqb 0 0 refl))
+    by_live false = sym (without_zero (live_numbers links))
   live_end (x ∷ links) (suc n) m h dead = step (live_end links n m (omega arith) dead) where
-    by_live : (b : Bool) → cond b (0 ∷ map suc (filter (λ k. not (eqb k n)) (live_numbers links))) (map suc (filter (λ k. not (eqb k n)) (live_numbers links))) ≡ filter (λ k. not (eqb k (suc n))) (cond b (0 ∷ map suc (live_numbers links)) (map suc (live_numbers links)))
-    by_live true = ap (λ (rest : List ℕ). 0 ∷ rest) (sym (not_live_later (live_numbers links) n)) ∙ sym (ap (λ (b : Bool). cond (not b) (0 ∷ filter (λ k. not (eqb k (suc n))) (map suc (live_numbers links))) (filter (λ k. not (eqb k (suc n))) (map suc (live_numbers links)))) (ne_eqb 0 (suc n) (λ e. absurd (omega arith))))
-    by_live false = sym (not_live_later (live_numbers links) n)
+    by_live : (b : Bool) → cond b (0 ∷ map suc (without n (live_numbers links))) (map suc (without n (live_numbers links))) ≡ without (suc n) (cond b (0 ∷ map suc (live_numbers links)) (map suc (live_numbers links)))
+    by_live true = ap (λ (rest : List ℕ). 0 ∷ rest) (sym (without_later (live_numbers links) n)) ∙ sym (ap (λ (b : Bool). cond b (map suc (live_numbers links)) (0 ∷ without (suc n) (map suc (live_numbers links)))) (ne_eqb 0 (suc n) (λ e. absurd (omega arith))))
+    by_live false = sym (without_later (live_numbers links) n)
 
-    step : live_numbers (set links n m) ≡ filter (λ k. not (eqb k n)) (live_numbers links) → cond (is_live x.port.phase) (0 ∷ map suc (live_numbers (set links n m))) (map suc (live_numbers (set links n m))) ≡ filter (λ k. not (eqb k (suc n))) (cond (is_live x.port.phase) (0 ∷ map suc (live_numbers links)) (map suc (live_numbers links)))
+    step : live_numbers (set links n m) ≡ without n (live_numbers links) → cond (is_live x.port.phase) (0 ∷ map suc (live_numbers (set links n m))) (map suc (live_numbers (set links n m))) ≡ without (suc n) (cond (is_live x.port.phase) (0 ∷ map suc (live_numbers links)) (map suc (live_numbers links)))
     step e = ap (λ (ns : List ℕ). cond (is_live x.port.phase) (0 ∷ map suc ns) (map suc ns)) e ∙ by_live (is_live x.port.phase)
 
-  pub indexed_end : (links : List (LinkOf D)) (numbers : List ℕ) (holder : ℕ → Option ℕ) (n : ℕ) (l m : LinkOf D) → IsIndexed links numbers holder → slice_get links n ≡ Some l → is_live m.port.phase ≡ false → m.port.own ≡ l.port.own → IsIndexed (set links n m) (filter (λ k. not (eqb k n)) numbers) holder
+  pub indexed_end : (links : List (LinkOf D)) (numbers : List ℕ) (holder : ℕ → Option ℕ) (n : ℕ) (l m : LinkOf D) → IsIndexed links numbers holder → slice_get links n ≡ Some l → is_live m.port.phase ≡ false → m.port.own ≡ l.port.own → IsIndexed (set links n m) (without n numbers) holder
   indexed_end links numbers holder n l m index there dead own =
-      same_owns links (set links n m) numbers (filter (λ k. not (eqb k n)) numbers) holder index
-        (ap (λ (ns : List ℕ). filter (λ k. not (eqb k n)) ns) index.live ∙ sym (live_end links n m (slice_get_within links n l there) dead))
+      same_owns links (set links n m) numbers (without n numbers) holder index
+        (ap (without n) index.live ∙ sym (live_end links n m (slice_get_within links n l there) dead))
         (λ k. own_set links n k l m there own)
 
   -- ---- one that begins
@@ -291,7 +318,11 @@ link_passes test s n l e is = found_passes test s.links (number_of test s) n l (
 pub link_lives : {D : Type 0} (test : LinkTest) (s : LinksOf D) (n : ℕ) (l : LinkOf D) → is_of_live test ≡ true → number_of test s ≡ Some n → slice_get s.links n ≡ Some l → is_live l.port.phase ≡ true
 link_lives test s n l of e is = passes_lives test l.port of (link_passes test s n l e is)
 
-pub ruleset found_links = (number_within, link_passes, link_lives)
+-- one that is found by its call is in Called
+pub called_found : {D : Type 0} (far : ℕ) (s : LinksOf D) (n : ℕ) (l : LinkOf D) → number_of (CalledBy far) s ≡ Some n → slice_get s.links n ≡ Some l → is_called l.port.phase ≡ true
+called_found far s n l e is = first_true (is_called l.port.phase) (is_at l.port.far far) (link_passes (CalledBy far) s n l e is)
+
+pub ruleset found_links = (number_within, link_passes, link_lives, called_found)
 
 within_by : {D : Type 0} (test : LinkTest) (s : LinksOf D) (r : Option ℕ) → number_of test s ≡ r → IfSome r (λ n. n < length s.links)
 within_by test s None e = tt
@@ -300,3 +331,30 @@ within_by test s (Some n) e = number_within test s n e
 -- a number that a look-up gave is that of a link
 pub found_number : {D : Type 0} (test : LinkTest) (s : LinksOf D) (r : Option ℕ) → r ≡ number_of test s → IfSome r (λ n. n < length s.links)
 found_number test s r e = within_by test s r (sym e)
+
+-- an address that no live link has: its holder has ended
+dead_by : (a b : Bool) → (a && b) ≡ false → b ≡ true → a ≡ false
+dead_by true b e is = sym is ∙ e
+dead_by false b e is = refl
+
+not_live_at : {D : Type 0} (own : ℕ) (o : Option (LinkOf D)) (l : LinkOf D) → passes_in (λ (k : LinkOf D). passes (LiveAt own) k.port) o ≡ false → o ≡ Some l → own_of o ≡ Some own → is_live l.port.phase ≡ false
+not_live_at own None l fails is owns = absurd (cc)
+not_live_at own (Some k) l fails is owns =
+    let same : k ≡ l = cc in
+    sym (ap (λ (x : LinkOf _). is_live x.port.phase) same) ∙ dead_by (is_live k.port.phase) (is_at k.port.own own) fails (ap (λ (known : Option ℕ). is_at known own) owns ∙ eq-eqb own own refl)
+
+dead_found : {D : Type 0} (own : ℕ) (links : List (LinkOf D)) (numbers : List ℕ) (holder : ℕ → Option ℕ) → IsIndexed links numbers holder → (r : Option ℕ) → IsFound (λ (k : LinkOf D). passes (LiveAt own) k.port) links r → r ≡ None → (n : ℕ) (l : LinkOf D) → holder own ≡ Some n → slice_get links n ≡ Some l → is_live l.port.phase ≡ false
+dead_found own links numbers holder index (Some m) h e n l held there = absurd (cc)
+dead_found own links numbers holder index None (Nowhere _ none) e n l held there = not_live_at own (slice_get links n) l (none n) there (index.holds own n held)
+
+pub dead_holder : {D : Type 0} (own : ℕ) (links : List (LinkOf D)) (numbers : List ℕ) (holder : ℕ → Option ℕ) → IsIndexed links numbers holder → position (λ (k : LinkOf D). passes (LiveAt own) k.port) links ≡ None → (n : ℕ) (l : LinkOf D) → holder own ≡ Some n → slice_get links n ≡ Some l → is_live l.port.phase ≡ false
+dead_holder {D} own links numbers holder index none n l held there = dead_found own links numbers holder index (position (λ (k : LinkOf D). passes (LiveAt own) k.port) links) (found (λ (k : LinkOf D). passes (LiveAt own) k.port) links) none n l held there
+
+-- ---- the same index
+
+pub indexed_same : {D : Type 0} (xs ys : List (LinkOf D)) (ns ms : List ℕ) (h g : ℕ → Option ℕ) → IsIndexed xs ns h → ys ≡ xs → ms ≡ ns → ((q : ℕ) → g q ≡ h q) → IsIndexed ys ms g
+indexed_same xs ys ns ms h g index links numbers holders = record {
+  live = numbers ∙ index.live ∙ ap live_numbers (sym links);
+  has = λ number own e. holders own ∙ index.has number own (sym (ap (λ (zs : List (LinkOf _)). own_at zs number) links) ∙ e);
+  holds = λ own number e. ap (λ (zs : List (LinkOf _)). own_at zs number) links ∙ index.holds own number (sym (holders own) ∙ e);
+}

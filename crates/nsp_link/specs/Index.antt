@@ -1,6 +1,6 @@
 -- How the links of a node are found without a look at all that ever were: by the list of those that live, and by the last holder of
 -- each own address.
-use Rattle.std.specs.Prelude.{◌≡◌, ℕ, suc, Bool, false, ◌&&◌, Option, Some, None, List, [], ◌∷◌, map, slice_get, slice_set, if◌then◌else◌, true}
+use Rattle.std.specs.Prelude.{◌≡◌, ◌==◌, ℕ, suc, Bool, false, ◌&&◌, Option, Some, None, List, [], ◌∷◌, map, slice_get, slice_set, if◌then◌else◌, true}
 use Rattle.dna_model.specs.declared.port.LinkTest.{LinkTest}
 use Rattle.dna_model.specs.declared.port.LinkTest.TheVariants.{HasAddress}
 use Rattle.dna_model.specs.LinkTests.{is_live}
@@ -21,6 +21,11 @@ module _ {X : Type 0} (p : X → Bool) where
   abbrev pub first_of : List X → List ℕ → Option ℕ
   first_of xs [] = None
   first_of xs (number ∷ numbers) = if passes_at xs number then Some number else first_of xs numbers
+
+-- the numbers without the first that is this one
+abbrev pub without : ℕ → List ℕ → List ℕ
+without number [] = []
+without number (other ∷ numbers) = if other == number then numbers else other ∷ without number numbers
 
 -- a test that only a live link passes
 abbrev pub is_of_live : LinkTest → Bool

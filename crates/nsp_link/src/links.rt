@@ -10,6 +10,7 @@ ghost use Rattle.nsp_link.specs.Index.{is_of_live};
 ghost use Rattle.nsp_link.specs.Index as index;
 
 mod arriving;
+mod begin;
 mod change;
 mod sending;
 mod user;

@@ -1,6 +1,7 @@
 //! How one of the links changes in its place.
 
-ghost use Rattle.std.specs.Prelude.{◌≡◌, ◌<◌, Ok, Err, None, Some, true, false, length, slice_get, OnOk, OnErr, IfOk, IfErr, if◌then◌else◌, filter, not, eqb};
+ghost use Rattle.std.specs.Prelude.{◌≡◌, ◌<◌, Ok, Err, None, Some, true, false, length, slice_get, OnOk, OnErr, IfOk, IfErr, IfSome, if◌then◌else◌, position, eqb};
+ghost use Rattle.nsp_link.specs.Index.{without};
 ghost use Rattle.std.specs.List.{AllByRecursion};
 ghost use Rattle.dna_packet.specs.AckWord.{IsAckWord};
 ghost use Rattle.dna_packet.specs.Nsp.{segment_view};
@@ -138,9 +139,20 @@ impl<W: Window<Piece, 4096> + Drop> Links<W> {
     }
 }
 
-// Takes a number away from a list of numbers.
+// Takes a number away from a list of numbers, at the first place where it stands.
+#[tactic(auto, using(crate::proofs::Index::taking_away))]
 fn take_away(numbers: &mut Vec<usize>, number: usize)
-    ensures { numbers.new.items ≡ filter (λ other. not (eqb other number)) numbers.old.items }
+    ensures { numbers.new.items ≡ without number numbers.old.items }
 {
-    numbers.retain(|other| *other != number);
+    let Some(place) = place_of(numbers, number) else {
+        return;
+    };
+    numbers.remove(place);
+}
+
+fn place_of(numbers: &[usize], number: usize) -> Option<usize>
+    ensures place { result ≡ position (λ other. eqb other number) numbers.now }
+    ensures within { IfSome result (λ place. place < length numbers.now) }
+{
+    numbers.iter().position(|other| *other == number)
 }
