@@ -271,3 +271,6 @@ one_link xs ys n k l link same there still one =
     let mine : slice_get xs n ≡ Some k = link_at xs n k (slice_get_within xs n l here) there in
     let both : Some k ≡ Some link = sym mine ∙ here ∙ one in
     cc
+
+pub same_set : (xs ys : List (LinkOf WireFlow)) (n : ℕ) (m k : LinkOf WireFlow) → xs ≡ ys → m ≡ k → set xs n m ≡ set ys n k
+same_set xs ys n m k lists links = ap (λ (zs : List (LinkOf WireFlow)). set zs n m) lists ∙ ap (λ (x : LinkOf WireFlow). set ys n x) links
