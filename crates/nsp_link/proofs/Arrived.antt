@@ -141,7 +141,7 @@ whole_all kept whole xs e = ap (λ (n : ℕ). kept_or kept whole n) (none_left (
 -- ---- a message against the pieces
 
 same_behind : (b m w : List ℕ) → b ≡ take (length b) m → bytes_eq m (b ++ w) ≡ bytes_eq (drop (length b) m) w
-same_behind b m w front = one_answer (bytes_eq m (b ++ w)) (bytes_eq (drop (length b) m) w) (bytes_eq-Decides m (b ++ w)) ((λ e. joined (( bytes_eq-Decides (drop (length b) m) w).0 e)), (λ e. (bytes_eq-Decides (drop (length b) m) w).1 (behind e))) where
+same_behind b m w front = one_answer (bytes_eq m (b ++ w)) (bytes_eq (drop (length b) m) w) (bytes_eq-Decides m (b ++ w)) ((λ e. joined ((bytes_eq-Decides (drop (length b) m) w).0 e)), (λ e. (bytes_eq-Decides (drop (length b) m) w).1 (behind e))) where
   joined : drop (length b) m ≡ w → m ≡ b ++ w
   joined e = sym (take-append-drop (length b) m) ∙ ap (λ (x : List ℕ). x ++ drop (length b) m) (sym front) ∙ ap (λ (x : List ℕ). b ++ x) e
 
@@ -171,9 +171,9 @@ told_more m p later true (Some w) next e =
     ap (λ (r : Bool). pieces_if r (w.pieces + 1)) (same_behind p.body m w.message ((bytes_eq-Decides p.body (take (length p.body) m)).0 e))
     ∙ one_behind (bytes_eq (drop (length p.body) m) w.message) w.pieces
     ∙ ap (λ (o : Option Whole). more_pieces 1 (pieces_of (drop (length p.body) m) o)) (sym next) where
-  one_behind : (r : Bool) (n : ℕ) → pieces_if r (n + 1) ≡ more_pieces 1 (pieces_if r n)
-  one_behind true n = ap Some (omega arith)
-  one_behind false n = refl
+      one_behind : (r : Bool) (n : ℕ) → pieces_if r (n + 1) ≡ more_pieces 1 (pieces_if r n)
+      one_behind true n = ap Some (omega arith)
+      one_behind false n = refl
 
 more_more : (i : ℕ) (o : Option ℕ) → more_pieces i (more_pieces 1 o) ≡ more_pieces (i + 1) o
 more_more i None = refl
@@ -255,8 +255,13 @@ pub hold_more : (place : ℕ) (p : Piece) (xs : List (Option Piece)) → in_orde
 hold_more place p xs = in_order-drop (in_order xs) (hold place p xs) (hold_order place p xs)
 
 pub ruleset arrived = (in_order-le, in_order-drop, in_order_step, in_order_stop)
+
 pub ruleset wholes = (in_whole-le, in_order_whole, whole_end, whole_on, whole_none, whole_all)
+
 pub ruleset told = (told_none, told_past, told_same, told_other, told_differs, told_on)
+
 pub ruleset held = (in_order-le, hold_append, hold_set)
+
 pub ruleset ordered = (in_order-le, hold_order, hold_more)
+
 pub ruleset runs = (run_on, run_ends)

@@ -23,7 +23,6 @@ module _ (f h f' h' : ℕ → Option ℕ) (own n : ℕ)
     (has : (k q : ℕ) → f k ≡ Some q → h q ≡ Some k) (holds : (q k : ℕ) → h q ≡ Some k → f k ≡ Some q)
     (fresh : f n ≡ None) (here : f' n ≡ Some own) (others : (k : ℕ) → (k ≡ n → ⊥) → f' k ≡ lost (h own) k (f k))
     (given : (q : ℕ) → h' q ≡ cond (eqb own q) (Some n) (h q)) where
-
   other_address : (q k : ℕ) → eqb own q ≡ false → h q ≡ Some k → h' q ≡ Some k
   other_address q k apart e = given q ∙ ap (λ (b : Bool). cond b (Some n) (h q)) apart ∙ e
 
@@ -229,13 +228,13 @@ called_index links ys numbers ms h m n index lives none is are number =
 pub open_index : (links ys : List (LinkOf WireFlow)) (numbers ms : List ℕ) (h h' : ℕ → Option ℕ) (own n : ℕ) (m : LinkOf WireFlow) → IsIndexed links numbers h → m.port.own ≡ Some own → is_live m.port.phase ≡ true → ys ≡ forgotten_at (h own) links ++ m ∷ [] → ms ≡ numbers ++ n ∷ [] → n ≡ length links → ((q : ℕ) → h' q ≡ cond (eqb own q) (Some n) (h q)) → IsIndexed ys ms h'
 open_index links ys numbers ms h h' own n m index owns lives is are number given =
     indexed_same (forgotten_at (h own) links ++ m ∷ []) ys (numbers ++ length links ∷ []) ms h' h'
-      (indexed_open links numbers h h' index own m owns lives (λ q. given q ∙ ap (λ (k : ℕ). cond (eqb own q) (Some k) (h q)) number))
-      is (are ∙ ap (λ (k : ℕ). numbers ++ k ∷ []) number) (λ q. refl)
+    (indexed_open links numbers h h' index own m owns lives (λ q. given q ∙ ap (λ (k : ℕ). cond (eqb own q) (Some k) (h q)) number))
+    is (are ∙ ap (λ (k : ℕ). numbers ++ k ∷ []) number) (λ q. refl)
 
 pub answer_index : (links ys : List (LinkOf WireFlow)) (numbers : List ℕ) (h h' : ℕ → Option ℕ) (own n : ℕ) (l m : LinkOf WireFlow) → IsIndexed links numbers h → slice_get links n ≡ Some l → l.port.own ≡ None → is_live l.port.phase ≡ true → m.port.own ≡ Some own → is_live m.port.phase ≡ true → ys ≡ set (forgotten_at (h own) links) n m → ((q : ℕ) → h' q ≡ cond (eqb own q) (Some n) (h q)) → IsIndexed ys numbers h'
 answer_index links ys numbers h h' own n l m index there unowned lived owns lives is given =
     indexed_same (set (forgotten_at (h own) links) n m) ys numbers numbers h' h'
-      (indexed_answer links numbers h h' index own m owns lives n l there unowned lived given) is refl (λ q. refl)
+    (indexed_answer links numbers h h' index own m owns lives n l there unowned lived given) is refl (λ q. refl)
 
 pub ruleset indexes = (indexed_same, called_index, open_index)
 

@@ -21,7 +21,7 @@ either false k l e = refl
 kept_there : (above : ℕ) (p : Piece) (k : LinkVariables) → k.received < 4096 → is_missing_at (in_order k.pieces + above - 1) k.pieces ≡ false → with_segment above p k ≡ k
 kept_there above p k h there =
     either (nat_le 1 above && nat_le above REACH) k (with_pieces (held above p k) k)
-      (ap (λ (pieces : List (Option Piece)). with_pieces pieces k) (hold_there (in_order k.pieces + above - 1) p k.pieces there) ∙ stays k h)
+    (ap (λ (pieces : List (Option Piece)). with_pieces pieces k) (hold_there (in_order k.pieces + above - 1) p k.pieces there) ∙ stays k h)
 
 pub held_there : (above : ℕ) (s : SegmentValue) (f : WireFlow) → above ≡ distance f.kept.received s.number → f.kept.received < 4096 → is_missing_at (in_order f.kept.pieces + above - 1) f.kept.pieces ≡ false → with_held s f ≡ f
 held_there above s f is h there = ap (λ (n : ℕ). record f { kept = with_segment n (piece_of s) f.kept }) (sym is) ∙ ap (λ (k : LinkVariables). record f { kept = k }) (kept_there above (piece_of s) f.kept h there)

@@ -93,7 +93,7 @@ module _ {D : Type 0} (p : LinkOf D → Bool) (lives : (l : LinkOf D) → p l �
   among_live : (ls : List (LinkOf D)) → position p ls ≡ first_of p ls (live_numbers ls)
   among_live [] = refl
   among_live (l ∷ ls) = among l ls (is_live l.port.phase) (p l) refl refl (among_live ls)
-    ∙ refl
+      ∙ refl
 
 -- ---- the tests
 
@@ -248,9 +248,9 @@ module _ {D : Type 0} where
   live_end (x ∷ links) zero m h dead =
       ap (λ (b : Bool). cond b (0 ∷ map suc (live_numbers links)) (map suc (live_numbers links))) dead
       ∙ by_live (is_live x.port.phase) where
-    by_live : (b : Bool) → map suc (live_numbers links) ≡ without 0 (cond b (0 ∷ map suc (live_numbers links)) (map suc (live_numbers links)))
-    by_live true = sym (ap (λ (b : Bool). cond b (map suc (live_numbers links)) (0 ∷ without 0 (map suc (live_numbers links)))) (eq-eqb 0 0 refl))
-    by_live false = sym (without_zero (live_numbers links))
+        by_live : (b : Bool) → map suc (live_numbers links) ≡ without 0 (cond b (0 ∷ map suc (live_numbers links)) (map suc (live_numbers links)))
+        by_live true = sym (ap (λ (b : Bool). cond b (map suc (live_numbers links)) (0 ∷ without 0 (map suc (live_numbers links)))) (eq-eqb 0 0 refl))
+        by_live false = sym (without_zero (live_numbers links))
   live_end (x ∷ links) (suc n) m h dead = step (live_end links n m (omega arith) dead) where
     by_live : (b : Bool) → cond b (0 ∷ map suc (without n (live_numbers links))) (map suc (without n (live_numbers links))) ≡ without (suc n) (cond b (0 ∷ map suc (live_numbers links)) (map suc (live_numbers links)))
     by_live true = ap (λ (rest : List ℕ). 0 ∷ rest) (sym (without_later (live_numbers links) n)) ∙ sym (ap (λ (b : Bool). cond b (map suc (live_numbers links)) (0 ∷ without (suc n) (map suc (live_numbers links)))) (ne_eqb 0 (suc n) (λ e. absurd (omega arith))))
@@ -262,8 +262,8 @@ module _ {D : Type 0} where
   pub indexed_end : (links : List (LinkOf D)) (numbers : List ℕ) (holder : ℕ → Option ℕ) (n : ℕ) (l m : LinkOf D) → IsIndexed links numbers holder → slice_get links n ≡ Some l → is_live m.port.phase ≡ false → m.port.own ≡ l.port.own → IsIndexed (set links n m) (without n numbers) holder
   indexed_end links numbers holder n l m index there dead own =
       same_owns links (set links n m) numbers (without n numbers) holder index
-        (ap (without n) index.live ∙ sym (live_end links n m (slice_get_within links n l there) dead))
-        (λ k. own_set links n k l m there own)
+      (ap (without n) index.live ∙ sym (live_end links n m (slice_get_within links n l there) dead))
+      (λ k. own_set links n k l m there own)
 
   -- ---- one that begins
 
@@ -273,9 +273,9 @@ module _ {D : Type 0} where
       ap (λ (ns : List ℕ). cond (is_live x.port.phase) (0 ∷ map suc ns) (map suc ns)) (live_push links m lives)
       ∙ ap (λ (ns : List ℕ). cond (is_live x.port.phase) (0 ∷ ns) ns) (map-append suc (live_numbers links) (length links ∷ []))
       ∙ by_live (is_live x.port.phase) where
-    by_live : (b : Bool) → cond b (0 ∷ (map suc (live_numbers links) ++ suc (length links) ∷ [])) (map suc (live_numbers links) ++ suc (length links) ∷ []) ≡ cond b (0 ∷ map suc (live_numbers links)) (map suc (live_numbers links)) ++ suc (length links) ∷ []
-    by_live true = refl
-    by_live false = refl
+        by_live : (b : Bool) → cond b (0 ∷ (map suc (live_numbers links) ++ suc (length links) ∷ [])) (map suc (live_numbers links) ++ suc (length links) ∷ []) ≡ cond b (0 ∷ map suc (live_numbers links)) (map suc (live_numbers links)) ++ suc (length links) ∷ []
+        by_live true = refl
+        by_live false = refl
 
   own_push : (links : List (LinkOf D)) (m : LinkOf D) (k : ℕ) → m.port.own ≡ None → own_at (links ++ m ∷ []) k ≡ own_at links k
   own_push [] m zero none = none
@@ -286,10 +286,11 @@ module _ {D : Type 0} where
   pub indexed_begin : (links : List (LinkOf D)) (numbers : List ℕ) (holder : ℕ → Option ℕ) (m : LinkOf D) → IsIndexed links numbers holder → is_live m.port.phase ≡ true → m.port.own ≡ None → IsIndexed (links ++ m ∷ []) (numbers ++ length links ∷ []) holder
   indexed_begin links numbers holder m index lives none =
       same_owns links (links ++ m ∷ []) numbers (numbers ++ length links ∷ []) holder index
-        (ap (λ (ns : List ℕ). ns ++ length links ∷ []) index.live ∙ sym (live_push links m lives))
-        (λ k. own_push links m k none)
+      (ap (λ (ns : List ℕ). ns ++ length links ∷ []) index.live ∙ sym (live_push links m lives))
+      (λ k. own_push links m k none)
 
 pub ruleset searches = (find_hit, find_miss, live_found, address_found)
+
 pub ruleset changes = (indexed_change)
 
 -- ---- what a look-up finds

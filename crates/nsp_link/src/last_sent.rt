@@ -45,12 +45,7 @@ impl LastSent {
     /// The last one behind these words, where each may be sent: it names a number from the last one sent through the highest received,
     /// or, in a segment that is sent again, an earlier one, which it leaves as it is. Words of the other subchannel are not judged.
     #[tactic(auto, using(crate::proofs::Words::words))]
-    pub fn behind_all(
-        self,
-        again: bool,
-        received: Seq<4096>,
-        words: &[AckWord],
-    ) -> Option<LastSent>
+    pub fn behind_all(self, again: bool, received: Seq<4096>, words: &[AckWord]) -> Option<LastSent>
         requires { AllByRecursion IsAckWord words.now }
         ensures { result ≡ all_named again received words.now self }
     {

@@ -117,7 +117,11 @@ fn first_of<W: Window<Piece, 4096> + Drop>(
 }
 
 // Whether the link with this number passes.
-fn passes_at<W: Window<Piece, 4096> + Drop>(links: &Vec<Link<W>>, test: LinkTest, number: usize) -> bool
+fn passes_at<W: Window<Piece, 4096> + Drop>(
+    links: &Vec<Link<W>>,
+    test: LinkTest,
+    number: usize,
+) -> bool
     ensures { result ≡ index.passes_at (λ link. tests.passes test link.port) links.now.items number }
 {
     match links.get(number) {

@@ -151,7 +151,11 @@ fn piece_at(pieces: &VecDeque<Option<Piece>>, place: usize) -> Option<&Piece>
 
 // Puts so many missing pieces and this one behind the others. Where memory is refused, nothing changes.
 #[tactic(auto, using(crate::proofs::Arrived::arrived))]
-fn append(pieces: &mut VecDeque<Option<Piece>>, missing: usize, piece: Piece) -> Result<(), AllocError>
+fn append(
+    pieces: &mut VecDeque<Option<Piece>>,
+    missing: usize,
+    piece: Piece,
+) -> Result<(), AllocError>
     requires { missing < 4096 }
     ensures ok { OnOk result (pieces.new.items ≡ pieces.old.items ++ (replicate missing None ++ Some piece ∷ [])) }
     ensures err { OnErr result (pieces.new.items ≡ pieces.old.items) }

@@ -31,7 +31,13 @@ impl<W: Window<Piece, 4096> + Drop> Links<W> {
     /// - `CrossedLink`: a message that is acted on belongs to another pair of links.
     ///
     /// `OutOfMemory`, after both: memory was refused. After any of them the links are as they were.
-    pub fn arrived(&mut self, dst: u16, src: u16, message: &Nsp, tag: LinkTag) -> Result<(), LinkFault>
+    pub fn arrived(
+        &mut self,
+        dst: u16,
+        src: u16,
+        message: &Nsp,
+        tag: LinkTag,
+    ) -> Result<(), LinkFault>
         requires { nsp.IsInRange (nsp.view message.now) }
         ensures ok { OnOk result (wire_links_arrived of_partner self.old (record { dst = dst; src = src; message = nsp.view message.now }) tag
             ≡ Ok self.new) }
@@ -85,7 +91,9 @@ impl<W: Window<Piece, 4096> + Drop> Links<W> {
             message.now.srcaddr message.now.services message.now.info message.now.segsize message.now.user_data.now) (record { tag = tag; known = tt })) false fault) }
         ensures err { OnErr result (self.new ≡ self.old) }
     {
-        let Some(number) = self.find(LinkTest::CallingAt { own: message.dstaddr }) else {
+        let Some(number) = self.find(LinkTest::CallingAt {
+            own: message.dstaddr,
+        }) else {
             return Ok(());
         };
         let Some(_link) = self.link(number) else {
@@ -184,7 +192,9 @@ impl<W: Window<Piece, 4096> + Drop> Links<W> {
             message.now.srcaddr message.now.services message.now.info message.now.segsize message.now.user_data.now) (record { tag = tag; known = tt })) true fault) }
         ensures err { OnErr result (self.new ≡ self.old) }
     {
-        if let Some(number) = self.find(LinkTest::LiveTo { far: message.srcaddr }) {
+        if let Some(number) = self.find(LinkTest::LiveTo {
+            far: message.srcaddr,
+        }) {
             let Some(_link) = self.link(number) else {
                 unreachable!();
             };

@@ -21,11 +21,23 @@ use wire_base::Window;
 
 impl<W: Window<Piece, 4096> + Drop> Links<W> {
     // A CI begins a link. Where memory is refused, nothing changes.
-    pub(super) fn begin_called(&mut self, far: u16, segsize: u16, tag: LinkTag) -> Result<(), AllocError>
+    pub(super) fn begin_called(
+        &mut self,
+        far: u16,
+        segsize: u16,
+        tag: LinkTag,
+    ) -> Result<(), AllocError>
         ensures ok { OnOk result (self.new ≡ begun (called wire_flows of_partner far segsize tag) self.old) }
         ensures err { OnErr result (self.new ≡ self.old) }
     {
-        called_at(self.alloc, &mut self.links, &mut self.live, far, segsize, tag)
+        called_at(
+            self.alloc,
+            &mut self.links,
+            &mut self.live,
+            far,
+            segsize,
+            tag,
+        )
     }
 
     // A link is opened from here, with an own address that no live link has. Where memory is refused, nothing changes.
@@ -34,12 +46,23 @@ impl<W: Window<Piece, 4096> + Drop> Links<W> {
         ensures ok { OnOk result (self.new ≡ begun (opened wire_flows own) (freed wire_flows own self.old)) }
         ensures err { OnErr result (self.new ≡ self.old) }
     {
-        opened_at(self.alloc, &mut self.links, &mut self.live, &mut self.holders, own)
+        opened_at(
+            self.alloc,
+            &mut self.links,
+            &mut self.live,
+            &mut self.holders,
+            own,
+        )
     }
 
     // The link with this number, in Called, is answered: it gets this phase, and an own address that no live link has. Where memory is
     // refused, nothing changes.
-    pub(super) fn answer_at(&mut self, number: usize, phase: Phase, own: u16) -> Result<(), AllocError>
+    pub(super) fn answer_at(
+        &mut self,
+        number: usize,
+        phase: Phase,
+        own: u16,
+    ) -> Result<(), AllocError>
         requires free { number_of (LinkTest.LiveAt own) self.old ≡ None }
         requires within { number < length self.old.links }
         requires called { (link : LinkOf WireFlow) → slice_get self.old.links number ≡ Some link → is_called link.port.phase ≡ true }
@@ -49,7 +72,14 @@ impl<W: Window<Piece, 4096> + Drop> Links<W> {
             → OnOk result (self.new ≡ changed number (answered wire_flows phase own link) (freed wire_flows own self.old)) }
         ensures err { OnErr result (self.new ≡ self.old) }
     {
-        answered_at(&mut self.links, &self.live, &mut self.holders, number, phase, own)
+        answered_at(
+            &mut self.links,
+            &self.live,
+            &mut self.holders,
+            number,
+            phase,
+            own,
+        )
     }
 }
 
@@ -89,7 +119,11 @@ fn called_at<W: Window<Piece, 4096> + Drop>(
 }
 
 // A link is put behind the others, for which there is room.
-fn put<W: Window<Piece, 4096> + Drop>(links: &mut Vec<Link<W>>, live: &mut Vec<usize>, link: Link<W>)
+fn put<W: Window<Piece, 4096> + Drop>(
+    links: &mut Vec<Link<W>>,
+    live: &mut Vec<usize>,
+    link: Link<W>,
+)
     requires room { vec_len links.old < vec_capacity links.old }
     requires live { vec_len live.old < vec_capacity live.old }
     ensures links { links.new.items ≡ links.old.items ++ link ∷ [] }

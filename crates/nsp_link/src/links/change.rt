@@ -53,14 +53,18 @@ impl<W: Window<Piece, 4096> + Drop> Links<W> {
     }
 
     // A segment is sent on the link with this number.
-    pub(super) fn send_segment_at(&mut self, number: usize, segment: &Segment) -> Result<(), LinkFault>
+    pub(super) fn send_segment_at(
+        &mut self,
+        number: usize,
+        segment: &Segment,
+    ) -> Result<(), LinkFault>
         requires within { number < length self.old.links }
         requires live { (link : LinkOf WireFlow) → slice_get self.old.links number ≡ Some link → is_live link.port.phase ≡ true }
         requires acks { AllByRecursion IsAckWord segment.now.acks.items }
         requires segnum { segment.now.number < 4096 }
         ensures ok { (link : LinkOf WireFlow) → slice_get self.old.links number ≡ Some link
             → OnOk result (carries wire_flows self.old number link (segment_of wire_flows (segment_view segment.now) link)
-                ≡ Ok (record { links = self.new; truth = truth_of wire_flows number link tt })) }
+            ≡ Ok (record { links = self.new; truth = truth_of wire_flows number link tt })) }
         ensures refused { (link : LinkOf WireFlow) → slice_get self.old.links number ≡ Some link
             → IfErr result (λ fault. IsFault (segment_of wire_flows (segment_view segment.now) link) true fault) }
         ensures err { OnErr result (self.new ≡ self.old) }
@@ -69,13 +73,17 @@ impl<W: Window<Piece, 4096> + Drop> Links<W> {
     }
 
     // Acknowledgement words are sent alone on the link with this number.
-    pub(super) fn send_acks_at(&mut self, number: usize, words: &[AckWord]) -> Result<(), LinkRefusal>
+    pub(super) fn send_acks_at(
+        &mut self,
+        number: usize,
+        words: &[AckWord],
+    ) -> Result<(), LinkRefusal>
         requires within { number < length self.old.links }
         requires live { (link : LinkOf WireFlow) → slice_get self.old.links number ≡ Some link → is_live link.port.phase ≡ true }
         requires acks { AllByRecursion IsAckWord words.now }
         ensures ok { (link : LinkOf WireFlow) → slice_get self.old.links number ≡ Some link
             → OnOk result (carries wire_flows self.old number link (sends_acks words.now link.flow)
-                ≡ Ok (record { links = self.new; truth = truth_of wire_flows number link tt })) }
+            ≡ Ok (record { links = self.new; truth = truth_of wire_flows number link tt })) }
         ensures refused { (link : LinkOf WireFlow) → slice_get self.old.links number ≡ Some link
             → IfErr result (λ refusal. sends_acks words.now link.flow ≡ Err refusal) }
         ensures err { OnErr result (self.new ≡ self.old) }
@@ -115,7 +123,11 @@ impl<W: Window<Piece, 4096> + Drop> Links<W> {
     }
 
     // A segment comes on the link with this number, and it runs. Where memory is refused, nothing changes.
-    pub(super) fn take_segment_at(&mut self, number: usize, segment: &Segment) -> Result<(), AllocError>
+    pub(super) fn take_segment_at(
+        &mut self,
+        number: usize,
+        segment: &Segment,
+    ) -> Result<(), AllocError>
         requires within { number < length self.old.links }
         requires live { (link : LinkOf WireFlow) → slice_get self.old.links number ≡ Some link → is_live link.port.phase ≡ true }
         requires acks { AllByRecursion IsAckWord segment.now.acks.items }

@@ -79,14 +79,22 @@ impl<W: Window<Piece, 4096> + Drop> Links<W> {
                 self.disconnect_confirm(message.dstaddr, message.srcaddr, message.reason)
             }
             Nsp::ConnectInitiate(message) => {
-                let test = LinkTest::OpenedAt { own: message.srcaddr };
+                let test = LinkTest::OpenedAt {
+                    own: message.srcaddr,
+                };
                 self.in_its_phase(test, Phase::Calling)
             }
             Nsp::ConnectConfirm(message) => {
-                self.in_its_phase(the_link(message.srcaddr, message.dstaddr), Phase::Confirming)
+                self.in_its_phase(
+                    the_link(message.srcaddr, message.dstaddr),
+                    Phase::Confirming,
+                )
             }
             Nsp::DisconnectInitiate(message) => {
-                self.in_its_phase(the_link(message.srcaddr, message.dstaddr), Phase::Disconnecting)
+                self.in_its_phase(
+                    the_link(message.srcaddr, message.dstaddr),
+                    Phase::Disconnecting,
+                )
             }
             Nsp::LinkService(message) => {
                 self.in_its_phase(the_link(message.srcaddr, message.dstaddr), Phase::Running)

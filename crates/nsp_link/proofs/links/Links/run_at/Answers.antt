@@ -10,7 +10,7 @@ pub invariant_of-self : goal.invariant_of-self
 invariant_of-self g c =
     let l = c.self.inside in
     change_indexed l.node l.peer l.links.items c.args.self.now c.self.view_is c.args.number c.index_mut.result.now c.requires.within c.index_mut.ensures.value l.live.items _ c.run.new.self c.self.invariant c.requires.live
-      (ap (λ (m : LinkOf WireFlow). is_live m.port.phase) c.run.ensures) (ap (λ (m : LinkOf WireFlow). m.port.own) c.run.ensures)
+    (ap (λ (m : LinkOf WireFlow). is_live m.port.phase) c.run.ensures) (ap (λ (m : LinkOf WireFlow). m.port.own) c.run.ensures)
 
 pub returns : goal.returns
 returns g c =

@@ -17,10 +17,10 @@ returns-clause-index g c =
     let there : slice_get {X = LinkOf WireFlow} items c.args.number ≡ Some l = link_at items c.args.number l c.requires.within c.index.ensures in
     let called = c.requires.called l there in
     answer_index items _ c.args.live.now.items _ _ c.args.own c.args.number l m c.requires.index there (c.port-port.ensures.called called) (called_lives l.port.phase called)
-      (ap (λ (k : LinkOf WireFlow). k.port.own) c.answer.ensures)
-      (ap (λ (k : LinkOf WireFlow). is_live k.port.phase) c.answer.ensures ∙ c.requires.live)
-      (ap (λ (xs : List (LinkOf WireFlow)). set xs c.args.number m) (c.free.ensures.items ∙ ap (λ (h : Option ℕ). forgotten_at h items) c.holder_of-holder.ensures))
-      c.in_ok-give.ensures.ok
+    (ap (λ (k : LinkOf WireFlow). k.port.own) c.answer.ensures)
+    (ap (λ (k : LinkOf WireFlow). is_live k.port.phase) c.answer.ensures ∙ c.requires.live)
+    (ap (λ (xs : List (LinkOf WireFlow)). set xs c.args.number m) (c.free.ensures.items ∙ ap (λ (h : Option ℕ). forgotten_at h items) c.holder_of-holder.ensures))
+    c.in_ok-give.ensures.ok
 
 pub returns-clause-ok : goal.returns-clause-ok
 returns-clause-ok g c = λ link found.
