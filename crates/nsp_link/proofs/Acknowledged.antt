@@ -1,14 +1,12 @@
 -- Acknowledgement words that come, one after the other.
-use Rattle.std.proofs.Common.{◌≡◌, ℕ, ◌+◌, ◌<◌, Bool, true, false, ◌&&◌, Option, List, [], ◌∷◌, length, drop, get_or, refl, sym, ap, ◌∙◌, subst}
+use Rattle.std.proofs.Common.{◌≡◌, ℕ, ◌+◌, ◌<◌, Bool, true, false, ◌&&◌, Option, List, [], ◌∷◌, length, drop, get_or, refl, sym, ap, ◌∙◌}
 use Rattle.std.specs.Prelude.{nat_le}
-use Rattle.std.specs.List.{AllByRecursion, fold}
 use Rattle.std.proofs.lemmas.List.{drop_more}
 use Rattle.wire_base.specs.Window.{WindowView}
 use Rattle.dna_packet.specs.declared.ack_word.AckWord.{AckWord}
-use Rattle.dna_packet.specs.AckWord.{IsAckWord}
 use Rattle.dna_model.specs.Flow.{is_of_data, distance}
 use Rattle.dna_model.specs.Pieces.{Piece, Unsent}
-use Rattle.dna_model.specs.WireFlow.{LinkVariables, WireFlow, LastSent, takes_acks, acknowledged_by, acknowledged_by_all, acknowledged_to as kept_to}
+use Rattle.dna_model.specs.WireFlow.{LinkVariables, WireFlow, LastSent, takes_acks, acknowledged_by_all, acknowledged_to as kept_to}
 use Rattle.nsp_link.specs.Outstanding.{acknowledged_to}
 use Rattle.nsp_link.specs.Flow.{acknowledged_word, acknowledged_words}
 use Rattle.nsp_link.proofs.Words.{first_in_range, later_in_range}

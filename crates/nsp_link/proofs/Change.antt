@@ -1,5 +1,5 @@
 -- What a link that changes in its place makes of the links.
-use Rattle.std.proofs.Common.{◌≡◌, ℕ, ◌<◌, Bool, true, false, not, cond, eqb, Option, Some, None, Result, Ok, Err, OnOk, IfErr, IsOk, List, length, get_or, set, refl, sym, subst, ap, ◌∙◌}
+use Rattle.std.proofs.Common.{◌≡◌, ℕ, ◌<◌, Bool, true, false, cond, Option, Some, None, Result, Ok, Err, OnOk, IfErr, IsOk, List, length, get_or, set, refl, sym, subst, ap, ◌∙◌}
 use Rattle.std.specs.Prelude.{slice_get}
 use Rattle.std.proofs.lemmas.List.{set-get_or}
 use Rattle.dna_model.specs.declared.link_refusal.LinkRefusal.{LinkRefusal}
@@ -12,7 +12,7 @@ use Rattle.nsp_link.specs.declared.fault.LinkFault.TheVariants.{Refused, OutOfMe
 use Rattle.nsp_link.specs.Fault.{IsFault}
 use Rattle.std.proofs.lemmas.Option.{slice_get_read}
 use Rattle.dna_model.specs.LinkTests.{is_live}
-use Rattle.dna_model.specs.Links.{LinkOf, LinksOf, changed, with_flow}
+use Rattle.dna_model.specs.Links.{LinkOf, changed, with_flow}
 use Rattle.dna_model.specs.WireFlow.{WireFlow, wire_flows, sending, delivers}
 use Rattle.dna_model.specs.WireLinks.{WireLinks}
 use Rattle.nsp_link.specs.Index.{IsIndexed, without}

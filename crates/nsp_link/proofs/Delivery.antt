@@ -1,5 +1,5 @@
 -- A message that is delivered, by the pieces that it came in.
-use Rattle.std.proofs.Common.{◌≡◌, ℕ, ◌+◌, ◌≤◌, Bool, true, false, cond, Option, Some, None, List, [], ◌∷◌, length, drop, refl, sym, ap, ◌∙◌, arith}
+use Rattle.std.proofs.Common.{◌≡◌, ℕ, ◌+◌, ◌≤◌, Bool, true, false, cond, Option, Some, None, List, [], ◌∷◌, drop, refl, ap, arith}
 use Rattle.std.specs.Str.{bytes_eq}
 use Rattle.dna_model.specs.Pieces.{Piece, Whole, in_order, next_message, with_piece}
 use Rattle.dna_model.specs.WireFlow.{WireFlow, delivers, delivers_whole, delivered_as}

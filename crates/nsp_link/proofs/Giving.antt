@@ -1,11 +1,11 @@
 -- An own address that is given: to a link that begins, or to one that is answered; the ended link that had it loses it.
-use Rattle.std.proofs.Common.{◌≡◌, ℕ, zero, suc, ◌+◌, ◌<◌, ◌≤◌, Bool, true, false, not, cond, Option, Some, None, List, [], ◌∷◌, ◌++◌, length, get_or, set, map, refl, sym, subst, ap, ◌∙◌, arith, eqb}
+use Rattle.std.proofs.Common.{◌≡◌, ℕ, zero, suc, ◌<◌, Bool, true, false, cond, Option, Some, None, List, [], ◌∷◌, ◌++◌, length, get_or, set, refl, sym, ap, ◌∙◌, arith, eqb}
 use Rattle.std.specs.Prelude.{slice_get, position}
 use Rattle.std.proofs.lemmas.Option.{slice_get_within, slice_get_read}
 use Rattle.std.proofs.lemmas.Bool.{eqb-true, eqb-false, eq-eqb, ne_eqb}
 use Rattle.dna_model.specs.LinkTests.{is_live, is_at}
 use Rattle.dna_model.specs.declared.port.LinkTest.TheVariants.{HasAddress}
-use Rattle.dna_model.specs.Links.{LinkOf, LinksOf, number_of, at_number, on_link, begun, changed, forgotten, freed}
+use Rattle.dna_model.specs.Links.{LinkOf, number_of, at_number, on_link, begun, changed, forgotten, freed}
 use Rattle.dna_model.specs.LinkUser.{opened, answered}
 use Rattle.dna_model.specs.declared.port.Phase.{Phase}
 use Rattle.dna_model.specs.WireFlow.{WireFlow, wire_flows}

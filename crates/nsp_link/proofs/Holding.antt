@@ -1,10 +1,10 @@
 -- A segment that came twice changes nothing.
-use Rattle.std.proofs.Common.{◌≡◌, ℕ, ◌+◌, ◌-◌, ◌%◌, ◌<◌, ◌≤◌, Bool, true, false, ◌&&◌, cond, Option, List, length, refl, sym, ap, ◌∙◌, arith}
+use Rattle.std.proofs.Common.{◌≡◌, ℕ, ◌+◌, ◌-◌, ◌<◌, Bool, true, false, ◌&&◌, cond, Option, List, refl, sym, ap, ◌∙◌, arith}
 use Rattle.std.specs.Prelude.{nat_le}
 use Rattle.dna_packet.specs.Nsp.{SegmentValue}
 use Rattle.dna_model.specs.Flow.{REACH, wire, distance}
-use Rattle.dna_model.specs.Pieces.{Piece, piece_of, in_order, hold}
-use Rattle.dna_model.specs.WireFlow.{LinkVariables, WireFlow, with_pieces, with_segment, segment_taken, held}
+use Rattle.dna_model.specs.Pieces.{Piece, piece_of, in_order}
+use Rattle.dna_model.specs.WireFlow.{LinkVariables, WireFlow, with_pieces, with_segment, held}
 use Rattle.nsp_link.specs.Received.{is_missing_at}
 use Rattle.nsp_link.specs.Flow.{with_held}
 use Rattle.nsp_link.proofs.Arrived.{hold_there}

@@ -1,5 +1,5 @@
 -- Links that are found by the list of those that live, and by the last holder of each own address.
-use Rattle.std.proofs.Common.{◌≡◌, ℕ, zero, suc, ◌+◌, ◌<◌, ◌≤◌, Bool, true, false, ◌&&◌, not, cond, Option, Some, None, List, [], ◌∷◌, ◌++◌, length, drop, get_or, set, map, refl, sym, subst, ap, ◌∙◌, arith, ltb, eqb}
+use Rattle.std.proofs.Common.{◌≡◌, ℕ, zero, suc, ◌+◌, ◌<◌, Bool, true, false, ◌&&◌, not, cond, Option, Some, None, List, [], ◌∷◌, ◌++◌, length, drop, get_or, set, map, refl, sym, subst, ap, ◌∙◌, arith, ltb, eqb}
 use Rattle.std.specs.Prelude.{slice_get, position, remove}
 use Rattle.std.specs.List.{position_or_len}
 use Rattle.std.specs.Option.{option_map, IfSome}

@@ -1,9 +1,9 @@
 -- What is known of a piece that is the next one of the messages handed in.
-use Rattle.std.proofs.Common.{◌≡◌, ℕ, ◌+◌, ◌-◌, ◌≤◌, Bool, true, false, ◌&&◌, not, List, [], ◌∷◌, length, take, drop, get_or, refl, sym, ap, ◌∙◌, arith, length-take, length-drop, min, eqb}
+use Rattle.std.proofs.Common.{◌≡◌, ℕ, ◌-◌, ◌≤◌, Bool, true, false, ◌&&◌, List, [], ◌∷◌, length, take, drop, get_or, refl, ap, arith, length-take, length-drop}
 use Rattle.std.specs.Str.{bytes_eq}
 use Rattle.std.proofs.lemmas.Slice.Eq.{bytes_eq-Decides}
-use Rattle.dna_model.specs.Pieces.{Piece, alike, is_piece_of, is_next_of, is_next_piece}
-use Rattle.nsp_link.specs.Unsent.{without_given, given_fits}
+use Rattle.dna_model.specs.Pieces.{Piece, is_piece_of, is_next_piece}
+use Rattle.nsp_link.specs.Unsent.{without_given}
 
 -- a test that passes with another one passes
 first_of : (a b : Bool) → (a && b) ≡ true → a ≡ true

@@ -1,5 +1,5 @@
 -- Which refusal a fault is.
-use Rattle.std.specs.Prelude.{◌≡◌, Bool, true, Option, Some, None, IsOk, Result, Ok, Err}
+use Rattle.std.specs.Prelude.{◌≡◌, Bool, true, IsOk, Result, Err}
 use Rattle.dna_model.specs.declared.link_refusal.LinkRefusal.{LinkRefusal}
 use Rattle.nsp_link.specs.declared.fault.LinkFault.{LinkFault}
 use Rattle.nsp_link.specs.declared.fault.LinkFault.TheVariants.{Refused, OutOfMemory}

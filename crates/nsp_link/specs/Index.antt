@@ -1,6 +1,6 @@
 -- How the links of a node are found without a look at all that ever were: by the list of those that live, and by the last holder of
 -- each own address.
-use Rattle.std.specs.Prelude.{◌≡◌, ◌==◌, ℕ, suc, Bool, false, ◌&&◌, Option, Some, None, List, [], ◌∷◌, map, slice_get, slice_set, if◌then◌else◌, true}
+use Rattle.std.specs.Prelude.{◌≡◌, ◌==◌, ℕ, suc, Bool, false, Option, Some, None, List, [], ◌∷◌, map, slice_get, slice_set, if◌then◌else◌, true}
 use Rattle.dna_model.specs.declared.port.LinkTest.{LinkTest}
 use Rattle.dna_model.specs.declared.port.LinkTest.TheVariants.{HasAddress}
 use Rattle.dna_model.specs.LinkTests.{is_live}

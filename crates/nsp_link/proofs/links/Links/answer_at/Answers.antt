@@ -4,7 +4,7 @@ use Rattle.std.specs.Prelude.{slice_get}
 use Rattle.dna_model.specs.WireLinks.{WireLinks}
 use Rattle.dna_model.specs.Links.{number_of}
 use Rattle.nsp_link.proofs.Index.{dead_holder, address_found}
-use Rattle.nsp_link.proofs.Giving.{opened_made, answered_made}
+use Rattle.nsp_link.proofs.Giving.{answered_made}
 use Rattle.nsp_link.proofs.Change.{map_ok}
 use Rattle.nsp_link.proofs.links.Links.answer_at.Goals as goal
 

@@ -2,7 +2,7 @@ use Rattle.std.proofs.Common.{ap, ◌∙◌}
 use Rattle.dna_model.specs.declared.port.LinkTest.TheVariants.{LiveAt}
 use Rattle.dna_model.specs.Links.{number_of}
 use Rattle.nsp_link.proofs.Index.{dead_holder, address_found}
-use Rattle.nsp_link.proofs.Giving.{opened_made, answered_made}
+use Rattle.nsp_link.proofs.Giving.{opened_made}
 use Rattle.nsp_link.proofs.Change.{map_ok}
 use Rattle.nsp_link.proofs.links.Links.begin_opened.Goals as goal
 

@@ -1,5 +1,4 @@
 use Rattle.std.proofs.Common.{ap}
-use Rattle.dna_model.specs.declared.port.Phase.{Phase}
 use Rattle.dna_model.specs.declared.port.Phase.TheVariants.{Disconnecting}
 use Rattle.dna_model.specs.LinkTests.{is_live}
 use Rattle.dna_model.specs.Links.{LinkOf, in_phase}

@@ -1,12 +1,9 @@
-use Rattle.std.proofs.Common.{ap, refl, ◌∙◌}
-use Rattle.dna_packet.specs.Nsp.{segment_view}
+use Rattle.std.proofs.Common.{ap, refl}
 use Rattle.dna_model.specs.LinkTests.{is_live}
-use Rattle.dna_model.specs.Links.{LinkOf, with_flow, ended}
-use Rattle.dna_model.specs.LinkSending.{segment_of}
-use Rattle.dna_model.specs.LinkArriving.{of_partner, running}
-use Rattle.dna_model.specs.WireFlow.{WireFlow, wire_flows, hands_in, sends_acks, takes_segment, is_new}
+use Rattle.dna_model.specs.Links.{LinkOf, ended}
+use Rattle.dna_model.specs.WireFlow.{WireFlow, wire_flows}
 use Rattle.nsp_link.proofs.Index.{indexed_same}
-use Rattle.nsp_link.proofs.Change.{end_indexed, link_found, change_indexed, change_made, change_none, carry_made, fault_made, refusal_made, told_made, map_ok}
+use Rattle.nsp_link.proofs.Change.{end_indexed, change_made}
 use Rattle.nsp_link.proofs.links.Links.end_at.Goals as goal
 
 pub returns : goal.returns

@@ -1,5 +1,4 @@
-use Rattle.std.proofs.Common.{ℕ, List, sym, ◌∙◌}
-use Rattle.dna_model.specs.WireFlow.{WireFlow}
+use Rattle.std.proofs.Common.{sym, ◌∙◌}
 use Rattle.nsp_link.proofs.Index.{live_found, found_number}
 use Rattle.nsp_link.proofs.links.Links.find.Goals as goal
 

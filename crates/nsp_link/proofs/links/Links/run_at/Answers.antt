@@ -1,8 +1,8 @@
 use Rattle.std.proofs.Common.{ap}
 use Rattle.dna_model.specs.LinkTests.{is_live}
-use Rattle.dna_model.specs.Links.{LinkOf, in_phase}
-use Rattle.dna_model.specs.LinkArriving.{of_partner, confirmed, running}
-use Rattle.dna_model.specs.WireFlow.{WireFlow, wire_flows, takes_acks}
+use Rattle.dna_model.specs.Links.{LinkOf}
+use Rattle.dna_model.specs.LinkArriving.{of_partner, running}
+use Rattle.dna_model.specs.WireFlow.{WireFlow, wire_flows}
 use Rattle.nsp_link.proofs.Change.{change_indexed, change_made}
 use Rattle.nsp_link.proofs.links.Links.run_at.Goals as goal
 

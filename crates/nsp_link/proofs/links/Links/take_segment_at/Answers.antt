@@ -1,11 +1,7 @@
-use Rattle.std.proofs.Common.{ap, ◌∙◌}
 use Rattle.dna_packet.specs.Nsp.{segment_view}
-use Rattle.dna_model.specs.LinkTests.{is_live}
-use Rattle.dna_model.specs.Links.{LinkOf, with_flow}
-use Rattle.dna_model.specs.LinkSending.{segment_of}
 use Rattle.dna_model.specs.LinkArriving.{of_partner, running}
-use Rattle.dna_model.specs.WireFlow.{WireFlow, wire_flows, hands_in, sends_acks, takes_segment, is_new}
-use Rattle.nsp_link.proofs.Change.{link_found, change_indexed, change_made, change_none, carry_made, fault_made, refusal_made, told_made, map_ok}
+use Rattle.dna_model.specs.WireFlow.{wire_flows, takes_segment}
+use Rattle.nsp_link.proofs.Change.{change_indexed, change_made, map_ok}
 use Rattle.nsp_link.proofs.links.Links.take_segment_at.Goals as goal
 
 pub invariant_of-self : goal.invariant_of-self
