@@ -1,0 +1,9 @@
+mod Pieces
+mod Words
+mod Arrived
+mod Delivery
+mod Acknowledged
+mod Holding
+mod Index
+mod Change
+mod Giving
