@@ -7,3 +7,4 @@ mod Holding
 mod Index
 mod Change
 mod Giving
+mod Ended

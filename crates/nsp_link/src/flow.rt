@@ -92,9 +92,10 @@ impl<W: Window<Piece, 4096> + Drop> Flow<W> {
         true
     }
 
-    /// The link ends: what is received in whole messages is kept, and nothing else.
-    pub fn end(&mut self, alloc: Global)
-        ensures { self.new ≡ ends self.old }
+    /// The link ends: what is received in whole messages is kept, and nothing else. The answer is whether that is nothing.
+    pub fn end(&mut self, alloc: Global) -> bool
+        ensures ends { self.new ≡ ends self.old }
+        ensures empty { result ≡ (length self.new.kept.pieces == 0) }
     {
         self.unsent = Unsent::new(alloc);
         self.outstanding = Outstanding::new();
@@ -102,12 +103,6 @@ impl<W: Window<Piece, 4096> + Drop> Flow<W> {
         self.pieces.keep_whole_messages();
         self.gave_many = false;
         self.last = LastSent::new();
-    }
-
-    /// Whether nothing is left to deliver.
-    pub fn is_empty(&self) -> bool
-        ensures { result ≡ (length self.now.kept.pieces == 0) }
-    {
         self.pieces.is_empty()
     }
 }

@@ -201,14 +201,19 @@ impl<W: Window<Piece, 4096> + Drop> Link<W> {
 
     // ---- what comes
 
-    /// It is over: it keeps what may still be delivered, and nothing else.
+    /// It is over: it keeps what may still be delivered, and nothing else. Where that is nothing, its memory is given back.
+    #[tactic(auto, using(crate::proofs::Ended::left))]
     pub fn end(&mut self, alloc: Global)
         requires { is_live self.old.port.phase ≡ true }
         ensures { self.new ≡ links.ended wire_flows self.old }
     {
         self.port.phase = Phase::Ended;
-        if let Some(flow) = &mut self.flow {
-            flow.end(alloc);
+        let Some(flow) = &mut self.flow else {
+            unreachable!();
+        };
+        let empty = flow.end(alloc);
+        if empty {
+            self.flow = None;
         }
     }
 
