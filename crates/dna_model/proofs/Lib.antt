@@ -70,3 +70,5 @@ mod OfferedRuns
 mod OnTop
 mod PlacesInOrder
 mod Joined
+mod LayersRowUnits
+mod LayersRows
