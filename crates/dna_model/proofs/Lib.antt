@@ -86,3 +86,5 @@ mod LinkReached
 mod OnTop
 mod PlacesInOrder
 mod Joined
+mod LayersRowUnits
+mod LayersRows
