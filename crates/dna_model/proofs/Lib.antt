@@ -67,6 +67,12 @@ mod InOrder
 mod Among
 mod InOrderRuns
 mod OfferedRuns
+-- the node over both layers
+mod OnTop
+mod PlacesInOrder
+mod Joined
+mod LayersRowUnits
+mod LayersRows
 -- the links of both sides, in every run
 mod LinkTables
 mod LinkWords
@@ -81,4 +87,3 @@ mod LinkOwners
 mod LinkReadSteps
 mod LinkCounts
 mod LinkRunBounds
-mod LinkReached
