@@ -385,3 +385,69 @@ fn longest_and_empty_message(rt: HostRuntime) -> Result<(), Fail> {
     delivers_the_longest::<PlainWindow<Piece, 4096>>(&rt, rt.alloc())?;
     delivers_the_longest::<RingWindow<Piece, 4096>>(&rt, rt.alloc())
 }
+
+// The highest true number up to which all came.
+fn highest(came: &[bool], from: u64) -> u64 {
+    let mut highest = from;
+    for _ in 0..4_096 {
+        let next = highest.wrapping_add(1);
+        let Some(true) = came.get(next as usize) else {
+            return highest;
+        };
+        highest = next;
+    }
+    highest
+}
+
+// Segments come in any order, twice, and from 2,047 behind: the node may acknowledge just what a list of true numbers says.
+fn takes_any_order<W: Window<Piece, 4096> + Drop>(
+    rt: &impl Abort,
+    alloc: Global,
+) -> Result<(), Fail> {
+    let mut a: Side<W> = new_side(alloc, A, B);
+    let mut b: Side<W> = new_side(alloc, B, A);
+    connect(rt, &mut a, &mut b);
+    let mut came = Vec::new(alloc);
+    came.resize(10_001, false)?;
+    let mut random = 1u64;
+    let mut received = 0u64;
+    for _ in 0..30_000 {
+        random = random
+            .wrapping_mul(6_364_136_223_846_793_005)
+            .wrapping_add(1_442_695_040_888_963_407);
+        let near = received
+            .saturating_sub(2_047)
+            .wrapping_add((random >> 33) % 4_095);
+        let number = if (random >> 20) % 4 == 0 {
+            received.wrapping_add(1)
+        } else {
+            near
+        };
+        if number == 0 || number > 10_000 || number > received.wrapping_add(2_047) {
+            continue;
+        }
+        assert_eq!(rt; takes(&mut b, &segment(number), PAIRED), Ok(()));
+        if let Some(place) = came.get_mut(number as usize) {
+            *place = true;
+        }
+        received = highest(&came, received);
+        assert_eq!(rt;
+            sends(&mut b, &ack(received.wrapping_add(1))),
+            refused(LinkRefusal::WrongAck),
+            "{number}"
+        );
+        assert_eq!(rt; sends(&mut b, &ack(received)), Ok(PAIRED), "{number}");
+    }
+    assert!(rt; received > 5_000);
+    for _ in 0..received {
+        assert_eq!(rt; b.links.user(up(b"a")), Ok(()));
+    }
+    assert_eq!(rt; b.links.user(up(b"a")), refused(LinkRefusal::WrongDelivery));
+    Ok(())
+}
+
+#[test]
+fn segments_in_any_order(rt: HostRuntime) -> Result<(), Fail> {
+    takes_any_order::<PlainWindow<Piece, 4096>>(&rt, rt.alloc())?;
+    takes_any_order::<RingWindow<Piece, 4096>>(&rt, rt.alloc())
+}
