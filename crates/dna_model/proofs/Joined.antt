@@ -1,5 +1,5 @@
 -- The layers joined: in every run the links of both sides, with the packets that went between them, are led to by steps of the links alone.
-use Rattle.std.proofs.Common.{◌≡◌, ℕ, zero, suc, ◌+◌, ◌-◌, ◌<◌, ◌≤◌, ◌⊎◌, inl, inr, Bool, true, false, cond, Option, Some, None, List, [], ◌∷◌, ◌++◌, map, length, refl, sym, ap, ap₂, ◌∙◌, subst, arith, length-append, append-nil, append_assoc, eqb-true, option_map}
+use Rattle.std.proofs.Common.{◌≡◌, ℕ, zero, suc, ◌+◌, ◌<◌, ◌⊎◌, inl, inr, Bool, true, false, cond, Option, Some, List, [], ◌∷◌, ◌++◌, map, length, refl, sym, ap, ap₂, ◌∙◌, subst, arith, length-append, append-nil, append_assoc, eqb-true, option_map}
 use Rattle.std.specs.Prelude.{slice_get}
 use Rattle.std.proofs.lemmas.Bool.{eqb-false}
 use Rattle.std.proofs.lemmas.Grind.{flat_map-append}
@@ -15,7 +15,6 @@ use Rattle.ddcmp_msg.specs.Message.{MessageValue, Data, Ack, Nak, Rep, Strt, Sta
 use Rattle.ddcmp_msg.specs.declared.nak_reason.NakReason.{NakReason}
 use Rattle.ddcmp_msg.specs.declared.nak_reason.NakReason.TheVariants.{HeaderCheck, DataCheck}
 use Rattle.capture.specs.declared.record.Record.{Record}
-use Rattle.capture.specs.declared.record.Record.TheVariants.{Sent, Received, User}
 use Rattle.dna_model.specs.declared.head.Head.{Head}
 use Rattle.dna_model.specs.declared.state.StationEvent.TheVariants.{Start, Halt}
 use Rattle.dna_model.specs.Table.{counts_damage, change_of, row}
@@ -23,21 +22,20 @@ use Rattle.dna_model.specs.Rules.{judged}
 use Rattle.dna_model.specs.Station.{Station, PastPeriod, past, packets_of, all_given, after_event}
 use Rattle.dna_model.specs.Truth.{Truth, place_of}
 use Rattle.dna_model.specs.Book.{ArrivalValue, Sound, HeaderBad, DataBad, body_of}
-use Rattle.dna_model.specs.StationBook.{is_new, with_packet, does, after_sending, truth_of, gives_number, after_arrival, station_book}
+use Rattle.dna_model.specs.StationBook.{with_packet, does, after_sending, truth_of, gives_number, after_arrival, station_book}
 use Rattle.dna_model.specs.Bounds.{IsOrdered}
 use Rattle.dna_model.specs.Line.{SentUnit}
-use Rattle.dna_model.specs.Node.{Node}
 use Rattle.dna_model.specs.LinkUser.{LinkEventValue}
 use Rattle.dna_model.specs.LinkRuns.{SentMessage, LinkSide, LinkWorld, LinkStep, ByUser, Sends, SendsNone, Keeps, KeepsNone, Reached, Start as Begun, ByA, ByB}
-use Rattle.dna_model.specs.Layers.{Layers, LayersTruth, LayersNode, LayersUnit, of_place, carried_again, first_sent, sends_again, to_station, unit_of_station, stations}
+use Rattle.dna_model.specs.Layers.{Layers, LayersTruth, LayersNode, LayersUnit, of_place, carried_again, to_station, unit_of_station, stations}
 use Rattle.dna_model.specs.LayersPair.{layers_pair, layers_start, one_or_none, link_event_in, link_events, side_of, new_links_world, AreJoined}
-use Rattle.dna_model.proofs.Effects.{kept_by_all, does_stays, sending_stays}
+use Rattle.dna_model.proofs.Effects.{kept_by_all, does_stays}
 use Rattle.dna_model.proofs.CutNode.{arrival_packets}
 use Rattle.dna_model.proofs.Happens.{happens}
 use Rattle.dna_model.proofs.NumberedSteps.{at_pushed}
 use Rattle.dna_model.proofs.StationNumbers.{is_data}
-use Rattle.dna_model.proofs.PlacesInOrder.{IsDataAt, BothPlaced, placed_kept, start_placed, IsBehind, LeftBehind, behind_left, behind_beside}
-use Rattle.dna_model.proofs.OnTop.{FirstSent, NoMessage, Message, IsMet, NotKept, KeptNone, KeptOne, sent_by, OnTop, ByStation, ByLinks, Again, First, Receipt, follows}
+use Rattle.dna_model.proofs.PlacesInOrder.{BothPlaced, placed_kept, start_placed, IsBehind, LeftBehind, behind_left, behind_beside}
+use Rattle.dna_model.proofs.OnTop.{NoMessage, Message, NotKept, KeptNone, KeptOne, OnTop, ByStation, ByLinks, Again, First, Receipt, follows}
 
 -- ---- all packets given
 

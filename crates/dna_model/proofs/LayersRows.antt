@@ -51,6 +51,21 @@ first_lost_wire : IsWireRun first_lost_a first_lost_b
 unfolding reading is_good check_of after_byte shift
 first_lost_wire = all_made wire_layers_pair first_lost_order wire_start first_lost_a first_lost_b refl
 
+-- A packet that found no buffer is sent again, with what was true of it at first: the CC is for the link that called, and brings it into RUN
+abbrev label_comes_back_a : List Record
+label_comes_back_a = User Start ∷ Sent STRT ∷ Received 0 false STACK ∷ User (Open 1) ∷ Sent CI_1 ∷ Received 1 false CC_1_2 ∷ Sent NAK_BUFFER0 ∷ Received 2 true CC_1_2 ∷ Sent ACK_2_1 ∷ []
+
+abbrev label_comes_back_b : List Record
+label_comes_back_b = User Start ∷ Received 0 false STRT ∷ Sent STACK ∷ Received 1 true CI_1 ∷ User (Accept 1 2) ∷ Sent CC_1_2 ∷ Received 2 false NAK_BUFFER0 ∷ Sent CC_1_2 ∷ []
+
+label_comes_back_true : IsTrueRun label_comes_back_a label_comes_back_b
+unfolding reading is_good check_of after_byte shift
+label_comes_back_true = (_, OfA refl (OfA refl (OfB refl (OfB refl (OfB refl (OfA refl (OfA refl (OfA refl (OfB refl (OfB refl (OfB refl (OfA refl (OfA refl (OfB refl (OfB refl (OfA refl (OfA refl Done)))))))))))))))))
+
+label_comes_back_wire : IsWireRun label_comes_back_a label_comes_back_b
+unfolding reading is_good check_of after_byte shift
+label_comes_back_wire = (_, OfA refl (OfA refl (OfB refl (OfB refl (OfB refl (OfA refl (OfA refl (OfA refl (OfB refl (OfB refl (OfB refl (OfA refl (OfA refl (OfB refl (OfB refl (OfA refl (OfA refl Done)))))))))))))))))
+
 abbrev one_missing_a : List Record
 one_missing_a = User Start ∷ Sent STRT ∷ Received 0 false STACK ∷ User (Open 1) ∷ Sent CI_1 ∷ Received 1 true CC_1_2 ∷ Sent ACK_2_1 ∷ User (In 1 letters) ∷ User (In 1 []) ∷ Sent SEGMENT_1 ∷ User Halt ∷ User Start ∷ Sent STRT ∷ Received 2 false STRT ∷ Sent STACK ∷ Received 3 false ACK0 ∷ Sent SEGMENT_2 ∷ Sent SEGMENT_3 ∷ Sent SEGMENT_4 ∷ []
 

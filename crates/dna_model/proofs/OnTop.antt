@@ -3,7 +3,7 @@ use Rattle.std.proofs.Common.{◌≡◌, ℕ, ◌+◌, Bool, true, false, cond, 
 use Rattle.std.specs.Prelude.{slice_get, bytes_eq}
 use Rattle.std.proofs.lemmas.List.{map-append}
 use Rattle.std.proofs.lemmas.Option.{slice_get-map}
-use Rattle.two_nodes.specs.Nodes.{Half, World, Outcome, answered, concluded, read, stepped, stepped_sending, advance}
+use Rattle.two_nodes.specs.Nodes.{Half, World, Outcome, Run, Done, OfA, OfB, answered, concluded, read, stepped, stepped_sending, advance}
 use Rattle.two_nodes.specs.Nodes.Outcome.{Made}
 use Rattle.two_nodes.specs.Kept.{IsKept}
 use Rattle.two_nodes.specs.Cutting.{cut_half, cut_world, cut_outcome}
@@ -72,7 +72,7 @@ pub data OnTop (rules : Rules) (own other : Half LayersNode LayersUnit) : Record
   Receipt : (hint : ℕ) (kept : Bool) (bytes : List ℕ) (unit : LayersUnit) (arrival : ArrivalValue LayersTruth) → slice_get other.sent hint ≡ Some unit →
       (links : Links) → IsMet rules own.state.station.links unit.known.carried kept links →
       OnTop rules own other (Received hint kept bytes)
-        (stepped own (record own.state { station = record own.state.station { station = after_arrival own.state.station.station (to_station arrival) kept; links = links }; front = hint + 1 }))
+      (stepped own (record own.state { station = record own.state.station { station = after_arrival own.state.station.station (to_station arrival) kept; links = links }; front = hint + 1 }))
 
 module _ (rules : Rules) (own other h : Half LayersNode LayersUnit) where
   abbrev s : Layers
@@ -224,3 +224,10 @@ module _ (holds : World Node SentUnit → List Record → List Record → Type 0
     by_a = λ w made_a made_b r h now made. kept.by_a (cut_world stations w) made_a made_b r (cut_half stations h) now (follows judged w.a w.b h r made).station;
     by_b = λ w made_a made_b r h now made. kept.by_b (cut_world stations w) made_a made_b r (cut_half stations h) now (follows judged w.b w.a h r made).station;
   }
+
+-- ---- a run over both layers is one of the stations
+
+pub run_of_stations : (w end : World LayersNode LayersUnit) (of_a of_b : List Record) → Run layers_pair w of_a of_b end → Run pair (cut_world stations w) of_a of_b (cut_world stations end)
+run_of_stations w end of_a of_b Done = Done
+run_of_stations w end of_a of_b (OfA {h = h} {r = r} {xs = xs} made rest) = OfA (follows judged w.a w.b h r made).station (run_of_stations (record { a = h; b = w.b }) end xs of_b rest)
+run_of_stations w end of_a of_b (OfB {h = h} {r = r} {ys = ys} made rest) = OfB (follows judged w.b w.a h r made).station (run_of_stations (record { a = w.a; b = h }) end of_a ys rest)

@@ -1,6 +1,6 @@
 -- Of the data messages of a side, the places of packets beside periods and numbers: in one period they rise together, and those of a later
 -- period come later. So a packet that is kept lies behind all that were kept before it.
-use Rattle.std.proofs.Common.{◌≡◌, ℕ, ◌+◌, ◌-◌, ◌<◌, ◌≤◌, ◌⊎◌, inl, inr, Bool, true, false, Option, Some, None, List, [], ◌∷◌, ◌++◌, length, refl, sym, ap, ◌∙◌, subst, arith, length-append, append-nil}
+use Rattle.std.proofs.Common.{◌≡◌, ℕ, ◌+◌, ◌-◌, ◌<◌, ◌≤◌, ◌⊎◌, inl, inr, Bool, true, false, Some, List, [], ◌∷◌, ◌++◌, length, refl, sym, ap, ◌∙◌, subst, arith, length-append, append-nil}
 use Rattle.std.specs.Prelude.{slice_get}
 use Rattle.std.proofs.lemmas.Bool.{cases_lt}
 use Rattle.std.proofs.lemmas.Grind.{flat_map-append}
@@ -16,7 +16,7 @@ use Rattle.dna_model.specs.declared.head.Head.{Head}
 use Rattle.dna_model.specs.declared.state.StationEvent.TheVariants.{Start, Halt}
 use Rattle.dna_model.specs.Station.{Station, PastPeriod, past, packets_of, after_event}
 use Rattle.dna_model.specs.Rules.{judged}
-use Rattle.dna_model.specs.Truth.{Truth, number_of, place_of}
+use Rattle.dna_model.specs.Truth.{number_of, place_of}
 use Rattle.dna_model.specs.StationBook.{after_sending, after_arrival}
 use Rattle.dna_model.specs.Delivery.{periods}
 use Rattle.dna_model.specs.Line.{SentUnit}

@@ -1,7 +1,6 @@
 -- The node over both layers, on true numbers: what its station makes of a record, with the links on top. So each reason of the station comes
 -- before 15 and 17, which are of a packet that is first sent, and before the reasons of the links.
-use Rattle.std.specs.Prelude.{ℕ, Bool, if◌then◌else◌, Option, Some, None, List, [], ◌∷◌, ◌++◌, slice_get, Result, Ok, Err}
-use Rattle.two_nodes.specs.Nodes.{Answer}
+use Rattle.std.specs.Prelude.{Bool, if◌then◌else◌, Option, Some, None, List, [], ◌∷◌, ◌++◌, slice_get, Result, Ok, Err}
 use Rattle.two_nodes.specs.Cutting.{Cut}
 use Rattle.ddcmp_msg.specs.Message.{MessageValue}
 use Rattle.capture.specs.declared.event.Event.{Event}

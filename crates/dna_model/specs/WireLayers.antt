@@ -1,6 +1,6 @@
 -- The wire node over both layers: the wire station with the links as a node keeps them on top. The label beside a packet is the tag of its message,
 -- which the links gave when the packet was first sent; a packet with no message of the links has a tag without a link.
-use Rattle.std.specs.Prelude.{Bool, if◌then◌else◌, Option, Some, None, List, Result, Ok, Err}
+use Rattle.std.specs.Prelude.{Bool, if◌then◌else◌, Option, Some, None, Result, Ok, Err}
 use Rattle.two_nodes.specs.Nodes.{Nodes, World, start_world}
 use Rattle.ddcmp_msg.specs.Message.{MessageValue}
 use Rattle.capture.specs.declared.record.Record.{Record}

@@ -7,6 +7,7 @@
 mod finding;
 mod head;
 pub mod laws;
+pub mod layers_laws;
 mod link_event;
 pub mod link_laws;
 mod link_refusal;
@@ -24,6 +25,7 @@ pub use laws::{
     cut_sending, delivered_in_order, numbers_in_order, numbers_within_bounds,
     packets_at_their_places, wire_nodes_see_right,
 };
+pub use layers_laws::{layers_run_as_stations, links_meet_packets_in_order};
 pub use link_event::LinkEvent;
 pub use link_laws::{cut_flow, cut_link_steps};
 pub use link_refusal::LinkRefusal;
