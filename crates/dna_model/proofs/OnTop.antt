@@ -72,7 +72,7 @@ pub data OnTop (rules : Rules) (own other : Half LayersNode LayersUnit) : Record
   Receipt : (hint : ℕ) (kept : Bool) (bytes : List ℕ) (unit : LayersUnit) (arrival : ArrivalValue LayersTruth) → slice_get other.sent hint ≡ Some unit →
       (links : Links) → IsMet rules own.state.station.links unit.known.carried kept links →
       OnTop rules own other (Received hint kept bytes)
-        (stepped own (record own.state { station = record own.state.station { station = after_arrival own.state.station.station (to_station arrival) kept; links = links }; front = hint + 1 }))
+      (stepped own (record own.state { station = record own.state.station { station = after_arrival own.state.station.station (to_station arrival) kept; links = links }; front = hint + 1 }))
 
 module _ (rules : Rules) (own other h : Half LayersNode LayersUnit) where
   abbrev s : Layers
