@@ -23,6 +23,7 @@ mod LinkArrivingRows
 mod LinkNumberRows
 mod LinkRequestRows
 mod LinkWindowRows
+mod LinkRunRows
 -- what holds of one station, and its cut to what a node keeps
 mod Modulo
 -- what is tested of a message that may be sent
@@ -66,3 +67,23 @@ mod InOrder
 mod Among
 mod InOrderRuns
 mod OfferedRuns
+-- the node over both layers
+mod OnTop
+mod PlacesInOrder
+mod Joined
+mod LayersRowUnits
+mod LayersRows
+-- the links of both sides, in every run
+mod LinkTables
+mod LinkWords
+mod LinkPieces
+mod LinkSends
+mod LinkEnds
+mod LinkTakes
+mod LinkSides
+mod LinkSteps
+mod LinkReads
+mod LinkOwners
+mod LinkReadSteps
+mod LinkCounts
+mod LinkRunBounds

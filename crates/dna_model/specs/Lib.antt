@@ -34,3 +34,13 @@ pub mod TrueLinks
 pub mod WireLinks
 pub mod CutFlow
 pub mod CutLinks
+pub mod LinkRuns
+-- The node over both layers: what a packet carries, the true node, the wire node, the run
+pub mod Content
+pub mod Layers
+pub mod WireLayers
+pub mod LayersPair
+-- the links of both sides, in every run
+pub mod LinkBounds
+pub mod LinkDelivery
+pub mod LinkCaptures

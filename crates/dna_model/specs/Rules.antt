@@ -1,7 +1,9 @@
 -- The rules that a judge of two captures asks, and that no node of the pair can see. They are this project's own. On periods: a message that is
--- acted on belongs to the same pair of starts as its receiver; that makes the crossing of periods visible.
+-- acted on belongs to the same pair of starts as its receiver; that makes the crossing of periods visible. On partners, which `LinkArriving`
+-- has: a message of the links that is acted on is of this pair of links.
 use Rattle.std.specs.Prelude.{ℕ, Bool, true, false, ◌&&◌, ◌==◌, Option, Some, None}
 use Rattle.dna_model.specs.declared.tag.Tag.{Tag}
+use Rattle.dna_model.specs.LinkArriving.{PartnerRule, of_partner}
 use Rattle.dna_model.specs.Table.{Needs, Anything, Fresh, OfPair}
 
 -- the period is known, and it is this one
@@ -20,7 +22,8 @@ meets OfPair own tag = is_period own.partner tag.period && is_period tag.partner
 -- what each rule makes of the answer to its test
 pub record Rules : Type 0 where
   pub periods : Bool → Bool
+  pub partners : PartnerRule
 
--- the node of a pair that is judged goes by the test
+-- the node of a pair that is judged goes by the tests
 abbrev pub judged : Rules
-judged = record { periods = λ (met : Bool). met }
+judged = record { periods = λ (met : Bool). met; partners = of_partner }

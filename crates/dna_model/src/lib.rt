@@ -7,9 +7,11 @@
 mod finding;
 mod head;
 pub mod laws;
+pub mod layers_laws;
 mod link_event;
 pub mod link_laws;
 mod link_refusal;
+pub mod link_run_laws;
 mod link_tag;
 mod nodes;
 mod port;
@@ -24,9 +26,14 @@ pub use laws::{
     cut_sending, delivered_in_order, numbers_in_order, numbers_within_bounds,
     packets_at_their_places, wire_nodes_see_right,
 };
+pub use layers_laws::{layers_deliver_in_order, layers_run_as_stations, links_meet_packets_in_order};
 pub use link_event::LinkEvent;
 pub use link_laws::{cut_flow, cut_link_steps};
 pub use link_refusal::LinkRefusal;
+pub use link_run_laws::{
+    links_count_deliveries, links_deliver_in_order, links_read_off_captures, links_within_bounds,
+    wire_links_see_right,
+};
 pub use link_tag::LinkTag;
 pub use nodes::{TrueNodes, WireNodes};
 pub use port::{LinkTest, Phase, Port};

@@ -1,5 +1,7 @@
 //! Why a station, or a node, can't make a record.
 
+use crate::link_refusal::LinkRefusal;
+
 /// Why a station refuses a step. Each has the number of the reason that the judge prints for it.
 #[derive(Clone, Copy, Debug, PartialEq, Eq)]
 pub enum StationRefusal {
@@ -35,4 +37,10 @@ pub enum StepRefusal {
     Undetected,
     /// The station refuses, for this reason of its own.
     Station(StationRefusal),
+    /// The packet of a data message that is first sent can't be read (reason 15).
+    BadPacket,
+    /// The NSP message in a packet that is first sent can't be read (reason 17).
+    BadNsp,
+    /// The links refuse, for this reason of theirs.
+    Links(LinkRefusal),
 }
