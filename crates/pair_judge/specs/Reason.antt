@@ -1,5 +1,7 @@
 -- The numbers and names of the reasons, and which reason a cause has.
 use Rattle.std.specs.Prelude.{ℕ, List, codes}
+use Rattle.dna_model.specs.declared.link_refusal.LinkRefusal.{LinkRefusal}
+use Rattle.dna_model.specs.declared.link_refusal.LinkRefusal.TheVariants as links
 use Rattle.dna_model.specs.declared.refusal.StationRefusal.{StationRefusal}
 use Rattle.dna_model.specs.declared.refusal.StationRefusal.TheVariants as station
 use Rattle.dna_model.specs.declared.refusal.StepRefusal.{StepRefusal}
@@ -55,11 +57,26 @@ reason_of_station station.WrongKeep = WrongKeep
 reason_of_station station.CrossedPeriod = CrossedPeriod
 reason_of_station station.WrongUserEvent = WrongUserEvent
 
+abbrev pub reason_of_links : LinkRefusal → Reason
+reason_of_links links.WrongNode = WrongNode
+reason_of_links links.NoLink = NoLink
+reason_of_links links.LinkState = LinkState
+reason_of_links links.WrongSegment = WrongSegment
+reason_of_links links.WrongAck = WrongAck
+reason_of_links links.SegmentTooLong = SegmentTooLong
+reason_of_links links.LinkWindowFull = LinkWindowFull
+reason_of_links links.WrongDelivery = WrongDelivery
+reason_of_links links.CrossedLink = CrossedLink
+reason_of_links links.AddressInUse = AddressInUse
+
 abbrev pub reason_of_step : StepRefusal → Reason
 reason_of_step steps.NotAMessage = NotAMessage
 reason_of_step steps.HintOrder = HintOrder
 reason_of_step steps.Undetected = Undetected
 reason_of_step (steps.Station refusal) = reason_of_station refusal
+reason_of_step steps.BadPacket = BadPacket
+reason_of_step steps.BadNsp = BadNsp
+reason_of_step (steps.Links refusal) = reason_of_links refusal
 
 abbrev pub reason_of : Cause → Reason
 reason_of (causes.Step refusal) = reason_of_step refusal

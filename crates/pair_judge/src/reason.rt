@@ -3,7 +3,7 @@
 ghost use Rattle.std.specs.Prelude.{◌≡◌};
 ghost use Rattle.pair_judge.specs.Reason as spec;
 
-use dna_model::{Cause, StationRefusal, StepRefusal};
+use dna_model::{Cause, LinkRefusal, StationRefusal, StepRefusal};
 use std::fmt;
 
 /// Why a record can't be made, with the number and the name that are printed.
@@ -132,6 +132,26 @@ impl Reason {
             StepRefusal::HintOrder => Reason::HintOrder,
             StepRefusal::Undetected => Reason::Undetected,
             StepRefusal::Station(refusal) => Reason::of_station(refusal),
+            StepRefusal::BadPacket => Reason::BadPacket,
+            StepRefusal::BadNsp => Reason::BadNsp,
+            StepRefusal::Links(refusal) => Reason::of_links(refusal),
+        }
+    }
+
+    fn of_links(refusal: LinkRefusal) -> Reason
+        ensures { result ≡ spec.reason_of_links refusal }
+    {
+        match refusal {
+            LinkRefusal::WrongNode => Reason::WrongNode,
+            LinkRefusal::NoLink => Reason::NoLink,
+            LinkRefusal::LinkState => Reason::LinkState,
+            LinkRefusal::WrongSegment => Reason::WrongSegment,
+            LinkRefusal::WrongAck => Reason::WrongAck,
+            LinkRefusal::SegmentTooLong => Reason::SegmentTooLong,
+            LinkRefusal::LinkWindowFull => Reason::LinkWindowFull,
+            LinkRefusal::WrongDelivery => Reason::WrongDelivery,
+            LinkRefusal::CrossedLink => Reason::CrossedLink,
+            LinkRefusal::AddressInUse => Reason::AddressInUse,
         }
     }
 
