@@ -1,0 +1,14 @@
+-- A link that has ended with nothing left to deliver keeps nothing.
+use Rattle.std.proofs.Common.{◌≡◌, Bool, true, Option, List, [], ◌∷◌, length, eqb, refl, sym, ap, ◌∙◌, arith}
+use Rattle.std.proofs.lemmas.Bool.{eqb-true}
+use Rattle.dna_model.specs.Pieces.{Piece}
+use Rattle.dna_model.specs.WireFlow.{WireFlow, empty, with_pieces_alone, ends}
+
+none_alone : (pieces : List (Option Piece)) → eqb (length pieces) 0 ≡ true → empty ≡ with_pieces_alone pieces
+none_alone [] e = refl
+none_alone (p ∷ pieces) e = let none = eqb-true (length (p ∷ pieces)) 0 e in absurd (omega arith)
+
+pub nothing_left : (f g : WireFlow) → g ≡ ends f → eqb (length g.kept.pieces) 0 ≡ true → empty ≡ ends f
+nothing_left f g is e = none_alone (ends f).kept.pieces (sym (ap (λ (h : WireFlow). eqb (length h.kept.pieces) 0) is) ∙ e)
+
+pub ruleset left = (nothing_left)

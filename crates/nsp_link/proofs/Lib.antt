@@ -1,0 +1,10 @@
+mod Pieces
+mod Words
+mod Arrived
+mod Delivery
+mod Acknowledged
+mod Holding
+mod Index
+mod Change
+mod Giving
+mod Ended

@@ -1,0 +1,108 @@
+//! The segments of one link, both ways.
+
+ghost use Rattle.std.specs.Prelude.{◌≡◌, ◌<◌, ◌+◌, ◌==◌, Ok, Err, None, true, false, length, nat_lt, nat_le, OnOk, OnErr, IfOk, IfErr, if◌then◌else◌};
+ghost use Rattle.std.specs.List.{AllByRecursion};
+ghost use Rattle.dna_packet.specs.AckWord.{IsAckWord};
+ghost use Rattle.dna_packet.specs.Nsp.{segment_view};
+ghost use Rattle.dna_model.specs.Pieces.{piece_of};
+ghost use Rattle.dna_model.specs.Flow.{wire, distance};
+ghost use Rattle.dna_model.specs.WireFlow.{empty, hands_in, delivers, sends_acks, sends_segment, sends_new, sends_again, is_repeat, takes_segment, takes_acks, ends, sending};
+ghost use Rattle.dna_model.specs.WireFlow as spec;
+ghost use Rattle.nsp_link.specs.Fault.{IsFault};
+
+mod receiving;
+mod sending;
+
+use crate::last_sent::LastSent;
+use crate::outstanding::Outstanding;
+use crate::received::Received;
+use crate::unsent::Unsent;
+use crate::{LinkFault, LinkRefusal, Piece};
+use dna_packet::{AckWord, Segment};
+use std::alloc::{AllocError, Global};
+use std::marker::Model;
+use wire_base::{Seq, Window};
+
+/// The segments of one link, both ways: what was handed in and is not given, what is given and not acknowledged, what is received and
+/// not delivered, and the last acknowledgement sent. Its numbers are kept modulo 4,096.
+#[derive(Drop)]
+pub struct Flow<W: Window<Piece, 4096> + Drop> {
+    unsent: Unsent,
+    outstanding: Outstanding<W>,
+    // the highest number received without a gap
+    received: Seq<4096>,
+    pieces: Received,
+    // the highest number given has reached 2,047
+    gave_many: bool,
+    last: LastSent,
+}
+
+impl<W: Window<Piece, 4096> + Drop> Model for Flow<W> {
+    ghost use Rattle.dna_model.specs.WireFlow.{WireFlow};
+
+    ghost Value = { WireFlow };
+
+    ghost view = { λ f. record {
+      kept = record {
+        unsent = f.unsent;
+        acknowledged = f.outstanding.first;
+        outstanding = f.outstanding.items;
+        received = f.received;
+        pieces = f.pieces;
+      };
+      gave_many = f.gave_many;
+      last = f.last.last;
+      last_is_high = f.last.is_high;
+    } };
+}
+
+impl<W: Window<Piece, 4096> + Drop> Flow<W> {
+    /// Nothing was handed in, given or received. Takes no memory.
+    pub fn new(alloc: Global) -> Self
+        ensures { result ≡ empty }
+    {
+        Flow {
+            unsent: Unsent::new(alloc),
+            outstanding: Outstanding::new(),
+            received: Seq::of(0),
+            pieces: Received::new(alloc),
+            gave_many: false,
+            last: LastSent::new(),
+        }
+    }
+
+    /// A message is handed in. Where memory for it is refused, nothing changes.
+    pub fn hand_in(&mut self, alloc: Global, message: &[u8]) -> Result<(), AllocError>
+        ensures ok { OnOk result (self.new ≡ hands_in message.now self.old) }
+        ensures err { OnErr result (self.new ≡ self.old) }
+    {
+        self.unsent.hand_in(alloc, message)
+    }
+
+    /// A message is delivered, if it is the next whole one; the answer is whether it is. Takes no memory.
+    #[tactic(auto, using(crate::proofs::Delivery::delivery))]
+    pub fn deliver(&mut self, message: &[u8]) -> bool
+        ensures told { delivers message.now self.old ≡ (if result then Some self.new else None) }
+        ensures no { result ≡ false → self.new ≡ self.old }
+    {
+        let Some(count) = self.pieces.pieces_of(message) else {
+            return false;
+        };
+        self.pieces.deliver(count);
+        true
+    }
+
+    /// The link ends: what is received in whole messages is kept, and nothing else. The answer is whether that is nothing.
+    pub fn end(&mut self, alloc: Global) -> bool
+        ensures ends { self.new ≡ ends self.old }
+        ensures empty { result ≡ (length self.new.kept.pieces == 0) }
+    {
+        self.unsent = Unsent::new(alloc);
+        self.outstanding = Outstanding::new();
+        self.received = Seq::of(0);
+        self.pieces.keep_whole_messages();
+        self.gave_many = false;
+        self.last = LastSent::new();
+        self.pieces.is_empty()
+    }
+}

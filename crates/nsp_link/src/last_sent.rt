@@ -1,0 +1,102 @@
+//! The last acknowledgement that was sent on a link.
+
+ghost use Rattle.std.specs.Prelude.{◌≡◌, ◌<◌, false};
+ghost use Rattle.std.specs.List.{AllByRecursion};
+ghost use Rattle.dna_packet.specs.AckWord.{IsAckWord};
+ghost use Rattle.dna_model.specs.Flow.{distance, is_of_data};
+ghost use Rattle.dna_model.specs.WireFlow.{all_named, last_named, is_ahead, is_behind, moved_to};
+ghost use Rattle.dna_model.specs.Flow as flow;
+
+use dna_packet::{AckQualifier, AckWord};
+use std::marker::Model;
+use wire_base::Seq;
+
+/// How many segments may be outstanding; no repeat, and no acknowledgement in one, reaches further back.
+pub const REACH: u16 = 2_047;
+
+/// The last acknowledgement that was sent on a link, modulo 4,096, and whether it has reached 2,047.
+#[derive(Clone, Copy)]
+pub struct LastSent {
+    last: Seq<4096>,
+    is_high: bool,
+}
+
+impl Model for LastSent {
+    ghost use Rattle.dna_model.specs.WireFlow.{LastSent};
+
+    ghost Value = { LastSent };
+
+    ghost view = { λ l. record { last = l.last; is_high = l.is_high } };
+
+    ghost inverse = { λ l. record { last = l.last; is_high = l.is_high } };
+}
+
+impl LastSent {
+    /// None was sent.
+    pub fn new() -> LastSent
+        ensures { result ≡ record { last = 0; is_high = false } }
+    {
+        LastSent {
+            last: Seq::of(0),
+            is_high: false,
+        }
+    }
+
+    /// The last one behind these words, where each may be sent: it names a number from the last one sent through the highest received,
+    /// or, in a segment that is sent again, an earlier one, which it leaves as it is. Words of the other subchannel are not judged.
+    #[tactic(auto, using(crate::proofs::Words::words))]
+    pub fn behind_all(self, again: bool, received: Seq<4096>, words: &[AckWord]) -> Option<LastSent>
+        requires { AllByRecursion IsAckWord words.now }
+        ensures { result ≡ all_named again received words.now self }
+    {
+        let mut sent = self;
+        for word in words {
+            if is_of_data(word.qualifier) {
+                let Some(next) = sent.behind(again, received, word.number) else {
+                    return None;
+                };
+                sent = next;
+            }
+        }
+        Some(sent)
+    }
+
+    // The last one behind a word with this number, where it may be sent.
+    fn behind(self, again: bool, received: Seq<4096>, number: u16) -> Option<LastSent>
+        requires { number < 4096 }
+        ensures { result ≡ last_named again received number self }
+    {
+        let named = Seq::of(u64::from(number));
+        let ahead = Seq::distance(self.last, named);
+        if ahead <= Seq::distance(self.last, received) {
+            return Some(LastSent {
+                last: named,
+                is_high: self.is_high || self.last.value() + ahead >= REACH,
+            });
+        }
+        if !again {
+            return None;
+        }
+        let back = Seq::distance(named, self.last);
+        if back > REACH {
+            return None;
+        }
+        if self.is_high {
+            return Some(self);
+        }
+        if back > self.last.value() {
+            return None;
+        }
+        Some(self)
+    }
+}
+
+/// Whether a word with this qualifier acknowledges data segments, and none of the other subchannel.
+pub fn is_of_data(qualifier: AckQualifier) -> bool
+    ensures { result ≡ flow.is_of_data qualifier }
+{
+    match qualifier {
+        AckQualifier::Ack | AckQualifier::Nak => true,
+        AckQualifier::OtherAck | AckQualifier::OtherNak => false,
+    }
+}

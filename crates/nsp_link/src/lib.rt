@@ -1,0 +1,23 @@
+//! The logical links of one node as a machine: it decides whether its user may do something, whether a message may be sent, and what
+//! an arrival does (NSP 4.0). It looks at no time, no file and no line, at a message only to compare it with what was handed in, first
+//! given or received, and at no order but the order of its calls.
+#![tactic(auto)]
+
+mod fault;
+mod flow;
+mod last_sent;
+mod link;
+mod links;
+mod outstanding;
+mod passes;
+mod piece;
+mod received;
+mod unsent;
+
+pub use dna_model::{LinkEvent, LinkRefusal, LinkTag};
+pub use fault::LinkFault;
+pub use links::Links;
+pub use piece::Piece;
+
+#[cfg(test)]
+mod tests;

@@ -1,0 +1,269 @@
+//! One end of a logical link.
+
+ghost use Rattle.std.specs.Prelude.{◌≡◌, ◌<◌, ◌&&◌, Ok, Err, None, Some, true, false, not, OnOk, OnErr, IfOk, IfErr, if◌then◌else◌};
+ghost use Rattle.std.specs.List.{AllByRecursion};
+ghost use Rattle.dna_packet.specs.AckWord.{IsAckWord};
+ghost use Rattle.dna_packet.specs.Nsp.{segment_view};
+ghost use Rattle.dna_model.specs.LinkTests.{is_live, is_called};
+ghost use Rattle.dna_model.specs.Links.{in_phase, with_flow};
+ghost use Rattle.dna_model.specs.Links as links;
+ghost use Rattle.dna_model.specs.LinkUser as user;
+ghost use Rattle.dna_model.specs.LinkSending.{segment_of};
+ghost use Rattle.dna_model.specs.LinkArriving.{of_partner, running};
+ghost use Rattle.dna_model.specs.LinkArriving as arriving;
+ghost use Rattle.dna_model.specs.WireFlow.{wire_flows, hands_in, delivers, sends_acks, sending, takes_segment, takes_acks};
+ghost use Rattle.dna_model.specs.WireFlow as spec;
+ghost use Rattle.nsp_link.specs.Fault.{IsFault};
+
+use crate::flow::Flow;
+use crate::{LinkFault, LinkRefusal, LinkTag, Piece};
+use dna_model::{Phase, Port};
+use dna_packet::{AckWord, Segment};
+use std::alloc::{AllocError, Global};
+use std::marker::Model;
+use wire_base::Window;
+
+/// One end of a logical link (NSP 4.0, ports). Its segments lie in memory of their own, which is given back when it has ended and
+/// nothing is left to deliver.
+#[derive(Drop)]
+pub struct Link<W: Window<Piece, 4096> + Drop> {
+    port: Port,
+    // the other node's link that it goes with, once it is known
+    partner: Option<u64>,
+    // how many data bytes the partner takes in a segment
+    segsize: u16,
+    flow: Option<Box<Flow<W>>>,
+}
+
+impl<W: Window<Piece, 4096> + Drop> Model for Link<W> {
+    ghost use Rattle.std.specs.Prelude.{◌≡◌, true, None, IsSome};
+    ghost use Rattle.dna_model.specs.Links.{LinkOf};
+    ghost use Rattle.dna_model.specs.LinkTests.{is_live, is_called};
+    ghost use Rattle.dna_model.specs.WireFlow.{WireFlow};
+    ghost use Rattle.nsp_link.specs.Link.{flow_in};
+
+    ghost Value = { LinkOf WireFlow };
+
+    ghost view = { λ l. record {
+      port = l.port;
+      partner = l.partner;
+      segsize = l.segsize;
+      flow = flow_in (λ b. b.value) l.flow;
+    } };
+
+    ghost invariant = { λ l. (is_called l.port.phase ≡ true → l.port.own ≡ None) × (is_live l.port.phase ≡ true → IsSome l.flow) };
+}
+
+impl<W: Window<Piece, 4096> + Drop> Link<W> {
+    /// A link that is opened here, with this own address.
+    pub fn opened(alloc: Global, own: u16) -> Result<Self, AllocError>
+        ensures { IfOk result (λ link. link ≡ user.opened wire_flows own) }
+    {
+        let Ok(flow) = Box::new(alloc, Flow::new(alloc)) else {
+            return Err(AllocError);
+        };
+        Ok(Link {
+            port: Port {
+                phase: Phase::Calling,
+                opened: true,
+                own: Some(own),
+                far: None,
+            },
+            partner: None,
+            segsize: 0,
+            flow: Some(flow),
+        })
+    }
+
+    /// A link that a CI begins, with this far address and the CI's SEGSIZE; its partner is the sender.
+    pub fn called(alloc: Global, far: u16, segsize: u16, tag: LinkTag) -> Result<Self, AllocError>
+        ensures { IfOk result (λ link. link ≡ arriving.called wire_flows of_partner far segsize tag) }
+    {
+        let Ok(flow) = Box::new(alloc, Flow::new(alloc)) else {
+            return Err(AllocError);
+        };
+        Ok(Link {
+            port: Port {
+                phase: Phase::Called,
+                opened: false,
+                own: None,
+                far: Some(far),
+            },
+            partner: tag.link,
+            segsize,
+            flow: Some(flow),
+        })
+    }
+
+    /// What look-ups know of it.
+    pub fn port(&self) -> Port
+        ensures port { result ≡ self.now.port }
+        ensures called { is_called self.now.port.phase ≡ true → self.now.port.own ≡ None }
+    {
+        self.port
+    }
+
+    /// The other node's link that it goes with, once it is known.
+    pub fn partner(&self) -> Option<u64>
+        ensures { result ≡ self.now.partner }
+    {
+        self.partner
+    }
+
+    // ---- the user
+
+    /// A message is handed in. Where memory is refused, nothing changes.
+    pub fn hand_in(&mut self, alloc: Global, message: &[u8]) -> Result<(), AllocError>
+        requires { is_live self.old.port.phase ≡ true }
+        ensures ok { OnOk result (self.new ≡ with_flow (hands_in message.now self.old.flow) self.old) }
+        ensures rest { self.new ≡ with_flow self.new.flow self.old }
+        ensures err { OnErr result (self.new ≡ self.old) }
+    {
+        match &mut self.flow {
+            Some(flow) => flow.hand_in(alloc, message),
+            None => unreachable!(),
+        }
+    }
+
+    /// A message is delivered, if it is the next whole one; the answer is whether it is.
+    pub fn deliver(&mut self, message: &[u8]) -> bool
+        ensures yes { result ≡ true → delivers message.now self.old.flow ≡ Some self.new.flow }
+        ensures rest { self.new ≡ with_flow self.new.flow self.old }
+        ensures no { result ≡ false → (delivers message.now self.old.flow ≡ None) × (self.new ≡ self.old) }
+    {
+        match &mut self.flow {
+            Some(flow) => flow.deliver(message),
+            None => false,
+        }
+    }
+
+    /// The user closes it.
+    pub fn close(&mut self)
+        requires { is_live self.old.port.phase ≡ true }
+        ensures { self.new ≡ in_phase Phase.Disconnecting self.old }
+    {
+        self.port.phase = Phase::Disconnecting;
+    }
+
+    /// The user accepts or rejects the call: it gets this own address, and the phase that goes with the answer.
+    pub fn answer(&mut self, phase: Phase, own: u16)
+        requires live { is_live self.old.port.phase ≡ true }
+        requires phase { is_called phase ≡ false }
+        ensures { self.new ≡ user.answered wire_flows phase own self.old }
+    {
+        self.port.phase = phase;
+        self.port.own = Some(own);
+    }
+
+    /// Its own address is given to another link.
+    pub fn forget(&mut self)
+        requires { is_live self.old.port.phase ≡ false }
+        ensures { self.new ≡ links.forgotten wire_flows self.old }
+    {
+        self.port.own = None;
+        self.flow = None;
+    }
+
+    // ---- what is sent
+
+    /// A segment is sent.
+    pub fn send_segment(&mut self, alloc: Global, segment: &Segment) -> Result<(), LinkFault>
+        requires live { is_live self.old.port.phase ≡ true }
+        requires acks { AllByRecursion IsAckWord segment.now.acks.items }
+        requires number { segment.now.number < 4096 }
+        ensures ok { OnOk result (segment_of wire_flows (segment_view segment.now) self.old ≡ Ok (sending self.new.flow)) }
+        ensures rest { self.new ≡ with_flow self.new.flow self.old }
+        ensures refused { IfErr result (λ fault. IsFault (segment_of wire_flows (segment_view segment.now) self.old)
+            (spec.is_new (segment_view segment.now) self.old.flow.kept) fault) }
+        ensures err { OnErr result (self.new ≡ self.old) }
+    {
+        let segsize = self.segsize;
+        match &mut self.flow {
+            Some(flow) => flow.send_segment(alloc, segsize, segment),
+            None => unreachable!(),
+        }
+    }
+
+    /// Acknowledgement words are sent alone.
+    pub fn send_acks(&mut self, words: &[AckWord]) -> Result<(), LinkRefusal>
+        requires live { is_live self.old.port.phase ≡ true }
+        requires acks { AllByRecursion IsAckWord words.now }
+        ensures ok { OnOk result (sends_acks words.now self.old.flow ≡ Ok (sending self.new.flow)) }
+        ensures rest { self.new ≡ with_flow self.new.flow self.old }
+        ensures refused { IfErr result (λ refusal. sends_acks words.now self.old.flow ≡ Err refusal) }
+        ensures err { OnErr result (self.new ≡ self.old) }
+    {
+        match &mut self.flow {
+            Some(flow) => flow.send_acks(words),
+            None => unreachable!(),
+        }
+    }
+
+    // ---- what comes
+
+    /// It is over: it keeps what may still be delivered, and nothing else. Where that is nothing, its memory is given back.
+    #[tactic(auto, using(crate::proofs::Ended::left))]
+    pub fn end(&mut self, alloc: Global)
+        requires { is_live self.old.port.phase ≡ true }
+        ensures { self.new ≡ links.ended wire_flows self.old }
+    {
+        self.port.phase = Phase::Ended;
+        let Some(flow) = &mut self.flow else {
+            unreachable!();
+        };
+        let empty = flow.end(alloc);
+        if empty {
+            self.flow = None;
+        }
+    }
+
+    /// A CC confirms it: it runs, with this partner.
+    pub fn confirm(&mut self, far: u16, segsize: u16, tag: LinkTag)
+        requires { is_live self.old.port.phase ≡ true }
+        ensures { self.new ≡ arriving.confirmed wire_flows of_partner far segsize tag self.old }
+    {
+        self.port.phase = Phase::Running;
+        self.port.far = Some(far);
+        self.partner = tag.link;
+        self.segsize = segsize;
+    }
+
+    /// It runs.
+    pub fn run(&mut self)
+        requires { is_live self.old.port.phase ≡ true }
+        ensures { self.new ≡ in_phase Phase.Running self.old }
+    {
+        self.port.phase = Phase::Running;
+    }
+
+    /// A segment comes, and it runs. Where memory is refused, nothing changes.
+    pub fn take_segment(&mut self, alloc: Global, segment: &Segment) -> Result<(), AllocError>
+        requires live { is_live self.old.port.phase ≡ true }
+        requires acks { AllByRecursion IsAckWord segment.now.acks.items }
+        requires number { segment.now.number < 4096 }
+        ensures ok { OnOk result (self.new ≡ running wire_flows of_partner (λ link. takes_segment (segment_view segment.now) tt link.flow) self.old) }
+        ensures lives { is_live self.new.port.phase ≡ true }
+        ensures own { self.new.port.own ≡ self.old.port.own }
+        ensures err { OnErr result (self.new ≡ self.old) }
+    {
+        match &mut self.flow {
+            Some(flow) => flow.take_segment(alloc, segment)?,
+            None => unreachable!(),
+        }
+        self.port.phase = Phase::Running;
+        Ok(())
+    }
+
+    /// Acknowledgement words come, and it runs.
+    pub fn take_acks(&mut self, words: &[AckWord])
+        requires live { is_live self.old.port.phase ≡ true }
+        requires acks { AllByRecursion IsAckWord words.now }
+        ensures { self.new ≡ running wire_flows of_partner (λ link. takes_acks words.now tt link.flow) self.old }
+    {
+        match &mut self.flow {
+            Some(flow) => flow.take_acks(words),
+            None => unreachable!(),
+        }
+        self.port.phase = Phase::Running;
+    }
+}

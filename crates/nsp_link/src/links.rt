@@ -1,0 +1,131 @@
+//! The links of a node, and how they are found.
+
+ghost use Rattle.std.specs.Prelude.{◌≡◌, ◌<◌, true, None, Some, length, slice_get, position, option_copied, OnOk, OnErr, IfOk, IfErr, IfSome};
+ghost use Rattle.dna_model.specs.LinkTests as tests;
+ghost use Rattle.dna_model.specs.Links.{number_of};
+ghost use Rattle.dna_model.specs.WireLinks.{new_wire_links};
+ghost use Rattle.std.specs.Ordering.{nat_cmp};
+ghost use Rattle.std.specs.BTreeMap.{get};
+ghost use Rattle.nsp_link.specs.Index.{is_of_live};
+ghost use Rattle.nsp_link.specs.Index as index;
+
+mod arriving;
+mod begin;
+mod change;
+mod sending;
+mod user;
+
+use crate::link::Link;
+use crate::passes::passes;
+use crate::{LinkFault, LinkRefusal, Piece};
+use dna_model::LinkTest;
+use std::alloc::Global;
+use std::collections::BTreeMap;
+use std::marker::Model;
+use wire_base::Window;
+
+/// The links of one node, with three verbs: [`Links::user`], what their user does; [`Links::sent`], their node sent this;
+/// [`Links::arrived`], this came.
+#[derive(Drop)]
+pub struct Links<W: Window<Piece, 4096> + Drop> {
+    node: u16,
+    peer: u16,
+    // all that ever were, in the order in which they began
+    links: Vec<Link<W>>,
+    // the numbers of those that live, rising
+    live: Vec<usize>,
+    // the number of the link that got an own address last
+    holders: BTreeMap<u16, usize>,
+    alloc: Global,
+}
+
+impl<W: Window<Piece, 4096> + Drop> Model for Links<W> {
+    ghost use Rattle.std.specs.Ordering.{nat_cmp};
+    ghost use Rattle.std.specs.BTreeMap.{get};
+    ghost use Rattle.dna_model.specs.WireLinks.{WireLinks};
+    ghost use Rattle.nsp_link.specs.Index.{IsIndexed};
+
+    ghost Value = { WireLinks };
+
+    ghost view = { λ l. record { node = l.node; peer = l.peer; links = l.links.items } };
+
+    ghost invariant = { λ l. IsIndexed l.links.items l.live.items (λ own. get nat_cmp l.holders own) };
+}
+
+impl<W: Window<Piece, 4096> + Drop> Links<W> {
+    /// The links of the node with this address, towards the other one, before any record: none. Takes no memory.
+    pub fn new(alloc: Global, own: u16, peer: u16) -> Self
+        ensures { result ≡ new_wire_links own peer }
+    {
+        Links {
+            node: own,
+            peer,
+            links: Vec::new(alloc),
+            live: Vec::new(alloc),
+            holders: BTreeMap::new(alloc),
+            alloc,
+        }
+    }
+
+    // The number of the first link that passes a test which only a live link passes.
+    fn find(&self, test: LinkTest) -> Option<usize>
+        requires { is_of_live test ≡ true }
+        ensures number { result ≡ number_of test self.now }
+        ensures within { IfSome result (λ number. number < length self.now.links) }
+    {
+        first_of(&self.links, &self.live, test)
+    }
+
+    // The number of the link that got this own address last.
+    fn holder(&self, own: u16) -> Option<usize>
+        ensures number { result ≡ number_of (LinkTest.HasAddress own) self.now }
+        ensures within { IfSome result (λ number. number < length self.now.links) }
+    {
+        holder_of(&self.holders, own)
+    }
+
+    // The link with this number.
+    fn link(&self, number: usize) -> Option<&Link<W>>
+        ensures { option_copied result ≡ slice_get self.now.links number }
+    {
+        self.links.get(number)
+    }
+}
+
+// The number of the link that got this own address last.
+fn holder_of(holders: &BTreeMap<u16, usize>, own: u16) -> Option<usize>
+    ensures { result ≡ get nat_cmp holders.now own }
+{
+    holders.get(&own).copied()
+}
+
+// The first of these numbers whose link passes.
+#[tactic(auto, using(crate::proofs::Index::searches))]
+fn first_of<W: Window<Piece, 4096> + Drop>(
+    links: &Vec<Link<W>>,
+    numbers: &[usize],
+    test: LinkTest,
+) -> Option<usize>
+    ensures { result ≡ index.first_of (λ link. tests.passes test link.port) links.now.items numbers.now }
+{
+    for number in numbers {
+        if passes_at(links, test, *number) {
+            return Some(*number);
+        }
+    }
+    None
+}
+
+// Whether the link with this number passes.
+fn passes_at<W: Window<Piece, 4096> + Drop>(
+    links: &Vec<Link<W>>,
+    test: LinkTest,
+    number: usize,
+) -> bool
+    ensures { result ≡ index.passes_at (λ link. tests.passes test link.port) links.now.items number }
+{
+    match links.get(number) {
+        Some(link) => passes(test, link.port()),
+        None => false,
+    }
+}

@@ -1,0 +1,170 @@
+//! How one of the links changes in its place.
+
+ghost use Rattle.std.specs.Prelude.{◌≡◌, ◌<◌, Ok, Err, None, Some, true, false, length, slice_get, OnOk, OnErr, IfOk, IfErr, IfSome, if◌then◌else◌, position, eqb};
+ghost use Rattle.nsp_link.specs.Index.{without};
+ghost use Rattle.std.specs.List.{AllByRecursion};
+ghost use Rattle.dna_packet.specs.AckWord.{IsAckWord};
+ghost use Rattle.dna_packet.specs.Nsp.{segment_view};
+ghost use Rattle.dna_model.specs.Links.{LinkOf, changed, in_phase, with_flow, ended};
+ghost use Rattle.dna_model.specs.LinkTests.{is_live};
+ghost use Rattle.dna_model.specs.LinkUser.{delivered};
+ghost use Rattle.dna_model.specs.LinkSending.{carries, segment_of, truth_of};
+ghost use Rattle.dna_model.specs.LinkArriving.{of_partner, confirmed, running};
+ghost use Rattle.dna_model.specs.WireFlow.{WireFlow, wire_flows, hands_in, delivers, sends_acks, takes_acks, takes_segment};
+ghost use Rattle.nsp_link.specs.Fault.{IsFault};
+
+use super::Links;
+use crate::{LinkFault, LinkRefusal, LinkTag, Piece};
+use dna_model::Phase;
+use dna_packet::{AckWord, Segment};
+use std::alloc::AllocError;
+use wire_base::Window;
+
+impl<W: Window<Piece, 4096> + Drop> Links<W> {
+    // The user closes the link with this number.
+    pub(super) fn close_link(&mut self, number: usize)
+        requires within { number < length self.old.links }
+        requires live { (link : LinkOf WireFlow) → slice_get self.old.links number ≡ Some link → is_live link.port.phase ≡ true }
+        ensures { (link : LinkOf WireFlow) → slice_get self.old.links number ≡ Some link
+            → self.new ≡ changed number (in_phase Phase.Disconnecting link) self.old }
+    {
+        self.links[number].close();
+    }
+
+    // A message is handed in to the link with this number. Where memory is refused, nothing changes.
+    pub(super) fn hand_in_at(&mut self, number: usize, message: &[u8]) -> Result<(), AllocError>
+        requires within { number < length self.old.links }
+        requires live { (link : LinkOf WireFlow) → slice_get self.old.links number ≡ Some link → is_live link.port.phase ≡ true }
+        ensures ok { (link : LinkOf WireFlow) → slice_get self.old.links number ≡ Some link
+            → OnOk result (self.new ≡ changed number (with_flow (hands_in message.now link.flow) link) self.old) }
+        ensures err { OnErr result (self.new ≡ self.old) }
+    {
+        self.links[number].hand_in(self.alloc, message)
+    }
+
+    // A message is delivered on the link with this number, if it is the next whole one; the answer is whether it is.
+    pub(super) fn deliver_at(&mut self, number: usize, message: &[u8]) -> bool
+        requires within { number < length self.old.links }
+        ensures told { (link : LinkOf WireFlow) → slice_get self.old.links number ≡ Some link
+            → delivered wire_flows number link self.old (delivers message.now link.flow) ≡ (if result then Ok self.new else Err LinkRefusal.WrongDelivery) }
+        ensures no { result ≡ false → self.new ≡ self.old }
+    {
+        self.links[number].deliver(message)
+    }
+
+    // A segment is sent on the link with this number.
+    pub(super) fn send_segment_at(
+        &mut self,
+        number: usize,
+        segment: &Segment,
+    ) -> Result<(), LinkFault>
+        requires within { number < length self.old.links }
+        requires live { (link : LinkOf WireFlow) → slice_get self.old.links number ≡ Some link → is_live link.port.phase ≡ true }
+        requires acks { AllByRecursion IsAckWord segment.now.acks.items }
+        requires segnum { segment.now.number < 4096 }
+        ensures ok { (link : LinkOf WireFlow) → slice_get self.old.links number ≡ Some link
+            → OnOk result (carries wire_flows self.old number link (segment_of wire_flows (segment_view segment.now) link)
+            ≡ Ok (record { links = self.new; truth = truth_of wire_flows number link tt })) }
+        ensures refused { (link : LinkOf WireFlow) → slice_get self.old.links number ≡ Some link
+            → IfErr result (λ fault. IsFault (segment_of wire_flows (segment_view segment.now) link) true fault) }
+        ensures err { OnErr result (self.new ≡ self.old) }
+    {
+        self.links[number].send_segment(self.alloc, segment)
+    }
+
+    // Acknowledgement words are sent alone on the link with this number.
+    pub(super) fn send_acks_at(
+        &mut self,
+        number: usize,
+        words: &[AckWord],
+    ) -> Result<(), LinkRefusal>
+        requires within { number < length self.old.links }
+        requires live { (link : LinkOf WireFlow) → slice_get self.old.links number ≡ Some link → is_live link.port.phase ≡ true }
+        requires acks { AllByRecursion IsAckWord words.now }
+        ensures ok { (link : LinkOf WireFlow) → slice_get self.old.links number ≡ Some link
+            → OnOk result (carries wire_flows self.old number link (sends_acks words.now link.flow)
+            ≡ Ok (record { links = self.new; truth = truth_of wire_flows number link tt })) }
+        ensures refused { (link : LinkOf WireFlow) → slice_get self.old.links number ≡ Some link
+            → IfErr result (λ refusal. sends_acks words.now link.flow ≡ Err refusal) }
+        ensures err { OnErr result (self.new ≡ self.old) }
+    {
+        self.links[number].send_acks(words)
+    }
+
+    // A CC confirms the link with this number.
+    pub(super) fn confirm_at(&mut self, number: usize, far: u16, segsize: u16, tag: LinkTag)
+        requires within { number < length self.old.links }
+        requires live { (link : LinkOf WireFlow) → slice_get self.old.links number ≡ Some link → is_live link.port.phase ≡ true }
+        ensures { (link : LinkOf WireFlow) → slice_get self.old.links number ≡ Some link
+            → self.new ≡ changed number (confirmed wire_flows of_partner far segsize tag link) self.old }
+    {
+        self.links[number].confirm(far, segsize, tag);
+    }
+
+    // The link with this number runs.
+    pub(super) fn run_at(&mut self, number: usize)
+        requires within { number < length self.old.links }
+        requires live { (link : LinkOf WireFlow) → slice_get self.old.links number ≡ Some link → is_live link.port.phase ≡ true }
+        ensures { (link : LinkOf WireFlow) → slice_get self.old.links number ≡ Some link
+            → self.new ≡ changed number (running wire_flows of_partner (λ l. l.flow) link) self.old }
+    {
+        self.links[number].run();
+    }
+
+    // Acknowledgement words come on the link with this number, and it runs.
+    pub(super) fn take_acks_at(&mut self, number: usize, words: &[AckWord])
+        requires within { number < length self.old.links }
+        requires live { (link : LinkOf WireFlow) → slice_get self.old.links number ≡ Some link → is_live link.port.phase ≡ true }
+        requires acks { AllByRecursion IsAckWord words.now }
+        ensures { (link : LinkOf WireFlow) → slice_get self.old.links number ≡ Some link
+            → self.new ≡ changed number (running wire_flows of_partner (λ l. takes_acks words.now tt l.flow) link) self.old }
+    {
+        self.links[number].take_acks(words);
+    }
+
+    // A segment comes on the link with this number, and it runs. Where memory is refused, nothing changes.
+    pub(super) fn take_segment_at(
+        &mut self,
+        number: usize,
+        segment: &Segment,
+    ) -> Result<(), AllocError>
+        requires within { number < length self.old.links }
+        requires live { (link : LinkOf WireFlow) → slice_get self.old.links number ≡ Some link → is_live link.port.phase ≡ true }
+        requires acks { AllByRecursion IsAckWord segment.now.acks.items }
+        requires segnum { segment.now.number < 4096 }
+        ensures ok { (link : LinkOf WireFlow) → slice_get self.old.links number ≡ Some link
+            → OnOk result (self.new ≡ changed number (running wire_flows of_partner (λ l. takes_segment (segment_view segment.now) tt l.flow) link) self.old) }
+        ensures err { OnErr result (self.new ≡ self.old) }
+    {
+        self.links[number].take_segment(self.alloc, segment)
+    }
+
+    // The link with this number is over.
+    pub(super) fn end_at(&mut self, number: usize)
+        requires within { number < length self.old.links }
+        requires live { (link : LinkOf WireFlow) → slice_get self.old.links number ≡ Some link → is_live link.port.phase ≡ true }
+        ensures { (link : LinkOf WireFlow) → slice_get self.old.links number ≡ Some link
+            → self.new ≡ changed number (ended wire_flows link) self.old }
+    {
+        self.links[number].end(self.alloc);
+        take_away(&mut self.live, number);
+    }
+}
+
+// Takes a number away from a list of numbers, at the first place where it stands.
+#[tactic(auto, using(crate::proofs::Index::taking_away))]
+fn take_away(numbers: &mut Vec<usize>, number: usize)
+    ensures { numbers.new.items ≡ without number numbers.old.items }
+{
+    let Some(place) = place_of(numbers, number) else {
+        return;
+    };
+    numbers.remove(place);
+}
+
+fn place_of(numbers: &[usize], number: usize) -> Option<usize>
+    ensures place { result ≡ position (λ other. eqb other number) numbers.now }
+    ensures within { IfSome result (λ place. place < length numbers.now) }
+{
+    numbers.iter().position(|other| *other == number)
+}

@@ -1,0 +1,248 @@
+//! What the node of the links may send.
+
+ghost use Rattle.std.specs.Prelude.{◌≡◌, ◌<◌, Ok, Some, true, false, OnOk, OnErr, IfOk, IfErr};
+ghost use Rattle.std.specs.List.{AllByRecursion};
+ghost use Rattle.dna_packet.specs.AckWord.{IsAckWord};
+ghost use Rattle.dna_packet.specs.Nsp.{segment_view};
+ghost use Rattle.dna_packet.specs.Nsp as nsp;
+ghost use Rattle.dna_model.specs.Links.{LinkOf};
+ghost use Rattle.dna_model.specs.LinkSending.{message_sent};
+ghost use Rattle.dna_model.specs.LinkSending as sending;
+ghost use Rattle.dna_model.specs.WireFlow.{WireFlow, wire_flows};
+ghost use Rattle.nsp_link.specs.Fault.{IsFault};
+ghost use Rattle.nsp_link.specs.Index.{is_of_live};
+ghost use Rattle.dna_model.specs.WireLinks.{wire_links_sent};
+ghost use Rattle.nsp_link.specs.Phases.{is_in, sending_takes_memory};
+
+use super::Links;
+use crate::link::Link;
+use crate::passes::{is_in, is_running};
+use crate::{LinkFault, LinkRefusal, LinkTag, Piece};
+use dna_model::{LinkTest, Phase};
+use dna_packet::{DataAck, Nsp, Segment};
+use wire_base::Window;
+
+// The tag of a message of no link.
+const NO_LINK: LinkTag = LinkTag {
+    link: None,
+    partner: None,
+};
+
+impl<W: Window<Piece, 4096> + Drop> Links<W> {
+    /// Their node sent this message to node `dst` as node `src` (NSP 4.0, port states, data segments and acknowledgements). The answer
+    /// is the tag that the message goes with. A segment that is new takes memory for a copy of its data, and no other message takes any.
+    /// The fields are in range: numbers are below 4,096, and a data acknowledgement has a word.
+    ///
+    /// `Refused`, the first that fits:
+    ///
+    /// - `WrongNode`: `src` is not this node, or `dst` not the other one.
+    /// - `NoLink`: no live link has the addresses that the message asks for; a DC asks for none.
+    /// - `LinkState`: the link is not in the phase that the message asks for; of a DC, a live link has its addresses.
+    /// - `WrongAck`: an acknowledgement word names a number that may not be acknowledged.
+    /// - `LinkWindowFull`: a new segment while 2,047 are not acknowledged.
+    /// - `SegmentTooLong`: a new segment has more data than the other side takes.
+    /// - `WrongSegment`: a segment is neither the next piece of what was handed in nor a true repeat of one of the last 2,047.
+    ///
+    /// `OutOfMemory`, after all of these: memory was refused. After any of them the links are as they were.
+    pub fn sent(&mut self, dst: u16, src: u16, message: &Nsp) -> Result<LinkTag, LinkFault>
+        requires { nsp.IsInRange (nsp.view message.now) }
+        ensures ok { IfOk result (λ tag. wire_links_sent self.old (record { dst = dst; src = src; message = nsp.view message.now })
+            ≡ Ok (record { links = self.new; truth = record { tag = tag; known = tt } })) }
+        ensures refused { IfErr result (λ fault. IsFault (wire_links_sent self.old (record { dst = dst; src = src; message = nsp.view message.now }))
+            (sending_takes_memory (nsp.view message.now)) fault) }
+        ensures err { OnErr result (self.new ≡ self.old) }
+    {
+        if src != self.node {
+            return Err(LinkFault::Refused(LinkRefusal::WrongNode));
+        }
+        if dst != self.peer {
+            return Err(LinkFault::Refused(LinkRefusal::WrongNode));
+        }
+        self.send(message)
+    }
+
+    // The same of a message that goes from this node to the other.
+    fn send(&mut self, message: &Nsp) -> Result<LinkTag, LinkFault>
+        requires { nsp.IsInRange (nsp.view message.now) }
+        ensures ok { IfOk result (λ tag. message_sent wire_flows self.old (nsp.view message.now)
+            ≡ Ok (record { links = self.new; truth = record { tag = tag; known = tt } })) }
+        ensures refused { IfErr result (λ fault. IsFault (message_sent wire_flows self.old (nsp.view message.now))
+            (sending_takes_memory (nsp.view message.now)) fault) }
+        ensures err { OnErr result (self.new ≡ self.old) }
+    {
+        match message {
+            Nsp::DataSegment(segment) => self.segment(segment),
+            Nsp::DataAck(message) => self.data_ack(message),
+            Nsp::ConnectAck(message) => self.connect_ack(message.dstaddr),
+            Nsp::NoOperation(_) => Ok(NO_LINK),
+            Nsp::DisconnectConfirm(message) => {
+                self.disconnect_confirm(message.dstaddr, message.srcaddr, message.reason)
+            }
+            Nsp::ConnectInitiate(message) => {
+                let test = LinkTest::OpenedAt {
+                    own: message.srcaddr,
+                };
+                self.in_its_phase(test, Phase::Calling)
+            }
+            Nsp::ConnectConfirm(message) => {
+                self.in_its_phase(
+                    the_link(message.srcaddr, message.dstaddr),
+                    Phase::Confirming,
+                )
+            }
+            Nsp::DisconnectInitiate(message) => {
+                self.in_its_phase(
+                    the_link(message.srcaddr, message.dstaddr),
+                    Phase::Disconnecting,
+                )
+            }
+            Nsp::LinkService(message) => {
+                self.in_its_phase(the_link(message.srcaddr, message.dstaddr), Phase::Running)
+            }
+            Nsp::OtherDataAck(message) => {
+                self.in_its_phase(the_link(message.srcaddr, message.dstaddr), Phase::Running)
+            }
+        }
+    }
+
+    // A message that changes nothing: the link that this test finds, in this phase.
+    #[tactic(auto, using(crate::proofs::Index::found_links))]
+    fn in_its_phase(&self, test: LinkTest, phase: Phase) -> Result<LinkTag, LinkFault>
+        requires { is_of_live test ≡ true }
+        ensures ok { IfOk result (λ tag. sending.in_its_phase wire_flows test (is_in phase) self.now
+            ≡ Ok (record { links = self.now; truth = record { tag = tag; known = tt } })) }
+        ensures refused { IfErr result (λ fault. IsFault (sending.in_its_phase wire_flows test (is_in phase) self.now) false fault) }
+    {
+        let Some(number) = self.find(test) else {
+            return Err(LinkFault::Refused(LinkRefusal::NoLink));
+        };
+        let Some(link) = self.link(number) else {
+            unreachable!();
+        };
+        if !is_in(phase, link.port().phase) {
+            return Err(LinkFault::Refused(LinkRefusal::LinkState));
+        }
+        Ok(tag_of(number, link))
+    }
+
+    // A connect acknowledgement.
+    #[tactic(auto, using(crate::proofs::Index::found_links))]
+    fn connect_ack(&self, dst: u16) -> Result<LinkTag, LinkFault>
+        ensures ok { IfOk result (λ tag. message_sent wire_flows self.now (nsp.ConnectAck dst)
+            ≡ Ok (record { links = self.now; truth = record { tag = tag; known = tt } })) }
+        ensures refused { IfErr result (λ fault. IsFault (message_sent wire_flows self.now (nsp.ConnectAck dst)) false fault) }
+    {
+        let Some(number) = self.find(LinkTest::BegunBy { far: dst }) else {
+            return Err(LinkFault::Refused(LinkRefusal::NoLink));
+        };
+        let Some(link) = self.link(number) else {
+            unreachable!();
+        };
+        Ok(tag_of(number, link))
+    }
+
+    // A data acknowledgement.
+    #[tactic(auto, using(crate::proofs::Index::found_links))]
+    fn data_ack(&mut self, message: &DataAck) -> Result<LinkTag, LinkFault>
+        requires { AllByRecursion IsAckWord message.now.acks.items }
+        ensures ok { IfOk result (λ tag. message_sent wire_flows self.old (nsp.DataAck message.now.dstaddr message.now.srcaddr message.now.acks.items)
+            ≡ Ok (record { links = self.new; truth = record { tag = tag; known = tt } })) }
+        ensures refused { IfErr result (λ fault. IsFault (message_sent wire_flows self.old
+            (nsp.DataAck message.now.dstaddr message.now.srcaddr message.now.acks.items)) false fault) }
+        ensures err { OnErr result (self.new ≡ self.old) }
+    {
+        let test = LinkTest::TheLink {
+            own: message.srcaddr,
+            far: message.dstaddr,
+        };
+        let Some(number) = self.find(test) else {
+            return Err(LinkFault::Refused(LinkRefusal::NoLink));
+        };
+        let Some(link) = self.link(number) else {
+            unreachable!();
+        };
+        if !is_running(link.port().phase) {
+            return Err(LinkFault::Refused(LinkRefusal::LinkState));
+        }
+        let tag = tag_of(number, link);
+        match self.send_acks_at(number, &message.acks) {
+            Ok(()) => Ok(tag),
+            Err(refusal) => Err(LinkFault::Refused(refusal)),
+        }
+    }
+
+    // A data segment.
+    #[tactic(auto, using(crate::proofs::Index::found_links))]
+    fn segment(&mut self, segment: &Segment) -> Result<LinkTag, LinkFault>
+        requires acks { AllByRecursion IsAckWord segment.now.acks.items }
+        requires segnum { segment.now.number < 4096 }
+        ensures ok { IfOk result (λ tag. message_sent wire_flows self.old (nsp.DataSegment (segment_view segment.now))
+            ≡ Ok (record { links = self.new; truth = record { tag = tag; known = tt } })) }
+        ensures refused { IfErr result (λ fault. IsFault (message_sent wire_flows self.old (nsp.DataSegment (segment_view segment.now))) true fault) }
+        ensures err { OnErr result (self.new ≡ self.old) }
+    {
+        let test = LinkTest::TheLink {
+            own: segment.srcaddr,
+            far: segment.dstaddr,
+        };
+        let Some(number) = self.find(test) else {
+            return Err(LinkFault::Refused(LinkRefusal::NoLink));
+        };
+        let Some(link) = self.link(number) else {
+            unreachable!();
+        };
+        if !is_running(link.port().phase) {
+            return Err(LinkFault::Refused(LinkRefusal::LinkState));
+        }
+        let tag = tag_of(number, link);
+        match self.send_segment_at(number, segment) {
+            Ok(()) => Ok(tag),
+            Err(fault) => Err(fault),
+        }
+    }
+
+    // A DC: no live link has its addresses; with SRCADDR 0 it ends the link in Called that it is sent for, if there is one.
+    #[tactic(auto, using(crate::proofs::Index::found_links))]
+    fn disconnect_confirm(&mut self, dst: u16, src: u16, reason: u16) -> Result<LinkTag, LinkFault>
+        ensures ok { IfOk result (λ tag. message_sent wire_flows self.old (nsp.DisconnectConfirm dst src reason)
+            ≡ Ok (record { links = self.new; truth = record { tag = tag; known = tt } })) }
+        ensures refused { IfErr result (λ fault. IsFault (message_sent wire_flows self.old (nsp.DisconnectConfirm dst src reason)) false fault) }
+        ensures err { OnErr result (self.new ≡ self.old) }
+    {
+        if let Some(number) = self.find(LinkTest::TheLink { own: src, far: dst }) {
+            let Some(_link) = self.link(number) else {
+                unreachable!();
+            };
+            return Err(LinkFault::Refused(LinkRefusal::LinkState));
+        }
+        if src != 0 {
+            return Ok(NO_LINK);
+        }
+        let Some(number) = self.find(LinkTest::CalledBy { far: dst }) else {
+            return Ok(NO_LINK);
+        };
+        let Some(link) = self.link(number) else {
+            unreachable!();
+        };
+        let tag = tag_of(number, link);
+        self.end_at(number);
+        Ok(tag)
+    }
+}
+
+// The tag of a message of this link, the number of which is given.
+fn tag_of<W: Window<Piece, 4096> + Drop>(number: usize, link: &Link<W>) -> LinkTag
+    ensures { result ≡ record { link = Some number; partner = link.now.partner } }
+{
+    LinkTag {
+        link: Some(number as u64),
+        partner: link.partner(),
+    }
+}
+
+// The live link with these addresses.
+fn the_link(own: u16, far: u16) -> LinkTest
+    ensures { result ≡ LinkTest.TheLink own far }
+{
+    LinkTest::TheLink { own, far }
+}

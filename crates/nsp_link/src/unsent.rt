@@ -1,0 +1,143 @@
+//! What was handed in and is in no segment yet.
+
+ghost use Rattle.std.specs.Prelude.{◌≡◌, ◌≤◌, true, length, OnOk, OnErr, IfOk};
+ghost use Rattle.dna_packet.specs.Nsp.{segment_view};
+ghost use Rattle.dna_model.specs.Pieces as spec;
+ghost use Rattle.dna_model.specs.Pieces.{piece_of, none_unsent, with_message, is_next_piece, without_piece};
+
+use dna_packet::Segment;
+use std::alloc::{AllocError, Global};
+use std::collections::VecDeque;
+use std::marker::Model;
+
+/// A message that was handed in, in memory of its own. A contract sees its bytes.
+#[derive(Drop)]
+struct Message {
+    bytes: Vec<u8>,
+}
+
+impl Model for Message {
+    ghost use Rattle.std.specs.Prelude.{List, ℕ};
+
+    ghost Value = { List ℕ };
+
+    ghost view = { λ m. m.bytes.items };
+}
+
+impl Message {
+    // A copy of these bytes.
+    fn copy_of(alloc: Global, bytes: &[u8]) -> Result<Message, AllocError>
+        ensures { IfOk result (λ message. message ≡ bytes.now) }
+    {
+        let mut copy = Vec::new(alloc);
+        copy.extend_from_slice(bytes)?;
+        Ok(Message { bytes: copy })
+    }
+
+    fn bytes(&self) -> &[u8]
+        ensures { result.now ≡ self.now }
+    {
+        self.bytes.as_slice()
+    }
+}
+
+/// What was handed in and is in no segment yet. A contract sees the rest of the current message and the messages behind it, and
+/// whether a segment has begun the current one.
+#[derive(Drop)]
+pub struct Unsent {
+    // a segment has begun the current message
+    begun: bool,
+    // how many bytes of the current message are in segments
+    given: usize,
+    // the messages, whole
+    messages: VecDeque<Message>,
+}
+
+impl Model for Unsent {
+    ghost use Rattle.nsp_link.specs.Unsent.{without_given, given_fits};
+    ghost use Rattle.dna_model.specs.Pieces.{Unsent};
+
+    ghost Value = { Unsent };
+
+    ghost view = { λ u. record { begun = u.begun; messages = without_given u.given u.messages.items } };
+
+    ghost invariant = { λ u. given_fits u.given u.messages.items };
+}
+
+impl Unsent {
+    /// Nothing.
+    pub fn new(alloc: Global) -> Unsent
+        ensures { result ≡ none_unsent }
+    {
+        Unsent {
+            begun: false,
+            given: 0,
+            messages: VecDeque::new(alloc),
+        }
+    }
+
+    /// A message is handed in. Where memory for it is refused, nothing changes.
+    pub fn hand_in(&mut self, alloc: Global, message: &[u8]) -> Result<(), AllocError>
+        ensures ok { OnOk result (self.new ≡ with_message message.now self.old) }
+        ensures err { OnErr result (self.new ≡ self.old) }
+    {
+        let copy = Message::copy_of(alloc, message)?;
+        match self.messages.push_back(copy) {
+            Ok(()) => Ok(()),
+            Err(_) => Err(AllocError),
+        }
+    }
+
+    /// Whether a segment carries the next bytes of the current message: it begins it exactly if nothing has begun it, ends it exactly
+    /// if nothing is left behind, and is empty only for an empty message.
+    pub fn is_next(&self, segment: &Segment) -> bool
+        ensures { result ≡ is_next_piece (piece_of (segment_view segment.now)) self.now }
+    {
+        let Some(message) = self.messages.front() else {
+            return false;
+        };
+        let rest = &message.bytes()[self.given..];
+        is_piece_of(segment, self.begun, rest)
+    }
+
+    /// The next piece, which this segment carries, is given.
+    #[tactic(auto, using(crate::proofs::Pieces::next_pieces))]
+    pub fn give(&mut self, segment: &Segment)
+        requires { is_next_piece (piece_of (segment_view segment.now)) self.old ≡ true }
+        ensures { self.new ≡ without_piece (piece_of (segment_view segment.now)) self.old }
+    {
+        if segment.ends {
+            self.begun = false;
+            self.given = 0;
+            self.messages.pop_front();
+        } else {
+            let Some(message) = self.messages.front() else {
+                unreachable!();
+            };
+            let left = message.bytes().len() - self.given;
+            prove!(segment.body.len() <= left);
+            self.begun = true;
+            self.given += segment.body.len();
+        }
+    }
+}
+
+// Whether a segment carries the next bytes of a message of which this is left, and which a segment has begun or has not.
+fn is_piece_of(segment: &Segment, begun: bool, rest: &[u8]) -> bool
+    ensures { result ≡ spec.is_piece_of (piece_of (segment_view segment.now)) begun rest.now }
+{
+    let body = segment.body;
+    if body.len() > rest.len() {
+        return false;
+    }
+    if body != &rest[..body.len()] {
+        return false;
+    }
+    if segment.begins == begun {
+        return false;
+    }
+    if segment.ends != (body.len() == rest.len()) {
+        return false;
+    }
+    !body.is_empty() || rest.is_empty()
+}
