@@ -130,6 +130,13 @@ CONNECT_ACK_1 = 0x81 ∷ 9 ∷ 0 ∷ 1 ∷ 1 ∷ 1 ∷ 0x53 ∷ 0x80 ∷ 2 ∷ 1
 abbrev pub CC_1_2 : List ℕ
 CC_1_2 = 0x81 ∷ 0x10 ∷ 0 ∷ 1 ∷ 1 ∷ 1 ∷ 0x4e ∷ 0x42 ∷ 2 ∷ 1 ∷ 4 ∷ 2 ∷ 4 ∷ 0 ∷ 0x28 ∷ 1 ∷ 0 ∷ 2 ∷ 0 ∷ 1 ∷ 2 ∷ 2 ∷ 0 ∷ 0 ∷ 0x80 ∷ 0x40 ∷ []
 
+-- b's DC of no link to link 1, and then the CC: NUM 1 and 2, RESP 1
+abbrev pub DC_1_7 : List ℕ
+DC_1_7 = 0x81 ∷ 0x0d ∷ 0 ∷ 1 ∷ 1 ∷ 1 ∷ 0xa2 ∷ 0x40 ∷ 2 ∷ 1 ∷ 4 ∷ 2 ∷ 4 ∷ 0 ∷ 0x48 ∷ 1 ∷ 0 ∷ 7 ∷ 0 ∷ 0x2a ∷ 0 ∷ 0xab ∷ 0x7a ∷ []
+
+abbrev pub CC_1_2_BEHIND : List ℕ
+CC_1_2_BEHIND = 0x81 ∷ 0x10 ∷ 0 ∷ 1 ∷ 2 ∷ 1 ∷ 0x4e ∷ 0xb2 ∷ 2 ∷ 1 ∷ 4 ∷ 2 ∷ 4 ∷ 0 ∷ 0x28 ∷ 1 ∷ 0 ∷ 2 ∷ 0 ∷ 1 ∷ 2 ∷ 2 ∷ 0 ∷ 0 ∷ 0x80 ∷ 0x40 ∷ []
+
 -- a's data ack of nothing: NUM 2, RESP 1
 abbrev pub ACK_2_1 : List ℕ
 ACK_2_1 = 0x81 ∷ 0x0d ∷ 0 ∷ 1 ∷ 2 ∷ 1 ∷ 0xa2 ∷ 0xb0 ∷ 2 ∷ 2 ∷ 4 ∷ 1 ∷ 4 ∷ 0 ∷ 4 ∷ 2 ∷ 0 ∷ 1 ∷ 0 ∷ 0 ∷ 0x80 ∷ 0xcc ∷ 0xce ∷ []
@@ -174,7 +181,11 @@ PADDED_2 = 0x81 ∷ 1 ∷ 0 ∷ 0 ∷ 2 ∷ 1 ∷ 0xe3 ∷ 0x71 ∷ 0x80 ∷ 1 �
 abbrev pub NO_NSP : List ℕ
 NO_NSP = 0x81 ∷ 7 ∷ 0 ∷ 0 ∷ 1 ∷ 1 ∷ 0x6b ∷ 0x81 ∷ 2 ∷ 2 ∷ 4 ∷ 1 ∷ 4 ∷ 0 ∷ 0xff ∷ 0xd3 ∷ 0x9f ∷ []
 
--- the same, marked returned
+-- the same for node 1.3
+abbrev pub NO_NSP_OF_OTHER_NODE : List ℕ
+NO_NSP_OF_OTHER_NODE = 0x81 ∷ 7 ∷ 0 ∷ 0 ∷ 1 ∷ 1 ∷ 0x6b ∷ 0x81 ∷ 2 ∷ 3 ∷ 4 ∷ 1 ∷ 4 ∷ 0 ∷ 0xff ∷ 0xd2 ∷ 0x4e ∷ []
+
+-- NO_NSP, marked returned
 abbrev pub RETURNED : List ℕ
 RETURNED = 0x81 ∷ 7 ∷ 0 ∷ 0 ∷ 1 ∷ 1 ∷ 0x6b ∷ 0x81 ∷ 0x12 ∷ 2 ∷ 4 ∷ 1 ∷ 4 ∷ 0 ∷ 0xff ∷ 0xc2 ∷ 0x5e ∷ []
 

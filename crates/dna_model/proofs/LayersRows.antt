@@ -9,13 +9,13 @@ use Rattle.capture.specs.declared.record.Record.TheVariants.{Sent, Received, Use
 use Rattle.capture.specs.declared.event.Event.TheVariants.{Start, Halt, Open, Accept, In, Up}
 use Rattle.dna_model.specs.declared.refusal.StationRefusal.TheVariants.{WrongNumber}
 use Rattle.dna_model.specs.declared.refusal.StepRefusal.TheVariants.{BadPacket, BadNsp, Station as OfStation, Links as OfLinks}
-use Rattle.dna_model.specs.declared.link_refusal.LinkRefusal.TheVariants.{WrongNode, NoLink, WrongAck, WrongDelivery, AddressInUse}
+use Rattle.dna_model.specs.declared.link_refusal.LinkRefusal.TheVariants.{WrongNode, NoLink, WrongAck, WrongDelivery, CrossedLink, AddressInUse}
 use Rattle.dna_model.specs.LayersPair.{layers_pair}
 use Rattle.dna_model.specs.WireLayers.{wire_layers_pair}
 use Rattle.dna_model.proofs.RowUnits.{STRT, STACK, ACK0, DATA1, NAK_BUFFER0}
 use Rattle.dna_model.proofs.PairUnits.{NAK_HEADER0, started, answered}
 use Rattle.dna_model.proofs.LinkRows.{letters}
-use Rattle.dna_model.proofs.LayersRowUnits.{CI_1, CONNECT_ACK_1, CC_1_2, ACK_2_1, SEGMENT_1, SEGMENT_2, SEGMENT_3, SEGMENT_4, SEGMENT_1_AGAIN, ACK_1_2, ACK_1_2_OF_1, ACK_1_2_OF_4, PADDED, PADDED_2, NO_NSP, RETURNED, OF_OTHER_NODE, damaged_CI_1}
+use Rattle.dna_model.proofs.LayersRowUnits.{CI_1, CONNECT_ACK_1, CC_1_2, DC_1_7, CC_1_2_BEHIND, ACK_2_1, SEGMENT_1, SEGMENT_2, SEGMENT_3, SEGMENT_4, SEGMENT_1_AGAIN, ACK_1_2, ACK_1_2_OF_1, ACK_1_2_OF_4, PADDED, PADDED_2, NO_NSP, NO_NSP_OF_OTHER_NODE, RETURNED, OF_OTHER_NODE, damaged_CI_1}
 use Rattle.dna_model.proofs.LayersRowUnits.{true_start, wire_start, IsTrueRun, IsWireRun, RefusedOfA, RefusedOfB, Turn, A, B, all_made, b_refused}
 
 -- The worked example of the player: one unit is lost, one damaged, and one packet finds no buffer
@@ -120,6 +120,15 @@ bad_message_wire : RefusedOfA wire_layers_pair wire_start started answered (Sent
 unfolding reading is_good check_of after_byte shift
 bad_message_wire = record { world = _; run = OfA refl (OfA refl (OfB refl (OfB refl (OfB refl (OfA refl Done))))); refused = refl }
 
+-- 17, and 16 fits too
+message_before_node_true : RefusedOfA layers_pair true_start started answered (Sent NO_NSP_OF_OTHER_NODE) (BadNsp)
+unfolding reading is_good check_of after_byte shift
+message_before_node_true = record { world = _; run = OfA refl (OfA refl (OfB refl (OfB refl (OfB refl (OfA refl Done))))); refused = refl }
+
+message_before_node_wire : RefusedOfA wire_layers_pair wire_start started answered (Sent NO_NSP_OF_OTHER_NODE) (BadNsp)
+unfolding reading is_good check_of after_byte shift
+message_before_node_wire = record { world = _; run = OfA refl (OfA refl (OfB refl (OfB refl (OfB refl (OfA refl Done))))); refused = refl }
+
 -- a message for another node
 of_other_node_true : RefusedOfA layers_pair true_start started answered (Sent OF_OTHER_NODE) (OfLinks WrongNode)
 unfolding reading is_good check_of after_byte shift
@@ -137,6 +146,21 @@ call_unasked_true = record { world = _; run = OfA refl (OfA refl (OfB refl (OfB 
 call_unasked_wire : RefusedOfA wire_layers_pair wire_start started answered (Sent CI_1) (OfLinks NoLink)
 unfolding reading is_good check_of after_byte shift
 call_unasked_wire = record { world = _; run = OfA refl (OfA refl (OfB refl (OfB refl (OfB refl (OfA refl Done))))); refused = refl }
+
+-- The call of a's first link is accepted when that link has ended and the second one has its address: the CC is for another link
+abbrev crossed_a : List Record
+crossed_a = User Start ∷ Sent STRT ∷ Received 0 false STACK ∷ User (Open 1) ∷ Sent CI_1 ∷ Received 1 true DC_1_7 ∷ User (Open 1) ∷ []
+
+abbrev crossed_b : List Record
+crossed_b = User Start ∷ Received 0 false STRT ∷ Sent STACK ∷ Received 1 true CI_1 ∷ Sent DC_1_7 ∷ User (Accept 1 2) ∷ Sent CC_1_2_BEHIND ∷ []
+
+crossed_true : RefusedOfA layers_pair true_start crossed_a crossed_b (Received 2 true CC_1_2_BEHIND) (OfLinks CrossedLink)
+unfolding reading is_good check_of after_byte shift
+crossed_true = record { world = _; run = OfA refl (OfA refl (OfB refl (OfB refl (OfB refl (OfA refl (OfA refl (OfA refl (OfB refl (OfB refl (OfA refl (OfA refl (OfB refl (OfB refl Done))))))))))))); refused = refl }
+
+crossed_wire : RefusedOfA wire_layers_pair wire_start crossed_a crossed_b (Received 2 true CC_1_2_BEHIND) (OfLinks CrossedLink)
+unfolding reading is_good check_of after_byte shift
+crossed_wire = record { world = _; run = OfA refl (OfA refl (OfB refl (OfB refl (OfB refl (OfA refl (OfA refl (OfA refl (OfB refl (OfB refl (OfA refl (OfA refl (OfB refl (OfB refl Done))))))))))))); refused = refl }
 
 -- the user's events at links need no station that runs
 opened_twice_true : RefusedOfA layers_pair true_start (User (Open 1) ∷ []) ([]) (User (Open 1)) (OfLinks AddressInUse)

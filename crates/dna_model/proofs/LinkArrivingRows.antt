@@ -4,7 +4,7 @@ use Rattle.dna_model.specs.declared.link_tag.LinkTag.{LinkTag}
 use Rattle.dna_model.specs.declared.link_refusal.LinkRefusal.TheVariants.{WrongNode, NoLink, SegmentTooLong, CrossedLink}
 use Rattle.dna_model.specs.LinkUser.{Open, Accept, Reject, In, Up, Close}
 use Rattle.dna_model.specs.LinkArriving.{of_anyone}
-use Rattle.dna_model.proofs.LinkRowMessages.{CI, CI_AGAIN, CC, CONNECT_ACK, DI, DC, LINK_SERVICE, INTERRUPT, OTHER_ACK, NO_OPERATION, DATA_ACK, ack, SEGMENT, carries}
+use Rattle.dna_model.proofs.LinkRowMessages.{CI, CI_AGAIN, CI_AGAIN_OF_2, CC, CONNECT_ACK, DI, DC, LINK_SERVICE, INTERRUPT, OTHER_ACK, NO_OPERATION, DATA_ACK, ack, SEGMENT, carries}
 use Rattle.dna_model.proofs.LinkRowSteps.{Act, A, B, NODE_A, NODE_B, Does, Sends, Comes, ComesAs, Gets, AllMade, LastRefused, ChangesNothing, HasTag}
 use Rattle.dna_model.proofs.LinkRows.{opened, connected}
 use Rattle.dna_model.proofs.LinkUserRows.{called, closed, ended, ended_at_b}
@@ -60,6 +60,13 @@ called_again_in_run = (refl, refl, (refl, refl))
 
 called_again_while_closing : ChangesNothing B (connected ++ Does B (Close 2) ∷ []) (Gets B NODE_A NODE_B (CI_AGAIN 1) without_partner ∷ [])
 called_again_while_closing = (refl, refl, (refl, refl))
+
+-- neither the partner nor SEGSIZE is a repeat's
+called_again_by_another_link : ChangesNothing B called (Gets B NODE_A NODE_B (CI 1) (record { link = Some 1; partner = None }) ∷ [])
+called_again_by_another_link = (refl, refl, (refl, refl))
+
+called_again_with_another_segsize : ChangesNothing B called (Gets B NODE_A NODE_B (CI_AGAIN_OF_2 1) without_partner ∷ [])
+called_again_with_another_segsize = (refl, refl, (refl, refl))
 
 -- a live link that was opened here has that far address
 called_by_the_partner_of_an_own_call : ChangesNothing A connected (Gets A NODE_B NODE_A (CI 2) without_partner ∷ [])
@@ -130,6 +137,12 @@ disconnected_in_confirming = (refl, refl)
 
 disconnected_in_calling : LastRefused NoLink (called ++ Does B (Reject 1 2) ∷ Sends B (DI 1 2) ∷ Comes A 0 ∷ Sends A (CI 1) ∷ [])
 disconnected_in_calling = (refl, refl)
+
+disconnected_while_closing : LastRefused NoLink (closed ++ Gets A NODE_B NODE_A (DI 1 2) of_the_pair ∷ Sends A (DI 2 1) ∷ [])
+disconnected_while_closing = (refl, refl)
+
+end_confirmed_in_confirming : LastRefused NoLink (opened ++ Gets B NODE_A NODE_B (DC 2 1) of_the_pair ∷ Sends B (CC 1 2) ∷ [])
+end_confirmed_in_confirming = (refl, refl)
 
 end_confirmed_while_closing : LastRefused NoLink (ended ++ Sends A (DI 2 1) ∷ [])
 end_confirmed_while_closing = (refl, refl)

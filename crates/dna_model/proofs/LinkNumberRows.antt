@@ -183,6 +183,10 @@ acknowledged_one = got_two ++ Comes B 2 ∷ words_of_b (ack 1) ∷ Comes A 3 ∷
 sent_again_once_acknowledged : AllMade (acknowledged_one ++ segment 0x60 1 (1 ∷ []) ∷ segment 0x00 1 (9 ∷ 9 ∷ []) ∷ [])
 sent_again_once_acknowledged = (refl, refl)
 
+-- however long it is
+sent_again_longer_once_acknowledged : AllMade (acknowledged_one ++ segment 0x60 1 (9 ∷ 9 ∷ 9 ∷ []) ∷ [])
+sent_again_longer_once_acknowledged = (refl, refl)
+
 sent_again_behind_the_acknowledged : LastRefused WrongSegment (acknowledged_one ++ segment 0x60 2 (9 ∷ []) ∷ [])
 sent_again_behind_the_acknowledged = (refl, refl)
 

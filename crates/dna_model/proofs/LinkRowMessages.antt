@@ -12,6 +12,10 @@ CI src = between 0x18 0 src ++ 1 ∷ 2 ∷ 0 ∷ 2 ∷ []
 abbrev pub CI_AGAIN : (src : ℕ) → List ℕ
 CI_AGAIN src = between 0x68 0 src ++ 1 ∷ 2 ∷ 0 ∷ 2 ∷ []
 
+-- sent again with SEGSIZE 2
+abbrev pub CI_AGAIN_OF_2 : (src : ℕ) → List ℕ
+CI_AGAIN_OF_2 src = between 0x68 0 src ++ 1 ∷ 2 ∷ 2 ∷ 0 ∷ []
+
 -- CC with SEGSIZE 2
 abbrev pub CC : (dst src : ℕ) → List ℕ
 CC dst src = between 0x28 dst src ++ 1 ∷ 2 ∷ 2 ∷ 0 ∷ []

@@ -96,6 +96,9 @@ disconnects_another_link = (refl, refl)
 disconnects_unclosed : LastRefused LinkState (connected ++ Sends A (DI 2 1) ∷ [])
 disconnects_unclosed = (refl, refl)
 
+disconnects_in_confirming : LastRefused LinkState (opened ++ Sends B (DI 1 2) ∷ [])
+disconnects_in_confirming = (refl, refl)
+
 disconnects_in_calling : LastRefused NoLink (called ++ Sends A (DI 0 1) ∷ [])
 disconnects_in_calling = (refl, refl)
 
@@ -113,6 +116,12 @@ confirms_the_end = (refl, refl)
 confirms_the_end_of_a_live_link : LastRefused LinkState (connected ++ Sends B (DC 1 2) ∷ [])
 confirms_the_end_of_a_live_link = (refl, refl)
 
+confirms_the_end_in_confirming : LastRefused LinkState (opened ++ Sends B (DC 1 2) ∷ [])
+confirms_the_end_in_confirming = (refl, refl)
+
+confirms_the_end_while_closing : LastRefused LinkState (closed ++ Sends A (DC 2 1) ∷ [])
+confirms_the_end_while_closing = (refl, refl)
+
 confirms_the_end_in_calling : AllMade (called ++ Sends A (DC 2 1) ∷ Sends A (CI 1) ∷ [])
 confirms_the_end_in_calling = (refl, refl)
 
@@ -125,6 +134,10 @@ refuses_the_call = (refl, refl)
 
 refuses_another_call : AllMade (called ++ Sends B (DC 3 0) ∷ Does B (Accept 1 2) ∷ [])
 refuses_another_call = (refl, refl)
+
+-- with another SRCADDR it ends no call
+ends_no_call : AllMade (called ++ Sends B (DC 1 7) ∷ Does B (Accept 1 2) ∷ [])
+ends_no_call = (refl, refl)
 
 -- an answered call is not ended by it
 refuses_an_answered_call : AllMade (opened ++ Sends B (DC 1 0) ∷ Sends B (CC 1 2) ∷ [])

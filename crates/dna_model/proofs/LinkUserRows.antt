@@ -20,12 +20,12 @@ ended_at_b = closed ++ Sends A (DI 2 1) ∷ Comes B 2 ∷ []
 abbrev pub ended : List Act
 ended = ended_at_b ++ Sends B (DC 1 2) ∷ Comes A 1 ∷ []
 
--- b has a whole message and the beginning of another when the link ends at both sides
+-- b has a whole message and the beginning of another; then the link ends at both sides
 abbrev piece : (flag number byte : ℕ) → Act
 piece flag number byte = Sends A (SEGMENT flag 2 1 (carries number (byte ∷ [])))
 
-abbrev came_before_the_end : List Act
-came_before_the_end =
+abbrev came_before_the_close : List Act
+came_before_the_close =
     connected
     ++ Does A (In 1 (5 ∷ 6 ∷ []))
     ∷ Does A (In 1 (7 ∷ 8 ∷ []))
@@ -35,10 +35,10 @@ came_before_the_end =
     ∷ Comes B 2
     ∷ Comes B 3
     ∷ Comes B 4
-    ∷ Does A (Close 1)
-    ∷ Sends A (DI 2 1)
-    ∷ Comes B 5
     ∷ []
+
+abbrev came_before_the_end : List Act
+came_before_the_end = came_before_the_close ++ Does A (Close 1) ∷ Sends A (DI 2 1) ∷ Comes B 5 ∷ []
 
 -- ---- Open: in use 26
 
@@ -100,6 +100,20 @@ handed_in_confirming = (refl, refl)
 handed_in_run : AllMade (connected ++ Does B (In 2 letters) ∷ [])
 handed_in_run = (refl, refl)
 
+-- what is handed in before RUN is carried in RUN
+carried_when_confirmed : AllMade
+    (called
+    ++ Does A (In 1 (5 ∷ []))
+    ∷ Does B (Accept 1 2)
+    ∷ Does B (In 2 (6 ∷ []))
+    ∷ Sends B (CC 1 2)
+    ∷ Comes A 0
+    ∷ Sends A (SEGMENT 0x60 2 1 (carries 1 (5 ∷ [])))
+    ∷ Comes B 1
+    ∷ Sends B (SEGMENT 0x60 1 2 (carries 1 (6 ∷ [])))
+    ∷ [])
+carried_when_confirmed = (refl, refl)
+
 handed_in_unasked : LastRefused NoLink (called ++ Does A (In 2 letters) ∷ [])
 handed_in_unasked = (refl, refl)
 
@@ -119,6 +133,9 @@ delivered_unasked = (refl, refl)
 
 delivered_to_a_rejected_link : LastRefused WrongDelivery (called ++ Does B (Reject 1 2) ∷ Does B (Up 2 []) ∷ [])
 delivered_to_a_rejected_link = (refl, refl)
+
+delivered_while_closing : AllMade (came_before_the_close ++ Does B (Close 2) ∷ Does B (Up 2 (5 ∷ 6 ∷ [])) ∷ [])
+delivered_while_closing = (refl, refl)
 
 delivered_after_the_end : AllMade (came_before_the_end ++ Does B (Up 2 (5 ∷ 6 ∷ [])) ∷ [])
 delivered_after_the_end = (refl, refl)

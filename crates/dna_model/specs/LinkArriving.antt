@@ -29,10 +29,11 @@ abbrev pub are_same : Option ℕ → Option ℕ → Bool
 are_same None known = false
 are_same (Some number) known = is_at known number
 
--- the sender's partner is this link; the sender is its partner too
+-- the message is of a link, and the partner of that is this link
 abbrev pub is_for : ℕ → LinkTag → Bool
 is_for number tag = is_some tag.link && is_at tag.partner number
 
+-- and that link is the partner of this one
 abbrev pub is_of_pair : ℕ → Option ℕ → LinkTag → Bool
 is_of_pair number partner tag = are_same partner tag.link && is_at tag.partner number
 

@@ -37,7 +37,7 @@ module _ {D K : Type 0} (flows : Flows D K) where
   abbrev pub in_its_phase : LinkTest → (Phase → Bool) → LinksOf D → Result (Sent D K) LinkRefusal
   in_its_phase test is_right s = with_link test s (Err NoLink) (λ number link. check (is_right link.port.phase) LinkState (Ok (unchanged s number link)))
 
-  -- DC: no link has the two addresses, else 19; with SRCADDR 0 the link in Called with that far address, if there is one, is ended
+  -- DC: no live link has the two addresses, else 19; with SRCADDR 0 the link in Called with that far address, if there is one, is ended
   abbrev pub confirms_end : LinksOf D → (src dst : ℕ) → Sent D K
   confirms_end s src dst = if src == 0 then with_link (CalledBy dst) s (of_no_link s) (λ number link. ending s number link) else of_no_link s
 
@@ -62,7 +62,7 @@ module _ {D K : Type 0} (flows : Flows D K) where
   message_sent s (ConnectConfirm dst src services info segsize user_data) = in_its_phase (TheLink src dst) is_confirming s
   -- DI: the link, else 18; in DI, else 19
   message_sent s (DisconnectInitiate dst src reason user_data) = in_its_phase (TheLink src dst) is_disconnecting s
-  -- DC: not the link, else 19
+  -- DC: no live link has the two addresses, else 19
   message_sent s (DisconnectConfirm dst src reason) = with_link (TheLink src dst) s (Ok (confirms_end s src dst)) (λ number link. Err LinkState)
   -- segment and data ack: in RUN, by the rules on numbers
   message_sent s (DataSegment segment) = in_run segment.srcaddr segment.dstaddr (segment_of segment) s

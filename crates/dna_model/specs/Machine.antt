@@ -25,7 +25,7 @@ pub record Machine (S K : Type 0) : Type 0 where
   pub arrives : S → ArrivalValue K → (kept : Bool) → Result S StepRefusal
 
 pub record NodeOf (S : Type 0) : Type 0 where
-  -- the addresses in the head of its capture. Nothing goes by them until links are judged
+  -- the addresses in the head of its capture: the station does not go by them, the links do
   pub head : Head
   pub station : S
   -- the other side's first unit that may still come: one more than the last hint received, and 0 before any

@@ -26,7 +26,9 @@ pub use laws::{
     cut_sending, delivered_in_order, numbers_in_order, numbers_within_bounds,
     packets_at_their_places, wire_nodes_see_right,
 };
-pub use layers_laws::{layers_deliver_in_order, layers_run_as_stations, links_meet_packets_in_order};
+pub use layers_laws::{
+    layers_deliver_in_order, layers_run_as_stations, links_meet_packets_in_order,
+};
 pub use link_event::LinkEvent;
 pub use link_laws::{cut_flow, cut_link_steps};
 pub use link_refusal::LinkRefusal;

@@ -11,7 +11,7 @@ pub enum LinkRefusal {
     LinkState,
     /// A segment that is sent is neither the next piece of what was handed in nor a true repeat (reason 20).
     WrongSegment,
-    /// An acknowledgement word that is sent names a segment that was not received, or one too far back (reason 21).
+    /// An acknowledgement word that is sent names a number above the highest received without a gap, or one too far back (reason 21).
     WrongAck,
     /// A new segment is longer than the other side takes (reason 22).
     SegmentTooLong,
