@@ -87,12 +87,12 @@ module _ {L : Type 0} where
   -- ---- the machines
 
   -- refused alike, and alike where not refused
-  alike : (p o : Option StationRefusal) (w : WireStation L) (t : Station) → p ≡ o → (o ≡ None → w ≡ station_seen t) → unless_refused p w ≡ cut_result station_seen (λ (u : Truth). u.tag) (station_machine judged) (wire_machine judged) (unless_refused o t)
+  alike : (p o : Option StationRefusal) (w : WireStation L) (t : Station) → p ≡ o → (o ≡ None → w ≡ station_seen t) → unless_refused p w ≡ cut_result station_seen (λ (m : MessageValue) (u : Truth). u.tag) (station_machine judged) (wire_machine judged) (unless_refused o t)
   alike p None w t e same = ap (λ (x : Option StationRefusal). unless_refused x w) e ∙ ap Ok (same refl)
   alike p (Some refusal) w t e same = ap (λ (x : Option StationRefusal). unless_refused x w) e
 
   module _ (own other : Half Node SentUnit) (bounded : IsBounded own other) where
-    bounded_same : DoTheSame (station_seen) (λ (u : Truth). u.tag) (station_machine judged) (wire_machine judged) own other
+    bounded_same : DoTheSame (station_seen) (λ (m : MessageValue) (u : Truth). u.tag) (station_machine judged) (wire_machine judged) own other
     bounded_same = record {
       user = user_same;
       sending = sending_made;
@@ -101,7 +101,7 @@ module _ {L : Type 0} where
       data_bad = λ kept. alike (keep_refusal false kept) (keep_refusal false kept) _ _ refl (λ e. sym (data_bad_same (unlabelled own.state.station.packets) own.state.station kept) ∙ seen_packets own.state.station DataBad kept);
     }
       where
-        user_same : (event : Event) → (wire_machine judged).user (station_seen own.state.station) event ≡ cut_result station_seen (λ (u : Truth). u.tag) (station_machine judged) (wire_machine judged) ((station_machine judged).user own.state.station event)
+        user_same : (event : Event) → (wire_machine judged).user (station_seen own.state.station) event ≡ cut_result station_seen (λ (m : MessageValue) (u : Truth). u.tag) (station_machine judged) (wire_machine judged) ((station_machine judged).user own.state.station event)
         user_same events.Start = alike _ (user_refusal own.state.station.state Start) (wire_after_event (station_seen own.state.station) Start) (after_event own.state.station Start) refl (λ e. seen_event own.state.station Start)
         user_same events.Halt = alike _ (user_refusal own.state.station.state Halt) (wire_after_event (station_seen own.state.station) Halt) (after_event own.state.station Halt) refl (λ e. seen_event own.state.station Halt)
         user_same (events.Open link) = refl
@@ -111,19 +111,19 @@ module _ {L : Type 0} where
         user_same (events.Up link bytes) = refl
         user_same (events.Close link) = refl
 
-        sending_made : (m : MessageValue) → (wire_machine judged).sends (station_seen own.state.station) m ≡ cut_sent station_seen (λ (u : Truth). u.tag) (station_machine judged) (wire_machine judged) ((station_machine judged).sends own.state.station m)
+        sending_made : (m : MessageValue) → (wire_machine judged).sends (station_seen own.state.station) m ≡ cut_sent station_seen (λ (m : MessageValue) (u : Truth). u.tag) (station_machine judged) (wire_machine judged) m ((station_machine judged).sends own.state.station m)
         sending_made m =
             ap₂ (λ (o : Option StationRefusal) (w : WireStation L). unless_refused o (w, tag_of own.state.station))
             (sym (sending_refusal_same (unlabelled own.state.station.packets) own.state.station (unlabelled_bodies L own.state.station.packets) bounded.ordered m))
             (sym (seen_sending own.state.station m bounded.ordered))
             ∙ go (sending_refusal own.state.station m)
           where
-            go : (o : Option StationRefusal) → unless_refused o (station_seen (after_sending own.state.station m), tag_of own.state.station) ≡ cut_sent station_seen (λ (u : Truth). u.tag) (station_machine judged) (wire_machine judged) (unless_refused o (after_sending own.state.station m, truth_of own.state.station m))
+            go : (o : Option StationRefusal) → unless_refused o (station_seen (after_sending own.state.station m), tag_of own.state.station) ≡ cut_sent station_seen (λ (m : MessageValue) (u : Truth). u.tag) (station_machine judged) (wire_machine judged) m (unless_refused o (after_sending own.state.station m, truth_of own.state.station m))
             go None = refl
             go (Some refusal) = refl
 
         sound_made : (unit : SentUnit) (kept : Bool) → (meets_needs judged own.state.station unit.message unit.known ≡ true → IsWithin own.state.station unit.message unit.known) →
-            (wire_machine judged).arrives (station_seen own.state.station) (Sound unit.message unit.known.tag) kept ≡ cut_result station_seen (λ (u : Truth). u.tag) (station_machine judged) (wire_machine judged) ((station_machine judged).arrives own.state.station (Sound unit.message unit.known) kept)
+            (wire_machine judged).arrives (station_seen own.state.station) (Sound unit.message unit.known.tag) kept ≡ cut_result station_seen (λ (m : MessageValue) (u : Truth). u.tag) (station_machine judged) (wire_machine judged) ((station_machine judged).arrives own.state.station (Sound unit.message unit.known) kept)
         sound_made unit kept within =
             alike _ (arrival_refusal judged own.state.station (Sound unit.message unit.known) kept) (wire_after_arrival (station_seen own.state.station) (Sound unit.message unit.known.tag) kept) (after_arrival own.state.station (Sound unit.message unit.known) kept)
             (sym (arrival_refusal_same {L = L} (unlabelled own.state.station.packets) judged own.state.station unit.message unit.known kept within))
@@ -131,4 +131,4 @@ module _ {L : Type 0} where
             ∙ seen_packets own.state.station (Sound unit.message unit.known) kept)
 
     pub record_same : (r : Record) → advance (wire_step judged) (cut_half (seen {L = L}) own) (cut_half (seen {L = L}) other) r ≡ cut_outcome seen (advance (step judged) own other r)
-    record_same r = made_same station_seen (λ (u : Truth). u.tag) (station_machine judged) (wire_machine judged) own other bounded_same r
+    record_same r = made_same station_seen (λ (m : MessageValue) (u : Truth). u.tag) (station_machine judged) (wire_machine judged) own other bounded_same r

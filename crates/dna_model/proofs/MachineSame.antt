@@ -18,17 +18,18 @@ use Rattle.dna_model.specs.Book.{Sound, HeaderBad, DataBad}
 use Rattle.dna_model.specs.Line.{UnitOf, damage, coming_by, coming}
 use Rattle.dna_model.specs.Machine.{Machine, NodeOf, does, sends, met, sent_step, comes, receives, step}
 
-module _ {S K T J : Type 0} (of_station : S → T) (of_known : K → J) (one : Machine S K) (two : Machine T J) where
+module _ {S K T J : Type 0} (of_station : S → T) (of_known : MessageValue → K → J) (one : Machine S K) (two : Machine T J) where
   abbrev pub cut_result : Result S StepRefusal → Result T StepRefusal
   cut_result (Ok s) = Ok (of_station s)
   cut_result (Err refusal) = Err refusal
 
-  abbrev pub cut_sent : Result (S × K) StepRefusal → Result (T × J) StepRefusal
-  cut_sent (Ok after) = Ok (of_station after.0, of_known after.1)
-  cut_sent (Err refusal) = Err refusal
+  -- of a message that is sent, by that message
+  abbrev pub cut_sent : MessageValue → Result (S × K) StepRefusal → Result (T × J) StepRefusal
+  cut_sent m (Ok after) = Ok (of_station after.0, of_known m after.1)
+  cut_sent m (Err refusal) = Err refusal
 
   abbrev pub unit_cut : UnitOf K → UnitOf J
-  unit_cut unit = record { bytes = unit.bytes; message = unit.message; known = of_known unit.known }
+  unit_cut unit = record { bytes = unit.bytes; message = unit.message; known = of_known unit.message unit.known }
 
   abbrev pub machine_cut : Cut (NodeOf S) (UnitOf K) (NodeOf T) (UnitOf J)
   machine_cut = record { of_state = λ (n : NodeOf S). record { head = n.head; station = of_station n.station; front = n.front }; of_unit = unit_cut }
@@ -36,9 +37,9 @@ module _ {S K T J : Type 0} (of_station : S → T) (of_known : K → J) (one : M
   -- beside this other half, they do the same of what may come
   pub record DoTheSame (own other : Half (NodeOf S) (UnitOf K)) : Type 0 where
     pub user : (event : Event) → two.user (of_station own.state.station) event ≡ cut_result (one.user own.state.station event)
-    pub sending : (m : MessageValue) → two.sends (of_station own.state.station) m ≡ cut_sent (one.sends own.state.station m)
+    pub sending : (m : MessageValue) → two.sends (of_station own.state.station) m ≡ cut_sent m (one.sends own.state.station m)
     pub sound : (k : ℕ) (unit : UnitOf K) (kept : Bool) → slice_get other.sent k ≡ Some unit → own.state.front ≤ k →
-        two.arrives (of_station own.state.station) (Sound unit.message (of_known unit.known)) kept ≡ cut_result (one.arrives own.state.station (Sound unit.message unit.known) kept)
+        two.arrives (of_station own.state.station) (Sound unit.message (of_known unit.message unit.known)) kept ≡ cut_result (one.arrives own.state.station (Sound unit.message unit.known) kept)
     pub header_bad : (kept : Bool) → two.arrives (of_station own.state.station) HeaderBad kept ≡ cut_result (one.arrives own.state.station HeaderBad kept)
     pub data_bad : (kept : Bool) → two.arrives (of_station own.state.station) DataBad kept ≡ cut_result (one.arrives own.state.station DataBad kept)
 
@@ -48,7 +49,7 @@ module _ {S K T J : Type 0} (of_station : S → T) (of_known : K → J) (one : M
     did_same (Err refusal) = refl
 
     sends_same : (bytes : List ℕ) (m : MessageValue) (o : Result (S × K) StepRefusal) →
-        answered (cut_half machine_cut own) (cut_half machine_cut other) (sends (cut_half machine_cut own).state bytes m (cut_sent o)) ≡ cut_outcome machine_cut (answered own other (sends own.state bytes m o))
+        answered (cut_half machine_cut own) (cut_half machine_cut other) (sends (cut_half machine_cut own).state bytes m (cut_sent m o)) ≡ cut_outcome machine_cut (answered own other (sends own.state bytes m o))
     sends_same bytes m (Ok after) =
         ap (λ (units : List (UnitOf J)). Made (record { state = record { head = own.state.head; station = of_station after.0; front = own.state.front }; sent = units }))
         (sym (map-append unit_cut own.sent (record { bytes = bytes; message = m; known = after.1 } ∷ [])))

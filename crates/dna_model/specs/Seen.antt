@@ -1,18 +1,29 @@
--- A run of the wire nodes, beside the run of the nodes on true numbers that it shows.
+-- A run of two wire nodes, beside the run of the nodes on true numbers that it shows: of stations alone, and over both layers.
 use Rattle.std.specs.Prelude.{◌≡◌, List}
-use Rattle.two_nodes.specs.Nodes.{World, Run, advance}
-use Rattle.two_nodes.specs.Cutting.{cut_outcome, cut_world}
+use Rattle.two_nodes.specs.Nodes.{Nodes, World, Run, advance}
+use Rattle.two_nodes.specs.Cutting.{Cut, cut_outcome, cut_world}
 use Rattle.capture.specs.declared.record.Record.{Record}
 use Rattle.dna_model.specs.declared.head.Head.{Head}
-use Rattle.dna_model.specs.Line.{SentUnit}
-use Rattle.dna_model.specs.Node.{Node}
+use Rattle.dna_model.specs.declared.refusal.StepRefusal.{StepRefusal}
 use Rattle.dna_model.specs.Pair.{pair, start}
 use Rattle.dna_model.specs.WireNode.{WireNode, WireUnit, seen, wire_pair}
+use Rattle.dna_model.specs.LayersPair.{layers_pair, layers_start}
+use Rattle.dna_model.specs.WireLayers.{WireLayersNode, WireLayersUnit, wire_layers_pair}
+use Rattle.dna_model.specs.CutLayers.{layers_seen}
 
--- These records lead to a world on true numbers of which this is what is seen, and there the same becomes of each record.
-pub record IsSeen {L : Type 0} (head_a head_b : Head) (end : World (WireNode L) WireUnit) (of_a of_b : List Record) : Type 0 where
-  pub world : World Node SentUnit
-  pub run : Run pair (start head_a head_b) of_a of_b world
-  pub is_cut : end ≡ cut_world seen world
-  pub same_a : (r : Record) → advance wire_pair.node_a end.a end.b r ≡ cut_outcome seen (advance pair.node_a world.a world.b r)
-  pub same_b : (r : Record) → advance wire_pair.node_b end.b end.a r ≡ cut_outcome seen (advance pair.node_b world.b world.a r)
+module _ {S U S' U' : Type 0} (nodes : Nodes S Record U StepRefusal) (others : Nodes S' Record U' StepRefusal) (cut : Cut S U S' U') where
+  -- These records lead the nodes to a world of which the others' end is what is seen, and there the same becomes of each record.
+  pub record IsSeenRun (first : World S U) (end : World S' U') (of_a of_b : List Record) : Type 0 where
+    pub world : World S U
+    pub run : Run nodes first of_a of_b world
+    pub is_cut : end ≡ cut_world cut world
+    pub same_a : (r : Record) → advance others.node_a end.a end.b r ≡ cut_outcome cut (advance nodes.node_a world.a world.b r)
+    pub same_b : (r : Record) → advance others.node_b end.b end.a r ≡ cut_outcome cut (advance nodes.node_b world.b world.a r)
+
+-- of stations alone
+abbrev pub IsSeen : {L : Type 0} (head_a head_b : Head) (end : World (WireNode L) WireUnit) (of_a of_b : List Record) → Type 0
+IsSeen head_a head_b end of_a of_b = IsSeenRun pair wire_pair seen (start head_a head_b) end of_a of_b
+
+-- over both layers
+abbrev pub IsSeenLayers : (head_a head_b : Head) (end : World WireLayersNode WireLayersUnit) (of_a of_b : List Record) → Type 0
+IsSeenLayers head_a head_b end of_a of_b = IsSeenRun layers_pair wire_layers_pair layers_seen (layers_start head_a head_b) end of_a of_b

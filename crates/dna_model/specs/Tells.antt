@@ -11,6 +11,9 @@ use Rattle.dna_model.specs.Machine.{Machine, NodeOf, does, sends, sent_step, ste
 use Rattle.dna_model.specs.Node.{station_machine}
 use Rattle.dna_model.specs.Pair.{pair}
 use Rattle.dna_model.specs.WireNode.{wire_machine, wire_pair}
+use Rattle.dna_model.specs.Layers.{layers_machine}
+use Rattle.dna_model.specs.LayersPair.{layers_pair}
+use Rattle.dna_model.specs.WireLayers.{wire_layers_machine, wire_layers_pair}
 
 did_tells : {S : Type 0} (K : Type 0) (n : NodeOf S) (o : Result S StepRefusal) → AgreesWith (does {K = K} n o) None false
 did_tells K n (Ok s) = (refl, refl)
@@ -41,3 +44,9 @@ pair_tells = machine_tells (station_machine judged)
 
 pub wire_pair_tells : (L : Type 0) → BothTell (wire_pair {L = L})
 wire_pair_tells L = machine_tells (wire_machine judged)
+
+pub layers_tell : BothTell layers_pair
+layers_tell = machine_tells (layers_machine judged)
+
+pub wire_layers_tell : BothTell wire_layers_pair
+wire_layers_tell = machine_tells (wire_layers_machine judged)
