@@ -39,11 +39,11 @@ use Rattle.dna_model.proofs.OnTop.{NoMessage, Message, NotKept, KeptNone, KeptOn
 
 -- ---- all packets given
 
-given_start : (s : Station) → all_given (after_event s Start) ≡ all_given s
+pub given_start : (s : Station) → all_given (after_event s Start) ≡ all_given s
 given_start s =
     append-nil (packets_of (s.earlier ++ past s ∷ [])) ∙ flat_map-append (λ (p : PastPeriod). p.given) s.earlier (past s ∷ []) ∙ ap (λ (l : List (List ℕ)). packets_of s.earlier ++ l) (append-nil s.packets)
 
-given_arrival : (s : Station) (arrival : ArrivalValue Truth) (kept : Bool) → all_given (after_arrival s arrival kept) ≡ all_given s
+pub given_arrival : (s : Station) (arrival : ArrivalValue Truth) (kept : Bool) → all_given (after_arrival s arrival kept) ≡ all_given s
 given_arrival s arrival kept = ap₂ (λ (e : List PastPeriod) (ps : List (List ℕ)). packets_of e ++ ps) (earlier arrival) (arrival_packets s arrival kept)
   where
     damaged : (reason : NakReason) (b : Bool) → (cond b (station_book.counts reason s) s).earlier ≡ s.earlier
@@ -56,7 +56,7 @@ given_arrival s arrival kept = ap₂ (λ (e : List PastPeriod) (ps : List (List 
     earlier DataBad = damaged DataCheck (counts_damage s.state)
 
 -- a packet that is first sent comes behind them
-given_first : (s : Station) (m : MessageValue) → gives_number s m ≡ true → all_given (after_sending s m) ≡ all_given s ++ body_of m ∷ []
+pub given_first : (s : Station) (m : MessageValue) → gives_number s m ≡ true → all_given (after_sending s m) ≡ all_given s ++ body_of m ∷ []
 given_first s (Data flags resp num body) new =
     ap (λ (b : Bool). packets_of s.earlier ++ with_packet b s.packets body) new ∙ sym (append_assoc (packets_of s.earlier) s.packets (body ∷ []))
 given_first s (Ack flags resp) new = absurd cc
@@ -65,7 +65,7 @@ given_first s (Rep flags num) new = absurd cc
 given_first s (Strt flags) new = absurd cc
 given_first s (Stack flags) new = absurd cc
 
-given_again : (s : Station) (m : MessageValue) → gives_number s m ≡ false → all_given (after_sending s m) ≡ all_given s
+pub given_again : (s : Station) (m : MessageValue) → gives_number s m ≡ false → all_given (after_sending s m) ≡ all_given s
 given_again s (Data flags resp num body) old = ap (λ (b : Bool). packets_of s.earlier ++ with_packet b s.packets body) old
 given_again s (Ack flags resp) old = refl
 given_again s (Nak flags reason resp) old = refl
@@ -88,7 +88,7 @@ there_is [] i within = absurd (omega arith)
 there_is (x ∷ xs) zero within = refl
 there_is (x ∷ xs) (suc i) within = there_is xs i (omega arith)
 
-again_told : (s : Layers) (m : MessageValue) → IsOrdered s.station → length s.messages ≡ length (all_given s.station) → gives_number s.station m ≡ false → is_data m ≡ true →
+pub again_told : (s : Layers) (m : MessageValue) → IsOrdered s.station → length s.messages ≡ length (all_given s.station) → gives_number s.station m ≡ false → is_data m ≡ true →
     slice_get s.messages (place_of s.station m) ≡ Some (carried_again s (truth_of s.station m) (change_of m))
 again_told s (Data flags resp num body) o counted old d =
     let differs = eqb-false s.station.next_to_send (length s.station.packets + 1) old in
@@ -168,8 +168,8 @@ module _ (own other : Half LayersNode LayersUnit) (theirs : AreTold other) (fron
     behind = l;
   }
   moved r h (Again bytes m old) l = record { front_left = front; moves = NoStep; behind = l }
-  moved r h (First bytes m new links carried NoMessage) l = record { front_left = front; moves = OneStep SendsNone; behind = l }
-  moved r h (First bytes m new links carried (Message packet made done)) l = record { front_left = front; moves = OneStep (Sends packet made done); behind = l }
+  moved r h (First bytes m new links carried (NoMessage read)) l = record { front_left = front; moves = OneStep SendsNone; behind = l }
+  moved r h (First bytes m new links carried (Message packet made read done)) l = record { front_left = front; moves = OneStep (Sends packet made done); behind = l }
   moved r h (Receipt hint kept bytes unit arrival there links NotKept) l = record { front_left = front; moves = NoStep; behind = l }
   moved r h (Receipt hint kept bytes unit arrival there links (KeptNone none)) l =
       let same = kept_unit hint unit l.0 there (l.1).0 in

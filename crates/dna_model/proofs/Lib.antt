@@ -67,7 +67,8 @@ mod InOrder
 mod Among
 mod InOrderRuns
 mod OfferedRuns
--- the node over both layers
+-- the node over both layers, and its cut to what a node keeps
+mod ReadInRange
 mod OnTop
 mod PlacesInOrder
 mod Joined

@@ -42,10 +42,11 @@ use Rattle.dna_model.specs.Layers.{Layers, LayersTruth, LayersNode, LayersUnit, 
 use Rattle.dna_model.specs.LayersPair.{layers_pair}
 use Rattle.dna_model.proofs.Happens.{event_of}
 
--- what the links make of a packet that is first sent
-pub data FirstSent (links : Links) : Links → Option SentMessage → Type 0 where
-  NoMessage : FirstSent links links None
-  Message : (packet : Carried) (made : links_sending.Sent TrueFlow Numbers) → links_sent links packet ≡ Ok made → FirstSent links made.links (Some (record { packet = packet; truth = made.truth }))
+-- what is read of a packet that is first sent, and what the links make of it
+pub data FirstSent (links : Links) (body : List ℕ) : Links → Option SentMessage → Type 0 where
+  NoMessage : content body ≡ Ok None → FirstSent links body links None
+  Message : (packet : Carried) (made : links_sending.Sent TrueFlow Numbers) → content body ≡ Ok (Some packet) → links_sent links packet ≡ Ok made →
+      FirstSent links body made.links (Some (record { packet = packet; truth = made.truth }))
 
 -- and of a receipt, by whether its packet was kept
 pub data IsMet (rules : Rules) (links : Links) (carried : Option SentMessage) : Bool → Links → Type 0 where
@@ -67,7 +68,7 @@ pub data OnTop (rules : Rules) (own other : Half LayersNode LayersUnit) : Record
       OnTop rules own other (User event) (stepped own (record own.state { station = record own.state.station { links = links } }))
   Again : (bytes : List ℕ) (m : MessageValue) → gives_number own.state.station.station m ≡ false →
       OnTop rules own other (Sent bytes) (sent_with own bytes m (sends_again own.state.station m (sent_by own m)))
-  First : (bytes : List ℕ) (m : MessageValue) → gives_number own.state.station.station m ≡ true → (links : Links) (carried : Option SentMessage) → FirstSent own.state.station.links links carried →
+  First : (bytes : List ℕ) (m : MessageValue) → gives_number own.state.station.station m ≡ true → (links : Links) (carried : Option SentMessage) → FirstSent own.state.station.links (body_of m) links carried →
       OnTop rules own other (Sent bytes) (sent_with own bytes m (first_sent own.state.station (sent_by own m) links carried))
   Receipt : (hint : ℕ) (kept : Bool) (bytes : List ℕ) (unit : LayersUnit) (arrival : ArrivalValue LayersTruth) → slice_get other.sent hint ≡ Some unit →
       (links : Links) → IsMet rules own.state.station.links unit.known.carried kept links →
@@ -131,18 +132,18 @@ module _ (rules : Rules) (own other h : Half LayersNode LayersUnit) where
     abbrev low_sent : Half Node SentUnit
     low_sent = stepped_sending low (record low.state { station = after_sending s.station m }) (record { bytes = bytes; message = m; known = truth_of s.station m })
 
-    by_message : (packet : Carried) → gives_number s.station m ≡ true → (o : Result (links_sending.Sent TrueFlow Numbers) LinkRefusal) → links_sent s.links packet ≡ o →
+    by_message : (packet : Carried) → content (body_of m) ≡ Ok (Some packet) → gives_number s.station m ≡ true → (o : Result (links_sending.Sent TrueFlow Numbers) LinkRefusal) → links_sent s.links packet ≡ o →
         answered own other (sends own.state bytes m (with_message s (sent_by own m) packet o)) ≡ Made h → Follows (Sent bytes) (Made low_sent)
-    by_message packet new (Ok made) done is = pushed bytes m (first_sent s (sent_by own m) made.links (Some (record { packet = packet; truth = made.truth }))) (First bytes m new made.links _ (Message packet made done)) is
-    by_message packet new (Err refusal) done is = absurd cc
+    by_message packet read new (Ok made) done is = pushed bytes m (first_sent s (sent_by own m) made.links (Some (record { packet = packet; truth = made.truth }))) (First bytes m new made.links _ (Message packet made read done)) is
+    by_message packet read new (Err refusal) done is = absurd cc
 
-    by_content : gives_number s.station m ≡ true → (o : Result (Option Carried) StepRefusal) → answered own other (sends own.state bytes m (sends_first s (sent_by own m) o)) ≡ Made h → Follows (Sent bytes) (Made low_sent)
-    by_content new (Ok (Some packet)) is = by_message packet new _ refl is
-    by_content new (Ok None) is = pushed bytes m (first_sent s (sent_by own m) s.links None) (First bytes m new s.links None NoMessage) is
-    by_content new (Err refusal) is = absurd cc
+    by_content : gives_number s.station m ≡ true → (o : Result (Option Carried) StepRefusal) → content (body_of m) ≡ o → answered own other (sends own.state bytes m (sends_first s (sent_by own m) o)) ≡ Made h → Follows (Sent bytes) (Made low_sent)
+    by_content new (Ok (Some packet)) read is = by_message packet read new _ refl is
+    by_content new (Ok None) read is = pushed bytes m (first_sent s (sent_by own m) s.links None) (First bytes m new s.links None (NoMessage read)) is
+    by_content new (Err refusal) read is = absurd cc
 
     by_number : (b : Bool) → gives_number s.station m ≡ b → answered own other (sends own.state bytes m (cond b (sends_first s (sent_by own m) (content (body_of m))) (Ok (sends_again s m (sent_by own m))))) ≡ Made h → Follows (Sent bytes) (Made low_sent)
-    by_number true new is = by_content new (content (body_of m)) is
+    by_number true new is = by_content new (content (body_of m)) refl is
     by_number false new is = pushed bytes m (sends_again s m (sent_by own m)) (Again bytes m new) is
 
     by_refusal : (o : Option StationRefusal) → answered own other (sends own.state bytes m (sends_on s m (unless_refused o (sent_by own m)))) ≡ Made h →
