@@ -43,17 +43,17 @@ pub given_start : (s : Station) → all_given (after_event s Start) ≡ all_give
 given_start s =
     append-nil (packets_of (s.earlier ++ past s ∷ [])) ∙ flat_map-append (λ (p : PastPeriod). p.given) s.earlier (past s ∷ []) ∙ ap (λ (l : List (List ℕ)). packets_of s.earlier ++ l) (append-nil s.packets)
 
-pub given_arrival : (s : Station) (arrival : ArrivalValue Truth) (kept : Bool) → all_given (after_arrival s arrival kept) ≡ all_given s
-given_arrival s arrival kept = ap₂ (λ (e : List PastPeriod) (ps : List (List ℕ)). packets_of e ++ ps) (earlier arrival) (arrival_packets s arrival kept)
-  where
-    damaged : (reason : NakReason) (b : Bool) → (cond b (station_book.counts reason s) s).earlier ≡ s.earlier
-    damaged reason true = refl
-    damaged reason false = refl
+damaged_earlier : (s : Station) (reason : NakReason) (b : Bool) → (cond b (station_book.counts reason s) s).earlier ≡ s.earlier
+damaged_earlier s reason true = refl
+damaged_earlier s reason false = refl
 
-    earlier : (arrival : ArrivalValue Truth) → (after_arrival s arrival kept).earlier ≡ s.earlier
-    earlier (Sound m u) = kept_by_all (λ (t : Station). t.earlier ≡ s.earlier) (does m u kept) (λ t effect e. (does_stays m u kept t effect).earlier ∙ e) (row s.state m).effects s refl
-    earlier HeaderBad = damaged HeaderCheck (counts_damage s.state)
-    earlier DataBad = damaged DataCheck (counts_damage s.state)
+pub arrival_earlier : (s : Station) (arrival : ArrivalValue Truth) (kept : Bool) → (after_arrival s arrival kept).earlier ≡ s.earlier
+arrival_earlier s (Sound m u) kept = kept_by_all (λ (t : Station). t.earlier ≡ s.earlier) (does m u kept) (λ t effect e. (does_stays m u kept t effect).earlier ∙ e) (row s.state m).effects s refl
+arrival_earlier s HeaderBad kept = damaged_earlier s HeaderCheck (counts_damage s.state)
+arrival_earlier s DataBad kept = damaged_earlier s DataCheck (counts_damage s.state)
+
+pub given_arrival : (s : Station) (arrival : ArrivalValue Truth) (kept : Bool) → all_given (after_arrival s arrival kept) ≡ all_given s
+given_arrival s arrival kept = ap₂ (λ (e : List PastPeriod) (ps : List (List ℕ)). packets_of e ++ ps) (arrival_earlier s arrival kept) (arrival_packets s arrival kept)
 
 -- a packet that is first sent comes behind them
 pub given_first : (s : Station) (m : MessageValue) → gives_number s m ≡ true → all_given (after_sending s m) ≡ all_given s ++ body_of m ∷ []

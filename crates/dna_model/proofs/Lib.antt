@@ -72,6 +72,9 @@ mod ReadInRange
 mod OnTop
 mod PlacesInOrder
 mod Joined
+mod LayersRead
+mod LayersLabels
+mod CutLayersNode
 mod LayersRowUnits
 mod LayersRows
 -- the links of both sides, in every run

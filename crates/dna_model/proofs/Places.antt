@@ -42,7 +42,7 @@ carried_still (Rep flags num) u packets more c b = tt
 carried_still (Strt flags) u packets more c b = tt
 carried_still (Stack flags) u packets more c b = tt
 
-abbrev AtPlaces : Station → List SentUnit → Type 0
+abbrev pub AtPlaces : Station → List SentUnit → Type 0
 AtPlaces s own = (i : ℕ) (unit : SentUnit) → slice_get own i ≡ Some unit → CarriesItsPacket (all_given s) unit.message unit.known
 
 -- ---- all packets given, after each step

@@ -1,0 +1,118 @@
+-- In every run over both layers the message at a place is what is read of the packet given there; so it is what is read of the packet in each data
+-- message.
+use Rattle.std.proofs.Common.{◌≡◌, ℕ, ◌+◌, ◌<◌, ◌⊎◌, inl, inr, true, Option, Some, None, Ok, List, [], ◌∷◌, ◌++◌, length, refl, sym, ap, ◌∙◌, subst, arith}
+use Rattle.std.specs.Prelude.{slice_get}
+use Rattle.std.proofs.lemmas.Option.{slice_get_within}
+use Rattle.two_nodes.specs.Nodes.{Half, World}
+use Rattle.two_nodes.specs.Kept.{IsKept}
+use Rattle.two_nodes.specs.Cutting.{cut_half, cut_world}
+use Rattle.ddcmp_msg.specs.Message.{MessageValue, Data, Ack, Nak, Rep, Strt, Stack}
+use Rattle.capture.specs.declared.record.Record.{Record}
+use Rattle.dna_model.specs.declared.head.Head.{Head}
+use Rattle.dna_model.specs.declared.state.StationEvent.TheVariants.{Start, Halt}
+use Rattle.dna_model.specs.Rules.{judged}
+use Rattle.dna_model.specs.Station.{all_given, after_event}
+use Rattle.dna_model.specs.Truth.{Truth}
+use Rattle.dna_model.specs.Book.{body_of}
+use Rattle.dna_model.specs.StationBook.{after_sending, after_arrival}
+use Rattle.dna_model.specs.Delivery.{CarriesItsPacket}
+use Rattle.dna_model.specs.Links.{Carried}
+use Rattle.dna_model.specs.TrueLinks.{Links}
+use Rattle.dna_model.specs.LinkRuns.{SentMessage}
+use Rattle.dna_model.specs.Content.{content}
+use Rattle.dna_model.specs.Layers.{LayersNode, LayersUnit, to_station, stations}
+use Rattle.dna_model.specs.LayersPair.{layers_pair, layers_start}
+use Rattle.dna_model.proofs.NumberedSteps.{at_pushed}
+use Rattle.dna_model.proofs.StationNumbers.{is_data}
+use Rattle.dna_model.proofs.Places.{BothAtPlaces, places_kept, start_at_places}
+use Rattle.dna_model.proofs.OnTop.{FirstSent, NoMessage, Message, OnTop, ByStation, ByLinks, Again, First, Receipt, follows}
+use Rattle.dna_model.proofs.Joined.{given_start, given_arrival, given_first, given_again, AreTold, LayersJoined, joined_kept, start_joined}
+
+-- what is read of a packet that was first sent
+abbrev pub packet_in : Option SentMessage → Option Carried
+packet_in None = None
+packet_in (Some message) = Some message.packet
+
+abbrev AreReadAs : List (Option SentMessage) → List (List ℕ) → Type 0
+AreReadAs messages packets = (place : ℕ) (carried : Option SentMessage) (body : List ℕ) → slice_get messages place ≡ Some carried → slice_get packets place ≡ Some body → content body ≡ Ok (packet_in carried)
+
+abbrev pub AreRead : Half LayersNode LayersUnit → Type 0
+AreRead own = AreReadAs own.state.station.messages (all_given own.state.station.station)
+
+first_read : (links left : Links) (body : List ℕ) (carried : Option SentMessage) → FirstSent links body left carried → content body ≡ Ok (packet_in carried)
+first_read links left body carried (NoMessage read) = read
+first_read links left body carried (Message packet made read done) = read
+
+-- one more of each
+read_more : (messages : List (Option SentMessage)) (packets : List (List ℕ)) (carried : Option SentMessage) (body : List ℕ) → length messages ≡ length packets → content body ≡ Ok (packet_in carried) →
+    AreReadAs messages packets → AreReadAs (messages ++ carried ∷ []) (packets ++ body ∷ [])
+read_more messages packets carried body same this before place x b at_x at_b = go (at_pushed messages carried x place at_x) (at_pushed packets body b place at_b)
+  where
+    go : (slice_get messages place ≡ Some x) ⊎ ((place ≡ length messages) × (carried ≡ x)) → (slice_get packets place ≡ Some b) ⊎ ((place ≡ length packets) × (body ≡ b)) → content b ≡ Ok (packet_in x)
+    go (inl one) (inl two) = before place x b one two
+    go (inl one) (inr two) = let l = slice_get_within messages place x one in let e = two.0 in absurd (omega arith)
+    go (inr one) (inl two) = let l = slice_get_within packets place b two in let e = one.0 in absurd (omega arith)
+    go (inr one) (inr two) = subst (λ (y : Option SentMessage). content b ≡ Ok (packet_in y)) one.1 (subst (λ (y : List ℕ). content y ≡ Ok (packet_in carried)) two.1 this)
+
+module _ (own other : Half LayersNode LayersUnit) (t : AreTold own) (before : AreRead own) where
+  packets_same : (packets : List (List ℕ)) → packets ≡ all_given own.state.station.station → AreReadAs own.state.station.messages packets
+  packets_same packets same = subst (AreReadAs own.state.station.messages) (sym same) before
+
+  pub read_left : (r : Record) (h : Half LayersNode LayersUnit) → OnTop judged own other r h → AreRead h
+  read_left r h (ByStation Start) = packets_same (all_given (after_event own.state.station.station Start)) (given_start own.state.station.station)
+  read_left r h (ByStation Halt) = before
+  read_left r h (ByLinks event of_links links is done) = before
+  read_left r h (Again bytes m old) = packets_same (all_given (after_sending own.state.station.station m)) (given_again own.state.station.station m old)
+  read_left r h (First bytes m new links carried made) =
+      subst (AreReadAs (own.state.station.messages ++ carried ∷ [])) (sym (given_first own.state.station.station m new))
+      (read_more own.state.station.messages (all_given own.state.station.station) carried (body_of m) t.counted (first_read own.state.station.links links (body_of m) carried made) before)
+  read_left r h (Receipt hint kept bytes unit arrival there links met) =
+      packets_same (all_given (after_arrival own.state.station.station (to_station arrival) kept)) (given_arrival own.state.station.station (to_station arrival) kept)
+
+-- ---- a data message
+
+pub body_read : (m : MessageValue) (u : Truth) (messages : List (Option SentMessage)) (packets : List (List ℕ)) (carried : Option SentMessage) → AreReadAs messages packets → is_data m ≡ true →
+    CarriesItsPacket packets m u → slice_get messages u.place ≡ Some carried → content (body_of m) ≡ Ok (packet_in carried)
+body_read (Data flags resp num body) u messages packets carried read d at told = read u.place carried body told at
+body_read (Ack flags resp) u messages packets carried read d at told = absurd cc
+body_read (Nak flags reason resp) u messages packets carried read d at told = absurd cc
+body_read (Rep flags num) u messages packets carried read d at told = absurd cc
+body_read (Strt flags) u messages packets carried read d at told = absurd cc
+body_read (Stack flags) u messages packets carried read d at told = absurd cc
+
+-- ---- in every run
+
+pub record LayersRead (head_a head_b : Head) (w : World LayersNode LayersUnit) (of_a of_b : List Record) : Type 0 where
+  pub joined : LayersJoined head_a head_b w of_a of_b
+  pub places : BothAtPlaces (cut_world stations w)
+  pub a_read : AreRead w.a
+  pub b_read : AreRead w.b
+
+module _ (head_a head_b : Head) where
+  pub read_kept : IsKept layers_pair (LayersRead head_a head_b)
+  read_kept = record {
+    by_a = λ w made_a made_b r h c made.
+        let f = follows judged w.a w.b h r made in
+        record {
+          joined = (joined_kept head_a head_b).by_a w made_a made_b r h c.joined made;
+          places = places_kept.by_a (cut_world stations w) made_a made_b r (cut_half stations h) c.places f.station;
+          a_read = read_left w.a w.b c.joined.a_told c.a_read r h f.links;
+          b_read = c.b_read;
+        };
+    by_b = λ w made_a made_b r h c made.
+        let f = follows judged w.b w.a h r made in
+        record {
+          joined = (joined_kept head_a head_b).by_b w made_a made_b r h c.joined made;
+          places = places_kept.by_b (cut_world stations w) made_a made_b r (cut_half stations h) c.places f.station;
+          a_read = c.a_read;
+          b_read = read_left w.b w.a c.joined.b_told c.b_read r h f.links;
+        };
+  }
+
+  pub start_read : LayersRead head_a head_b (layers_start head_a head_b) [] []
+  start_read = record {
+    joined = start_joined head_a head_b;
+    places = start_at_places head_a head_b;
+    a_read = λ place carried body there at. absurd cc;
+    b_read = λ place carried body there at. absurd cc;
+  }
