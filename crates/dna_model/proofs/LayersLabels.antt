@@ -125,7 +125,7 @@ module _ (s : Layers) where
   newest_outstanding (Data flags resp num body) o new =
       let a = o.above in let e = eqb-true s.station.next_to_send (length s.station.packets + 1) new in
       let more : length (with_packet (is_new s.station) s.station.packets body) ≡ length s.station.packets + 1 =
-          ap (λ (b : Bool). length (with_packet b s.station.packets body)) new ∙ length_push s.station.packets body in
+      ap (λ (b : Bool). length (with_packet b s.station.packets body)) new ∙ length_push s.station.packets body in
       omega arith
   newest_outstanding (Ack flags resp) o new = absurd cc
   newest_outstanding (Nak flags reason resp) o new = absurd cc

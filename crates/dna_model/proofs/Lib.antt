@@ -75,6 +75,7 @@ mod Joined
 mod LayersRead
 mod LayersLabels
 mod CutLayersNode
+mod LayersBounds
 mod LayersRowUnits
 mod LayersRows
 -- the links of both sides, in every run

@@ -8,8 +8,14 @@ ghost use Rattle.dna_model.specs.declared.head.Head.{Head};
 ghost use Rattle.dna_model.specs.Pair.{pair, start};
 ghost use Rattle.dna_model.specs.Layers.{LayersNode, LayersUnit, stations};
 ghost use Rattle.dna_model.specs.LayersPair.{layers_pair, layers_start, link_events, AreJoined};
+ghost use Rattle.dna_model.specs.WireLayers.{WireLayersNode, WireLayersUnit, wire_layers_pair, wire_layers_start};
+ghost use Rattle.dna_model.specs.CutLayers.{layers_seen};
+ghost use Rattle.dna_model.specs.Seen.{IsSeenLayers};
 ghost use Rattle.dna_model.specs.LinkDelivery.{DeliversLinks};
 ghost use Rattle.dna_model.specs.LinkCaptures.{AreUpFrom, deliveries, ups};
+
+use std::marker::Brand;
+use two_nodes::simulation;
 
 /// A run over both layers is a run of the two stations alone: all that is said of those holds of it.
 pub fn layers_run_as_stations()
@@ -43,3 +49,15 @@ pub fn layers_deliver_in_order()
     ensures b_counted { (head_a head_b : Head) (w : World LayersNode LayersUnit) (of_a of_b : List Record)
         → Run layers_pair (layers_start head_a head_b) of_a of_b w → deliveries w.b.state.station.links.links ≡ ups (link_events of_b) }
 {}
+
+/// The runs of two wire nodes over both layers are just what they see of the runs of the two nodes on true numbers; and after such a
+/// run the same becomes of each record.
+pub fn wire_layers_see_right()
+    ensures of_true { (head_a head_b : Head) (w : World LayersNode LayersUnit) (of_a of_b : List Record)
+        → Run layers_pair (layers_start head_a head_b) of_a of_b w
+        → Run wire_layers_pair (wire_layers_start head_a head_b) of_a of_b (cut_world layers_seen w) }
+    ensures of_wire { (head_a head_b : Head) (end : World WireLayersNode WireLayersUnit) (of_a of_b : List Record)
+        → Run wire_layers_pair (wire_layers_start head_a head_b) of_a of_b end → IsSeenLayers head_a head_b end of_a of_b }
+{
+    simulation::<Brand>();
+}

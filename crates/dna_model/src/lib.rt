@@ -28,6 +28,7 @@ pub use laws::{
 };
 pub use layers_laws::{
     layers_deliver_in_order, layers_run_as_stations, links_meet_packets_in_order,
+    wire_layers_see_right,
 };
 pub use link_event::LinkEvent;
 pub use link_laws::{cut_flow, cut_link_steps};
