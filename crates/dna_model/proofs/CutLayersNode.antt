@@ -1,6 +1,6 @@
 -- In a world within the bounds the wire station with links does the same as the one on true numbers, and so the same becomes of a record at its
 -- node.
-use Rattle.std.proofs.Common.{◌≡◌, ℕ, ◌≤◌, Bool, true, false, cond, Option, Some, None, Result, Ok, Err, List, map, length, drop, refl, sym, ap, ap₂, ◌∙◌, option_map}
+use Rattle.std.proofs.Common.{◌≡◌, ℕ, ◌≤◌, Bool, true, false, cond, Option, Some, None, Result, Ok, Err, List, length, drop, refl, sym, ap, ap₂, ◌∙◌, option_map}
 use Rattle.std.specs.Prelude.{slice_get}
 use Rattle.std.proofs.lemmas.Option.{slice_get-map}
 use Rattle.two_nodes.specs.Nodes.{Half, advance}
@@ -24,7 +24,7 @@ use Rattle.dna_model.specs.Book.{ArrivalValue, Sound, HeaderBad, DataBad, body_o
 use Rattle.dna_model.specs.StationBook.{sending_refusal, after_sending, gives_number, truth_of, meets_needs, arrival_refusal, after_arrival}
 use Rattle.dna_model.specs.WireStation.{HeldPacket, WireStation, wire_after_event, wire_after_label}
 use Rattle.dna_model.specs.WireBook.{wire_after_sending, wire_arrival_refusal, wire_after_arrival}
-use Rattle.dna_model.specs.Bounds.{IsOrdered, IsWithin, IsBounded}
+use Rattle.dna_model.specs.Bounds.{IsWithin, IsBounded}
 use Rattle.dna_model.specs.Cut.{AreLabelled, cut, all_after}
 use Rattle.dna_model.specs.Machine.{unless_refused, step}
 use Rattle.dna_model.specs.LinkUser.{LinkEventValue, Open, Accept, Reject, In, Up, Close}
@@ -40,7 +40,7 @@ use Rattle.dna_model.specs.CutLinks as of_links
 use Rattle.dna_model.specs.LinkRuns.{SentMessage}
 use Rattle.dna_model.specs.LinkBounds.{AreCutInStep}
 use Rattle.dna_model.specs.Content.{content}
-use Rattle.dna_model.specs.Layers.{Layers, LayersTruth, LayersNode, LayersUnit, with_station, with_links, first_sent, with_message, sends_first, carried_again, sends_again, sends_on, keeps, meets_on, layers_machine, unit_of_station, stations}
+use Rattle.dna_model.specs.Layers.{Layers, LayersTruth, LayersNode, LayersUnit, with_station, with_links, first_sent, with_message, sends_first, sends_again, sends_on, keeps, meets_on, layers_machine, unit_of_station, stations}
 use Rattle.dna_model.specs.WireLayers.{WireLayers, LayersTag, with_wire_station, with_wire_links, first_tagged, with_tag, wire_sends_first, wire_sends_again, wire_sends_on, tag_or_none, wire_keeps_packet, wire_meets_on, wire_layers_machine}
 use Rattle.dna_model.specs.LayersPair.{side_of}
 use Rattle.dna_model.specs.CutLayers.{tag_of_packet, with_tags, tagged_packets, cut_layers, tag_by, cut_truth, layers_seen}

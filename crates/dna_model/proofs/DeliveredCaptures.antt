@@ -4,7 +4,7 @@ use Rattle.std.proofs.lemmas.List.{map-append}
 use Rattle.std.proofs.lemmas.List.Sums.{fold-append}
 use Rattle.two_nodes.specs.Nodes.{Half, World}
 use Rattle.two_nodes.specs.Kept.{IsKept}
-use Rattle.ddcmp_msg.specs.Message.{MessageValue, Data, Ack, Nak, Rep, Strt, Stack}
+use Rattle.ddcmp_msg.specs.Message.{MessageValue}
 use Rattle.ddcmp_msg.specs.Reading.{reading}
 use Rattle.ddcmp_msg.specs.Reading as read_as
 use Rattle.capture.specs.declared.record.Record.{Record}

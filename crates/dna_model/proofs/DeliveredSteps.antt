@@ -1,5 +1,5 @@
 -- What a period took stays a beginning of what its partner period gave, whatever a record does.
-use Rattle.std.proofs.Common.{◌≡◌, cond, ℕ, ◌+◌, ◌-◌, Bool, true, false, ◌&&◌, eqb, ltb, leb, ◌⊎◌, inl, inr, Option, Some, None, List, [], ◌∷◌, ◌++◌, fold, length, refl, sym, ap, ◌∙◌, subst, arith, eqb-true}
+use Rattle.std.proofs.Common.{◌≡◌, cond, ℕ, ◌+◌, ◌-◌, Bool, true, false, ◌&&◌, ◌⊎◌, inl, inr, Option, Some, None, List, [], ◌∷◌, ◌++◌, fold, length, refl, sym, ap, ◌∙◌, subst, arith, eqb-true}
 use Rattle.std.specs.Prelude.{slice_get}
 use Rattle.std.proofs.lemmas.Bool.{and_parts, and_right}
 use Rattle.std.proofs.lemmas.List.{length_push}
@@ -18,7 +18,7 @@ use Rattle.dna_model.specs.Station.{Station, PastPeriod, past, given, after_even
 use Rattle.dna_model.specs.Delivery.{periods, BeginsWith, IsDelivered}
 use Rattle.dna_model.specs.Truth.{Truth}
 use Rattle.dna_model.specs.Book.{ArrivalValue, Sound, HeaderBad, DataBad, body_of, has_packet, keep_refusal}
-use Rattle.dna_model.specs.StationBook.{sends, is_new, is_packet, as_first_given, sending_refusal, after_sending, truth_of, with_packet, is_next, acknowledged_by, with_data, asked, does, takes, meets_needs, station_book, arrival_refusal, after_arrival}
+use Rattle.dna_model.specs.StationBook.{sends, is_new, is_packet, as_first_given, sending_refusal, after_sending, truth_of, with_packet, is_next, does, takes, meets_needs, station_book, arrival_refusal, after_arrival}
 use Rattle.dna_model.specs.Bounds.{IsOrdered}
 use Rattle.dna_model.specs.Line.{SentUnit}
 use Rattle.dna_model.proofs.Effects.{kept_by_all, by_response, by_packet, by_rep, Stays, does_stays, sending_stays}

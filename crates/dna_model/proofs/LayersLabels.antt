@@ -1,5 +1,5 @@
 -- The packets of a period with the tags of their messages: what a sending makes of them is what it makes of labels.
-use Rattle.std.proofs.Common.{◌≡◌, ℕ, zero, suc, ◌+◌, ◌-◌, ◌<◌, ◌≤◌, Bool, true, false, Option, Some, None, List, [], ◌∷◌, ◌++◌, map, length, drop, refl, sym, ap, ap₂, ◌∙◌, arith, length-append, length-drop, eqb-true}
+use Rattle.std.proofs.Common.{◌≡◌, ℕ, zero, suc, ◌+◌, ◌-◌, ◌<◌, Bool, true, false, Option, Some, None, List, [], ◌∷◌, ◌++◌, map, length, drop, refl, sym, ap, ◌∙◌, arith, length-append, length-drop, eqb-true}
 use Rattle.std.specs.Prelude.{slice_get, slice_set, option_and_then}
 use Rattle.std.proofs.lemmas.Bool.{eqb-false}
 use Rattle.std.proofs.lemmas.List.{length_push, drop-append-le}
@@ -7,9 +7,7 @@ use Rattle.two_nodes.proofs.Listed.{next_at}
 use Rattle.ddcmp_msg.specs.Message.{MessageValue, Data, Ack, Nak, Rep, Strt, Stack}
 use Rattle.dna_model.specs.declared.link_tag.LinkTag.{LinkTag}
 use Rattle.dna_model.specs.Table.{SendPacket, change_of}
-use Rattle.dna_model.specs.Book.{body_of}
 use Rattle.dna_model.specs.Station.{Station, packets_of, all_given}
-use Rattle.dna_model.specs.Truth.{place_of}
 use Rattle.dna_model.specs.StationBook.{is_new, with_packet, after_sending, gives_number, truth_of}
 use Rattle.dna_model.specs.Bounds.{IsOrdered}
 use Rattle.dna_model.specs.WireStation.{HeldPacket, with_new, with_label, labelled}

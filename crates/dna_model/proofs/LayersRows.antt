@@ -1,6 +1,6 @@
 -- Worked rows over both layers, computed from the definitions on true numbers and as nodes keep them: an accepted row is its run, and of a
 -- refused one the last record is refused where the earlier ones lead.
-use Rattle.std.proofs.Common.{ℕ, true, false, List, [], ◌∷◌, refl}
+use Rattle.std.proofs.Common.{true, false, List, [], ◌∷◌, refl}
 use Rattle.two_nodes.specs.Nodes.{Done, OfA, OfB}
 use Rattle.wire_base.specs.BlockCheck.{is_good, check_of, after_byte, shift}
 use Rattle.ddcmp_msg.specs.Reading.{reading}

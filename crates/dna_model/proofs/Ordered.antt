@@ -1,5 +1,5 @@
 -- What holds of a station after any records: its own numbers are in order.
-use Rattle.std.proofs.Common.{◌≡◌, ℕ, ◌+◌, ◌-◌, ◌≤◌, Bool, true, false, ◌&&◌, eqb, ltb, leb, cond, None, List, [], ◌∷◌, fold, length, refl, ap, arith, eqb-true, ltb-true, leb-true}
+use Rattle.std.proofs.Common.{◌≡◌, ℕ, ◌+◌, ◌-◌, ◌≤◌, Bool, true, false, eqb, ltb, leb, cond, None, List, length, refl, ap, arith, eqb-true, ltb-true, leb-true}
 use Rattle.std.proofs.lemmas.Bool.{and_parts}
 use Rattle.std.proofs.lemmas.List.{length_push}
 use Rattle.ddcmp_msg.specs.Message.{MessageValue, Data, Ack, Nak, Rep, Strt, Stack}
@@ -13,7 +13,7 @@ use Rattle.dna_model.specs.Table.{WINDOW, Effect, GoTo, TakePartner, Respond, Se
 use Rattle.dna_model.specs.Book.{ArrivalValue, Sound, HeaderBad, DataBad, body_of}
 use Rattle.dna_model.specs.Station.{Station, new_station, given, after_event}
 use Rattle.dna_model.specs.Truth.{Truth}
-use Rattle.dna_model.specs.StationBook.{is_new, has_room, with_packet, acknowledged_by, is_next, with_data, asked, does, station_book, sending_refusal, after_sending, after_arrival}
+use Rattle.dna_model.specs.StationBook.{is_new, has_room, with_packet, with_data, asked, does, station_book, sending_refusal, after_sending, after_arrival}
 use Rattle.dna_model.specs.Bounds.{IsOrdered}
 use Rattle.dna_model.proofs.Checks.{sending_passed}
 use Rattle.dna_model.proofs.Effects.{kept_by_all, by_response, by_packet, by_rep}

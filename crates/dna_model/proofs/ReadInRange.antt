@@ -1,5 +1,5 @@
 -- What is read of a packet's bytes, whatever they are, has numbers of 12 bits; so they are in range.
-use Rattle.std.proofs.Common.{◌≡◌, ℕ, zero, suc, ◌/◌, ◌%◌, ◌<◌, ◌≤◌, Bool, true, false, cond, eqb, ltb, leb, Option, Some, None, Result, Ok, Err, List, [], ◌∷◌, length, refl, subst, arith, ◌⊎◌, inl, inr}
+use Rattle.std.proofs.Common.{◌≡◌, ℕ, zero, suc, ◌/◌, ◌%◌, ◌<◌, ◌≤◌, Bool, true, false, cond, eqb, ltb, leb, Option, Some, None, Result, Ok, Err, List, [], ◌∷◌, length, refl, subst, arith, inl, inr}
 use Rattle.std.specs.Prelude.{ok_or}
 use Rattle.std.specs.List.{AllByRecursion}
 use Rattle.std.specs.Option.{option_map}
@@ -14,9 +14,8 @@ use Rattle.dna_packet.specs.Packet.{PacketValue, Data, Control}
 use Rattle.dna_packet.specs.Nsp.{NspValue, DataSegment, LinkService, DataAck, OtherDataAck, ConnectAck, NoOperation, ConnectInitiate, ConnectConfirm, DisconnectInitiate, DisconnectConfirm, IsInRange}
 use Rattle.dna_packet.specs.ReadingPacket.{packet_at}
 use Rattle.dna_packet.specs.ReadingNsp.{no_more_at, addresses_at, ack_at, is_ack_next, acks_at, segnum_at, segment_at, link_service_at, second_ack_at, data_acks_at, data_ack_at, other_data_ack_at, connect_ack_at, connect_fields_at, zero_address_at, connect_initiate_at, connect_confirm_at, disconnect_initiate_at, disconnect_confirm_at, message_at, nsp_at}
-use Rattle.dna_packet.proofs.FieldsLemmas.{bind_ok, chosen, ok_is}
+use Rattle.dna_packet.proofs.FieldsLemmas.{bind_ok, chosen}
 use Rattle.dna_packet.proofs.NspFieldsLemmas.{made}
-use Rattle.dna_model.specs.declared.refusal.StepRefusal.{StepRefusal}
 use Rattle.dna_model.specs.Links.{Carried}
 use Rattle.dna_model.specs.Content.{is_returned, message_in, content_of, content}
 

@@ -1,5 +1,5 @@
 -- The bounds of DDCMP are kept by a receipt, effect by effect; and a message that is acted on comes within them.
-use Rattle.std.proofs.Common.{◌≡◌, ℕ, ◌+◌, ◌-◌, ◌≤◌, Bool, true, false, ◌&&◌, eqb, ltb, leb, cond, Some, None, List, [], ◌∷◌, fold, length, refl, sym, ap, ◌∙◌, arith, eqb-true, ltb-true}
+use Rattle.std.proofs.Common.{◌≡◌, ℕ, ◌+◌, ◌-◌, ◌≤◌, Bool, true, false, cond, Some, None, List, [], ◌∷◌, fold, length, refl, sym, ap, ◌∙◌, arith, eqb-true, ltb-true}
 use Rattle.std.specs.Prelude.{slice_get}
 use Rattle.std.proofs.lemmas.Bool.{and_parts}
 use Rattle.std.proofs.lemmas.Option.{slice_get_within}
@@ -10,8 +10,8 @@ use Rattle.dna_model.specs.Table.{WINDOW, Effect, GoTo, TakePartner, Respond, Se
 use Rattle.dna_model.specs.Rules.{judged}
 use Rattle.dna_model.specs.Station.{Station, given}
 use Rattle.dna_model.specs.Truth.{Truth}
-use Rattle.dna_model.specs.Book.{ArrivalValue, Sound, HeaderBad, DataBad, body_of}
-use Rattle.dna_model.specs.StationBook.{meets_needs, acknowledged_by, is_next, with_data, asked, does, station_book, arrival_refusal, after_arrival}
+use Rattle.dna_model.specs.Book.{ArrivalValue, Sound, HeaderBad, DataBad}
+use Rattle.dna_model.specs.StationBook.{meets_needs, does, station_book, arrival_refusal, after_arrival}
 use Rattle.dna_model.specs.Bounds.{IsNear as IsNearEffect, AreNear, IsWithin}
 use Rattle.dna_model.specs.Line.{SentUnit}
 use Rattle.dna_model.specs.Node.{Node}
