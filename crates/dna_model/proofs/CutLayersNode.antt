@@ -137,22 +137,26 @@ module _ (own other : Half LayersNode LayersUnit) (front of_other : ℕ) (c : Is
         wire_after_label (wire_after_sending w m) (tag_of_packet carried) ≡ (cut_layers (first_sent s after links carried).0).station
     first_station new links carried =
         ap (λ (x : WireStation LinkTag). wire_after_label x (tag_of_packet carried)) (sym sent_station)
-        ∙ sym (newest.label_same (all_after all s.station m) (after_sending s.station m) (sending_labelled all s.station fits m) (newest_outstanding s m c.station.ordered new) (tag_of_packet carried))
+        ∙ sym (newest.label_same (all_after all s.station m) (after_sending s.station m)
+        (sending_labelled all s.station fits m) (newest_outstanding s m c.station.ordered new) (tag_of_packet carried))
         ∙ ap (λ (l : List (HeldPacket LinkTag)). cut l (after_sending s.station m)) (sym (first_tagged_same s c.counted m links carried new))
 
     first : gives_number s.station m ≡ true → (links : Links) (carried : Option SentMessage) →
         Ok (first_tagged wire_after (cut_links links) (tag_of_packet carried)) ≡ layers_sent m (Ok (first_sent s after links carried))
     first new links carried =
-        ap₂ (wire_made (cut_links links) (tag_of s.station)) (first_station new links carried) (sym (ap (λ (change : Change). tag_by change carried) (gives_packet s.station m new)))
+        ap₂ (wire_made (cut_links links) (tag_of s.station)) (first_station new links carried)
+        (sym (ap (λ (change : Change). tag_by change carried) (gives_packet s.station m new)))
 
     by_message : gives_number s.station m ≡ true → (packet : Carried) (o : Result (links_sending.Sent TrueFlow Numbers) LinkRefusal) →
         with_tag wire_after (of_links.cut_sent o) ≡ layers_sent m (with_message s after packet o)
     by_message new packet (Ok made) = first new made.links (Some (record { packet = packet; truth = made.truth }))
     by_message new packet (Err refusal) = refl
 
-    by_content : gives_number s.station m ≡ true → (r : Result (Option Carried) StepRefusal) → wire_sends_first (cut_layers s) wire_after r ≡ layers_sent m (sends_first s after r)
+    by_content : gives_number s.station m ≡ true → (r : Result (Option Carried) StepRefusal) →
+        wire_sends_first (cut_layers s) wire_after r ≡ layers_sent m (sends_first s after r)
     by_content new (Ok (Some packet)) =
-        ap (λ (o : Result (links_sending.Sent WireFlow (Unit {0})) LinkRefusal). with_tag wire_after o) (sym (c.links.sent packet)) ∙ by_message new packet (links_sent s.links packet)
+        ap (λ (o : Result (links_sending.Sent WireFlow (Unit {0})) LinkRefusal). with_tag wire_after o) (sym (c.links.sent packet))
+        ∙ by_message new packet (links_sent s.links packet)
     by_content new (Ok None) = first new s.links None
     by_content new (Err refusal) = refl
 
@@ -170,7 +174,8 @@ module _ (own other : Half LayersNode LayersUnit) (front of_other : ℕ) (c : Is
 
     by_refusal : (o : Option StationRefusal) → wire_sends_on (cut_layers s) m (unless_refused o wire_after) ≡ layers_sent m (sends_on s m (unless_refused o after))
     by_refusal None =
-        ap (λ (b : Bool). cond b (wire_sends_first (cut_layers s) wire_after (content (body_of m))) (Ok (wire_sends_again (cut_layers s) m wire_after))) (first_same all s.station fits c.station.ordered m)
+        ap (λ (b : Bool). cond b (wire_sends_first (cut_layers s) wire_after (content (body_of m))) (Ok (wire_sends_again (cut_layers s) m wire_after)))
+        (first_same all s.station fits c.station.ordered m)
         ∙ by_number (gives_number s.station m) refl
     by_refusal (Some refusal) = refl
 
@@ -188,7 +193,8 @@ module _ (own other : Half LayersNode LayersUnit) (front of_other : ℕ) (c : Is
 
     packets_still : tagged_packets left ≡ all
     packets_still =
-        ap₂ (λ (packets : List (List ℕ)) (earlier : List PastPeriod). with_tags packets (drop (length (packets_of earlier)) s.messages)) (arrival_packets s.station arrival kept) (arrival_earlier s.station arrival kept)
+        ap₂ (λ (packets : List (List ℕ)) (earlier : List PastPeriod). with_tags packets (drop (length (packets_of earlier)) s.messages))
+        (arrival_packets s.station arrival kept) (arrival_earlier s.station arrival kept)
 
     left_station : cut all (after_arrival s.station arrival kept) ≡ (cut_layers left).station
     left_station = ap (λ (l : List (HeldPacket LinkTag)). cut l (after_arrival s.station arrival kept)) (sym packets_still)
@@ -210,7 +216,8 @@ module _ (own other : Half LayersNode LayersUnit) (front of_other : ℕ) (c : Is
 
     -- the packet is read again, and its message is met
     by_carried : (station : Station) → HasItsMessage other front unit → (carried : Option SentMessage) → unit.known.carried ≡ carried →
-        wire_keeps_packet judged (cut_layers (record s { station = station })) (tag_of_packet carried) (Ok (packet_in carried)) ≡ layers_result (keeps judged (record s { station = station }) carried)
+        wire_keeps_packet judged (cut_layers (record s { station = station })) (tag_of_packet carried) (Ok (packet_in carried))
+        ≡ layers_result (keeps judged (record s { station = station }) carried)
     by_carried station h None is = refl
     by_carried station h (Some message) is =
         let small = content_in_range (body_of unit.message) message.packet (h.read ∙ ap (λ (x : Option SentMessage). Ok (packet_in x)) is) in
@@ -222,12 +229,15 @@ module _ (own other : Half LayersNode LayersUnit) (front of_other : ℕ) (c : Is
         wire_keeps_packet judged (cut_layers (record s { station = station })) (tag_or_none (tag_by (change_of unit.message) unit.known.carried)) (content (body_of unit.message))
         ≡ layers_result (keeps judged (record s { station = station }) unit.known.carried)
     by_kept station h =
-        ap₂ (λ (change : Change) (r : Result (Option Carried) StepRefusal). wire_keeps_packet judged (cut_layers (record s { station = station })) (tag_or_none (tag_by change unit.known.carried)) r) h.packet h.read
+        ap₂ (λ (change : Change) (r : Result (Option Carried) StepRefusal). wire_keeps_packet judged (cut_layers (record s { station = station })) (tag_or_none (tag_by change unit.known.carried)) r)
+        h.packet h.read
         ∙ by_carried station h unit.known.carried refl
 
-    station_left : (kept : Bool) → arrival_refusal judged s.station (Sound unit.message u) kept ≡ None → wire_after_arrival w (Sound unit.message u.tag) kept ≡ (cut_layers (left (Sound unit.message u) kept)).station
+    station_left : (kept : Bool) → arrival_refusal judged s.station (Sound unit.message u) kept ≡ None →
+        wire_after_arrival w (Sound unit.message u.tag) kept ≡ (cut_layers (left (Sound unit.message u) kept)).station
     station_left kept allowed =
-        sym (arrival_same all s.station fits c.station.ordered unit.message u kept (within (not_crossed s.station unit.message u kept allowed))) ∙ left_station (Sound unit.message u) kept
+        sym (arrival_same all s.station fits c.station.ordered unit.message u kept (within (not_crossed s.station unit.message u kept allowed)))
+        ∙ left_station (Sound unit.message u) kept
 
     abbrev wire_met : Bool → Result (WireStation LinkTag) StepRefusal → Result WireLayers StepRefusal
     wire_met kept o = wire_meets_on judged (cut_layers s) (Sound unit.message (cut_truth unit.message unit.known)) kept o
@@ -235,11 +245,15 @@ module _ (own other : Half LayersNode LayersUnit) (front of_other : ℕ) (c : Is
     by_arrival : (kept : Bool) (o : Option StationRefusal) → arrival_refusal judged s.station (Sound unit.message u) kept ≡ o →
         wire_met kept (unless_refused o (wire_after_arrival w (Sound unit.message u.tag) kept))
         ≡ layers_result (meets_on judged s (Sound unit.message unit.known) kept (unless_refused o (after_arrival s.station (Sound unit.message u) kept)))
-    by_arrival true None allowed = ap (λ (x : WireStation LinkTag). wire_met true (Ok x)) (station_left true allowed) ∙ by_kept (after_arrival s.station (Sound unit.message u) true) (c.kept hint unit there ahead allowed)
+    by_arrival true None allowed =
+        ap (λ (x : WireStation LinkTag). wire_met true (Ok x)) (station_left true allowed)
+        ∙ by_kept (after_arrival s.station (Sound unit.message u) true) (c.kept hint unit there ahead allowed)
     by_arrival false None allowed = ap (λ (x : WireStation LinkTag). wire_met false (Ok x)) (station_left false allowed)
     by_arrival kept (Some refusal) allowed = refl
 
-    sound_made : (kept : Bool) → wire_met kept (unless_refused (wire_arrival_refusal judged w (Sound unit.message u.tag) kept) (wire_after_arrival w (Sound unit.message u.tag) kept)) ≡ layers_result ((layers_machine judged).arrives s (Sound unit.message unit.known) kept)
+    sound_made : (kept : Bool) →
+        wire_met kept (unless_refused (wire_arrival_refusal judged w (Sound unit.message u.tag) kept) (wire_after_arrival w (Sound unit.message u.tag) kept))
+        ≡ layers_result ((layers_machine judged).arrives s (Sound unit.message unit.known) kept)
     sound_made kept =
         ap (λ (o : Option StationRefusal). wire_met kept (unless_refused o (wire_after_arrival w (Sound unit.message u.tag) kept)))
         (sym (arrival_refusal_same {L = LinkTag} all judged s.station unit.message u kept within))
@@ -256,5 +270,6 @@ module _ (own other : Half LayersNode LayersUnit) (front of_other : ℕ) (c : Is
     data_bad = data_bad_made;
   }
 
-  pub record_same : (r : Record) → advance (step (wire_layers_machine judged)) (cut_half layers_seen own) (cut_half layers_seen other) r ≡ cut_outcome layers_seen (advance (step (layers_machine judged)) own other r)
+  pub record_same : (r : Record) →
+      advance (step (wire_layers_machine judged)) (cut_half layers_seen own) (cut_half layers_seen other) r ≡ cut_outcome layers_seen (advance (step (layers_machine judged)) own other r)
   record_same r = made_same cut_layers cut_truth (layers_machine judged) (wire_layers_machine judged) own other layers_same r

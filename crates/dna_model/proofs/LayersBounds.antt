@@ -48,9 +48,11 @@ module _ (own other : Half LayersNode LayersUnit) (sound : IsSound (cut_half sta
   has_its_message : (hint : ℕ) (unit : LayersUnit) → slice_get other.sent hint ≡ Some unit → own.state.front ≤ hint →
       arrival_refusal judged own.state.station.station (Sound unit.message unit.known.station) true ≡ None → HasItsMessage other front unit
   has_its_message hint unit there ahead allowed =
-      let low_there : slice_get (map unit_of_station other.sent) hint ≡ Some (unit_of_station unit) = slice_get-map unit_of_station other.sent hint ∙ ap (option_map unit_of_station) there in
+      let low_there : slice_get (map unit_of_station other.sent) hint ≡ Some (unit_of_station unit) =
+      slice_get-map unit_of_station other.sent hint ∙ ap (option_map unit_of_station) there in
       let met : Node = record { head = own.state.head; station = after_arrival own.state.station.station (Sound unit.message unit.known.station) true; front = hint + 1 } in
-      let l = behind_left (cut_half stations own) (cut_half stations other) sound partnered placed front behind (Received hint true unit.bytes) (stepped (cut_half stations own) met)
+      let l = behind_left (cut_half stations own) (cut_half stations other) sound partnered placed front behind
+      (Received hint true unit.bytes) (stepped (cut_half stations own) met)
       (Receipt hint true unit.bytes (unit_of_station unit) (Sound unit.message unit.known.station) low_there ahead (Itself refl) allowed) in
       let same : l.0 ≡ unit_of_station unit = same_Some l.0 (unit_of_station unit) (sym (l.1).0 ∙ low_there) in
       let d : is_data unit.message ≡ true = ap (λ (x : SentUnit). is_data x.message) (sym same) ∙ (l.1).1 in
@@ -63,7 +65,8 @@ module _ (own other : Half LayersNode LayersUnit) (sound : IsSound (cut_half sta
       }
 
 module _ (head_a head_b : Head) (w : World LayersNode LayersUnit) (of_a of_b : List Record) (c : LayersRead head_a head_b w of_a of_b) where
-  links_in_step : AreCutInStep (side_of w.a c.joined.joined.front_a) (side_of w.b c.joined.joined.front_b) × AreCutInStep (side_of w.b c.joined.joined.front_b) (side_of w.a c.joined.joined.front_a)
+  links_in_step : AreCutInStep (side_of w.a c.joined.joined.front_a) (side_of w.b c.joined.joined.front_b)
+      × AreCutInStep (side_of w.b c.joined.joined.front_b) (side_of w.a c.joined.joined.front_a)
   links_in_step = in_step head_a.own head_a.peer head_b.own head_b.peer _ _ _ c.joined.joined.reached
 
   pub a_bounded : IsLayersBounded w.a w.b c.joined.joined.front_a c.joined.joined.front_b
@@ -74,7 +77,8 @@ module _ (head_a head_b : Head) (w : World LayersNode LayersUnit) (of_a of_b : L
         station = sound_bounded (cut_half stations w.a) (cut_half stations w.b) sound.of_a sound.of_b;
         counted = c.joined.a_told.counted;
         links = links_in_step.0;
-        kept = has_its_message w.a w.b sound.of_a order.b_order.partnered c.joined.placed.b_placed c.places.of_b c.joined.b_told c.b_read c.joined.joined.front_a c.joined.a_behind;
+        kept = has_its_message w.a w.b sound.of_a order.b_order.partnered c.joined.placed.b_placed c.places.of_b c.joined.b_told c.b_read
+            c.joined.joined.front_a c.joined.a_behind;
       }
 
   pub b_bounded : IsLayersBounded w.b w.a c.joined.joined.front_b c.joined.joined.front_a
@@ -85,7 +89,8 @@ module _ (head_a head_b : Head) (w : World LayersNode LayersUnit) (of_a of_b : L
         station = sound_bounded (cut_half stations w.b) (cut_half stations w.a) sound.of_b sound.of_a;
         counted = c.joined.b_told.counted;
         links = links_in_step.1;
-        kept = has_its_message w.b w.a sound.of_b order.a_order.partnered c.joined.placed.a_placed c.places.of_a c.joined.a_told c.a_read c.joined.joined.front_b c.joined.b_behind;
+        kept = has_its_message w.b w.a sound.of_b order.a_order.partnered c.joined.placed.a_placed c.places.of_a c.joined.a_told c.a_read
+            c.joined.joined.front_b c.joined.b_behind;
       }
 
 -- from the start of some heads

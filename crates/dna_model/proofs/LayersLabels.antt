@@ -36,8 +36,8 @@ tags_push [] (m ∷ messages) body carried same = absurd (omega arith)
 tags_push (p ∷ packets) [] body carried same = absurd (omega arith)
 tags_push (p ∷ packets) (m ∷ messages) body carried same = ap (λ (l : List (HeldPacket LinkTag)). tagged p m ∷ l) (tags_push packets messages body carried (omega arith))
 
-tag_at : (packets : List (List ℕ)) (messages : List (Option SentMessage)) (i : ℕ) (carried : Option SentMessage) → i < length packets → slice_get messages i ≡ Some carried →
-    option_and_then (λ (packet : HeldPacket LinkTag). packet.label) (slice_get (with_tags packets messages) i) ≡ Some (tag_of_packet carried)
+tag_at : (packets : List (List ℕ)) (messages : List (Option SentMessage)) (i : ℕ) (carried : Option SentMessage) →
+    i < length packets → slice_get messages i ≡ Some carried → option_and_then (λ (packet : HeldPacket LinkTag). packet.label) (slice_get (with_tags packets messages) i) ≡ Some (tag_of_packet carried)
 tag_at [] messages i carried within at = absurd (omega arith)
 tag_at (p ∷ packets) [] i carried within at = absurd cc
 tag_at (p ∷ packets) (m ∷ messages) zero carried within at = ap (λ (o : Option (Option SentMessage)). tag_or o) at
@@ -80,7 +80,8 @@ module _ (s : Layers) where
 
     -- a packet is first sent
     pub first_tagged_same : (m : MessageValue) (links : Links) (carried : Option SentMessage) → gives_number s.station m ≡ true →
-        tagged_packets (record { station = after_sending s.station m; links = links; messages = s.messages ++ carried ∷ [] }) ≡ with_label (all_after (tagged_packets s) s.station m) (tag_of_packet carried)
+        tagged_packets (record { station = after_sending s.station m; links = links; messages = s.messages ++ carried ∷ [] })
+        ≡ with_label (all_after (tagged_packets s) s.station m) (tag_of_packet carried)
     first_tagged_same (Data flags resp num body) links carried new =
         let l = length-append (packets_of s.station.earlier) s.station.packets in
         ap (λ (b : Bool). with_tags (with_packet b s.station.packets body) (drop before (s.messages ++ carried ∷ []))) new
@@ -95,7 +96,8 @@ module _ (s : Layers) where
     first_tagged_same (Stack flags) links carried new = absurd cc
 
     -- any other message changes no packet
-    pub again_tagged_same : (m : MessageValue) → gives_number s.station m ≡ false → tagged_packets (record s { station = after_sending s.station m }) ≡ all_after (tagged_packets s) s.station m
+    pub again_tagged_same : (m : MessageValue) → gives_number s.station m ≡ false →
+        tagged_packets (record s { station = after_sending s.station m }) ≡ all_after (tagged_packets s) s.station m
     again_tagged_same (Data flags resp num body) old =
         ap (λ (b : Bool). with_tags (with_packet b s.station.packets body) behind) old ∙ sym (ap (λ (b : Bool). with_new b (tagged_packets s) body) old)
     again_tagged_same (Ack flags resp) old = refl
@@ -119,7 +121,8 @@ module _ (s : Layers) where
     again_tag_same (Stack flags) o old = refl
 
   -- so the newest number is outstanding
-  pub newest_outstanding : (m : MessageValue) → IsOrdered s.station → gives_number s.station m ≡ true → (after_sending s.station m).acknowledged < length (after_sending s.station m).packets
+  pub newest_outstanding : (m : MessageValue) → IsOrdered s.station → gives_number s.station m ≡ true →
+      (after_sending s.station m).acknowledged < length (after_sending s.station m).packets
   newest_outstanding (Data flags resp num body) o new =
       let a = o.above in let e = eqb-true s.station.next_to_send (length s.station.packets + 1) new in
       let more : length (with_packet (is_new s.station) s.station.packets body) ≡ length s.station.packets + 1 =

@@ -34,7 +34,8 @@ packet_in None = None
 packet_in (Some message) = Some message.packet
 
 abbrev AreReadAs : List (Option SentMessage) → List (List ℕ) → Type 0
-AreReadAs messages packets = (place : ℕ) (carried : Option SentMessage) (body : List ℕ) → slice_get messages place ≡ Some carried → slice_get packets place ≡ Some body → content body ≡ Ok (packet_in carried)
+AreReadAs messages packets = (place : ℕ) (carried : Option SentMessage) (body : List ℕ) →
+    slice_get messages place ≡ Some carried → slice_get packets place ≡ Some body → content body ≡ Ok (packet_in carried)
 
 abbrev pub AreRead : Half LayersNode LayersUnit → Type 0
 AreRead own = AreReadAs own.state.station.messages (all_given own.state.station.station)
@@ -44,11 +45,13 @@ first_read links left body carried (NoMessage read) = read
 first_read links left body carried (Message packet made read done) = read
 
 -- one more of each
-read_more : (messages : List (Option SentMessage)) (packets : List (List ℕ)) (carried : Option SentMessage) (body : List ℕ) → length messages ≡ length packets → content body ≡ Ok (packet_in carried) →
+read_more : (messages : List (Option SentMessage)) (packets : List (List ℕ)) (carried : Option SentMessage) (body : List ℕ) →
+    length messages ≡ length packets → content body ≡ Ok (packet_in carried) →
     AreReadAs messages packets → AreReadAs (messages ++ carried ∷ []) (packets ++ body ∷ [])
 read_more messages packets carried body same this before place x b at_x at_b = go (at_pushed messages carried x place at_x) (at_pushed packets body b place at_b)
   where
-    go : (slice_get messages place ≡ Some x) ⊎ ((place ≡ length messages) × (carried ≡ x)) → (slice_get packets place ≡ Some b) ⊎ ((place ≡ length packets) × (body ≡ b)) → content b ≡ Ok (packet_in x)
+    go : (slice_get messages place ≡ Some x) ⊎ ((place ≡ length messages) × (carried ≡ x)) →
+        (slice_get packets place ≡ Some b) ⊎ ((place ≡ length packets) × (body ≡ b)) → content b ≡ Ok (packet_in x)
     go (inl one) (inl two) = before place x b one two
     go (inl one) (inr two) = let l = slice_get_within messages place x one in let e = two.0 in absurd (omega arith)
     go (inr one) (inl two) = let l = slice_get_within packets place b two in let e = one.0 in absurd (omega arith)
@@ -65,14 +68,15 @@ module _ (own other : Half LayersNode LayersUnit) (t : AreTold own) (before : Ar
   read_left r h (Again bytes m old) = packets_same (all_given (after_sending own.state.station.station m)) (given_again own.state.station.station m old)
   read_left r h (First bytes m new links carried made) =
       subst (AreReadAs (own.state.station.messages ++ carried ∷ [])) (sym (given_first own.state.station.station m new))
-      (read_more own.state.station.messages (all_given own.state.station.station) carried (body_of m) t.counted (first_read own.state.station.links links (body_of m) carried made) before)
+      (read_more own.state.station.messages (all_given own.state.station.station) carried (body_of m) t.counted
+      (first_read own.state.station.links links (body_of m) carried made) before)
   read_left r h (Receipt hint kept bytes unit arrival there links met) =
       packets_same (all_given (after_arrival own.state.station.station (to_station arrival) kept)) (given_arrival own.state.station.station (to_station arrival) kept)
 
 -- ---- a data message
 
-pub body_read : (m : MessageValue) (u : Truth) (messages : List (Option SentMessage)) (packets : List (List ℕ)) (carried : Option SentMessage) → AreReadAs messages packets → is_data m ≡ true →
-    CarriesItsPacket packets m u → slice_get messages u.place ≡ Some carried → content (body_of m) ≡ Ok (packet_in carried)
+pub body_read : (m : MessageValue) (u : Truth) (messages : List (Option SentMessage)) (packets : List (List ℕ)) (carried : Option SentMessage) →
+    AreReadAs messages packets → is_data m ≡ true → CarriesItsPacket packets m u → slice_get messages u.place ≡ Some carried → content (body_of m) ≡ Ok (packet_in carried)
 body_read (Data flags resp num body) u messages packets carried read d at told = read u.place carried body told at
 body_read (Ack flags resp) u messages packets carried read d at told = absurd cc
 body_read (Nak flags reason resp) u messages packets carried read d at told = absurd cc

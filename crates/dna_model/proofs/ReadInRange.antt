@@ -21,7 +21,8 @@ use Rattle.dna_model.specs.Content.{is_returned, message_in, content_of, content
 
 -- ---- acknowledgement words and SEGNUM
 
-word_small : (n : ℕ) (o : Option AckQualifier) (ack : AckWord) → ok_or (option_map (λ (qualifier : AckQualifier). record { qualifier = qualifier; number = n % 0x1000 }) o) BadAckWord ≡ Ok ack → IsAckWord ack
+word_small : (n : ℕ) (o : Option AckQualifier) (ack : AckWord) →
+    ok_or (option_map (λ (qualifier : AckQualifier). record { qualifier = qualifier; number = n % 0x1000 }) o) BadAckWord ≡ Ok ack → IsAckWord ack
 word_small n None ack e = absurd cc
 word_small n (Some qualifier) ack e = made IsAckWord (record { qualifier = qualifier; number = n % 0x1000 }) ack e (omega arith)
 
@@ -123,7 +124,8 @@ disconnect_confirm_in_range bytes m e =
 -- ---- any message
 
 -- one row of the table of flag bytes
-row : (b : Bool) (here others : Result NspValue NspFault) (m : NspValue) → (here ≡ Ok m → IsInRange m) → (others ≡ Ok m → IsInRange m) → cond b here others ≡ Ok m → IsInRange m
+row : (b : Bool) (here others : Result NspValue NspFault) (m : NspValue) →
+    (here ≡ Ok m → IsInRange m) → (others ≡ Ok m → IsInRange m) → cond b here others ≡ Ok m → IsInRange m
 row true here others m this next e = this e
 row false here others m this next e = next e
 
@@ -155,7 +157,8 @@ nsp_in_range (flag ∷ rest) m e = message_in_range flag rest m e
 
 -- ---- what a packet carries
 
-carried_in_range : (dst src : ℕ) (bytes : List ℕ) (r : Result NspValue NspFault) (packet : Carried) → nsp_at bytes ≡ r → message_in dst src r ≡ Ok (Some packet) → IsInRange packet.message
+carried_in_range : (dst src : ℕ) (bytes : List ℕ) (r : Result NspValue NspFault) (packet : Carried) →
+    nsp_at bytes ≡ r → message_in dst src r ≡ Ok (Some packet) → IsInRange packet.message
 carried_in_range dst src bytes (Ok m) packet read e =
     let same : Ok (Some (record { dst = dst; src = src; message = m })) ≡ Ok (Some packet) = e in
     subst IsInRange (cc same) (nsp_in_range bytes m read)
