@@ -12,7 +12,7 @@ use Rattle.dna_model.specs.CutFlow.{IsAnswered}
 use Rattle.dna_model.specs.CutLinks.{cut_links, cut_result, cut_sent, AreOrdered, ArrivesNear}
 
 -- Each link's own numbers are in order, and its highest number received is at most 2,047 above the last acknowledgement that it sent;
--- and each message in a packet that may still be kept, with fields in range, is near the numbers of the link that acts on it: a segment
+-- and each message in a packet that may still be kept, with fields in range, is near the numbers of the link of its pair that acts on it: a segment
 -- number differs from the highest received by -2,047 to 2,047, and an acknowledgement is from 2,047 below the highest acknowledged
 -- through the highest given
 pub record AreLinksBounded (own other : LinkSide) : Type 0 where

@@ -9,7 +9,7 @@ ghost use Rattle.dna_model.specs.LinkDelivery.{DeliversLinks};
 ghost use Rattle.dna_model.specs.LinkCaptures.{AreUpFrom, deliveries, ups};
 
 /// Numbers modulo 4,096 tell all: at any time in a run the numbers of each link are in order, and those of each message that may still
-/// be kept are near the numbers of the link that acts on it.
+/// be kept, with its fields in range, are near the numbers of the link of its pair that acts on it.
 pub fn links_within_bounds()
     ensures of_a { (node_a peer_a node_b peer_b : ℕ) (w : LinkWorld) (of_a of_b : List LinkEventValue)
         → Reached (new_world node_a peer_a node_b peer_b) w of_a of_b → AreLinksBounded w.a w.b }
@@ -17,8 +17,8 @@ pub fn links_within_bounds()
         → Reached (new_world node_a peer_a node_b peer_b) w of_a of_b → AreLinksBounded w.b w.a }
 {}
 
-/// So at any time in a run wire links make of each event, of each message that is sent and of each that may still be kept just what is seen
-/// of the links on unbounded numbers, with the same refusals and tags.
+/// So at any time in a run wire links make of each event, of each message that is sent and of each with fields in range that may still be
+/// kept just what is seen of the links on unbounded numbers, with the same refusals and tags.
 pub fn wire_links_see_right()
     ensures of_a { (node_a peer_a node_b peer_b : ℕ) (w : LinkWorld) (of_a of_b : List LinkEventValue)
         → Reached (new_world node_a peer_a node_b peer_b) w of_a of_b → AreCutInStep w.a w.b }
