@@ -137,6 +137,20 @@ DC_1_7 = 0x81 ∷ 0x0d ∷ 0 ∷ 1 ∷ 1 ∷ 1 ∷ 0xa2 ∷ 0x40 ∷ 2 ∷ 1 ∷
 abbrev pub CC_1_2_BEHIND : List ℕ
 CC_1_2_BEHIND = 0x81 ∷ 0x10 ∷ 0 ∷ 1 ∷ 2 ∷ 1 ∷ 0x4e ∷ 0xb2 ∷ 2 ∷ 1 ∷ 4 ∷ 2 ∷ 4 ∷ 0 ∷ 0x28 ∷ 1 ∷ 0 ∷ 2 ∷ 0 ∷ 1 ∷ 2 ∷ 2 ∷ 0 ∷ 0 ∷ 0x80 ∷ 0x40 ∷ []
 
+-- the same DC with RESP 0, and CI_1 sent again with RESP 1
+abbrev pub DC_1_7_OF_0 : List ℕ
+DC_1_7_OF_0 = 0x81 ∷ 0x0d ∷ 0 ∷ 0 ∷ 1 ∷ 1 ∷ 0xf3 ∷ 0x80 ∷ 2 ∷ 1 ∷ 4 ∷ 2 ∷ 4 ∷ 0 ∷ 0x48 ∷ 1 ∷ 0 ∷ 7 ∷ 0 ∷ 0x2a ∷ 0 ∷ 0xab ∷ 0x7a ∷ []
+
+abbrev pub CI_1_OF_1 : List ℕ
+CI_1_OF_1 = 0x81 ∷ 0x0f ∷ 0 ∷ 1 ∷ 1 ∷ 1 ∷ 0xdb ∷ 0x80 ∷ 2 ∷ 2 ∷ 4 ∷ 1 ∷ 4 ∷ 0 ∷ 0x18 ∷ 0 ∷ 0 ∷ 1 ∷ 0 ∷ 1 ∷ 2 ∷ 0 ∷ 2 ∷ 0xed ∷ 0x98 ∷ []
+
+-- a no operation, and CI of link 1 behind it: NUM 1 and 2, RESP 0
+abbrev pub NO_OPERATION_1 : List ℕ
+NO_OPERATION_1 = 0x81 ∷ 7 ∷ 0 ∷ 0 ∷ 1 ∷ 1 ∷ 0x6b ∷ 0x81 ∷ 2 ∷ 2 ∷ 4 ∷ 1 ∷ 4 ∷ 0 ∷ 8 ∷ 0x92 ∷ 0x19 ∷ []
+
+abbrev pub CI_1_BEHIND : List ℕ
+CI_1_BEHIND = 0x81 ∷ 0x0f ∷ 0 ∷ 0 ∷ 2 ∷ 1 ∷ 0x8a ∷ 0xb0 ∷ 2 ∷ 2 ∷ 4 ∷ 1 ∷ 4 ∷ 0 ∷ 0x18 ∷ 0 ∷ 0 ∷ 1 ∷ 0 ∷ 1 ∷ 2 ∷ 0 ∷ 2 ∷ 0xed ∷ 0x98 ∷ []
+
 -- a's data ack of nothing: NUM 2, RESP 1
 abbrev pub ACK_2_1 : List ℕ
 ACK_2_1 = 0x81 ∷ 0x0d ∷ 0 ∷ 1 ∷ 2 ∷ 1 ∷ 0xa2 ∷ 0xb0 ∷ 2 ∷ 2 ∷ 4 ∷ 1 ∷ 4 ∷ 0 ∷ 4 ∷ 2 ∷ 0 ∷ 1 ∷ 0 ∷ 0 ∷ 0x80 ∷ 0xcc ∷ 0xce ∷ []

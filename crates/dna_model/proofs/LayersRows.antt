@@ -6,8 +6,8 @@ use Rattle.wire_base.specs.BlockCheck.{is_good, check_of, after_byte, shift}
 use Rattle.ddcmp_msg.specs.Reading.{reading}
 use Rattle.capture.specs.declared.record.Record.{Record}
 use Rattle.capture.specs.declared.record.Record.TheVariants.{Sent, Received, User}
-use Rattle.capture.specs.declared.event.Event.TheVariants.{Start, Halt, Open, Accept, In, Up}
-use Rattle.dna_model.specs.declared.refusal.StationRefusal.TheVariants.{WrongNumber}
+use Rattle.capture.specs.declared.event.Event.TheVariants.{Start, Halt, Open, Accept, In, Up, Close}
+use Rattle.dna_model.specs.declared.refusal.StationRefusal.TheVariants.{WrongState, WrongNumber}
 use Rattle.dna_model.specs.declared.refusal.StepRefusal.TheVariants.{BadPacket, BadNsp, Station as OfStation, Links as OfLinks}
 use Rattle.dna_model.specs.declared.link_refusal.LinkRefusal.TheVariants.{WrongNode, NoLink, WrongAck, WrongDelivery, CrossedLink, AddressInUse}
 use Rattle.dna_model.specs.LayersPair.{layers_pair}
@@ -15,7 +15,7 @@ use Rattle.dna_model.specs.WireLayers.{wire_layers_pair}
 use Rattle.dna_model.proofs.RowUnits.{STRT, STACK, ACK0, DATA1, NAK_BUFFER0}
 use Rattle.dna_model.proofs.PairUnits.{NAK_HEADER0, started, answered}
 use Rattle.dna_model.proofs.LinkRows.{letters}
-use Rattle.dna_model.proofs.LayersRowUnits.{CI_1, CONNECT_ACK_1, CC_1_2, DC_1_7, CC_1_2_BEHIND, ACK_2_1, SEGMENT_1, SEGMENT_2, SEGMENT_3, SEGMENT_4, SEGMENT_1_AGAIN, ACK_1_2, ACK_1_2_OF_1, ACK_1_2_OF_4, PADDED, PADDED_2, NO_NSP, NO_NSP_OF_OTHER_NODE, RETURNED, OF_OTHER_NODE, damaged_CI_1}
+use Rattle.dna_model.proofs.LayersRowUnits.{CI_1, CONNECT_ACK_1, CC_1_2, DC_1_7, CC_1_2_BEHIND, DC_1_7_OF_0, CI_1_OF_1, NO_OPERATION_1, CI_1_BEHIND, ACK_2_1, SEGMENT_1, SEGMENT_2, SEGMENT_3, SEGMENT_4, SEGMENT_1_AGAIN, ACK_1_2, ACK_1_2_OF_1, ACK_1_2_OF_4, PADDED, PADDED_2, NO_NSP, NO_NSP_OF_OTHER_NODE, RETURNED, OF_OTHER_NODE, damaged_CI_1}
 use Rattle.dna_model.proofs.LayersRowUnits.{true_start, wire_start, IsTrueRun, IsWireRun, RefusedOfA, RefusedOfB, Turn, A, B, all_made, b_refused}
 
 -- The worked example of the player: one unit is lost, one damaged, and one packet finds no buffer
@@ -66,6 +66,62 @@ label_comes_back_wire : IsWireRun label_comes_back_a label_comes_back_b
 unfolding reading is_good check_of after_byte shift
 label_comes_back_wire = (_, OfA refl (OfA refl (OfB refl (OfB refl (OfB refl (OfA refl (OfA refl (OfA refl (OfB refl (OfB refl (OfB refl (OfA refl (OfA refl (OfB refl (OfB refl (OfA refl (OfA refl Done)))))))))))))))))
 
+-- the links met it when it was first sent, and do not meet it again: its link may be closed by then
+abbrev closed_meanwhile_b : List Record
+closed_meanwhile_b = User Start ∷ Received 0 false STRT ∷ Sent STACK ∷ Received 1 true CI_1 ∷ User (Accept 1 2) ∷ Sent CC_1_2 ∷ Received 2 false NAK_BUFFER0 ∷ User (Close 2) ∷ Sent CC_1_2 ∷ []
+
+closed_meanwhile_true : IsTrueRun label_comes_back_a closed_meanwhile_b
+unfolding reading is_good check_of after_byte shift
+closed_meanwhile_true = (_, OfA refl (OfA refl (OfB refl (OfB refl (OfB refl (OfA refl (OfA refl (OfA refl (OfB refl (OfB refl (OfB refl (OfA refl (OfA refl (OfB refl (OfB refl (OfB refl (OfA refl (OfA refl Done))))))))))))))))))
+
+closed_meanwhile_wire : IsWireRun label_comes_back_a closed_meanwhile_b
+unfolding reading is_good check_of after_byte shift
+closed_meanwhile_wire = (_, OfA refl (OfA refl (OfB refl (OfB refl (OfB refl (OfA refl (OfA refl (OfA refl (OfB refl (OfB refl (OfB refl (OfA refl (OfA refl (OfB refl (OfB refl (OfB refl (OfA refl (OfA refl Done))))))))))))))))))
+
+-- A call that finds no buffer is sent again when its link has ended and another has its address: it is still the call of the first
+abbrev first_truth_a : List Record
+first_truth_a = User Start ∷ Sent STRT ∷ Received 0 false STACK ∷ User (Open 1) ∷ Sent CI_1 ∷ Received 1 true DC_1_7_OF_0 ∷ Received 2 false NAK_BUFFER0 ∷ User (Open 1) ∷ Sent CI_1_OF_1 ∷ []
+
+abbrev first_truth_b : List Record
+first_truth_b = User Start ∷ Received 0 false STRT ∷ Sent STACK ∷ Received 1 false CI_1 ∷ Sent DC_1_7_OF_0 ∷ Sent NAK_BUFFER0 ∷ Received 2 true CI_1_OF_1 ∷ User (Accept 1 2) ∷ Sent CC_1_2_BEHIND ∷ []
+
+first_truth_true : RefusedOfA layers_pair true_start first_truth_a first_truth_b (Received 3 true CC_1_2_BEHIND) (OfLinks CrossedLink)
+unfolding reading is_good check_of after_byte shift
+first_truth_true = record { world = _; run = OfA refl (OfA refl (OfB refl (OfB refl (OfB refl (OfA refl (OfA refl (OfA refl (OfB refl (OfB refl (OfB refl (OfA refl (OfA refl (OfA refl (OfA refl (OfB refl (OfB refl (OfB refl Done))))))))))))))))); refused = refl }
+
+first_truth_wire : RefusedOfA wire_layers_pair wire_start first_truth_a first_truth_b (Received 3 true CC_1_2_BEHIND) (OfLinks CrossedLink)
+unfolding reading is_good check_of after_byte shift
+first_truth_wire = record { world = _; run = OfA refl (OfA refl (OfB refl (OfB refl (OfB refl (OfA refl (OfA refl (OfA refl (OfB refl (OfB refl (OfB refl (OfA refl (OfA refl (OfA refl (OfA refl (OfB refl (OfB refl (OfB refl Done))))))))))))))))); refused = refl }
+
+-- A packet that is not kept, for want of a buffer or since it is not the next, is nothing to the links
+abbrev not_kept_a : List Record
+not_kept_a = User Start ∷ Sent STRT ∷ Received 0 false STACK ∷ User (Open 1) ∷ Sent CI_1 ∷ []
+
+abbrev not_kept_b : List Record
+not_kept_b = User Start ∷ Received 0 false STRT ∷ Sent STACK ∷ Received 1 false CI_1 ∷ []
+
+not_kept_true : RefusedOfB layers_pair true_start not_kept_a not_kept_b (User (Accept 1 2)) (OfLinks NoLink)
+unfolding reading is_good check_of after_byte shift
+not_kept_true = record { world = _; run = OfA refl (OfA refl (OfB refl (OfB refl (OfB refl (OfA refl (OfA refl (OfA refl (OfB refl Done)))))))); refused = refl }
+
+not_kept_wire : RefusedOfB wire_layers_pair wire_start not_kept_a not_kept_b (User (Accept 1 2)) (OfLinks NoLink)
+unfolding reading is_good check_of after_byte shift
+not_kept_wire = record { world = _; run = OfA refl (OfA refl (OfB refl (OfB refl (OfB refl (OfA refl (OfA refl (OfA refl (OfB refl Done)))))))); refused = refl }
+
+abbrev not_next_a : List Record
+not_next_a = User Start ∷ Sent STRT ∷ Received 0 false STACK ∷ User (Open 1) ∷ Sent NO_OPERATION_1 ∷ Sent CI_1_BEHIND ∷ []
+
+abbrev not_next_b : List Record
+not_next_b = User Start ∷ Received 0 false STRT ∷ Sent STACK ∷ Received 2 false CI_1_BEHIND ∷ []
+
+not_next_true : RefusedOfB layers_pair true_start not_next_a not_next_b (User (Accept 1 2)) (OfLinks NoLink)
+unfolding reading is_good check_of after_byte shift
+not_next_true = record { world = _; run = OfA refl (OfA refl (OfB refl (OfB refl (OfB refl (OfA refl (OfA refl (OfA refl (OfA refl (OfB refl Done))))))))); refused = refl }
+
+not_next_wire : RefusedOfB wire_layers_pair wire_start not_next_a not_next_b (User (Accept 1 2)) (OfLinks NoLink)
+unfolding reading is_good check_of after_byte shift
+not_next_wire = record { world = _; run = OfA refl (OfA refl (OfB refl (OfB refl (OfB refl (OfA refl (OfA refl (OfA refl (OfA refl (OfB refl Done))))))))); refused = refl }
+
 abbrev one_missing_a : List Record
 one_missing_a = User Start ∷ Sent STRT ∷ Received 0 false STACK ∷ User (Open 1) ∷ Sent CI_1 ∷ Received 1 true CC_1_2 ∷ Sent ACK_2_1 ∷ User (In 1 letters) ∷ User (In 1 []) ∷ Sent SEGMENT_1 ∷ User Halt ∷ User Start ∷ Sent STRT ∷ Received 2 false STRT ∷ Sent STACK ∷ Received 3 false ACK0 ∷ Sent SEGMENT_2 ∷ Sent SEGMENT_3 ∷ Sent SEGMENT_4 ∷ []
 
@@ -110,6 +166,14 @@ station_before_packet_true = record { world = _; run = OfA refl (OfA refl (OfB r
 station_before_packet_wire : RefusedOfA wire_layers_pair wire_start started answered (Sent PADDED_2) (OfStation WrongNumber)
 unfolding reading is_good check_of after_byte shift
 station_before_packet_wire = record { world = _; run = OfA refl (OfA refl (OfB refl (OfB refl (OfB refl (OfA refl Done))))); refused = refl }
+
+message_without_start_true : RefusedOfA layers_pair true_start [] [] (Sent CI_1) (OfStation WrongState)
+unfolding reading is_good check_of after_byte shift
+message_without_start_true = record { world = _; run = Done; refused = refl }
+
+message_without_start_wire : RefusedOfA wire_layers_pair wire_start [] [] (Sent CI_1) (OfStation WrongState)
+unfolding reading is_good check_of after_byte shift
+message_without_start_wire = record { world = _; run = Done; refused = refl }
 
 -- a message that can't be read
 bad_message_true : RefusedOfA layers_pair true_start started answered (Sent NO_NSP) (BadNsp)

@@ -68,6 +68,17 @@ called_again_by_another_link = (refl, refl, (refl, refl))
 called_again_with_another_segsize : ChangesNothing B called (Gets B NODE_A NODE_B (CI_AGAIN_OF_2 1) without_partner ∷ [])
 called_again_with_another_segsize = (refl, refl, (refl, refl))
 
+-- a's first link is over before its call is accepted; the call of its second one is a repeat to b, whose CC is for the first
+abbrev called_by_a_later_link : List Act
+called_by_a_later_link = called ++ Sends B (DC 1 7) ∷ Comes A 0 ∷ Does A (Open 1) ∷ Sends A (CI 1) ∷ Comes B 1 ∷ Does B (Accept 1 2) ∷ Sends B (CC 1 2) ∷ []
+
+called_again_by_a_later_link : LastRefused CrossedLink (called_by_a_later_link ++ Comes A 1 ∷ [])
+called_again_by_a_later_link = (refl, refl)
+
+-- the first CI is lost
+called_first_by_68 : AllMade (Does A (Open 1) ∷ Sends A (CI 1) ∷ Sends A (CI_AGAIN 1) ∷ Comes B 1 ∷ Does B (Accept 1 2) ∷ [])
+called_first_by_68 = (refl, refl)
+
 -- a live link that was opened here has that far address
 called_by_the_partner_of_an_own_call : ChangesNothing A connected (Gets A NODE_B NODE_A (CI 2) without_partner ∷ [])
 called_by_the_partner_of_an_own_call = (refl, refl, (refl, refl))
@@ -208,6 +219,32 @@ interrupt_of_no_link = (refl, refl)
 
 other_ack_for_another_link : LastRefused CrossedLink (connected ++ Gets B NODE_A NODE_B (OTHER_ACK 2 1) (record { link = Some 0; partner = Some 1 }) ∷ [])
 other_ack_for_another_link = (refl, refl)
+
+-- The call of a's link 0 is accepted, and its DC ends that link of b; the same call, sent again, is accepted at the same address: b's link 1 is
+-- its partner, and a has confirmed the first one
+abbrev accepted_anew : List Act
+accepted_anew =
+    Does A (Open 1)
+    ∷ Sends A (CI 1)
+    ∷ Sends A (DC 2 1)
+    ∷ Sends A (CI_AGAIN 1)
+    ∷ Comes B 0
+    ∷ Does B (Accept 1 2)
+    ∷ Sends B (CC 1 2)
+    ∷ Comes A 0
+    ∷ Comes B 1
+    ∷ Comes B 2
+    ∷ Does B (Accept 1 2)
+    ∷ []
+
+data_ack_of_the_pair_before : LastRefused CrossedLink (accepted_anew ++ Sends A (DATA_ACK 2 1 (ack 0)) ∷ Comes B 3 ∷ [])
+data_ack_of_the_pair_before = (refl, refl)
+
+link_service_of_the_pair_before : LastRefused CrossedLink (accepted_anew ++ Sends A (LINK_SERVICE 2 1) ∷ Comes B 3 ∷ [])
+link_service_of_the_pair_before = (refl, refl)
+
+interrupt_of_the_pair_before : LastRefused CrossedLink (accepted_anew ++ Sends A (INTERRUPT 2 1) ∷ Comes B 3 ∷ [])
+interrupt_of_the_pair_before = (refl, refl)
 
 -- a link whose caller was not known has no partner, and a tag without a link is not of it
 segment_of_no_link : LastRefused CrossedLink (Gets B NODE_A NODE_B (CI 1) of_none ∷ Does B (Accept 1 2) ∷ Gets B NODE_A NODE_B (DATA_ACK 2 1 (ack 0)) (record { link = None; partner = Some 0 }) ∷ [])

@@ -57,7 +57,7 @@ second_word_goes_beyond : LastRefused WrongAck (got_two ++ words (ack 2 ++ nak 3
 second_word_goes_beyond = (refl, refl)
 
 -- words of the other subchannel are not judged, and leave the last one as it is
-words_of_the_other_subchannel : AllMade (got_two ++ words (other_ack 200) ∷ words (other_nak 2) ∷ words (other_ack 9 ++ ack 1) ∷ words (ack 1 ++ other_nak 0) ∷ words (ack 1) ∷ [])
+words_of_the_other_subchannel : AllMade (got_two ++ words (other_ack 200) ∷ words (other_ack 2) ∷ words (other_nak 2) ∷ words (other_ack 9 ++ ack 1) ∷ words (ack 1 ++ other_nak 0) ∷ words (ack 1) ∷ [])
 words_of_the_other_subchannel = (refl, refl)
 
 -- the same of the words of a new segment
@@ -82,6 +82,10 @@ repeat_acknowledges = (refl, refl)
 
 repeat_acknowledges_too_much : LastRefused WrongAck (got_two ++ segment_with (ack 3) 1 1 ∷ [])
 repeat_acknowledges_too_much = (refl, refl)
+
+-- 21, and 20 fits too
+words_before_the_data_of_a_repeat : LastRefused WrongAck (got_two ++ segment_with (ack 3) 1 9 ∷ [])
+words_before_the_data_of_a_repeat = (refl, refl)
 
 -- number 4,095 lies below 0
 repeat_goes_below_zero : LastRefused WrongAck (got_two ++ segment_with (0xff ∷ 0x8f ∷ []) 1 1 ∷ [])
@@ -182,6 +186,10 @@ acknowledged_one = got_two ++ Comes B 2 ∷ words_of_b (ack 1) ∷ Comes A 3 ∷
 
 sent_again_once_acknowledged : AllMade (acknowledged_one ++ segment 0x60 1 (1 ∷ []) ∷ segment 0x00 1 (9 ∷ 9 ∷ []) ∷ [])
 sent_again_once_acknowledged = (refl, refl)
+
+-- the first of two words that come counts too
+acknowledged_by_the_first_word : AllMade (got_two ++ Comes B 2 ∷ Sends B (SEGMENT 0x60 1 2 (ack 1 ++ ack 0 ++ carries 1 (7 ∷ []))) ∷ Comes A 3 ∷ segment 0x60 1 (9 ∷ []) ∷ [])
+acknowledged_by_the_first_word = (refl, refl)
 
 -- however long it is
 sent_again_longer_once_acknowledged : AllMade (acknowledged_one ++ segment 0x60 1 (9 ∷ 9 ∷ 9 ∷ []) ∷ [])

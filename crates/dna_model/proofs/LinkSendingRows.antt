@@ -1,11 +1,15 @@
 -- Each row of the table of what may be sent, each reason that may refuse it but those on numbers, and the tags, computed on both flows.
 use Rattle.std.proofs.Common.{ℕ, List, [], ◌∷◌, ◌++◌, Some, None, refl}
 use Rattle.dna_model.specs.declared.link_refusal.LinkRefusal.TheVariants.{WrongNode, NoLink, LinkState}
-use Rattle.dna_model.specs.LinkUser.{Open, Accept}
+use Rattle.dna_model.specs.LinkUser.{Open, Accept, Reject}
 use Rattle.dna_model.proofs.LinkRowMessages.{CI, CI_AGAIN, CC, CONNECT_ACK, DI, DC, LINK_SERVICE, INTERRUPT, OTHER_ACK, NO_OPERATION, DATA_ACK, ack, SEGMENT, carries}
-use Rattle.dna_model.proofs.LinkRowSteps.{A, B, NODE_A, NODE_B, Does, Sends, SendsAs, AllMade, LastRefused, HasTag}
+use Rattle.dna_model.proofs.LinkRowSteps.{Act, A, B, NODE_A, NODE_B, Does, Sends, SendsAs, AllMade, LastRefused, HasTag}
 use Rattle.dna_model.proofs.LinkRows.{opened, connected}
 use Rattle.dna_model.proofs.LinkUserRows.{called, closed, ended}
+
+-- b has rejected the call of a
+abbrev rejected : List Act
+rejected = called ++ Does B (Reject 1 2) ∷ []
 
 -- ---- the two nodes, else 16; before any other check, and of every message
 
@@ -48,6 +52,9 @@ calls_in_run = (refl, refl)
 calls_again_in_run : LastRefused LinkState (connected ++ Sends A (CI_AGAIN 1) ∷ [])
 calls_again_in_run = (refl, refl)
 
+calls_while_closing : LastRefused LinkState (closed ++ Sends A (CI 1) ∷ [])
+calls_while_closing = (refl, refl)
+
 calls_after_the_end : LastRefused NoLink (ended ++ Sends A (CI 1) ∷ [])
 calls_after_the_end = (refl, refl)
 
@@ -55,6 +62,10 @@ calls_after_the_end = (refl, refl)
 
 acknowledges_the_call : AllMade (called ++ Sends B (CONNECT_ACK 1) ∷ Sends B (CONNECT_ACK 1) ∷ [])
 acknowledges_the_call = (refl, refl)
+
+-- it leaves the phase as it is
+accepted_after_the_connect_ack : AllMade (called ++ Sends B (CONNECT_ACK 1) ∷ Does B (Accept 1 2) ∷ Sends B (CC 1 2) ∷ [])
+accepted_after_the_connect_ack = (refl, refl)
 
 acknowledges_it_in_run : AllMade (connected ++ Sends B (CONNECT_ACK 1) ∷ [])
 acknowledges_it_in_run = (refl, refl)
@@ -99,6 +110,9 @@ disconnects_unclosed = (refl, refl)
 disconnects_in_confirming : LastRefused LinkState (opened ++ Sends B (DI 1 2) ∷ [])
 disconnects_in_confirming = (refl, refl)
 
+disconnects_in_called : LastRefused NoLink (called ++ Sends B (DI 1 2) ∷ [])
+disconnects_in_called = (refl, refl)
+
 disconnects_in_calling : LastRefused NoLink (called ++ Sends A (DI 0 1) ∷ [])
 disconnects_in_calling = (refl, refl)
 
@@ -122,6 +136,9 @@ confirms_the_end_in_confirming = (refl, refl)
 confirms_the_end_while_closing : LastRefused LinkState (closed ++ Sends A (DC 2 1) ∷ [])
 confirms_the_end_while_closing = (refl, refl)
 
+confirms_the_end_of_a_rejected_call : LastRefused LinkState (rejected ++ Sends B (DC 1 2) ∷ [])
+confirms_the_end_of_a_rejected_call = (refl, refl)
+
 confirms_the_end_in_calling : AllMade (called ++ Sends A (DC 2 1) ∷ Sends A (CI 1) ∷ [])
 confirms_the_end_in_calling = (refl, refl)
 
@@ -131,6 +148,9 @@ confirms_the_end_of_another_address = (refl, refl)
 -- the call is refused for want of resources: the link is over
 refuses_the_call : LastRefused NoLink (called ++ Sends B (DC 1 0) ∷ Does B (Accept 1 2) ∷ [])
 refuses_the_call = (refl, refl)
+
+refused_call_is_over : LastRefused NoLink (called ++ Sends B (DC 1 0) ∷ Sends B (CONNECT_ACK 1) ∷ [])
+refused_call_is_over = (refl, refl)
 
 refuses_another_call : AllMade (called ++ Sends B (DC 3 0) ∷ Does B (Accept 1 2) ∷ [])
 refuses_another_call = (refl, refl)
@@ -151,6 +171,9 @@ FIRST = carries 1 (5 ∷ [])
 segment_of_no_link : LastRefused NoLink (connected ++ Sends A (SEGMENT 0x60 3 1 FIRST) ∷ [])
 segment_of_no_link = (refl, refl)
 
+segment_in_called : LastRefused NoLink (called ++ Sends B (SEGMENT 0x60 1 2 FIRST) ∷ [])
+segment_in_called = (refl, refl)
+
 segment_in_confirming : LastRefused LinkState (opened ++ Sends B (SEGMENT 0x60 1 2 FIRST) ∷ [])
 segment_in_confirming = (refl, refl)
 
@@ -166,6 +189,12 @@ data_ack_in_run = (refl, refl)
 data_ack_of_no_link : LastRefused NoLink (connected ++ Sends A (DATA_ACK 2 3 (ack 0)) ∷ [])
 data_ack_of_no_link = (refl, refl)
 
+data_ack_in_calling : LastRefused NoLink (called ++ Sends A (DATA_ACK 2 1 (ack 0)) ∷ [])
+data_ack_in_calling = (refl, refl)
+
+data_ack_while_closing : LastRefused LinkState (rejected ++ Sends B (DATA_ACK 1 2 (ack 0)) ∷ [])
+data_ack_while_closing = (refl, refl)
+
 data_ack_in_confirming : LastRefused LinkState (opened ++ Sends B (DATA_ACK 1 2 (ack 0)) ∷ [])
 data_ack_in_confirming = (refl, refl)
 
@@ -175,17 +204,44 @@ carried_in_run = (refl, refl)
 link_service_of_no_link : LastRefused NoLink (connected ++ Sends A (LINK_SERVICE 1 2) ∷ [])
 link_service_of_no_link = (refl, refl)
 
+link_service_in_calling : LastRefused NoLink (called ++ Sends A (LINK_SERVICE 2 1) ∷ [])
+link_service_in_calling = (refl, refl)
+
+link_service_in_called : LastRefused NoLink (called ++ Sends B (LINK_SERVICE 1 2) ∷ [])
+link_service_in_called = (refl, refl)
+
+link_service_while_closing : LastRefused LinkState (rejected ++ Sends B (LINK_SERVICE 1 2) ∷ [])
+link_service_while_closing = (refl, refl)
+
 link_service_in_confirming : LastRefused LinkState (opened ++ Sends B (LINK_SERVICE 1 2) ∷ [])
 link_service_in_confirming = (refl, refl)
 
 interrupt_of_no_link : LastRefused NoLink (connected ++ Sends A (INTERRUPT 1 2) ∷ [])
 interrupt_of_no_link = (refl, refl)
 
+interrupt_in_calling : LastRefused NoLink (called ++ Sends A (INTERRUPT 2 1) ∷ [])
+interrupt_in_calling = (refl, refl)
+
+interrupt_in_called : LastRefused NoLink (called ++ Sends B (INTERRUPT 1 2) ∷ [])
+interrupt_in_called = (refl, refl)
+
+interrupt_in_confirming : LastRefused LinkState (opened ++ Sends B (INTERRUPT 1 2) ∷ [])
+interrupt_in_confirming = (refl, refl)
+
 interrupt_while_closing : LastRefused LinkState (closed ++ Sends A (INTERRUPT 2 1) ∷ [])
 interrupt_while_closing = (refl, refl)
 
 other_ack_of_no_link : LastRefused NoLink (connected ++ Sends A (OTHER_ACK 1 2) ∷ [])
 other_ack_of_no_link = (refl, refl)
+
+other_ack_in_calling : LastRefused NoLink (called ++ Sends A (OTHER_ACK 2 1) ∷ [])
+other_ack_in_calling = (refl, refl)
+
+other_ack_in_called : LastRefused NoLink (called ++ Sends B (OTHER_ACK 1 2) ∷ [])
+other_ack_in_called = (refl, refl)
+
+other_ack_while_closing : LastRefused LinkState (rejected ++ Sends B (OTHER_ACK 1 2) ∷ [])
+other_ack_while_closing = (refl, refl)
 
 other_ack_in_confirming : LastRefused LinkState (opened ++ Sends B (OTHER_ACK 1 2) ∷ [])
 other_ack_in_confirming = (refl, refl)

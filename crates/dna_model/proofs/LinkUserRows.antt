@@ -73,6 +73,30 @@ accepted_at_a_used_address = (refl, refl)
 call_before_address : LastRefused NoLink (Does B (Open 2) ∷ Does B (Accept 9 2) ∷ [])
 call_before_address = (refl, refl)
 
+-- b's link 2 is over with a message that is not delivered, and is called again by a's link 1
+abbrev called_after_the_end : List Act
+called_after_the_end =
+    connected
+    ++ Does A (In 1 (5 ∷ []))
+    ∷ piece 0x60 1 5
+    ∷ Comes B 2
+    ∷ Does A (Close 1)
+    ∷ Sends A (DI 2 1)
+    ∷ Comes B 3
+    ∷ Sends B (DC 1 2)
+    ∷ Comes A 1
+    ∷ Does A (Open 1)
+    ∷ Sends A (CI 1)
+    ∷ Comes B 4
+    ∷ []
+
+delivered_after_another_call : AllMade (called_after_the_end ++ Does B (Accept 1 3) ∷ Does B (Up 2 (5 ∷ [])) ∷ [])
+delivered_after_another_call = (refl, refl)
+
+-- the earlier link has lost the address
+accepted_at_the_address_of_an_earlier_link : LastRefused WrongDelivery (called_after_the_end ++ Does B (Accept 1 2) ∷ Does B (Up 2 (5 ∷ [])) ∷ [])
+accepted_at_the_address_of_an_earlier_link = (refl, refl)
+
 rejected : AllMade (called ++ Does B (Reject 1 2) ∷ Sends B (DI 1 2) ∷ [])
 rejected = (refl, refl)
 
@@ -82,6 +106,12 @@ rejected_and_confirmed = (refl, refl)
 
 rejected_unasked : LastRefused NoLink (called ++ Does B (Reject 9 2) ∷ [])
 rejected_unasked = (refl, refl)
+
+call_before_address_of_a_rejection : LastRefused NoLink (Does B (Open 2) ∷ Does B (Reject 9 2) ∷ [])
+call_before_address_of_a_rejection = (refl, refl)
+
+rejected_at_the_address_of_an_earlier_link : LastRefused WrongDelivery (called_after_the_end ++ Does B (Reject 1 2) ∷ Does B (Up 2 (5 ∷ [])) ∷ [])
+rejected_at_the_address_of_an_earlier_link = (refl, refl)
 
 rejected_after_acceptance : LastRefused NoLink (called ++ Does B (Accept 1 2) ∷ Does B (Reject 1 3) ∷ [])
 rejected_after_acceptance = (refl, refl)
