@@ -16,9 +16,9 @@ CI_AGAIN src = between 0x68 0 src ++ 1 ∷ 2 ∷ 0 ∷ 2 ∷ []
 abbrev pub CI_AGAIN_OF_2 : (src : ℕ) → List ℕ
 CI_AGAIN_OF_2 src = between 0x68 0 src ++ 1 ∷ 2 ∷ 2 ∷ 0 ∷ []
 
--- CC with SEGSIZE 2
+-- CC with SEGSIZE 2 and one byte of user data
 abbrev pub CC : (dst src : ℕ) → List ℕ
-CC dst src = between 0x28 dst src ++ 1 ∷ 2 ∷ 2 ∷ 0 ∷ []
+CC dst src = between 0x28 dst src ++ 1 ∷ 2 ∷ 2 ∷ 0 ∷ 0 ∷ []
 
 abbrev pub CONNECT_ACK : (dst : ℕ) → List ℕ
 CONNECT_ACK dst = 0x24 ∷ dst ∷ 0 ∷ []
