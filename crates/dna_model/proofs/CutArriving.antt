@@ -38,25 +38,19 @@ module _ (m : MessageValue) (u : Truth) (kept : Bool) (s : Station) where
   same_near t r a p Respond near = let g = ap length p in let l = near.least in let n = near.most in record { least = omega arith; most = omega arith }
   same_near t r a p TakePacket near = let l = near.least in let n = near.most in record { least = omega arith; most = omega arith }
   same_near t r a p AnswerRep near = let l = near.least in let n = near.most in record { least = omega arith; most = omega arith }
-  same_near t r a p (GoTo state) near = tt
-  same_near t r a p TakePartner near = tt
-  same_near t r a p SetBack near = tt
+  same_near t r a p effect near = tt
 
   acknowledged_near : (effect : Effect) → u.response ≤ given s → IsNear s u effect → IsNear (acknowledged_by true s u.response) u effect
   acknowledged_near Respond most near = record { least = omega arith; most = most }
   acknowledged_near TakePacket most near = record { least = near.least; most = near.most }
   acknowledged_near AnswerRep most near = record { least = near.least; most = near.most }
-  acknowledged_near (GoTo state) most near = tt
-  acknowledged_near TakePartner most near = tt
-  acknowledged_near SetBack most near = tt
+  acknowledged_near effect most near = tt
 
   received_near : (effect : Effect) → u.number ≡ s.received + 1 → IsNear s u effect → IsNear (with_data true true s (body_of m)) u effect
   received_near Respond e near = record { least = near.least; most = near.most }
   received_near TakePacket e near = record { least = omega arith; most = omega arith }
   received_near AnswerRep e near = record { least = omega arith; most = omega arith }
-  received_near (GoTo state) e near = tt
-  received_near TakePartner e near = tt
-  received_near SetBack e near = tt
+  received_near effect e near = tt
 
   near_stays : (done next : Effect) → IsNear s u next → IsNear (does m u kept s done) u next
   near_stays (GoTo state) next near = same_near _ refl refl refl next near
@@ -140,11 +134,7 @@ module _ {L : Type 0} (all : List (HeldPacket L)) where
     packet_near : (s : Station) (effects : List Effect) → AreNear s u effects → has_packet effects ≡ true → NumberIsNear s u.number
     packet_near s [] near e = absurd cc
     packet_near s (TakePacket ∷ next) near e = near.0
-    packet_near s (GoTo state ∷ next) near e = packet_near s next near.1 e
-    packet_near s (TakePartner ∷ next) near e = packet_near s next near.1 e
-    packet_near s (Respond ∷ next) near e = packet_near s next near.1 e
-    packet_near s (SetBack ∷ next) near e = packet_near s next near.1 e
-    packet_near s (AnswerRep ∷ next) near e = packet_near s next near.1 e
+    packet_near s (effect ∷ next) near e = packet_near s next near.1 e
 
     takes_same : (s : Station) → AreNear s u (row s.state m).effects → takes s m u ≡ (has_packet (row s.state m).effects && wire_is_next (cut all s).variables (num_of m))
     takes_same s near = go (has_packet (row s.state m).effects) (packet_near s (row s.state m).effects near)

@@ -104,12 +104,7 @@ module _ {L : Type 0} where
         user_same : (event : Event) → (wire_machine judged).user (station_seen own.state.station) event ≡ cut_result station_seen (λ (m : MessageValue) (u : Truth). u.tag) (station_machine judged) (wire_machine judged) ((station_machine judged).user own.state.station event)
         user_same events.Start = alike _ (user_refusal own.state.station.state Start) (wire_after_event (station_seen own.state.station) Start) (after_event own.state.station Start) refl (λ e. seen_event own.state.station Start)
         user_same events.Halt = alike _ (user_refusal own.state.station.state Halt) (wire_after_event (station_seen own.state.station) Halt) (after_event own.state.station Halt) refl (λ e. seen_event own.state.station Halt)
-        user_same (events.Open link) = refl
-        user_same (events.Accept partner link) = refl
-        user_same (events.Reject partner link) = refl
-        user_same (events.In link bytes) = refl
-        user_same (events.Up link bytes) = refl
-        user_same (events.Close link) = refl
+        user_same event = refl
 
         sending_made : (m : MessageValue) → (wire_machine judged).sends (station_seen own.state.station) m ≡ cut_sent station_seen (λ (m : MessageValue) (u : Truth). u.tag) (station_machine judged) (wire_machine judged) m ((station_machine judged).sends own.state.station m)
         sending_made m =

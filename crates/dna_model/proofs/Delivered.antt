@@ -5,7 +5,7 @@ use Rattle.std.specs.Prelude.{slice_get}
 use Rattle.std.proofs.lemmas.Option.{slice_get_within, same_Some}
 use Rattle.two_nodes.proofs.Order.{slice_get-append}
 use Rattle.two_nodes.proofs.Listed.{next_at}
-use Rattle.ddcmp_msg.specs.Message.{MessageValue, Data, Ack, Nak, Rep, Strt, Stack}
+use Rattle.ddcmp_msg.specs.Message.{MessageValue, Data}
 use Rattle.dna_model.specs.Station.{Station, PastPeriod, past}
 use Rattle.dna_model.specs.Truth.{Truth}
 use Rattle.dna_model.specs.Delivery.{periods, BeginsWith, IsDelivered}
@@ -54,11 +54,7 @@ pub offered_grown : (m : MessageValue) (u : Truth) (ps qs : List PastPeriod) →
 offered_grown (Data flags resp num body) u ps qs g o =
     let z = g.grown u.tag.period o.0 o.1 in
     (z.0, z.1, o.2, ap (λ (l : List (List ℕ)). slice_get l (u.number - 1)) z.2.whole ∙ slice_get-append o.0.given z.2.rest (u.number - 1) body o.3)
-offered_grown (Ack flags resp) u ps qs g o = tt
-offered_grown (Nak flags reason resp) u ps qs g o = tt
-offered_grown (Rep flags num) u ps qs g o = tt
-offered_grown (Strt flags) u ps qs g o = tt
-offered_grown (Stack flags) u ps qs g o = tt
+offered_grown m u ps qs g o = tt
 
 -- ---- one packet more is taken
 

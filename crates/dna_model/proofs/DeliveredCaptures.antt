@@ -14,10 +14,9 @@ use Rattle.dna_model.specs.declared.state.StationEvent.TheVariants.{Start, Halt}
 use Rattle.dna_model.specs.Station.{Station, PastPeriod, past, after_event}
 use Rattle.dna_model.specs.Delivery.{periods, taken_by_period, packet_in, in_last, with_period, delivered_by, delivered}
 use Rattle.dna_model.specs.Rules.{judged}
-use Rattle.dna_model.specs.StationBook.{after_sending}
 use Rattle.dna_model.specs.Truth.{Truth}
 use Rattle.dna_model.specs.Book.{ArrivalValue, HeaderBad, DataBad, Sound}
-use Rattle.dna_model.specs.StationBook.{arrival_refusal, after_arrival}
+use Rattle.dna_model.specs.StationBook.{after_sending, arrival_refusal, after_arrival}
 use Rattle.dna_model.specs.Line.{SentUnit}
 use Rattle.dna_model.specs.Node.{Node}
 use Rattle.dna_model.specs.Pair.{pair, start}

@@ -6,13 +6,13 @@ use Rattle.std.proofs.lemmas.List.{length_push}
 use Rattle.two_nodes.proofs.Listed.{next_at}
 use Rattle.std.proofs.lemmas.Slice.Eq.{bytes_eq-Decides}
 use Rattle.ddcmp_msg.specs.declared.flags.Flags.{Flags}
-use Rattle.ddcmp_msg.specs.Message.{MessageValue, Data, Ack, Nak, Rep, Strt, Stack}
+use Rattle.ddcmp_msg.specs.Message.{MessageValue, Data}
 use Rattle.ddcmp_msg.specs.declared.nak_reason.NakReason.{NakReason}
 use Rattle.ddcmp_msg.specs.declared.nak_reason.NakReason.TheVariants.{HeaderCheck, DataCheck}
 use Rattle.dna_model.specs.declared.state.StationEvent.{StationEvent}
 use Rattle.dna_model.specs.declared.state.StationEvent.TheVariants.{Start, Halt}
 use Rattle.dna_model.specs.declared.refusal.StationRefusal.TheVariants.{CrossedPeriod}
-use Rattle.dna_model.specs.Table.{Change, Nothing, UseCause, SendPacket, change_of, Effect, GoTo, TakePartner, Respond, SetBack, TakePacket, AnswerRep, row, counts_damage}
+use Rattle.dna_model.specs.Table.{Change, Nothing, UseCause, SendPacket, change_of, Effect, TakePartner, Respond, TakePacket, AnswerRep, row, counts_damage}
 use Rattle.dna_model.specs.Rules.{judged}
 use Rattle.dna_model.specs.Station.{Station, PastPeriod, past, given, after_event}
 use Rattle.dna_model.specs.Delivery.{periods, BeginsWith, IsDelivered}
@@ -115,11 +115,7 @@ message_offered s o (Data flags resp num body) count e =
     let after = after_sending s (Data flags resp num body) in
     let a = o.above in
     (past after, ap (slice_get (periods after)) (sym count) ∙ next_at after.earlier [] (past after), omega arith, packet_there s (is_new s) body refl (sending_passed s (Data flags resp num body) refl e).1.1.1.0)
-message_offered s o (Ack flags resp) count e = tt
-message_offered s o (Nak flags reason resp) count e = tt
-message_offered s o (Rep flags num) count e = tt
-message_offered s o (Strt flags) count e = tt
-message_offered s o (Stack flags) count e = tt
+message_offered s o m count e = tt
 
 pub sending_offers : (s : Station) (own : List SentUnit) (bytes : List ℕ) (m : MessageValue) → IsOrdered s → sending_refusal s m ≡ None → Offers s own → Offers (after_sending s m) (own ++ unit_of s bytes m ∷ [])
 sending_offers s own bytes m ordered allowed o = record {
@@ -181,11 +177,7 @@ record IsData (m : MessageValue) : Type 0 where
 
 data_is : (m : MessageValue) → is_data m ≡ true → IsData m
 data_is (Data flags resp num body) e = record { flags = flags; resp = resp; num = num; body = body; message = refl }
-data_is (Ack flags resp) e = absurd cc
-data_is (Nak flags reason resp) e = absurd cc
-data_is (Rep flags num) e = absurd cc
-data_is (Strt flags) e = absurd cc
-data_is (Stack flags) e = absurd cc
+data_is m e = absurd cc
 
 module _ (s : Station) (u : Truth) (m : MessageValue) (kept : Bool) where
   -- ---- effects, one after another
@@ -197,12 +189,11 @@ module _ (s : Station) (u : Truth) (m : MessageValue) (kept : Bool) where
       one_more t effect stays = let d = does_stays m u kept t effect in record { earlier = d.earlier ∙ stays.earlier; period = d.period ∙ stays.period; packets = d.packets ∙ stays.packets }
 
   partner_stays : (t : Station) (effect : Effect) → has_partner (effect ∷ []) ≡ false → (does m u kept t effect).partner ≡ t.partner
-  partner_stays t (GoTo state) e = refl
   partner_stays t TakePartner e = absurd cc
-  partner_stays t SetBack e = refl
   partner_stays t Respond e = by_response m u kept t (λ (x : Station). x.partner ≡ t.partner) refl (λ e. refl)
   partner_stays t TakePacket e = by_packet m u kept t (λ (x : Station). x.partner ≡ t.partner) refl (λ e. refl) refl
   partner_stays t AnswerRep e = by_rep m u kept t (λ (x : Station). x.partner ≡ t.partner) refl refl
+  partner_stays t effect e = refl
 
   -- the partner behind some effects
   partner_by : (effects : List Effect) (t : Station) → (fold (does m u kept) t effects).partner ≡ cond (has_partner effects) (Some u.tag.period) t.partner
@@ -212,11 +203,7 @@ module _ (s : Station) (u : Truth) (m : MessageValue) (kept : Bool) where
       either : (b : Bool) → cond b (Some u.tag.period) (Some u.tag.period) ≡ Some u.tag.period
       either true = refl
       either false = refl
-  partner_by (GoTo state ∷ next) t = partner_by next (record t { state = state })
-  partner_by (SetBack ∷ next) t = partner_by next (does m u kept t SetBack)
-  partner_by (Respond ∷ next) t = partner_by next (does m u kept t Respond) ∙ ap (cond (has_partner next) (Some u.tag.period)) (partner_stays t Respond refl)
-  partner_by (TakePacket ∷ next) t = partner_by next (does m u kept t TakePacket) ∙ ap (cond (has_partner next) (Some u.tag.period)) (partner_stays t TakePacket refl)
-  partner_by (AnswerRep ∷ next) t = partner_by next (does m u kept t AnswerRep) ∙ ap (cond (has_partner next) (Some u.tag.period)) (partner_stays t AnswerRep refl)
+  partner_by (effect ∷ next) t = partner_by next (does m u kept t effect) ∙ ap (cond (has_partner next) (Some u.tag.period)) (partner_stays t effect refl)
 
   -- ---- what a row took
 

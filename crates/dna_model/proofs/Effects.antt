@@ -1,7 +1,7 @@
 -- What an effect, and what a sending, can make of a station on true numbers: the cases of each, and what it leaves as it is.
 use Rattle.std.proofs.Common.{◌≡◌, Bool, true, false, ◌&&◌, eqb, ltb, leb, List, [], ◌∷◌, fold, refl}
 use Rattle.ddcmp_msg.specs.Message.{MessageValue}
-use Rattle.dna_model.specs.Table.{Change, Nothing, UseCause, SendPacket, change_of, Effect, GoTo, TakePartner, Respond, SetBack, TakePacket, AnswerRep}
+use Rattle.dna_model.specs.Table.{Change, Nothing, UseCause, SendPacket, change_of, Effect, Respond, TakePacket, AnswerRep}
 use Rattle.dna_model.specs.Book.{body_of}
 use Rattle.dna_model.specs.Station.{Station, given}
 use Rattle.dna_model.specs.Truth.{Truth}
@@ -44,12 +44,10 @@ pub record Stays (s t : Station) : Type 0 where
   pub packets : t.packets ≡ s.packets
 
 pub does_stays : (m : MessageValue) (u : Truth) (kept : Bool) (s : Station) (effect : Effect) → Stays s (does m u kept s effect)
-does_stays m u kept s (GoTo state) = record { earlier = refl; period = refl; packets = refl }
-does_stays m u kept s TakePartner = record { earlier = refl; period = refl; packets = refl }
-does_stays m u kept s SetBack = record { earlier = refl; period = refl; packets = refl }
 does_stays m u kept s Respond = by_response m u kept s (Stays s) (record { earlier = refl; period = refl; packets = refl }) (λ e. record { earlier = refl; period = refl; packets = refl })
 does_stays m u kept s TakePacket = by_packet m u kept s (Stays s) (record { earlier = refl; period = refl; packets = refl }) (λ e. record { earlier = refl; period = refl; packets = refl }) (record { earlier = refl; period = refl; packets = refl })
 does_stays m u kept s AnswerRep = by_rep m u kept s (Stays s) (record { earlier = refl; period = refl; packets = refl }) (record { earlier = refl; period = refl; packets = refl })
+does_stays m u kept s effect = record { earlier = refl; period = refl; packets = refl }
 
 -- what a sending leaves: all but what was given, what comes next, and the causes
 pub record StaysAs (s t : Station) : Type 0 where

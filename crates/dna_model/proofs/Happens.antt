@@ -60,12 +60,7 @@ module _ (rules : Rules) (own other h : Half Node SentUnit) where
       go event None allowed made = left _ _ (UserEvent event allowed) made
       go event (Some refusal) allowed made = absurd cc
   event_happens events.Halt made = left _ _ (UserEvent Halt refl) made
-  event_happens (events.Open link) made = left _ _ (Nothing (events.Open link) refl) made
-  event_happens (events.Accept partner link) made = left _ _ (Nothing (events.Accept partner link) refl) made
-  event_happens (events.Reject partner link) made = left _ _ (Nothing (events.Reject partner link) refl) made
-  event_happens (events.In link bytes) made = left _ _ (Nothing (events.In link bytes) refl) made
-  event_happens (events.Up link bytes) made = left _ _ (Nothing (events.Up link bytes) refl) made
-  event_happens (events.Close link) made = left _ _ (Nothing (events.Close link) refl) made
+  event_happens event made = left _ _ (Nothing event refl) made
 
   sends_happens : (bytes : List ℕ) (m : MessageValue) (o : Option StationRefusal) → reading bytes ≡ read_as.Sound m → sending_refusal own.state.station m ≡ o → answered own other (sends own.state bytes m (unless_refused o (after_sending own.state.station m, truth_of own.state.station m))) ≡ Made h → Happens rules own other (Sent bytes) h
   sends_happens bytes m None read allowed made = left _ _ (Sending bytes m read allowed) made
@@ -73,9 +68,7 @@ module _ (rules : Rules) (own other h : Half Node SentUnit) where
 
   sent_happens : (bytes : List ℕ) (r : ReadingValue) → reading bytes ≡ r → answered own other (sent_step (station_machine rules) own.state bytes r) ≡ Made h → Happens rules own other (Sent bytes) h
   sent_happens bytes (read_as.Sound m) read made = sends_happens bytes m _ read refl made
-  sent_happens bytes read_as.HeaderBad read made = absurd cc
-  sent_happens bytes read_as.DataBad read made = absurd cc
-  sent_happens bytes (read_as.Malformed departure) read made = absurd cc
+  sent_happens bytes r read made = absurd cc
 
   module _ (hint : ℕ) (kept : Bool) (bytes : List ℕ) (unit : SentUnit) (there : slice_get other.sent hint ≡ Some unit) (ahead : own.state.front ≤ hint) where
     met_happens : (arrival : ArrivalValue Truth) → ComesOf unit bytes arrival → (o : Option StationRefusal) → arrival_refusal rules own.state.station arrival kept ≡ o → concluded own (met own.state (hint + 1) (unless_refused o (after_arrival own.state.station arrival kept))) ≡ Made h → Happens rules own other (Received hint kept bytes) h
@@ -85,8 +78,7 @@ module _ (rules : Rules) (own other h : Half Node SentUnit) where
     damage_happens : (r : ReadingValue) → concluded own (comes (station_machine rules) own.state (hint + 1) kept (damage r)) ≡ Made h → Happens rules own other (Received hint kept bytes) h
     damage_happens read_as.HeaderBad made = met_happens HeaderBad BadHeader _ refl made
     damage_happens read_as.DataBad made = met_happens DataBad BadData _ refl made
-    damage_happens (read_as.Sound m) made = absurd cc
-    damage_happens (read_as.Malformed departure) made = absurd cc
+    damage_happens r made = absurd cc
 
     comes_happens : (same : Bool) (r : ReadingValue) → bytes_eq bytes unit.bytes ≡ same → concluded own (comes (station_machine rules) own.state (hint + 1) kept (coming_by same unit r)) ≡ Made h → Happens rules own other (Received hint kept bytes) h
     comes_happens true r same made = met_happens (Sound unit.message unit.known) (Itself ((bytes_eq-Decides bytes unit.bytes).0 same)) _ refl made

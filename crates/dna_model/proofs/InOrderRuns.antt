@@ -11,8 +11,7 @@ use Rattle.dna_model.specs.declared.state.StationEvent.TheVariants.{Start, Halt}
 use Rattle.dna_model.specs.Station.{Station, new_station, past, all_given}
 use Rattle.dna_model.specs.Delivery.{AreAmong, all_taken}
 use Rattle.dna_model.specs.Rules.{judged}
-use Rattle.dna_model.specs.StationBook.{after_sending}
-use Rattle.dna_model.specs.StationBook.{after_arrival}
+use Rattle.dna_model.specs.StationBook.{after_sending, after_arrival}
 use Rattle.dna_model.specs.Line.{SentUnit}
 use Rattle.dna_model.specs.Node.{Node, new_node}
 use Rattle.dna_model.specs.Pair.{pair, start}

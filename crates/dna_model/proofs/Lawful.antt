@@ -61,20 +61,13 @@ module _ (s : Station) (m : MessageValue) (tag : Tag) where
   pub packet_lawful : (effects : List Effect) (now : State) → AreLawful now effects → has_packet effects ≡ true → (is_data m ≡ true) × IsOfPair s tag
   packet_lawful [] now l e = absurd cc
   packet_lawful (TakePacket ∷ next) now l e = (l.0.1, l.0.2)
-  packet_lawful (GoTo state ∷ next) now l e = packet_lawful next state l.1 e
-  packet_lawful (TakePartner ∷ next) now l e = packet_lawful next now l.1 e
-  packet_lawful (Respond ∷ next) now l e = packet_lawful next now l.1 e
-  packet_lawful (SetBack ∷ next) now l e = packet_lawful next now l.1 e
-  packet_lawful (AnswerRep ∷ next) now l e = packet_lawful next now l.1 e
+  packet_lawful (effect ∷ next) now l e = packet_lawful next (goes now effect) l.1 e
 
   pub partner_lawful : (effects : List Effect) (now : State) → AreLawful now effects → has_partner effects ≡ true → is_starting now ≡ true
   partner_lawful [] now l e = absurd cc
   partner_lawful (TakePartner ∷ next) now l e = l.0
   partner_lawful (GoTo state ∷ next) now l e = l.0 (partner_lawful next state l.1 e)
-  partner_lawful (TakePacket ∷ next) now l e = partner_lawful next now l.1 e
-  partner_lawful (Respond ∷ next) now l e = partner_lawful next now l.1 e
-  partner_lawful (SetBack ∷ next) now l e = partner_lawful next now l.1 e
-  partner_lawful (AnswerRep ∷ next) now l e = partner_lawful next now l.1 e
+  partner_lawful (effect ∷ next) now l e = partner_lawful next now l.1 e
 
 -- ---- rows
 

@@ -1,15 +1,15 @@
 -- A record adds at most one to the counts of a wire station: the effects of an arrival add one cause at most.
 use Rattle.std.proofs.Common.{ℕ, ◌+◌, ◌≤◌, Bool, true, false, ◌&&◌, not, eqb, cond, List, [], ◌∷◌, fold, arith}
-use Rattle.ddcmp_msg.specs.Message.{MessageValue, Data, Ack, Nak, Rep, Strt, Stack}
+use Rattle.ddcmp_msg.specs.Message.{MessageValue, Data, Ack, Nak, Strt}
 use Rattle.ddcmp_msg.specs.declared.nak_reason.NakReason.{NakReason}
-use Rattle.ddcmp_msg.specs.declared.nak_reason.NakReason.TheVariants.{HeaderCheck, DataCheck, RepResponse, NoBuffer, Overrun, MessageTooLong, HeaderFormat}
+use Rattle.ddcmp_msg.specs.declared.nak_reason.NakReason.TheVariants.{HeaderCheck, DataCheck, RepResponse, NoBuffer}
 use Rattle.dna_model.specs.declared.state.State.{State}
 use Rattle.dna_model.specs.declared.state.State.TheVariants.{Halted, Istrt, Astrt, Running}
 use Rattle.dna_model.specs.declared.state.StationEvent.{StationEvent}
 use Rattle.dna_model.specs.declared.state.StationEvent.TheVariants.{Start, Halt}
 use Rattle.dna_model.specs.declared.tag.Tag.{Tag}
 use Rattle.dna_model.specs.Causes.{Causes, with_cause, without_cause}
-use Rattle.dna_model.specs.Table.{Row, ignored, Effect, GoTo, TakePartner, Respond, SetBack, TakePacket, AnswerRep, row, counts_damage}
+use Rattle.dna_model.specs.Table.{Row, ignored, Effect, TakePacket, AnswerRep, row, counts_damage}
 use Rattle.dna_model.specs.Book.{ArrivalValue, Sound, HeaderBad, DataBad, num_of}
 use Rattle.dna_model.specs.WireStation.{WireStation, wire_after_event, load}
 use Rattle.dna_model.specs.WireBook.{wire_is_next, wire_does, wire_book, wire_after_sending, wire_after_arrival}
@@ -42,21 +42,11 @@ rows_add Running m = omega arith
 module _ {L : Type 0} where
   with_cause_load : (w : WireStation L) (reason : NakReason) → load (record w { causes = with_cause reason w.causes }) ≤ load w + 1
   with_cause_load w HeaderCheck = omega arith
-  with_cause_load w DataCheck = omega arith
-  with_cause_load w RepResponse = omega arith
-  with_cause_load w NoBuffer = omega arith
-  with_cause_load w Overrun = omega arith
-  with_cause_load w MessageTooLong = omega arith
-  with_cause_load w HeaderFormat = omega arith
+  with_cause_load w reason = omega arith
 
   without_cause_load : (w : WireStation L) (reason : NakReason) → load (record w { causes = without_cause reason w.causes }) ≤ load w
   without_cause_load w HeaderCheck = omega arith
-  without_cause_load w DataCheck = omega arith
-  without_cause_load w RepResponse = omega arith
-  without_cause_load w NoBuffer = omega arith
-  without_cause_load w Overrun = omega arith
-  without_cause_load w MessageTooLong = omega arith
-  without_cause_load w HeaderFormat = omega arith
+  without_cause_load w reason = omega arith
 
   pub event_load : (w : WireStation L) (event : StationEvent) → load (wire_after_event w event) ≤ load w + 1
   event_load w Start = omega arith
@@ -64,11 +54,7 @@ module _ {L : Type 0} where
 
   pub sending_load : (w : WireStation L) (m : MessageValue) → load (wire_after_sending w m) ≤ load w
   sending_load w (Nak flags reason resp) = without_cause_load w reason
-  sending_load w (Data flags resp num body) = omega arith
-  sending_load w (Ack flags resp) = omega arith
-  sending_load w (Rep flags num) = omega arith
-  sending_load w (Strt flags) = omega arith
-  sending_load w (Stack flags) = omega arith
+  sending_load w m = omega arith
 
   either_load : (w : WireStation L) (b : Bool) (one other : Causes) → load (record w { causes = one }) ≤ load w + 1 → load (record w { causes = other }) ≤ load w + 1 → load (record w { causes = cond b one other }) ≤ load w + 1
   either_load w true one other p q = p
@@ -78,10 +64,7 @@ module _ {L : Type 0} where
     does_load : (w : WireStation L) (effect : Effect) → load (wire_does m tag kept w effect) ≤ load w + adds effect
     does_load w TakePacket = either_load w (wire_is_next w.variables (num_of m) && not kept) (with_cause NoBuffer w.causes) w.causes (omega arith) (omega arith)
     does_load w AnswerRep = either_load w (eqb (num_of m) w.variables.received) w.causes (with_cause RepResponse w.causes) (omega arith) (omega arith)
-    does_load w (GoTo state) = omega arith
-    does_load w TakePartner = omega arith
-    does_load w Respond = omega arith
-    does_load w SetBack = omega arith
+    does_load w effect = omega arith
 
     effects_load : (effects : List Effect) (w : WireStation L) → load (fold (wire_does m tag kept) w effects) ≤ load w + all_add effects
     effects_load [] w = omega arith

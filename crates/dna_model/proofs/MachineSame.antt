@@ -59,9 +59,7 @@ module _ {S K T J : Type 0} (of_station : S → T) (of_known : MessageValue → 
     sent_same bytes (read_as.Sound m) =
         ap (λ (o : Result (T × J) StepRefusal). answered (cut_half machine_cut own) (cut_half machine_cut other) (sends (cut_half machine_cut own).state bytes m o)) (same.sending m)
         ∙ sends_same bytes m (one.sends own.state.station m)
-    sent_same bytes read_as.HeaderBad = refl
-    sent_same bytes read_as.DataBad = refl
-    sent_same bytes (read_as.Malformed departure) = refl
+    sent_same bytes read = refl
 
     met_same : (front : ℕ) (p : Result T StepRefusal) (o : Result S StepRefusal) → p ≡ cut_result o →
         concluded (cut_half machine_cut own) (met (cut_half machine_cut own).state front p) ≡ cut_outcome machine_cut (concluded own (met own.state front o))
@@ -75,8 +73,7 @@ module _ {S K T J : Type 0} (of_station : S → T) (of_known : MessageValue → 
       damage_same : (r : ReadingValue) → concluded (cut_half machine_cut own) (comes two (cut_half machine_cut own).state (hint + 1) kept (damage r)) ≡ cut_outcome machine_cut (concluded own (comes one own.state (hint + 1) kept (damage r)))
       damage_same read_as.HeaderBad = met_same (hint + 1) _ _ (same.header_bad kept)
       damage_same read_as.DataBad = met_same (hint + 1) _ _ (same.data_bad kept)
-      damage_same (read_as.Sound m) = refl
-      damage_same (read_as.Malformed departure) = refl
+      damage_same read = refl
 
       comes_same : (is : Bool) (r : ReadingValue) → concluded (cut_half machine_cut own) (comes two (cut_half machine_cut own).state (hint + 1) kept (coming_by is (unit_cut unit) r)) ≡ cut_outcome machine_cut (concluded own (comes one own.state (hint + 1) kept (coming_by is unit r)))
       comes_same true r = met_same (hint + 1) _ _ (same.sound hint unit kept there ahead)

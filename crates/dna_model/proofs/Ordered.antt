@@ -2,11 +2,9 @@
 use Rattle.std.proofs.Common.{◌≡◌, ℕ, ◌+◌, ◌-◌, ◌≤◌, Bool, true, false, eqb, ltb, leb, cond, None, List, length, refl, ap, arith, eqb-true, ltb-true, leb-true}
 use Rattle.std.proofs.lemmas.Bool.{and_parts}
 use Rattle.std.proofs.lemmas.List.{length_push}
-use Rattle.ddcmp_msg.specs.Message.{MessageValue, Data, Ack, Nak, Rep, Strt, Stack}
+use Rattle.ddcmp_msg.specs.Message.{MessageValue, Data, Nak}
 use Rattle.ddcmp_msg.specs.declared.nak_reason.NakReason.{NakReason}
 use Rattle.ddcmp_msg.specs.declared.nak_reason.NakReason.TheVariants.{HeaderCheck, DataCheck}
-use Rattle.dna_model.specs.declared.state.State.{State}
-use Rattle.dna_model.specs.declared.state.State.TheVariants.{Halted, Istrt, Astrt, Running}
 use Rattle.dna_model.specs.declared.state.StationEvent.{StationEvent}
 use Rattle.dna_model.specs.declared.state.StationEvent.TheVariants.{Start, Halt}
 use Rattle.dna_model.specs.Table.{WINDOW, Effect, GoTo, TakePartner, Respond, SetBack, TakePacket, AnswerRep, row, counts_damage}
@@ -51,10 +49,7 @@ module _ (s : Station) (o : IsOrdered s) where
   pub sending_ordered : (m : MessageValue) → sending_refusal s m ≡ None → IsOrdered (after_sending s m)
   sending_ordered (Data flags resp num body) e = data_ordered (is_new s) body refl (sending_passed s (Data flags resp num body) refl e).1.1.0
   sending_ordered (Nak flags reason resp) e = same_ordered (after_sending s (Nak flags reason resp)) refl refl refl
-  sending_ordered (Ack flags resp) e = o
-  sending_ordered (Rep flags num) e = o
-  sending_ordered (Strt flags) e = o
-  sending_ordered (Stack flags) e = o
+  sending_ordered m e = o
 
 module _ (m : MessageValue) (u : Truth) (kept : Bool) where
   pub does_ordered : (s : Station) (effect : Effect) → IsOrdered s → IsOrdered (does m u kept s effect)
@@ -70,13 +65,11 @@ module _ (m : MessageValue) (u : Truth) (kept : Bool) where
   does_ordered s TakePacket o = by_packet m u kept s IsOrdered o (λ e. same_ordered s o (with_data true true s (body_of m)) refl refl refl) (same_ordered s o (with_data true false s (body_of m)) refl refl refl)
   does_ordered s AnswerRep o = by_rep m u kept s IsOrdered o (same_ordered s o (asked false s) refl refl refl)
 
-damaged_ordered : (s : Station) → IsOrdered s → (state : State) (reason : NakReason) → IsOrdered (cond (counts_damage state) (station_book.counts reason s) s)
-damaged_ordered s o Running reason = same_ordered s o (station_book.counts reason s) refl refl refl
-damaged_ordered s o Halted reason = o
-damaged_ordered s o Istrt reason = o
-damaged_ordered s o Astrt reason = o
+damaged_ordered : (s : Station) → IsOrdered s → (counted : Bool) (reason : NakReason) → IsOrdered (cond counted (station_book.counts reason s) s)
+damaged_ordered s o true reason = same_ordered s o (station_book.counts reason s) refl refl refl
+damaged_ordered s o false reason = o
 
 pub arrival_ordered : (s : Station) (arrival : ArrivalValue Truth) (kept : Bool) → IsOrdered s → IsOrdered (after_arrival s arrival kept)
 arrival_ordered s (Sound m u) kept o = kept_by_all IsOrdered (does m u kept) (does_ordered m u kept) (row s.state m).effects s o
-arrival_ordered s HeaderBad kept o = damaged_ordered s o s.state HeaderCheck
-arrival_ordered s DataBad kept o = damaged_ordered s o s.state DataCheck
+arrival_ordered s HeaderBad kept o = damaged_ordered s o (counts_damage s.state) HeaderCheck
+arrival_ordered s DataBad kept o = damaged_ordered s o (counts_damage s.state) DataCheck

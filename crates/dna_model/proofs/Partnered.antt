@@ -2,7 +2,7 @@
 use Rattle.std.proofs.Common.{◌≡◌, ℕ, ◌<◌, ◌≤◌, ◌⊎◌, inl, inr, Bool, true, Some, List, [], ◌∷◌, ◌++◌, length, refl, sym, ap, ◌∙◌, arith}
 use Rattle.std.specs.Prelude.{slice_get}
 use Rattle.std.proofs.lemmas.Option.{slice_get_within}
-use Rattle.ddcmp_msg.specs.Message.{MessageValue, Data, Ack, Nak, Rep, Strt, Stack}
+use Rattle.ddcmp_msg.specs.Message.{MessageValue, Data}
 use Rattle.dna_model.specs.declared.state.StationEvent.{StationEvent}
 use Rattle.dna_model.specs.declared.state.StationEvent.TheVariants.{Start, Halt}
 use Rattle.dna_model.specs.Station.{Station, given, after_event}
@@ -88,11 +88,7 @@ no_data n own other h o none i u at d same =
   where
     go : (m : MessageValue) → is_data m ≡ true → IsGiven limits (data_number m u.known) u.known.given → IsOffered m u.known (periods n.station) → u.known.given ≤ 0 → ⊥
     go (Data flags resp num body) d number offered l = let a = number.0 in let b = offered.2 in omega arith
-    go (Ack flags resp) d number offered l = absurd cc
-    go (Nak flags reason resp) d number offered l = absurd cc
-    go (Rep flags num) d number offered l = absurd cc
-    go (Strt flags) d number offered l = absurd cc
-    go (Stack flags) d number offered l = absurd cc
+    go m d number offered l = absurd cc
 
 pub receipt_partnered : (n : Node) (own other : List SentUnit) (t : Station) (m : MessageValue) (u : Truth) (kept : Bool) → IsSound n own other → Offers n.station own → Took n.station t m u kept → Partnered n.station own → Partnered t own
 receipt_partnered n own other t m u kept h o took p = go took.1

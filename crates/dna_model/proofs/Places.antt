@@ -5,16 +5,15 @@ use Rattle.std.proofs.lemmas.Grind.{flat_map-append}
 use Rattle.two_nodes.specs.Nodes.{Half, World}
 use Rattle.two_nodes.specs.Kept.{IsKept}
 use Rattle.two_nodes.proofs.Order.{slice_get-append}
-use Rattle.ddcmp_msg.specs.Message.{MessageValue, Data, Ack, Nak, Rep, Strt, Stack}
+use Rattle.ddcmp_msg.specs.Message.{MessageValue, Data}
 use Rattle.capture.specs.declared.record.Record.{Record}
 use Rattle.dna_model.specs.declared.head.Head.{Head}
 use Rattle.dna_model.specs.declared.state.StationEvent.TheVariants.{Start, Halt}
 use Rattle.dna_model.specs.Station.{Station, PastPeriod, past, packets_of, all_given, after_event}
 use Rattle.dna_model.specs.Rules.{judged}
 use Rattle.dna_model.specs.Truth.{Truth}
-use Rattle.dna_model.specs.StationBook.{is_new, sending_refusal, after_sending, with_packet, truth_of}
+use Rattle.dna_model.specs.StationBook.{is_new, sending_refusal, after_sending, with_packet, truth_of, after_arrival}
 use Rattle.dna_model.specs.Delivery.{BeginsWith, CarriesItsPacket}
-use Rattle.dna_model.specs.StationBook.{after_arrival}
 use Rattle.dna_model.specs.Line.{SentUnit}
 use Rattle.dna_model.specs.Node.{Node}
 use Rattle.dna_model.specs.Pair.{pair, start}
@@ -36,11 +35,7 @@ item_behind (x ∷ xs) ys i = let e : suc (length xs) + i ≡ suc (length xs + i
 -- what is carried stays where it is when there are more packets
 carried_still : (m : MessageValue) (u : Truth) (packets more : List (List ℕ)) → CarriesItsPacket packets m u → BeginsWith more packets → CarriesItsPacket more m u
 carried_still (Data flags resp num body) u packets more c b = ap (λ (l : List (List ℕ)). slice_get l u.place) b.whole ∙ slice_get-append packets b.rest u.place body c
-carried_still (Ack flags resp) u packets more c b = tt
-carried_still (Nak flags reason resp) u packets more c b = tt
-carried_still (Rep flags num) u packets more c b = tt
-carried_still (Strt flags) u packets more c b = tt
-carried_still (Stack flags) u packets more c b = tt
+carried_still m u packets more c b = tt
 
 abbrev pub AtPlaces : Station → List SentUnit → Type 0
 AtPlaces s own = (i : ℕ) (unit : SentUnit) → slice_get own i ≡ Some unit → CarriesItsPacket (all_given s) unit.message unit.known
@@ -72,11 +67,7 @@ sent_at_place : (s : Station) (m : MessageValue) → sending_refusal s m ≡ Non
 sent_at_place s (Data flags resp num body) e =
     item_behind (packets_of s.earlier) (with_packet (is_new s) s.packets body) (s.next_to_send - 1)
     ∙ packet_there s (is_new s) body refl (sending_passed s (Data flags resp num body) refl e).1.1.1.0
-sent_at_place s (Ack flags resp) e = tt
-sent_at_place s (Nak flags reason resp) e = tt
-sent_at_place s (Rep flags num) e = tt
-sent_at_place s (Strt flags) e = tt
-sent_at_place s (Stack flags) e = tt
+sent_at_place s m e = tt
 
 -- ---- any record
 

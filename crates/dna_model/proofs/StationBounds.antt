@@ -1,7 +1,7 @@
 -- The bounds of DDCMP hold at any time: what holds of each node beside the other is kept by every record.
 use Rattle.std.proofs.Common.{◌≡◌, ℕ, ◌≤◌, Bool, true, false, Some, None, List, [], ◌∷◌, ◌++◌, length, refl, sym, ap, ◌∙◌, subst, arith, length-append, inl, inr, ◌⊎◌}
 use Rattle.std.specs.Prelude.{slice_get}
-use Rattle.ddcmp_msg.specs.Message.{MessageValue, Data, Ack, Nak, Rep, Strt, Stack}
+use Rattle.ddcmp_msg.specs.Message.{MessageValue, Data}
 use Rattle.ddcmp_msg.specs.Reading.{reading, Sound}
 use Rattle.dna_model.specs.declared.state.State.{State}
 use Rattle.dna_model.specs.declared.state.State.TheVariants.{Halted, Istrt, Astrt, Running}
@@ -98,19 +98,11 @@ nothing_given s (Data flags resp num body) e starting = absurd (in_running s.sta
     in_running Halted e starting = cc
     in_running Istrt e starting = cc
     in_running Astrt e starting = cc
-nothing_given s (Ack flags resp) e starting = refl
-nothing_given s (Nak flags reason resp) e starting = refl
-nothing_given s (Rep flags num) e starting = refl
-nothing_given s (Strt flags) e starting = refl
-nothing_given s (Stack flags) e starting = refl
+nothing_given s m e starting = refl
 
 sending_numbers : (s : Station) (m : MessageValue) → record (numbers_of s) { given = given (after_sending s m); last = s.received } ≡ numbers_of (after_sending s m)
 sending_numbers s (Data flags resp num body) = refl
-sending_numbers s (Ack flags resp) = refl
-sending_numbers s (Nak flags reason resp) = refl
-sending_numbers s (Rep flags num) = refl
-sending_numbers s (Strt flags) = refl
-sending_numbers s (Stack flags) = refl
+sending_numbers s m = refl
 
 module _ (n : Node) (own other : List SentUnit) (bytes : List ℕ) (m : MessageValue) (h : IsSound n own other) (read : reading bytes ≡ Sound m) (allowed : sending_refusal n.station m ≡ None) where
   sending_told : (i : ℕ) (u : SentUnit) → slice_get (own ++ unit_of n.station bytes m ∷ []) i ≡ Some u → IsTold (after_sending n.station m).period u

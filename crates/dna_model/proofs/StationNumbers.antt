@@ -1,7 +1,7 @@
 -- The numbers of DDCMP as numbered messages: a side goes by its period, at most 255 are outstanding, and each RESP is the last number
 -- received.
 use Rattle.std.proofs.Common.{◌≡◌, ℕ, ◌+◌, ◌-◌, ◌≤◌, Bool, true, false, cond, Option, Some, None, List, [], ◌∷◌, length, refl, arith, eqb-true, length-append}
-use Rattle.ddcmp_msg.specs.Message.{MessageValue, Data, Ack, Nak, Rep, Strt, Stack}
+use Rattle.ddcmp_msg.specs.Message.{MessageValue, Data, Ack, Nak, Rep}
 use Rattle.dna_model.specs.Station.{Station, given, wire}
 use Rattle.dna_model.specs.Table.{WINDOW}
 use Rattle.dna_model.specs.Truth.{Truth}
@@ -68,16 +68,11 @@ module _ (s : Station) (o : IsOrdered s) (bytes : List ℕ) where
   sent_spelled (Ack flags resp) e = record { response = eqb-true resp (wire s.received) (sending_passed s (Ack flags resp) refl e).0; number = refl }
   sent_spelled (Nak flags reason resp) e = record { response = eqb-true resp (wire s.received) (sending_passed s (Nak flags reason resp) refl e).0; number = refl }
   sent_spelled (Rep flags num) e = record { response = refl; number = eqb-true num (wire (given s)) (sending_passed s (Rep flags num) refl e).1.0 }
-  sent_spelled (Strt flags) e = record { response = refl; number = refl }
-  sent_spelled (Stack flags) e = record { response = refl; number = refl }
+  sent_spelled m e = record { response = refl; number = refl }
 
   pub sent_asks : (m : MessageValue) → AsksForHighest m (truth_of s m)
   sent_asks (Rep flags num) is = refl
-  sent_asks (Data flags resp num body) is = absurd cc
-  sent_asks (Ack flags resp) is = absurd cc
-  sent_asks (Nak flags reason resp) is = absurd cc
-  sent_asks (Strt flags) is = absurd cc
-  sent_asks (Stack flags) is = absurd cc
+  sent_asks m is = absurd cc
 
   few : given s ≤ s.acknowledged + WINDOW
   few = o.few
@@ -100,6 +95,4 @@ module _ (s : Station) (o : IsOrdered s) (bytes : List ℕ) where
       more false = omega arith
   sending_is (Ack flags resp) e = record { sender = refl; last_before = refl; lawful = record { few = few; number = tt; acks = (omega arith, omega arith, tt) }; more_given = omega arith; more_last = omega arith }
   sending_is (Nak flags reason resp) e = record { sender = refl; last_before = refl; lawful = record { few = few; number = tt; acks = (omega arith, omega arith, tt) }; more_given = omega arith; more_last = omega arith }
-  sending_is (Rep flags num) e = record { sender = refl; last_before = refl; lawful = record { few = few; number = tt; acks = tt }; more_given = omega arith; more_last = omega arith }
-  sending_is (Strt flags) e = record { sender = refl; last_before = refl; lawful = record { few = few; number = tt; acks = tt }; more_given = omega arith; more_last = omega arith }
-  sending_is (Stack flags) e = record { sender = refl; last_before = refl; lawful = record { few = few; number = tt; acks = tt }; more_given = omega arith; more_last = omega arith }
+  sending_is m e = record { sender = refl; last_before = refl; lawful = record { few = few; number = tt; acks = tt }; more_given = omega arith; more_last = omega arith }

@@ -3,7 +3,7 @@
 use Rattle.std.specs.Prelude.{ℕ, true, false, None, Result, Ok, Err, List, refl}
 use Rattle.two_nodes.specs.Past.{AgreesWith, Tells, BothTell}
 use Rattle.ddcmp_msg.specs.Message.{MessageValue}
-use Rattle.ddcmp_msg.specs.Reading.{ReadingValue, reading, Sound, HeaderBad, DataBad, Malformed}
+use Rattle.ddcmp_msg.specs.Reading.{ReadingValue, reading, Sound}
 use Rattle.capture.specs.declared.record.Record.TheVariants.{Sent, Received, User}
 use Rattle.dna_model.specs.declared.refusal.StepRefusal.{StepRefusal}
 use Rattle.dna_model.specs.Rules.{judged}
@@ -27,9 +27,7 @@ module _ {S K : Type 0} where
   module _ (machine : Machine S K) where
     sent_tells : (n : NodeOf S) (bytes : List ℕ) (read : ReadingValue) → AgreesWith (sent_step machine n bytes read) None true
     sent_tells n bytes (Sound m) = sends_tells n bytes m (machine.sends n.station m)
-    sent_tells n bytes HeaderBad = refl
-    sent_tells n bytes DataBad = refl
-    sent_tells n bytes (Malformed departure) = refl
+    sent_tells n bytes read = refl
 
     step_tells : Tells (step machine) named_unit is_sent
     step_tells n (Sent bytes) = sent_tells n bytes (reading bytes)
