@@ -1,6 +1,6 @@
 -- What each period took is a beginning of what its partner period gave: what holds of both stations, and how it is kept where
 -- periods grow.
-use Rattle.std.proofs.Common.{◌≡◌, ℕ, ◌-◌, ◌≤◌, ◌⊎◌, inl, inr, Option, Some, None, List, [], ◌∷◌, ◌++◌, length, sym, ap, ◌∙◌, subst, arith, append_assoc, append-nil}
+use Rattle.std.proofs.Common.{◌≡◌, ℕ, ◌-◌, ◌≤◌, Option, Some, None, List, [], ◌∷◌, ◌++◌, length, sym, ap, ◌∙◌, arith, append_assoc, append-nil}
 use Rattle.std.specs.Prelude.{slice_get}
 use Rattle.std.proofs.lemmas.Option.{slice_get_within, same_Some}
 use Rattle.two_nodes.proofs.Order.{slice_get-append}
@@ -9,7 +9,7 @@ use Rattle.ddcmp_msg.specs.Message.{MessageValue, Data}
 use Rattle.dna_model.specs.Station.{Station, PastPeriod, past}
 use Rattle.dna_model.specs.Truth.{Truth}
 use Rattle.dna_model.specs.Delivery.{periods, BeginsWith, IsDelivered}
-use Rattle.dna_model.proofs.NumberedSteps.{at_pushed}
+use Rattle.dna_model.proofs.NumberedSteps.{each_pushed}
 
 -- ---- periods grow
 
@@ -25,12 +25,11 @@ begins_further xs ys zs p q = record { rest = p.rest ++ q.rest; whole = q.whole 
 
 -- the present period gives more
 pub grow_present : (s t : Station) → t.earlier ≡ s.earlier → BeginsWith t.packets s.packets → GrowTo (periods s) (periods t)
-grow_present s t earlier more = record { grown = λ p y at. go p y (at_pushed s.earlier (past s) y p at) }
-  where
-    go : (p : ℕ) (y : PastPeriod) → (slice_get s.earlier p ≡ Some y) ⊎ ((p ≡ length s.earlier) × (past s ≡ y)) → (z : PastPeriod) × (slice_get (periods t) p ≡ Some z) × BeginsWith z.given y.given
-    go p y (inl e) = (y, slice_get-append t.earlier (past t ∷ []) p y (ap (λ (l : List PastPeriod). slice_get l p) earlier ∙ e), begins_same y.given)
-    go p y (inr e) =
-        (past t, ap (slice_get (periods t)) (e.0 ∙ ap length (sym earlier)) ∙ next_at t.earlier [] (past t), subst (λ (x : PastPeriod). BeginsWith t.packets x.given) e.1 more)
+grow_present s t earlier more = record {
+  grown = each_pushed s.earlier (past s) (λ p (y : PastPeriod). (z : PastPeriod) × (slice_get (periods t) p ≡ Some z) × BeginsWith z.given y.given)
+      (λ p y at. (y, slice_get-append t.earlier (past t ∷ []) p y (ap (λ (l : List PastPeriod). slice_get l p) earlier ∙ at), begins_same y.given))
+      (past t, ap (slice_get (periods t)) (ap length (sym earlier)) ∙ next_at t.earlier [] (past t), more);
+}
 
 -- a period begins
 pub grow_start : (s t : Station) → t.earlier ≡ s.earlier ++ past s ∷ [] → GrowTo (periods s) (periods t)

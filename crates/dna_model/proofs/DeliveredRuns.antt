@@ -1,5 +1,5 @@
 -- In every run, what each period took is a beginning of what its partner period gave.
-use Rattle.std.proofs.Common.{◌≡◌, ℕ, Bool, zero, suc, ◌+◌, ◌-◌, ◌<◌, ◌⊎◌, inl, inr, Option, Some, List, [], ◌∷◌, length, refl, sym, ap, ◌∙◌, subst, arith}
+use Rattle.std.proofs.Common.{◌≡◌, ℕ, Bool, zero, suc, ◌+◌, ◌-◌, ◌<◌, inl, inr, Option, Some, List, [], ◌∷◌, length, refl, sym, ap, ◌∙◌, subst, arith}
 use Rattle.std.specs.Prelude.{slice_get}
 use Rattle.std.proofs.lemmas.List.{length_push, nil_from_length}
 use Rattle.std.proofs.lemmas.Option.{same_Some}
@@ -17,7 +17,7 @@ use Rattle.dna_model.specs.Line.{SentUnit}
 use Rattle.dna_model.specs.Node.{Node}
 use Rattle.dna_model.specs.Pair.{pair, start}
 use Rattle.dna_model.proofs.Happens.{Happens, Nothing, UserEvent, Sending, Receipt, happens}
-use Rattle.dna_model.proofs.NumberedSteps.{at_pushed}
+use Rattle.dna_model.proofs.NumberedSteps.{each_pushed}
 use Rattle.dna_model.proofs.StationBounds.{IsSound}
 use Rattle.dna_model.proofs.RunBounds.{BothSound, sound_kept, start_sound}
 use Rattle.dna_model.proofs.Delivered.{GrowTo, begins_same, grow_present, IsOffered, offered_grown, begins_next}
@@ -155,8 +155,4 @@ start_delivers head_a head_b = record { sound = start_sound head_a head_b; a_off
 
 -- in all periods, the present one among them
 pub delivers_from : (own other : Station) → Delivers own (periods other) → DeliversFrom own other
-delivers_from own other d q x at = go (at_pushed own.earlier (past own) x q at)
-  where
-    go : (slice_get own.earlier q ≡ Some x) ⊎ ((q ≡ length own.earlier) × (past own ≡ x)) → IsDelivered x.partner x.taken (periods other)
-    go (inl e) = d.earlier q x e
-    go (inr e) = subst (λ (y : PastPeriod). IsDelivered y.partner y.taken (periods other)) e.1 d.present
+delivers_from own other d = each_pushed own.earlier (past own) (λ q (x : PastPeriod). IsDelivered x.partner x.taken (periods other)) d.earlier d.present

@@ -26,7 +26,7 @@ use Rattle.dna_model.proofs.Checks.{sending_passed}
 use Rattle.dna_model.proofs.CutArriving.{TakesBy, taken_by}
 use Rattle.dna_model.proofs.CutNode.{not_crossed}
 use Rattle.dna_model.proofs.Happens.{ComesOf, Itself, BadHeader, BadData}
-use Rattle.dna_model.proofs.NumberedSteps.{at_pushed}
+use Rattle.dna_model.proofs.NumberedSteps.{each_pushed}
 use Rattle.dna_model.proofs.StationNumbers.{is_data, unit_of}
 use Rattle.dna_model.proofs.StationBounds.{is_starting, HasNone}
 use Rattle.dna_model.proofs.Lawful.{AreLawful, has_partner, packet_lawful, partner_lawful, rows_lawful}
@@ -66,11 +66,7 @@ event_offers s own Start o = record {
 event_offers s own Halt o = record { count = o.count; taken_count = o.taken_count; offered = o.offered }
 
 pub event_delivers : (s : Station) (ps : List PastPeriod) (event : StationEvent) → Delivers s ps → Delivers (after_event s event) ps
-event_delivers s ps Start d = record { earlier = λ q x at. go x (at_pushed s.earlier (past s) x q at); present = refl }
-  where
-    go : (x : PastPeriod) → {q : ℕ} → (slice_get s.earlier q ≡ Some x) ⊎ ((q ≡ length s.earlier) × (past s ≡ x)) → IsDelivered x.partner x.taken ps
-    go x {q} (inl e) = d.earlier q x e
-    go x (inr e) = subst (λ (y : PastPeriod). IsDelivered y.partner y.taken ps) e.1 d.present
+event_delivers s ps Start d = record { earlier = each_pushed s.earlier (past s) (λ q (x : PastPeriod). IsDelivered x.partner x.taken ps) d.earlier d.present; present = refl }
 event_delivers s ps Halt d = record { earlier = d.earlier; present = d.present }
 
 -- ---- a sending
@@ -121,12 +117,9 @@ pub sending_offers : (s : Station) (own : List SentUnit) (bytes : List ℕ) (m :
 sending_offers s own bytes m ordered allowed o = record {
   count = let t = sending_stays s m in ap length t.earlier ∙ o.count ∙ sym t.period;
   taken_count = let t = sending_stays s m in ap length t.taken ∙ o.taken_count ∙ sym t.received;
-  offered = λ i u at. go u (at_pushed own (unit_of s bytes m) u i at);
+  offered = each_pushed own (unit_of s bytes m) (λ i (u : SentUnit). IsOffered u.message u.known (periods (after_sending s m)))
+      (λ i u at. offered_grown u.message u.known (periods s) (periods (after_sending s m)) (sending_grows s m) (o.offered i u at)) (message_offered s ordered m o.count allowed);
 }
-  where
-    go : (u : SentUnit) → {i : ℕ} → (slice_get own i ≡ Some u) ⊎ ((i ≡ length own) × (unit_of s bytes m ≡ u)) → IsOffered u.message u.known (periods (after_sending s m))
-    go u {i} (inl e) = offered_grown u.message u.known (periods s) (periods (after_sending s m)) (sending_grows s m) (o.offered i u e)
-    go u (inr e) = subst (λ (x : SentUnit). IsOffered x.message x.known (periods (after_sending s m))) e.1 (message_offered s ordered m o.count allowed)
 
 -- ---- a receipt
 

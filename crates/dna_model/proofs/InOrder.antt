@@ -9,7 +9,7 @@ use Rattle.dna_model.specs.declared.state.StationEvent.TheVariants.{Start}
 use Rattle.dna_model.specs.Station.{Station, PastPeriod, past, after_event}
 use Rattle.dna_model.specs.Delivery.{periods}
 use Rattle.dna_model.specs.Line.{SentUnit}
-use Rattle.dna_model.proofs.NumberedSteps.{at_pushed}
+use Rattle.dna_model.proofs.NumberedSteps.{each_pushed, pairs_pushed}
 use Rattle.dna_model.proofs.Effects.{Stays}
 use Rattle.dna_model.proofs.DeliveredSteps.{TookPacket}
 use Rattle.dna_model.proofs.StationNumbers.{is_data}
@@ -40,9 +40,9 @@ pub record Rises (one other : Option ℕ) : Type 0 where
 abbrev pub AreInOrder : PastPeriod → PastPeriod → Type 0
 AreInOrder one next = (one.taken ≡ []) ⊎ ((next.taken ≡ []) ⊎ Rises one.partner next.partner)
 
-pub record TakesInOrder (s : Station) (other : List SentUnit) (front : ℕ) : Type 0 where
-  pub from : (q : ℕ) (x : PastPeriod) → slice_get (periods s) q ≡ Some x → IsFrom other front q x
-  pub rising : (q r : ℕ) (x y : PastPeriod) → q < r → slice_get (periods s) q ≡ Some x → slice_get (periods s) r ≡ Some y → AreInOrder x y
+pub record TakesInOrder (ps : List PastPeriod) (other : List SentUnit) (front : ℕ) : Type 0 where
+  pub from : (q : ℕ) (x : PastPeriod) → slice_get ps q ≡ Some x → IsFrom other front q x
+  pub rising : (q r : ℕ) (x y : PastPeriod) → q < r → slice_get ps q ≡ Some x → slice_get ps r ≡ Some y → AreInOrder x y
 
 -- ---- what grows beside it
 
@@ -58,64 +58,34 @@ from_grown other further front front' q x more grown (inr t) = inr (record {
   to = t.to;
 })
 
-pub takes_beside : (s : Station) (other further : List SentUnit) (front front' : ℕ) → front ≤ front' → ((k : ℕ) (u : SentUnit) → slice_get other k ≡ Some u → slice_get further k ≡ Some u) → TakesInOrder s other front → TakesInOrder s further front'
-takes_beside s other further front front' more grown t = record {
+pub takes_beside : (ps : List PastPeriod) (other further : List SentUnit) (front front' : ℕ) → front ≤ front' → ((k : ℕ) (u : SentUnit) → slice_get other k ≡ Some u → slice_get further k ≡ Some u) → TakesInOrder ps other front → TakesInOrder ps further front'
+takes_beside ps other further front front' more grown t = record {
   from = λ q x at. from_grown other further front front' q x more grown (t.from q x at);
   rising = t.rising;
 }
 
--- the periods are the same
-pub takes_same : (s t : Station) (other : List SentUnit) (front : ℕ) → periods t ≡ periods s → TakesInOrder s other front → TakesInOrder t other front
-takes_same s t other front same h = record {
-  from = λ q x at. h.from q x (ap (λ (l : List PastPeriod). slice_get l q) (sym same) ∙ at);
-  rising = λ q r x y less at_q at_r. h.rising q r x y less (ap (λ (l : List PastPeriod). slice_get l q) (sym same) ∙ at_q) (ap (λ (l : List PastPeriod). slice_get l r) (sym same) ∙ at_r);
-}
-
--- the last period is another one
-module _ (before : List PastPeriod) (z : PastPeriod) (other : List SentUnit) (front : ℕ)
-    (from : (q : ℕ) (x : PastPeriod) → slice_get before q ≡ Some x → IsFrom other front q x)
-    (rising : (q r : ℕ) (x y : PastPeriod) → q < r → slice_get before q ≡ Some x → slice_get before r ≡ Some y → AreInOrder x y)
-    (last_from : IsFrom other front (length before) z)
-    (last_rises : (q : ℕ) (x : PastPeriod) → slice_get before q ≡ Some x → AreInOrder x z) where
-  pub all_from : (q : ℕ) (x : PastPeriod) → slice_get (before ++ z ∷ []) q ≡ Some x → IsFrom other front q x
-  all_from q x at = go (at_pushed before z x q at)
-    where
-      go : (slice_get before q ≡ Some x) ⊎ ((q ≡ length before) × (z ≡ x)) → IsFrom other front q x
-      go (inl a) = from q x a
-      go (inr a) = subst (λ (n : ℕ). IsFrom other front n x) (sym a.0) (subst (λ (y : PastPeriod). IsFrom other front (length before) y) a.1 last_from)
-
-  pub all_rising : (q r : ℕ) (x y : PastPeriod) → q < r → slice_get (before ++ z ∷ []) q ≡ Some x → slice_get (before ++ z ∷ []) r ≡ Some y → AreInOrder x y
-  all_rising q r x y less at_q at_r = go (at_pushed before z x q at_q) (at_pushed before z y r at_r)
-    where
-      go : (slice_get before q ≡ Some x) ⊎ ((q ≡ length before) × (z ≡ x)) → (slice_get before r ≡ Some y) ⊎ ((r ≡ length before) × (z ≡ y)) → AreInOrder x y
-      go (inl a) (inl b) = rising q r x y less a b
-      go (inl a) (inr b) = subst (λ (p : PastPeriod). AreInOrder x p) b.1 (last_rises q x a)
-      go (inr a) (inl b) = let w = slice_get_within before r y b in let e = a.0 in absurd (omega arith)
-      go (inr a) (inr b) = let e = a.0 in let f = b.0 in absurd (omega arith)
+-- one period more
+pub takes_more : (ps : List PastPeriod) (z : PastPeriod) (other : List SentUnit) (front : ℕ) → TakesInOrder ps other front → IsFrom other front (length ps) z → ((q : ℕ) (x : PastPeriod) → slice_get ps q ≡ Some x → AreInOrder x z) →
+    TakesInOrder (ps ++ z ∷ []) other front
+takes_more ps z other front h from rises = record { from = each_pushed ps z (IsFrom other front) h.from from; rising = pairs_pushed ps z AreInOrder h.rising rises }
 
 -- ---- the station of the last period changes
 
-module _ (s t : Station) (other : List SentUnit) (front : ℕ) (h : TakesInOrder s other front) where
-  earlier_from : (q : ℕ) (x : PastPeriod) → slice_get s.earlier q ≡ Some x → IsFrom other front q x
-  earlier_from q x at = h.from q x (slice_get-append s.earlier (past s ∷ []) q x at)
-
-  earlier_rising : (q r : ℕ) (x y : PastPeriod) → q < r → slice_get s.earlier q ≡ Some x → slice_get s.earlier r ≡ Some y → AreInOrder x y
-  earlier_rising q r x y less at_q at_r = h.rising q r x y less (slice_get-append s.earlier (past s ∷ []) q x at_q) (slice_get-append s.earlier (past s ∷ []) r y at_r)
-
-  with_last : t.earlier ≡ s.earlier → IsFrom other front (length s.earlier) (past t) → ((q : ℕ) (x : PastPeriod) → slice_get s.earlier q ≡ Some x → AreInOrder x (past t)) → TakesInOrder t other front
-  with_last earlier last_from last_rises = record {
-    from = λ q x at. all_from s.earlier (past t) other front earlier_from earlier_rising last_from last_rises q x (same q ∙ at);
-    rising = λ q r x y less at_q at_r. all_rising s.earlier (past t) other front earlier_from earlier_rising last_from last_rises q r x y less (same q ∙ at_q) (same r ∙ at_r);
+module _ (s t : Station) (other : List SentUnit) (front : ℕ) (h : TakesInOrder (periods s) other front) where
+  earlier_takes : TakesInOrder s.earlier other front
+  earlier_takes = record {
+    from = λ q x at. h.from q x (slice_get-append s.earlier (past s ∷ []) q x at);
+    rising = λ q r x y less at_q at_r. h.rising q r x y less (slice_get-append s.earlier (past s ∷ []) q x at_q) (slice_get-append s.earlier (past s ∷ []) r y at_r);
   }
-    where
-      same : (q : ℕ) → slice_get (s.earlier ++ past t ∷ []) q ≡ slice_get (periods t) q
-      same q = ap (λ (l : List PastPeriod). slice_get (l ++ past t ∷ []) q) (sym earlier)
+
+  with_last : t.earlier ≡ s.earlier → IsFrom other front (length s.earlier) (past t) → ((q : ℕ) (x : PastPeriod) → slice_get s.earlier q ≡ Some x → AreInOrder x (past t)) → TakesInOrder (periods t) other front
+  with_last earlier last_from last_rises = subst (λ (l : List PastPeriod). TakesInOrder (l ++ past t ∷ []) other front) (sym earlier) (takes_more s.earlier (past t) other front earlier_takes last_from last_rises)
 
   last_place : slice_get (periods s) (length s.earlier) ≡ Some (past s)
   last_place = next_at s.earlier [] (past s)
 
   -- what it took and with whom is the same
-  pub takes_last : t.earlier ≡ s.earlier → t.partner ≡ s.partner → t.taken ≡ s.taken → TakesInOrder t other front
+  pub takes_last : t.earlier ≡ s.earlier → t.partner ≡ s.partner → t.taken ≡ s.taken → TakesInOrder (periods t) other front
   takes_last earlier partner taken = with_last earlier (from_last (h.from (length s.earlier) (past s) last_place)) (λ q x at. rises_last x (h.rising q (length s.earlier) x (past s) (slice_get_within s.earlier q x at) (slice_get-append s.earlier (past s ∷ []) q x at) last_place))
     where
       from_last : IsFrom other front (length s.earlier) (past s) → IsFrom other front (length s.earlier) (past t)
@@ -128,18 +98,15 @@ module _ (s t : Station) (other : List SentUnit) (front : ℕ) (h : TakesInOrder
       rises_last x (inr (inr r)) = inr (inr (record { low = r.low; high = r.high; below = r.below; one_is = r.one_is; other_is = partner ∙ r.other_is }))
 
   -- nothing was taken in the last period
-  pub takes_none : t.earlier ≡ s.earlier → t.taken ≡ [] → TakesInOrder t other front
+  pub takes_none : t.earlier ≡ s.earlier → t.taken ≡ [] → TakesInOrder (periods t) other front
   takes_none earlier none = with_last earlier (inl none) (λ q x at. inr (inl none))
 
-pub takes_start : (s : Station) (other : List SentUnit) (front : ℕ) → TakesInOrder s other front → TakesInOrder (after_event s Start) other front
-takes_start s other front h = record {
-  from = all_from (periods s) (past (after_event s Start)) other front h.from h.rising (inl refl) (λ q x at. inr (inl refl));
-  rising = all_rising (periods s) (past (after_event s Start)) other front h.from h.rising (inl refl) (λ q x at. inr (inl refl));
-}
+pub takes_start : (s : Station) (other : List SentUnit) (front : ℕ) → TakesInOrder (periods s) other front → TakesInOrder (periods (after_event s Start)) other front
+takes_start s other front h = takes_more (periods s) (past (after_event s Start)) other front h (inl refl) (λ q x at. inr (inl refl))
 
 -- a packet is taken from the message at this place, which lies behind all that were met before
 module _ (s t : Station) (other own : List SentUnit) (front hint : ℕ) (unit : SentUnit) (there : slice_get other hint ≡ Some unit) (ahead : front ≤ hint) (count : length s.earlier ≡ s.period) (theirs : Station) (partnered : Partnered theirs other)
-    (h : TakesInOrder s other front) (stays : Stays s t) (p : TookPacket s t unit.message unit.known) where
+    (h : TakesInOrder (periods s) other front) (stays : Stays s t) (p : TookPacket s t unit.message unit.known) where
   carries : is_data unit.message ≡ true
   carries = ap is_data p.message
 
@@ -158,7 +125,7 @@ module _ (s t : Station) (other own : List SentUnit) (front hint : ℕ) (unit : 
           let e = f.earlier in
           let less : f.place < hint = omega arith in
           let r = partnered.rise f.place hint f.unit unit less f.there there in
-          let one = partnered.one_partner f.place hint f.unit unit f.there there f.carries carries (omega arith) in
+          let one = partnered.one_partner f.place hint f.unit unit less f.there there f.carries carries (omega arith) in
           let same : q ≡ s.period = same_Some q s.period (sym f.to ∙ one ∙ p.to) in
           let within = w in let c = count in absurd (omega arith)
 
@@ -166,10 +133,10 @@ module _ (s t : Station) (other own : List SentUnit) (front hint : ℕ) (unit : 
       go (inl e) = inl e
       go (inr f) = rises f (cases_lt f.unit.known.tag.period unit.known.tag.period)
 
-  grown : TakesInOrder s other (hint + 1)
-  grown = takes_beside s other other front (hint + 1) (omega arith) (λ k u at. at) h
+  grown : TakesInOrder (periods s) other (hint + 1)
+  grown = takes_beside (periods s) other other front (hint + 1) (omega arith) (λ k u at. at) h
 
-  pub takes_packet : TakesInOrder t other (hint + 1)
+  pub takes_packet : TakesInOrder (periods t) other (hint + 1)
   takes_packet = with_last s t other (hint + 1) grown stays.earlier (inr (record {
     place = hint;
     unit = unit;

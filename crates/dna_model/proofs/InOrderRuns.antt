@@ -8,8 +8,8 @@ use Rattle.two_nodes.proofs.Order.{slice_get-append}
 use Rattle.capture.specs.declared.record.Record.{Record}
 use Rattle.dna_model.specs.declared.head.Head.{Head}
 use Rattle.dna_model.specs.declared.state.StationEvent.TheVariants.{Start, Halt}
-use Rattle.dna_model.specs.Station.{Station, new_station, past, all_given}
-use Rattle.dna_model.specs.Delivery.{AreAmong, all_taken}
+use Rattle.dna_model.specs.Station.{Station, new_station, past, all_given, after_event}
+use Rattle.dna_model.specs.Delivery.{AreAmong, all_taken, periods}
 use Rattle.dna_model.specs.Rules.{judged}
 use Rattle.dna_model.specs.StationBook.{after_sending, after_arrival}
 use Rattle.dna_model.specs.Line.{SentUnit}
@@ -23,20 +23,20 @@ use Rattle.dna_model.proofs.DeliveredSteps.{Offers, TookBy, arrival_took}
 use Rattle.dna_model.proofs.DeliveredRuns.{delivers_from}
 use Rattle.dna_model.proofs.DeliveredCaptures.{BothCaptured, captured_kept, start_captured}
 use Rattle.dna_model.proofs.Partnered.{Partnered, new_partnered, event_partnered, sending_partnered, receipt_partnered}
-use Rattle.dna_model.proofs.InOrder.{TakesInOrder, all_from, all_rising, takes_beside, takes_last, takes_none, takes_start, takes_packet}
+use Rattle.dna_model.proofs.InOrder.{TakesInOrder, takes_beside, takes_more, takes_last, takes_none, takes_start, takes_packet}
 use Rattle.dna_model.proofs.Among.{taken_among_given}
 
 -- of a node beside the units of the other
 pub record OwnOrder (n : Node) (own other : List SentUnit) : Type 0 where
   pub partnered : Partnered n.station own
-  pub takes : TakesInOrder n.station other n.front
+  pub takes : TakesInOrder (periods n.station) other n.front
 
 module _ (own other : Half Node SentUnit) (h : IsSound own.state own.sent other.sent) (o : Offers own.state.station own.sent) (theirs : Partnered other.state.station other.sent) (p : OwnOrder own.state own.sent other.sent) where
-  receipt_takes : (hint : ℕ) (kept : Bool) (unit : SentUnit) (t : Station) → slice_get other.sent hint ≡ Some unit → own.state.front ≤ hint → Stays own.state.station t → TookBy own.state.station t unit.message unit.known kept → TakesInOrder t other.sent (hint + 1)
+  receipt_takes : (hint : ℕ) (kept : Bool) (unit : SentUnit) (t : Station) → slice_get other.sent hint ≡ Some unit → own.state.front ≤ hint → Stays own.state.station t → TookBy own.state.station t unit.message unit.known kept → TakesInOrder (periods t) other.sent (hint + 1)
   receipt_takes hint kept unit t there ahead stays (inl (x, e)) =
-      takes_last own.state.station t other.sent (hint + 1) (takes_beside own.state.station other.sent other.sent own.state.front (hint + 1) (omega arith) (λ k u at. at) p.takes) stays.earlier x.partner x.taken
+      takes_last own.state.station t other.sent (hint + 1) (takes_beside (periods own.state.station) other.sent other.sent own.state.front (hint + 1) (omega arith) (λ k u at. at) p.takes) stays.earlier x.partner x.taken
   receipt_takes hint kept unit t there ahead stays (inr (inl (x, e))) =
-      takes_none own.state.station t other.sent (hint + 1) (takes_beside own.state.station other.sent other.sent own.state.front (hint + 1) (omega arith) (λ k u at. at) p.takes) stays.earlier
+      takes_none own.state.station t other.sent (hint + 1) (takes_beside (periods own.state.station) other.sent other.sent own.state.front (hint + 1) (omega arith) (λ k u at. at) p.takes) stays.earlier
       (x.taken ∙ nil_from_length own.state.station.taken (o.taken_count ∙ x.none.received))
   receipt_takes hint kept unit t there ahead stays (inr (inr (x, e))) =
       takes_packet own.state.station t other.sent own.sent own.state.front hint unit there ahead o.count other.state.station theirs p.takes stays x
@@ -46,7 +46,7 @@ module _ (own other : Half Node SentUnit) (h : IsSound own.state own.sent other.
   order_own r left (UserEvent Start allowed) = record { partnered = event_partnered own.state own.sent other.sent Start h p.partnered; takes = takes_start own.state.station other.sent own.state.front p.takes }
   order_own r left (UserEvent Halt allowed) = record {
     partnered = event_partnered own.state own.sent other.sent Halt h p.partnered;
-    takes = takes_last own.state.station _ other.sent own.state.front p.takes refl refl refl;
+    takes = takes_last own.state.station (after_event own.state.station Halt) other.sent own.state.front p.takes refl refl refl;
   }
   order_own r left (Sending bytes m read allowed) =
       let t = sending_stays own.state.station m in
@@ -68,7 +68,7 @@ module _ (own other : Half Node SentUnit) (p : OwnOrder other.state other.sent o
   order_other r left (UserEvent event allowed) = p
   order_other r left (Sending bytes m read allowed) = record {
     partnered = p.partnered;
-    takes = takes_beside other.state.station own.sent (own.sent ++ unit_of own.state.station bytes m ∷ []) other.state.front other.state.front (omega arith)
+    takes = takes_beside (periods other.state.station) own.sent (own.sent ++ unit_of own.state.station bytes m ∷ []) other.state.front other.state.front (omega arith)
         (λ k u at. slice_get-append own.sent (unit_of own.state.station bytes m ∷ []) k u at) p.takes;
   }
   order_other r left (Receipt hint kept bytes unit arrival there ahead of_unit allowed) = p
@@ -97,11 +97,8 @@ order_kept = record {
       };
 }
 
-new_takes : TakesInOrder new_station [] 0
-new_takes = record {
-  from = all_from [] (past new_station) [] 0 (λ q x at. absurd cc) (λ q r x y less at_q at_r. absurd cc) (inl refl) (λ q x at. absurd cc);
-  rising = all_rising [] (past new_station) [] 0 (λ q x at. absurd cc) (λ q r x y less at_q at_r. absurd cc) (inl refl) (λ q x at. absurd cc);
-}
+new_takes : TakesInOrder (periods new_station) [] 0
+new_takes = takes_more [] (past new_station) [] 0 (record { from = λ q x at. absurd cc; rising = λ q r x y less at_q at_r. absurd cc }) (inl refl) (λ q x at. absurd cc)
 
 new_order : (head : Head) → OwnOrder (new_node head) [] []
 new_order head = record { partnered = new_partnered new_station; takes = new_takes }

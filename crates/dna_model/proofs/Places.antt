@@ -1,5 +1,5 @@
 -- In every run, each data message carries the packet at its place among all that its sender gave.
-use Rattle.std.proofs.Common.{◌≡◌, ℕ, suc, ◌+◌, ◌-◌, ◌⊎◌, inl, inr, Some, None, List, [], ◌∷◌, ◌++◌, length, refl, sym, ap, ap₂, ◌∙◌, subst, arith, append-nil, append_assoc}
+use Rattle.std.proofs.Common.{◌≡◌, ℕ, suc, ◌+◌, ◌-◌, Some, None, List, [], ◌∷◌, ◌++◌, length, refl, sym, ap, ap₂, ◌∙◌, subst, arith, append-nil, append_assoc}
 use Rattle.std.specs.Prelude.{slice_get}
 use Rattle.std.proofs.lemmas.Grind.{flat_map-append}
 use Rattle.two_nodes.specs.Nodes.{Half, World}
@@ -19,7 +19,7 @@ use Rattle.dna_model.specs.Node.{Node}
 use Rattle.dna_model.specs.Pair.{pair, start}
 use Rattle.dna_model.proofs.Checks.{sending_passed}
 use Rattle.dna_model.proofs.Happens.{Happens, Nothing, UserEvent, Sending, Receipt, happens}
-use Rattle.dna_model.proofs.NumberedSteps.{at_pushed}
+use Rattle.dna_model.proofs.NumberedSteps.{each_pushed}
 use Rattle.dna_model.proofs.StationNumbers.{unit_of}
 use Rattle.dna_model.proofs.StationBounds.{IsSound}
 use Rattle.dna_model.proofs.RunBounds.{BothSound, sound_kept, start_sound}
@@ -79,11 +79,8 @@ module _ (own other : Half Node SentUnit) (h : IsSound own.state own.sent other.
   places_left r left (Nothing event none) = p
   places_left r left (UserEvent Start allowed) = places_still (after_event own.state.station Start) (given_start own.state.station)
   places_left r left (UserEvent Halt allowed) = p
-  places_left r left (Sending bytes m read allowed) = λ i unit at. go unit (at_pushed own.sent (unit_of own.state.station bytes m) unit i at)
-    where
-      go : (unit : SentUnit) → {i : ℕ} → (slice_get own.sent i ≡ Some unit) ⊎ ((i ≡ length own.sent) × (unit_of own.state.station bytes m ≡ unit)) → CarriesItsPacket (all_given (after_sending own.state.station m)) unit.message unit.known
-      go unit {i} (inl a) = places_still (after_sending own.state.station m) (given_sending own.state.station m) i unit a
-      go unit (inr a) = subst (λ (x : SentUnit). CarriesItsPacket (all_given (after_sending own.state.station m)) x.message x.known) a.1 (sent_at_place own.state.station m allowed)
+  places_left r left (Sending bytes m read allowed) = each_pushed own.sent (unit_of own.state.station bytes m) (λ i (x : SentUnit). CarriesItsPacket (all_given (after_sending own.state.station m)) x.message x.known)
+      (places_still (after_sending own.state.station m) (given_sending own.state.station m)) (sent_at_place own.state.station m allowed)
   places_left r left (Receipt hint kept bytes unit arrival there ahead of_unit allowed) =
       let stays = (arrival_took own.state.station unit bytes arrival kept of_unit h.none allowed).0 in
       places_still (after_arrival own.state.station arrival kept) (given_same own.state.station (after_arrival own.state.station arrival kept) stays.earlier stays.packets)

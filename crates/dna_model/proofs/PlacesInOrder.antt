@@ -269,7 +269,7 @@ module _ (own other : Half Node SentUnit) (h : IsSound own.state own.sent other.
             let q = k.passed in
             let rise = theirs.rise k.at hint k.unit unit (omega arith) k.there.0 there in
             let same : k.unit.known.tag.period ≡ unit.known.tag.period = omega arith in
-            let one = theirs.one_partner k.at hint k.unit unit k.there.0 there k.there.1 at.1 same in
+            let one = theirs.one_partner k.at hint k.unit unit (omega arith) k.there.0 there k.there.1 at.1 same in
             let present : k.period ≡ own.state.station.period = same_Some k.period own.state.station.period (sym k.to ∙ one ∙ x.to) in
             let had = k.received present in
             let next = x.next in

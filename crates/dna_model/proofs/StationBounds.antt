@@ -1,5 +1,5 @@
 -- The bounds of DDCMP hold at any time: what holds of each node beside the other is kept by every record.
-use Rattle.std.proofs.Common.{◌≡◌, ℕ, ◌≤◌, Bool, true, false, Some, None, List, [], ◌∷◌, ◌++◌, length, refl, sym, ap, ◌∙◌, subst, arith, length-append, inl, inr, ◌⊎◌}
+use Rattle.std.proofs.Common.{◌≡◌, ℕ, ◌≤◌, Bool, true, false, Some, None, List, [], ◌∷◌, ◌++◌, length, refl, sym, ap, ◌∙◌, subst, arith, length-append}
 use Rattle.std.specs.Prelude.{slice_get}
 use Rattle.ddcmp_msg.specs.Message.{MessageValue, Data}
 use Rattle.ddcmp_msg.specs.Reading.{reading, Sound}
@@ -14,10 +14,10 @@ use Rattle.dna_model.specs.StationBook.{passes, sending_refusal, after_sending}
 use Rattle.dna_model.specs.Bounds.{IsOrdered, HasWireNumbers}
 use Rattle.dna_model.specs.Line.{SentUnit}
 use Rattle.dna_model.specs.Node.{Node}
-use Rattle.dna_model.proofs.Effects.{StaysAs, sending_stays}
+use Rattle.dna_model.proofs.Effects.{sending_stays}
 use Rattle.dna_model.proofs.Ordered.{event_ordered, sending_ordered}
 use Rattle.dna_model.proofs.Numbered.{Numbers, AreNumbered, IsPresent}
-use Rattle.dna_model.proofs.NumberedSteps.{at_pushed, numbered_beside, present_beside, numbered_sending, present_sending, present_new}
+use Rattle.dna_model.proofs.NumberedSteps.{each_pushed, numbered_beside, present_beside, numbered_sending, present_sending, present_new}
 use Rattle.dna_model.proofs.StationNumbers.{limits, numbers_of, view, AsksForHighest, unit_of, sent_spelled, sent_asks, sending_is}
 
 -- before RUNNING
@@ -106,14 +106,11 @@ sending_numbers s m = refl
 
 module _ (n : Node) (own other : List SentUnit) (bytes : List ℕ) (m : MessageValue) (h : IsSound n own other) (read : reading bytes ≡ Sound m) (allowed : sending_refusal n.station m ≡ None) where
   sending_told : (i : ℕ) (u : SentUnit) → slice_get (own ++ unit_of n.station bytes m ∷ []) i ≡ Some u → IsTold (after_sending n.station m).period u
-  sending_told i u at = go (at_pushed own (unit_of n.station bytes m) u i at)
-    where
-      stays : StaysAs n.station (after_sending n.station m)
-      stays = sending_stays n.station m
-
-      go : (slice_get own i ≡ Some u) ⊎ ((i ≡ length own) × (unit_of n.station bytes m ≡ u)) → IsTold (after_sending n.station m).period u
-      go (inl p) = let t = h.told i u p in let e = stays.period in record { reads = t.reads; spelled = t.spelled; asks = t.asks; no_later = let l = t.no_later in omega arith }
-      go (inr p) = let e = stays.period in subst (λ (x : SentUnit). IsTold (after_sending n.station m).period x) p.1 (record { reads = read; spelled = sent_spelled n.station h.ordered bytes m allowed; asks = sent_asks n.station h.ordered bytes m; no_later = omega arith })
+  sending_told =
+      let e = (sending_stays n.station m).period in
+      each_pushed own (unit_of n.station bytes m) (λ i (u : SentUnit). IsTold (after_sending n.station m).period u)
+      (λ i u at. let t = h.told i u at in record { reads = t.reads; spelled = t.spelled; asks = t.asks; no_later = let l = t.no_later in omega arith })
+      (record { reads = read; spelled = sent_spelled n.station h.ordered bytes m allowed; asks = sent_asks n.station h.ordered bytes m; no_later = omega arith })
 
   pub sound_sending : IsSound (record n { station = after_sending n.station m }) (own ++ unit_of n.station bytes m ∷ []) other
   sound_sending =
