@@ -2,14 +2,12 @@
 use Rattle.std.proofs.Common.{◌≡◌, ℕ, Bool, true, false, inl, inr, None, List, [], ◌∷◌, ◌++◌, map, refl, sym, ap, ap₂, ◌∙◌}
 use Rattle.std.proofs.lemmas.List.{map-append}
 use Rattle.std.proofs.lemmas.List.Sums.{fold-append}
-use Rattle.two_nodes.specs.Nodes.{Half, World}
-use Rattle.two_nodes.specs.Kept.{IsKept}
+use Rattle.two_nodes.specs.Nodes.{Half}
 use Rattle.ddcmp_msg.specs.Message.{MessageValue}
 use Rattle.ddcmp_msg.specs.Reading.{reading}
 use Rattle.ddcmp_msg.specs.Reading as read_as
 use Rattle.capture.specs.declared.record.Record.{Record}
 use Rattle.capture.specs.declared.record.Record.TheVariants.{Received}
-use Rattle.dna_model.specs.declared.head.Head.{Head}
 use Rattle.dna_model.specs.declared.state.StationEvent.TheVariants.{Start, Halt}
 use Rattle.dna_model.specs.Station.{Station, PastPeriod, past, after_event}
 use Rattle.dna_model.specs.Delivery.{periods, taken_by_period, packet_in, in_last, with_period, delivered_by, delivered}
@@ -19,12 +17,10 @@ use Rattle.dna_model.specs.Book.{ArrivalValue, HeaderBad, DataBad, Sound}
 use Rattle.dna_model.specs.StationBook.{after_sending, arrival_refusal, after_arrival}
 use Rattle.dna_model.specs.Line.{SentUnit}
 use Rattle.dna_model.specs.Node.{Node}
-use Rattle.dna_model.specs.Pair.{pair, start}
-use Rattle.dna_model.proofs.Happens.{Happens, Nothing, UserEvent, Sending, Receipt, ComesOf, Itself, BadHeader, BadData, happens}
+use Rattle.dna_model.proofs.Happens.{Happens, Nothing, UserEvent, Sending, Receipt, ComesOf, Itself, BadHeader, BadData}
 use Rattle.dna_model.proofs.StationBounds.{IsSound}
 use Rattle.dna_model.proofs.Effects.{Stays, sending_stays}
 use Rattle.dna_model.proofs.DeliveredSteps.{TookBy, Took, arrival_took, unkept, claim_allowed}
-use Rattle.dna_model.proofs.DeliveredRuns.{BothDeliver, delivery_kept, start_delivers}
 
 abbrev taken : PastPeriod → List (List ℕ)
 taken period = period.taken
@@ -96,30 +92,7 @@ module _ (own other : Half Node SentUnit) (h : IsSound own.state own.sent other.
 
 -- ---- in a run
 
--- of a world and the records that led to it
-pub record BothCaptured (w : World Node SentUnit) (of_a of_b : List Record) : Type 0 where
-  pub both : BothDeliver w
-  pub a_took : delivered of_a ≡ taken_by_period w.a.state.station
-  pub b_took : delivered of_b ≡ taken_by_period w.b.state.station
-
-one_more : (own other : Half Node SentUnit) (h : IsSound own.state own.sent other.sent) (theirs : IsSound other.state other.sent own.sent) (made : List Record) (r : Record) (left : Half Node SentUnit) →
+pub captured_more : (own other : Half Node SentUnit) (h : IsSound own.state own.sent other.sent) (theirs : IsSound other.state other.sent own.sent) (made : List Record) (r : Record) (left : Half Node SentUnit) →
     Happens judged own other r left → delivered made ≡ taken_by_period own.state.station → delivered (made ++ r ∷ []) ≡ taken_by_period left.state.station
-one_more own other h theirs made r left what e =
+captured_more own other h theirs made r left what e =
     fold-append delivered_by ([] ∷ []) made (r ∷ []) ∙ ap (λ (ps : List (List (List ℕ))). delivered_by ps r) e ∙ sym (record_taken own other h theirs r left what)
-
-pub captured_kept : IsKept pair BothCaptured
-captured_kept = record {
-  by_a = λ w made_a made_b r h c made. record {
-    both = delivery_kept.by_a w made_a made_b r h c.both made;
-    a_took = one_more w.a w.b c.both.sound.of_a c.both.sound.of_b made_a r h (happens judged w.a w.b h r made) c.a_took;
-    b_took = c.b_took;
-  };
-  by_b = λ w made_a made_b r h c made. record {
-    both = delivery_kept.by_b w made_a made_b r h c.both made;
-    a_took = c.a_took;
-    b_took = one_more w.b w.a c.both.sound.of_b c.both.sound.of_a made_b r h (happens judged w.b w.a h r made) c.b_took;
-  };
-}
-
-pub start_captured : (head_a head_b : Head) → BothCaptured (start head_a head_b) [] []
-start_captured head_a head_b = record { both = start_delivers head_a head_b; a_took = refl; b_took = refl }

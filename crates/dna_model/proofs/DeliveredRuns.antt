@@ -3,11 +3,9 @@ use Rattle.std.proofs.Common.{◌≡◌, ℕ, Bool, zero, suc, ◌+◌, ◌-◌,
 use Rattle.std.specs.Prelude.{slice_get}
 use Rattle.std.proofs.lemmas.List.{length_push, nil_from_length}
 use Rattle.std.proofs.lemmas.Option.{same_Some}
-use Rattle.two_nodes.specs.Nodes.{Half, World}
-use Rattle.two_nodes.specs.Kept.{IsKept}
+use Rattle.two_nodes.specs.Nodes.{Half}
 use Rattle.ddcmp_msg.specs.Message.{MessageValue, Data}
 use Rattle.capture.specs.declared.record.Record.{Record}
-use Rattle.dna_model.specs.declared.head.Head.{Head}
 use Rattle.dna_model.specs.Station.{Station, PastPeriod, new_station, past}
 use Rattle.dna_model.specs.Delivery.{periods, BeginsWith, IsDelivered, DeliversFrom}
 use Rattle.dna_model.specs.Rules.{judged}
@@ -15,14 +13,12 @@ use Rattle.dna_model.specs.Truth.{Truth}
 use Rattle.dna_model.specs.StationBook.{after_arrival}
 use Rattle.dna_model.specs.Line.{SentUnit}
 use Rattle.dna_model.specs.Node.{Node}
-use Rattle.dna_model.specs.Pair.{pair, start}
-use Rattle.dna_model.proofs.Happens.{Happens, Nothing, UserEvent, Sending, Receipt, happens}
+use Rattle.dna_model.proofs.Happens.{Happens, Nothing, UserEvent, Sending, Receipt}
 use Rattle.dna_model.proofs.NumberedSteps.{each_pushed}
 use Rattle.dna_model.proofs.StationBounds.{IsSound}
-use Rattle.dna_model.proofs.RunBounds.{BothSound, sound_kept, start_sound}
 use Rattle.dna_model.proofs.Delivered.{GrowTo, begins_same, grow_present, IsOffered, offered_grown, begins_next}
 use Rattle.dna_model.proofs.Effects.{Stays}
-use Rattle.dna_model.proofs.DeliveredSteps.{Offers, Delivers, TookPacket, TookBy, Took, delivers_beside, event_grows, event_offers, event_delivers, sending_grows, sending_offers, sending_delivers, arrival_took}
+use Rattle.dna_model.proofs.DeliveredSteps.{Offers, Delivers, TookPacket, TookBy, Took, event_grows, event_offers, event_delivers, sending_grows, sending_offers, sending_delivers, arrival_took}
 
 item_within : {X : Type 0} (xs : List X) (i : ℕ) → i < length xs → (x : X) × (slice_get xs i ≡ Some x)
 item_within [] i within = absurd (omega arith)
@@ -80,23 +76,15 @@ module _ (s t : Station) (m : MessageValue) (u : Truth) (kept : Bool) (took : To
 
 -- ---- any record
 
--- of both nodes
-pub record BothDeliver (w : World Node SentUnit) : Type 0 where
-  pub sound : BothSound w
-  pub a_offers : Offers w.a.state.station w.a.sent
-  pub b_offers : Offers w.b.state.station w.b.sent
-  pub a_delivers : Delivers w.a.state.station (periods w.b.state.station)
-  pub b_delivers : Delivers w.b.state.station (periods w.a.state.station)
-
 -- what a record leaves of its own side
-record Left (own left other : Half Node SentUnit) : Type 0 where
-  offers : Offers left.state.station left.sent
-  delivers : Delivers left.state.station (periods other.state.station)
-  grows : GrowTo (periods own.state.station) (periods left.state.station)
+pub record Left (own left other : Half Node SentUnit) : Type 0 where
+  pub offers : Offers left.state.station left.sent
+  pub delivers : Delivers left.state.station (periods other.state.station)
+  pub grows : GrowTo (periods own.state.station) (periods left.state.station)
 
 module _ (own other : Half Node SentUnit) (h : IsSound own.state own.sent other.sent) (theirs : IsSound other.state other.sent own.sent)
     (o : Offers own.state.station own.sent) (p : Offers other.state.station other.sent) (d : Delivers own.state.station (periods other.state.station)) where
-  left_by : (r : Record) (left : Half Node SentUnit) → Happens judged own other r left → Left own left other
+  pub left_by : (r : Record) (left : Half Node SentUnit) → Happens judged own other r left → Left own left other
   left_by r left (Nothing event none) = record { offers = o; delivers = d; grows = grow_present own.state.station own.state.station refl (begins_same own.state.station.packets) }
   left_by r left (UserEvent event allowed) = record {
     offers = event_offers own.state.station own.sent event o;
@@ -119,39 +107,11 @@ module _ (own other : Half Node SentUnit) (h : IsSound own.state own.sent other.
         grows = receipt_grows own.state.station (after_arrival own.state.station arrival kept) unit.message unit.known kept took;
       }
 
-abbrev pub delivery_property : World Node SentUnit → List Record → List Record → Type 0
-delivery_property w of_a of_b = BothDeliver w
-
-pub delivery_kept : IsKept pair delivery_property
-delivery_kept = record {
-  by_a = λ w made_a made_b r h both made.
-      let left = left_by w.a w.b both.sound.of_a both.sound.of_b both.a_offers both.b_offers both.a_delivers r h (happens judged w.a w.b h r made) in
-      record {
-        sound = sound_kept.by_a w made_a made_b r h both.sound made;
-        a_offers = left.offers;
-        b_offers = both.b_offers;
-        a_delivers = left.delivers;
-        b_delivers = delivers_beside w.b.state.station (periods w.a.state.station) (periods h.state.station) left.grows both.b_delivers;
-      };
-  by_b = λ w made_a made_b r h both made.
-      let left = left_by w.b w.a both.sound.of_b both.sound.of_a both.b_offers both.a_offers both.b_delivers r h (happens judged w.b w.a h r made) in
-      record {
-        sound = sound_kept.by_b w made_a made_b r h both.sound made;
-        a_offers = both.a_offers;
-        b_offers = left.offers;
-        a_delivers = delivers_beside w.a.state.station (periods w.b.state.station) (periods h.state.station) left.grows both.a_delivers;
-        b_delivers = left.delivers;
-      };
-}
-
-new_offers : Offers new_station []
+pub new_offers : Offers new_station []
 new_offers = record { count = refl; taken_count = refl; offered = λ i u at. absurd cc }
 
-new_delivers : Delivers new_station (periods new_station)
+pub new_delivers : Delivers new_station (periods new_station)
 new_delivers = record { earlier = λ q x at. absurd cc; present = refl }
-
-pub start_delivers : (head_a head_b : Head) → BothDeliver (start head_a head_b)
-start_delivers head_a head_b = record { sound = start_sound head_a head_b; a_offers = new_offers; b_offers = new_offers; a_delivers = new_delivers; b_delivers = new_delivers }
 
 -- in all periods, the present one among them
 pub delivers_from : (own other : Station) → Delivers own (periods other) → DeliversFrom own other

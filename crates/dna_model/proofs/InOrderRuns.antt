@@ -2,26 +2,29 @@
 use Rattle.std.proofs.Common.{◌≡◌, ℕ, ◌+◌, ◌≤◌, Bool, inl, inr, Some, List, [], ◌∷◌, ◌++◌, refl, ◌∙◌, arith}
 use Rattle.std.specs.Prelude.{slice_get}
 use Rattle.std.proofs.lemmas.List.{nil_from_length}
-use Rattle.two_nodes.specs.Nodes.{Half, World}
+use Rattle.two_nodes.specs.Nodes.{Half, World, Run}
 use Rattle.two_nodes.specs.Kept.{IsKept}
 use Rattle.two_nodes.proofs.Order.{slice_get-append}
 use Rattle.capture.specs.declared.record.Record.{Record}
 use Rattle.dna_model.specs.declared.head.Head.{Head}
 use Rattle.dna_model.specs.declared.state.StationEvent.TheVariants.{Start, Halt}
 use Rattle.dna_model.specs.Station.{Station, new_station, past, all_given, after_event}
-use Rattle.dna_model.specs.Delivery.{AreAmong, all_taken, periods}
+use Rattle.dna_model.specs.Delivery.{AreAmong, DeliversFrom, all_taken, periods, delivered, taken_by_period}
 use Rattle.dna_model.specs.Rules.{judged}
 use Rattle.dna_model.specs.StationBook.{after_sending, after_arrival}
 use Rattle.dna_model.specs.Line.{SentUnit}
 use Rattle.dna_model.specs.Node.{Node, new_node}
 use Rattle.dna_model.specs.Pair.{pair, start}
-use Rattle.dna_model.proofs.Happens.{Happens, Nothing, UserEvent, Sending, Receipt, happens}
+use Rattle.dna_model.proofs.Happens.{Happens, Nothing, UserEvent, Sending, Receipt}
 use Rattle.dna_model.proofs.StationNumbers.{unit_of}
 use Rattle.dna_model.proofs.StationBounds.{IsSound}
 use Rattle.dna_model.proofs.Effects.{Stays, sending_stays}
-use Rattle.dna_model.proofs.DeliveredSteps.{Offers, TookBy, arrival_took}
-use Rattle.dna_model.proofs.DeliveredRuns.{delivers_from}
-use Rattle.dna_model.proofs.DeliveredCaptures.{BothCaptured, captured_kept, start_captured}
+use Rattle.dna_model.proofs.Sides.{OfBoth, IsKeptBySides, kept_by_both, after_run}
+use Rattle.dna_model.proofs.RunBounds.{sound_own, sound_other, new_sound}
+use Rattle.dna_model.proofs.DeliveredSteps.{Offers, Delivers, TookBy, delivers_beside, arrival_took}
+use Rattle.dna_model.proofs.DeliveredRuns.{Left, left_by, new_offers, new_delivers, delivers_from}
+use Rattle.dna_model.proofs.DeliveredCaptures.{captured_more}
+use Rattle.dna_model.proofs.Places.{AtPlaces, places_left}
 use Rattle.dna_model.proofs.Partnered.{Partnered, new_partnered, event_partnered, sending_partnered, receipt_partnered}
 use Rattle.dna_model.proofs.InOrder.{TakesInOrder, takes_beside, takes_more, takes_last, takes_none, takes_start, takes_packet}
 use Rattle.dna_model.proofs.Among.{taken_among_given}
@@ -73,41 +76,74 @@ module _ (own other : Half Node SentUnit) (p : OwnOrder other.state other.sent o
   }
   order_other r left (Receipt hint kept bytes unit arrival there ahead of_unit allowed) = p
 
--- of a world and the records that led to it
-pub record BothInOrder (w : World Node SentUnit) (of_a of_b : List Record) : Type 0 where
-  pub captured : BothCaptured w of_a of_b
-  pub a_order : OwnOrder w.a.state w.a.sent w.b.sent
-  pub b_order : OwnOrder w.b.state w.b.sent w.a.sent
+-- ---- in a run
+
+-- of a side beside the other, with the records that it made: all that is said of one station
+pub record OrderedSide (own other : Half Node SentUnit) (made : List Record) : Type 0 where
+  pub sound : IsSound own.state own.sent other.sent
+  pub offers : Offers own.state.station own.sent
+  pub delivers : Delivers own.state.station (periods other.state.station)
+  pub took : delivered made ≡ taken_by_period own.state.station
+  pub places : AtPlaces own.state.station own.sent
+  pub order : OwnOrder own.state own.sent other.sent
+
+module _ (own other left : Half Node SentUnit) (made of_other : List Record) (r : Record) (p : OrderedSide own other made) (theirs : OrderedSide other own of_other) (what : Happens judged own other r left) where
+  delivery : Left own left other
+  delivery = left_by own other p.sound theirs.sound p.offers theirs.offers p.delivers r left what
+
+  ordered_own : OrderedSide left other (made ++ r ∷ [])
+  ordered_own = record {
+    sound = sound_own own other p.sound theirs.sound r left what;
+    offers = delivery.offers;
+    delivers = delivery.delivers;
+    took = captured_more own other p.sound theirs.sound made r left what p.took;
+    places = places_left own other p.sound p.places r left what;
+    order = order_own own other p.sound p.offers theirs.order.partnered p.order r left what;
+  }
+
+  ordered_other : OrderedSide other left of_other
+  ordered_other = record {
+    sound = sound_other own other p.sound theirs.sound r left what;
+    offers = theirs.offers;
+    delivers = delivers_beside other.state.station (periods own.state.station) (periods left.state.station) delivery.grows theirs.delivers;
+    took = theirs.took;
+    places = theirs.places;
+    order = order_other own other theirs.order r left what;
+  }
+
+pub sides_kept : IsKeptBySides OrderedSide
+sides_kept = record { own = ordered_own; other = ordered_other }
+
+abbrev pub BothInOrder : World Node SentUnit → List Record → List Record → Type 0
+BothInOrder = OfBoth OrderedSide
 
 pub order_kept : IsKept pair BothInOrder
-order_kept = record {
-  by_a = λ w made_a made_b r h c made.
-      let what = happens judged w.a w.b h r made in
-      record {
-        captured = captured_kept.by_a w made_a made_b r h c.captured made;
-        a_order = order_own w.a w.b c.captured.both.sound.of_a c.captured.both.a_offers c.b_order.partnered c.a_order r h what;
-        b_order = order_other w.a w.b c.b_order r h what;
-      };
-  by_b = λ w made_a made_b r h c made.
-      let what = happens judged w.b w.a h r made in
-      record {
-        captured = captured_kept.by_b w made_a made_b r h c.captured made;
-        a_order = order_other w.b w.a c.a_order r h what;
-        b_order = order_own w.b w.a c.captured.both.sound.of_b c.captured.both.b_offers c.a_order.partnered c.b_order r h what;
-      };
-}
+order_kept = kept_by_both OrderedSide sides_kept
 
 new_takes : TakesInOrder (periods new_station) [] 0
 new_takes = takes_more [] (past new_station) [] 0 (record { from = λ q x at. absurd cc; rising = λ q r x y less at_q at_r. absurd cc }) (inl refl) (λ q x at. absurd cc)
 
-new_order : (head : Head) → OwnOrder (new_node head) [] []
-new_order head = record { partnered = new_partnered new_station; takes = new_takes }
+new_side : (head head_other : Head) → OrderedSide (record { state = new_node head; sent = [] }) (record { state = new_node head_other; sent = [] }) []
+new_side head head_other = record {
+  sound = new_sound head;
+  offers = new_offers;
+  delivers = new_delivers;
+  took = refl;
+  places = λ i unit at. absurd cc;
+  order = record { partnered = new_partnered new_station; takes = new_takes };
+}
 
 pub start_order : (head_a head_b : Head) → BothInOrder (start head_a head_b) [] []
-start_order head_a head_b = record { captured = start_captured head_a head_b; a_order = new_order head_a; b_order = new_order head_b }
+start_order head_a head_b = record { of_a = new_side head_a head_b; of_b = new_side head_b head_a }
 
-pub a_among : (w : World Node SentUnit) (of_a of_b : List Record) → BothInOrder w of_a of_b → AreAmong (all_taken w.a.state.station) (all_given w.b.state.station)
-a_among w of_a of_b h = taken_among_given w.a.state.station w.b.state.station (delivers_from w.a.state.station w.b.state.station h.captured.both.a_delivers) h.a_order.takes.rising
+pub in_order : (head_a head_b : Head) (w : World Node SentUnit) (of_a of_b : List Record) → Run pair (start head_a head_b) of_a of_b w → BothInOrder w of_a of_b
+in_order head_a head_b = after_run OrderedSide sides_kept head_a head_b (start_order head_a head_b)
 
-pub b_among : (w : World Node SentUnit) (of_a of_b : List Record) → BothInOrder w of_a of_b → AreAmong (all_taken w.b.state.station) (all_given w.a.state.station)
-b_among w of_a of_b h = taken_among_given w.b.state.station w.a.state.station (delivers_from w.b.state.station w.a.state.station h.captured.both.b_delivers) h.b_order.takes.rising
+-- ---- what is said of a side
+
+module _ (own other : Half Node SentUnit) (made : List Record) (h : OrderedSide own other made) where
+  pub side_delivers : DeliversFrom own.state.station other.state.station
+  side_delivers = delivers_from own.state.station other.state.station h.delivers
+
+  pub side_among : AreAmong (all_taken own.state.station) (all_given other.state.station)
+  side_among = taken_among_given own.state.station other.state.station side_delivers h.order.takes.rising

@@ -216,13 +216,13 @@ module _ (head_a head_b : Head) where
   joined_kept = record {
     by_a = λ w made_a made_b r h c made.
         let f = follows judged w.a w.b h r made in
-        let sound = c.placed.order.captured.both.sound in
+        let order = c.placed.order in
         let what = happens judged (cut_half stations w.a) (cut_half stations w.b) (cut_half stations h) r f.station in
-        let l = behind_left (cut_half stations w.a) (cut_half stations w.b) sound.of_a c.placed.order.b_order.partnered c.placed.b_placed c.joined.front_a c.a_behind r (cut_half stations h) what in
+        let l = behind_left (cut_half stations w.a) (cut_half stations w.b) order.of_a.sound order.of_b.order.partnered c.placed.b_placed c.joined.front_a c.a_behind r (cut_half stations h) what in
         let m = moved w.a w.b c.b_told c.joined.front_a c.joined.front_b r h f.links l in
         record {
           placed = placed_kept.by_a (cut_world stations w) made_a made_b r (cut_half stations h) c.placed f.station;
-          a_told = told_left w.a w.b sound.of_a.ordered c.a_told r h f.links;
+          a_told = told_left w.a w.b order.of_a.sound.ordered c.a_told r h f.links;
           b_told = c.b_told;
           joined = record {
             front_a = m.front_left;
@@ -234,14 +234,14 @@ module _ (head_a head_b : Head) where
         };
     by_b = λ w made_a made_b r h c made.
         let f = follows judged w.b w.a h r made in
-        let sound = c.placed.order.captured.both.sound in
+        let order = c.placed.order in
         let what = happens judged (cut_half stations w.b) (cut_half stations w.a) (cut_half stations h) r f.station in
-        let l = behind_left (cut_half stations w.b) (cut_half stations w.a) sound.of_b c.placed.order.a_order.partnered c.placed.a_placed c.joined.front_b c.b_behind r (cut_half stations h) what in
+        let l = behind_left (cut_half stations w.b) (cut_half stations w.a) order.of_b.sound order.of_a.order.partnered c.placed.a_placed c.joined.front_b c.b_behind r (cut_half stations h) what in
         let m = moved w.b w.a c.a_told c.joined.front_b c.joined.front_a r h f.links l in
         record {
           placed = placed_kept.by_b (cut_world stations w) made_a made_b r (cut_half stations h) c.placed f.station;
           a_told = c.a_told;
-          b_told = told_left w.b w.a sound.of_b.ordered c.b_told r h f.links;
+          b_told = told_left w.b w.a order.of_b.sound.ordered c.b_told r h f.links;
           joined = record {
             front_a = c.joined.front_a;
             front_b = m.front_left;

@@ -72,24 +72,22 @@ module _ (head_a head_b : Head) (w : World LayersNode LayersUnit) (of_a of_b : L
   pub a_bounded : IsLayersBounded w.a w.b c.joined.joined.front_a c.joined.joined.front_b
   a_bounded =
       let order = c.joined.placed.order in
-      let sound = order.captured.both.sound in
       record {
-        station = sound_bounded (cut_half stations w.a) (cut_half stations w.b) sound.of_a sound.of_b;
+        station = sound_bounded (cut_half stations w.a) (cut_half stations w.b) order.of_a.sound order.of_b.sound;
         counted = c.joined.a_told.counted;
         links = links_in_step.0;
-        kept = has_its_message w.a w.b sound.of_a order.b_order.partnered c.joined.placed.b_placed c.places.of_b c.joined.b_told c.b_read
+        kept = has_its_message w.a w.b order.of_a.sound order.of_b.order.partnered c.joined.placed.b_placed order.of_b.places c.joined.b_told c.b_read
             c.joined.joined.front_a c.joined.a_behind;
       }
 
   pub b_bounded : IsLayersBounded w.b w.a c.joined.joined.front_b c.joined.joined.front_a
   b_bounded =
       let order = c.joined.placed.order in
-      let sound = order.captured.both.sound in
       record {
-        station = sound_bounded (cut_half stations w.b) (cut_half stations w.a) sound.of_b sound.of_a;
+        station = sound_bounded (cut_half stations w.b) (cut_half stations w.a) order.of_b.sound order.of_a.sound;
         counted = c.joined.b_told.counted;
         links = links_in_step.1;
-        kept = has_its_message w.b w.a sound.of_b order.a_order.partnered c.joined.placed.a_placed c.places.of_a c.joined.a_told c.a_read
+        kept = has_its_message w.b w.a order.of_b.sound order.of_a.order.partnered c.joined.placed.a_placed order.of_a.places c.joined.a_told c.a_read
             c.joined.joined.front_b c.joined.b_behind;
       }
 

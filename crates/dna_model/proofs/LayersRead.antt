@@ -24,7 +24,6 @@ use Rattle.dna_model.specs.Layers.{LayersNode, LayersUnit, to_station, stations}
 use Rattle.dna_model.specs.LayersPair.{layers_pair, layers_start}
 use Rattle.dna_model.proofs.NumberedSteps.{at_pushed}
 use Rattle.dna_model.proofs.StationNumbers.{is_data}
-use Rattle.dna_model.proofs.Places.{BothAtPlaces, places_kept, start_at_places}
 use Rattle.dna_model.proofs.OnTop.{FirstSent, NoMessage, Message, OnTop, ByStation, ByLinks, Again, First, Receipt, follows}
 use Rattle.dna_model.proofs.Joined.{given_start, given_arrival, given_first, given_again, AreTold, LayersJoined, joined_kept, start_joined}
 
@@ -88,7 +87,6 @@ body_read (Stack flags) u messages packets carried read d at told = absurd cc
 
 pub record LayersRead (head_a head_b : Head) (w : World LayersNode LayersUnit) (of_a of_b : List Record) : Type 0 where
   pub joined : LayersJoined head_a head_b w of_a of_b
-  pub places : BothAtPlaces (cut_world stations w)
   pub a_read : AreRead w.a
   pub b_read : AreRead w.b
 
@@ -99,7 +97,6 @@ module _ (head_a head_b : Head) where
         let f = follows judged w.a w.b h r made in
         record {
           joined = (joined_kept head_a head_b).by_a w made_a made_b r h c.joined made;
-          places = places_kept.by_a (cut_world stations w) made_a made_b r (cut_half stations h) c.places f.station;
           a_read = read_left w.a w.b c.joined.a_told c.a_read r h f.links;
           b_read = c.b_read;
         };
@@ -107,7 +104,6 @@ module _ (head_a head_b : Head) where
         let f = follows judged w.b w.a h r made in
         record {
           joined = (joined_kept head_a head_b).by_b w made_a made_b r h c.joined made;
-          places = places_kept.by_b (cut_world stations w) made_a made_b r (cut_half stations h) c.places f.station;
           a_read = c.a_read;
           b_read = read_left w.b w.a c.joined.b_told c.b_read r h f.links;
         };
@@ -116,7 +112,6 @@ module _ (head_a head_b : Head) where
   pub start_read : LayersRead head_a head_b (layers_start head_a head_b) [] []
   start_read = record {
     joined = start_joined head_a head_b;
-    places = start_at_places head_a head_b;
     a_read = λ place carried body there at. absurd cc;
     b_read = λ place carried body there at. absurd cc;
   }

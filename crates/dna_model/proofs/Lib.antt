@@ -50,6 +50,7 @@ mod CutLinkArriving
 mod Numbered
 mod NumberedSteps
 mod Happens
+mod Sides
 mod StationNumbers
 mod StationBounds
 mod Lawful

@@ -3,8 +3,7 @@ use Rattle.std.proofs.Common.{◌≡◌, ℕ, ◌+◌, Bool, true, false, cond, 
 use Rattle.std.proofs.lemmas.Bool.{eqb-true}
 use Rattle.std.proofs.lemmas.List.{map-append}
 use Rattle.std.proofs.lemmas.List.Sums.{fold-append}
-use Rattle.two_nodes.specs.Nodes.{Half, World}
-use Rattle.two_nodes.specs.Kept.{IsKept}
+use Rattle.two_nodes.specs.Nodes.{Half, World, Run}
 use Rattle.ddcmp_msg.specs.Message.{MessageValue, Data, Ack, Nak, Rep, Strt, Stack}
 use Rattle.ddcmp_msg.specs.Reading.{ReadingValue, reading}
 use Rattle.ddcmp_msg.specs.Reading as read_as
@@ -22,10 +21,12 @@ use Rattle.dna_model.specs.Node.{Node}
 use Rattle.dna_model.specs.Pair.{pair, start}
 use Rattle.dna_model.proofs.Modulo.{same_test}
 use Rattle.dna_model.proofs.Checks.{sending_passed}
-use Rattle.dna_model.proofs.Happens.{Happens, Nothing, UserEvent, Sending, Receipt, happens}
+use Rattle.dna_model.proofs.Happens.{Happens, Nothing, UserEvent, Sending, Receipt}
 use Rattle.dna_model.proofs.StationBounds.{IsSound}
 use Rattle.dna_model.proofs.DeliveredSteps.{arrival_took}
-use Rattle.dna_model.proofs.DeliveredCaptures.{in_last-append, BothCaptured, captured_kept, start_captured}
+use Rattle.dna_model.proofs.DeliveredCaptures.{in_last-append}
+use Rattle.dna_model.proofs.Sides.{OfBoth, IsKeptBySides, after_run}
+use Rattle.dna_model.proofs.InOrderRuns.{OrderedSide, sides_kept, start_order}
 
 abbrev given_in : PastPeriod → List (List ℕ)
 given_in period = period.given
@@ -93,30 +94,24 @@ module _ (own other : Half Node SentUnit) (h : IsSound own.state own.sent other.
 
 -- ---- in a run
 
--- of a world and the records that led to it
-pub record BothOffered (w : World Node SentUnit) (of_a of_b : List Record) : Type 0 where
-  pub captured : BothCaptured w of_a of_b
-  pub a_gave : offered of_a ≡ given_by_period w.a.state.station
-  pub b_gave : offered of_b ≡ given_by_period w.b.state.station
-
 one_more : (own other : Half Node SentUnit) (h : IsSound own.state own.sent other.sent) (made : List Record) (r : Record) (left : Half Node SentUnit) →
     Happens judged own other r left → offered made ≡ given_by_period own.state.station → offered (made ++ r ∷ []) ≡ given_by_period left.state.station
 one_more own other h made r left what e =
     fold-append offered_by ([] ∷ []) made (r ∷ []) ∙ ap (λ (ps : List (List (List ℕ))). offered_by ps r) e ∙ sym (record_given own other h r left what)
 
-pub offered_kept : IsKept pair BothOffered
+-- of a side, with the records that it made
+pub record OfferingSide (own other : Half Node SentUnit) (made : List Record) : Type 0 where
+  pub order : OrderedSide own other made
+  pub gave : offered made ≡ given_by_period own.state.station
+
+offered_kept : IsKeptBySides OfferingSide
 offered_kept = record {
-  by_a = λ w made_a made_b r h c made. record {
-    captured = captured_kept.by_a w made_a made_b r h c.captured made;
-    a_gave = one_more w.a w.b c.captured.both.sound.of_a made_a r h (happens judged w.a w.b h r made) c.a_gave;
-    b_gave = c.b_gave;
-  };
-  by_b = λ w made_a made_b r h c made. record {
-    captured = captured_kept.by_b w made_a made_b r h c.captured made;
-    a_gave = c.a_gave;
-    b_gave = one_more w.b w.a c.captured.both.sound.of_b made_b r h (happens judged w.b w.a h r made) c.b_gave;
-  };
+  own = λ own other left made of_other r p theirs what. record { order = sides_kept.own own other left made of_other r p.order theirs.order what; gave = one_more own other p.order.sound made r left what p.gave };
+  other = λ own other left made of_other r p theirs what. record { order = sides_kept.other own other left made of_other r p.order theirs.order what; gave = theirs.gave };
 }
 
-pub start_offered : (head_a head_b : Head) → BothOffered (start head_a head_b) [] []
-start_offered head_a head_b = record { captured = start_captured head_a head_b; a_gave = refl; b_gave = refl }
+start_offered : (head_a head_b : Head) → OfBoth OfferingSide (start head_a head_b) [] []
+start_offered head_a head_b = let s = start_order head_a head_b in record { of_a = record { order = s.of_a; gave = refl }; of_b = record { order = s.of_b; gave = refl } }
+
+pub all_offered : (head_a head_b : Head) (w : World Node SentUnit) (of_a of_b : List Record) → Run pair (start head_a head_b) of_a of_b w → OfBoth OfferingSide w of_a of_b
+all_offered head_a head_b = after_run OfferingSide offered_kept head_a head_b (start_offered head_a head_b)

@@ -2,12 +2,10 @@
 use Rattle.std.proofs.Common.{◌≡◌, ℕ, suc, ◌+◌, ◌-◌, Some, None, List, [], ◌∷◌, ◌++◌, length, refl, sym, ap, ap₂, ◌∙◌, subst, arith, append-nil, append_assoc}
 use Rattle.std.specs.Prelude.{slice_get}
 use Rattle.std.proofs.lemmas.Grind.{flat_map-append}
-use Rattle.two_nodes.specs.Nodes.{Half, World}
-use Rattle.two_nodes.specs.Kept.{IsKept}
+use Rattle.two_nodes.specs.Nodes.{Half}
 use Rattle.two_nodes.proofs.Order.{slice_get-append}
 use Rattle.ddcmp_msg.specs.Message.{MessageValue, Data}
 use Rattle.capture.specs.declared.record.Record.{Record}
-use Rattle.dna_model.specs.declared.head.Head.{Head}
 use Rattle.dna_model.specs.declared.state.StationEvent.TheVariants.{Start, Halt}
 use Rattle.dna_model.specs.Station.{Station, PastPeriod, past, packets_of, all_given, after_event}
 use Rattle.dna_model.specs.Rules.{judged}
@@ -16,13 +14,11 @@ use Rattle.dna_model.specs.StationBook.{is_new, sending_refusal, after_sending, 
 use Rattle.dna_model.specs.Delivery.{BeginsWith, CarriesItsPacket}
 use Rattle.dna_model.specs.Line.{SentUnit}
 use Rattle.dna_model.specs.Node.{Node}
-use Rattle.dna_model.specs.Pair.{pair, start}
 use Rattle.dna_model.proofs.Checks.{sending_passed}
-use Rattle.dna_model.proofs.Happens.{Happens, Nothing, UserEvent, Sending, Receipt, happens}
+use Rattle.dna_model.proofs.Happens.{Happens, Nothing, UserEvent, Sending, Receipt}
 use Rattle.dna_model.proofs.NumberedSteps.{each_pushed}
 use Rattle.dna_model.proofs.StationNumbers.{unit_of}
 use Rattle.dna_model.proofs.StationBounds.{IsSound}
-use Rattle.dna_model.proofs.RunBounds.{BothSound, sound_kept, start_sound}
 use Rattle.dna_model.proofs.Delivered.{begins_same}
 use Rattle.dna_model.proofs.DeliveredSteps.{arrival_took, packet_there, sending_begins}
 use Rattle.dna_model.proofs.Effects.{sending_stays}
@@ -75,7 +71,7 @@ module _ (own other : Half Node SentUnit) (h : IsSound own.state own.sent other.
   places_still : (t : Station) → BeginsWith (all_given t) (all_given own.state.station) → AtPlaces t own.sent
   places_still t b i unit at = carried_still unit.message unit.known (all_given own.state.station) (all_given t) (p i unit at) b
 
-  places_left : (r : Record) (left : Half Node SentUnit) → Happens judged own other r left → AtPlaces left.state.station left.sent
+  pub places_left : (r : Record) (left : Half Node SentUnit) → Happens judged own other r left → AtPlaces left.state.station left.sent
   places_left r left (Nothing event none) = p
   places_left r left (UserEvent Start allowed) = places_still (after_event own.state.station Start) (given_start own.state.station)
   places_left r left (UserEvent Halt allowed) = p
@@ -84,29 +80,3 @@ module _ (own other : Half Node SentUnit) (h : IsSound own.state own.sent other.
   places_left r left (Receipt hint kept bytes unit arrival there ahead of_unit allowed) =
       let stays = (arrival_took own.state.station unit bytes arrival kept of_unit h.none allowed).0 in
       places_still (after_arrival own.state.station arrival kept) (given_same own.state.station (after_arrival own.state.station arrival kept) stays.earlier stays.packets)
-
--- of both nodes
-pub record BothAtPlaces (w : World Node SentUnit) : Type 0 where
-  pub sound : BothSound w
-  pub of_a : AtPlaces w.a.state.station w.a.sent
-  pub of_b : AtPlaces w.b.state.station w.b.sent
-
-abbrev pub places_property : World Node SentUnit → List Record → List Record → Type 0
-places_property w of_a of_b = BothAtPlaces w
-
-pub places_kept : IsKept pair places_property
-places_kept = record {
-  by_a = λ w made_a made_b r h both made. record {
-    sound = sound_kept.by_a w made_a made_b r h both.sound made;
-    of_a = places_left w.a w.b both.sound.of_a both.of_a r h (happens judged w.a w.b h r made);
-    of_b = both.of_b;
-  };
-  by_b = λ w made_a made_b r h both made. record {
-    sound = sound_kept.by_b w made_a made_b r h both.sound made;
-    of_a = both.of_a;
-    of_b = places_left w.b w.a both.sound.of_b both.of_b r h (happens judged w.b w.a h r made);
-  };
-}
-
-pub start_at_places : (head_a head_b : Head) → BothAtPlaces (start head_a head_b)
-start_at_places head_a head_b = record { sound = start_sound head_a head_b; of_a = λ i unit at. absurd cc; of_b = λ i unit at. absurd cc }

@@ -196,13 +196,13 @@ pub placed_kept : IsKept pair BothPlaced
 placed_kept = record {
   by_a = λ w made_a made_b r h c made. record {
     order = order_kept.by_a w made_a made_b r h c.order made;
-    a_placed = placed_left w.a w.b c.order.captured.both.sound.of_a c.order.captured.both.a_offers c.a_placed r h (happens judged w.a w.b h r made);
+    a_placed = placed_left w.a w.b c.order.of_a.sound c.order.of_a.offers c.a_placed r h (happens judged w.a w.b h r made);
     b_placed = c.b_placed;
   };
   by_b = λ w made_a made_b r h c made. record {
     order = order_kept.by_b w made_a made_b r h c.order made;
     a_placed = c.a_placed;
-    b_placed = placed_left w.b w.a c.order.captured.both.sound.of_b c.order.captured.both.b_offers c.b_placed r h (happens judged w.b w.a h r made);
+    b_placed = placed_left w.b w.a c.order.of_b.sound c.order.of_b.offers c.b_placed r h (happens judged w.b w.a h r made);
   };
 }
 

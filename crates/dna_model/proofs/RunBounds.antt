@@ -1,6 +1,6 @@
 -- Both nodes of a run are sound, at any time.
 use Rattle.std.proofs.Common.{List, [], refl, arith}
-use Rattle.two_nodes.specs.Nodes.{Half, World}
+use Rattle.two_nodes.specs.Nodes.{Half, World, Run}
 use Rattle.two_nodes.specs.Kept.{IsKept}
 use Rattle.capture.specs.declared.record.Record.{Record}
 use Rattle.dna_model.specs.declared.head.Head.{Head}
@@ -11,31 +11,30 @@ use Rattle.dna_model.specs.Station.{new_station}
 use Rattle.dna_model.specs.Bounds.{IsBounded}
 use Rattle.dna_model.specs.Pair.{pair, start}
 use Rattle.dna_model.proofs.Ordered.{new_ordered}
-use Rattle.dna_model.proofs.Happens.{Happens, Nothing, UserEvent, Sending, Receipt, happens}
+use Rattle.dna_model.proofs.Happens.{Happens, Nothing, UserEvent, Sending, Receipt}
+use Rattle.dna_model.proofs.Sides.{OfBoth, IsKeptBySides, kept_by_both, after_run}
 use Rattle.dna_model.proofs.NumberedSteps.{none_numbered, present_new}
 use Rattle.dna_model.proofs.StationNumbers.{limits, view, numbers_of, unit_of}
 use Rattle.dna_model.proofs.StationBounds.{IsSound, sound_beside, sound_event, sound_sending}
 use Rattle.dna_model.proofs.ReceiptBounds.{sound_receipt, within}
 
--- each node beside the other
-pub record BothSound (w : World Node SentUnit) : Type 0 where
-  pub of_a : IsSound w.a.state w.a.sent w.b.sent
-  pub of_b : IsSound w.b.state w.b.sent w.a.sent
+abbrev pub SoundSide : (own other : Half Node SentUnit) → List Record → Type 0
+SoundSide own other made = IsSound own.state own.sent other.sent
 
 module _ (own other : Half Node SentUnit) (h : IsSound own.state own.sent other.sent) (theirs : IsSound other.state other.sent own.sent) where
-  sound_own : (r : Record) (left : Half Node SentUnit) → Happens judged own other r left → IsSound left.state left.sent other.sent
+  pub sound_own : (r : Record) (left : Half Node SentUnit) → Happens judged own other r left → IsSound left.state left.sent other.sent
   sound_own r left (Nothing event none) = h
   sound_own r left (UserEvent event allowed) = sound_event own.state own.sent other.sent event h
   sound_own r left (Sending bytes m read allowed) = sound_sending own.state own.sent other.sent bytes m h read allowed
   sound_own r left (Receipt hint kept bytes unit arrival there ahead of_unit allowed) = sound_receipt own.state own.sent other.sent h theirs.messages hint unit there ahead bytes arrival kept of_unit allowed
 
-  sound_other : (r : Record) (left : Half Node SentUnit) → Happens judged own other r left → IsSound other.state other.sent left.sent
+  pub sound_other : (r : Record) (left : Half Node SentUnit) → Happens judged own other r left → IsSound other.state other.sent left.sent
   sound_other r left (Nothing event none) = theirs
   sound_other r left (UserEvent event allowed) = theirs
   sound_other r left (Sending bytes m read allowed) = sound_beside other.state other.sent own.sent (unit_of own.state.station bytes m) theirs
   sound_other r left (Receipt hint kept bytes unit arrival there ahead of_unit allowed) = theirs
 
-new_sound : (head : Head) → IsSound (new_node head) [] []
+pub new_sound : (head : Head) → IsSound (new_node head) [] []
 new_sound head = record {
   ordered = new_ordered;
   none = λ e. absurd cc;
@@ -45,21 +44,23 @@ new_sound head = record {
   present = present_new view limits [] [] 0 (numbers_of new_station) refl refl (omega arith) (λ i u at same. absurd cc);
 }
 
-pub start_sound : (head_a head_b : Head) → BothSound (start head_a head_b)
+sound_kept : IsKeptBySides SoundSide
+sound_kept = record {
+  own = λ own other left made of_other r h theirs what. sound_own own other h theirs r left what;
+  other = λ own other left made of_other r h theirs what. sound_other own other h theirs r left what;
+}
+
+abbrev pub BothSound : World Node SentUnit → List Record → List Record → Type 0
+BothSound = OfBoth SoundSide
+
+pub start_sound : (head_a head_b : Head) → BothSound (start head_a head_b) [] []
 start_sound head_a head_b = record { of_a = new_sound head_a; of_b = new_sound head_b }
 
-abbrev pub sound_property : World Node SentUnit → List Record → List Record → Type 0
-sound_property w of_a of_b = BothSound w
+pub both_sound_kept : IsKept pair BothSound
+both_sound_kept = kept_by_both SoundSide sound_kept
 
-pub sound_kept : IsKept pair sound_property
-sound_kept = record {
-  by_a = λ w made_a made_b r h sound made.
-      let what = happens judged w.a w.b h r made in
-      record { of_a = sound_own w.a w.b sound.of_a sound.of_b r h what; of_b = sound_other w.a w.b sound.of_a sound.of_b r h what };
-  by_b = λ w made_a made_b r h sound made.
-      let what = happens judged w.b w.a h r made in
-      record { of_a = sound_other w.b w.a sound.of_b sound.of_a r h what; of_b = sound_own w.b w.a sound.of_b sound.of_a r h what };
-}
+pub sound : (head_a head_b : Head) (w : World Node SentUnit) (of_a of_b : List Record) → Run pair (start head_a head_b) of_a of_b w → BothSound w of_a of_b
+sound head_a head_b = after_run SoundSide sound_kept head_a head_b (start_sound head_a head_b)
 
 -- a sound node is bounded
 pub sound_bounded : (own other : Half Node SentUnit) → IsSound own.state own.sent other.sent → IsSound other.state other.sent own.sent → IsBounded own other

@@ -27,18 +27,13 @@ ghost use Rattle.dna_model.specs.WireNode.{WireNode, WireUnit, new_wire_node, wi
 ghost use Rattle.dna_model.specs.Seen.{IsSeen};
 ghost use Rattle.dna_model.specs.Cut.{AreLabelled, cut, all_after, all_after_event, label_of_next, with_taken};
 
-use std::marker::Brand;
-use two_nodes::{always, simulation};
-
 /// In every run, the numbers of each station are in order, and what it may still meet is within the bounds.
 pub fn numbers_within_bounds()
     ensures of_a { (head_a head_b : Head) (w : World Node SentUnit) (of_a of_b : List Record)
         → Run pair (start head_a head_b) of_a of_b w → IsBounded w.a w.b }
     ensures of_b { (head_a head_b : Head) (w : World Node SentUnit) (of_a of_b : List Record)
         → Run pair (start head_a head_b) of_a of_b w → IsBounded w.b w.a }
-{
-    always::<Brand>();
-}
+{}
 
 /// In every run, what a station took in a period is a beginning of what the other gave in the period that it goes with; where it
 /// goes with none, it is nothing.
@@ -59,9 +54,7 @@ pub fn delivered_in_order()
         → Run pair (start head_a head_b) of_a of_b w → AreAmong (all_taken w.a.state.station) (all_given w.b.state.station) }
     ensures b_among { (head_a head_b : Head) (w : World Node SentUnit) (of_a of_b : List Record)
         → Run pair (start head_a head_b) of_a of_b w → AreAmong (all_taken w.b.state.station) (all_given w.a.state.station) }
-{
-    always::<Brand>();
-}
+{}
 
 /// In every run, what the units of a capture offer in each period is what its station gave. So what was delivered is a beginning of
 /// what was offered, both read off the captures alone; the run tells which period goes with which.
@@ -74,10 +67,7 @@ pub fn captures_deliver_in_order()
         → Run pair (start head_a head_b) of_a of_b w → Delivers w.a.state.station of_a of_b }
     ensures b_delivers { (head_a head_b : Head) (w : World Node SentUnit) (of_a of_b : List Record)
         → Run pair (start head_a head_b) of_a of_b w → Delivers w.b.state.station of_b of_a }
-{
-    delivered_in_order();
-    always::<Brand>();
-}
+{}
 
 /// In every run, each data message carries the packet at its place among all packets that its sender ever gave.
 pub fn packets_at_their_places()
@@ -89,9 +79,7 @@ pub fn packets_at_their_places()
         → Run pair (start head_a head_b) of_a of_b w
         → (i : ℕ) (unit : SentUnit) → slice_get w.b.sent i ≡ Some unit
         → CarriesItsPacket (all_given w.b.state.station) unit.message unit.known }
-{
-    always::<Brand>();
-}
+{}
 
 /// A station's own numbers are in order before any record, and stay so.
 pub fn numbers_in_order()
@@ -184,6 +172,4 @@ pub fn wire_nodes_see_right<L>()
         → Run wire_pair (wire_start {L = L} head_a head_b) of_a of_b (cut_world seen w) }
     ensures of_wire { (head_a head_b : Head) (end : World (WireNode L) WireUnit) (of_a of_b : List Record)
         → Run wire_pair (wire_start head_a head_b) of_a of_b end → IsSeen head_a head_b end of_a of_b }
-{
-    simulation::<Brand>();
-}
+{}

@@ -1,15 +1,16 @@
-use Rattle.std.proofs.Common.{[], ap, ◌∙◌}
+use Rattle.std.proofs.Common.{[], refl, ap, ◌∙◌}
 use Rattle.two_nodes.specs.Nodes.{World, advance}
 use Rattle.two_nodes.specs.Cutting.{Commutes}
+use Rattle.two_nodes.proofs.Simulated.{seen_run, comes_of}
 use Rattle.dna_model.specs.Rules.{judged}
 use Rattle.dna_model.specs.Pair.{pair, start}
 use Rattle.dna_model.specs.WireNode.{WireNode, WireUnit, wire_step, wire_pair, seen}
-use Rattle.dna_model.proofs.RunBounds.{sound_property, start_sound, sound_kept, sound_bounded}
+use Rattle.dna_model.proofs.RunBounds.{BothSound, both_sound_kept, start_sound, sound_bounded}
 use Rattle.dna_model.proofs.CutNode.{record_same}
 use Rattle.dna_model.proofs.laws.wire_nodes_see_right.Goals as goal
 
 module _ (L : Type 0) where
-  commutes : Commutes pair (wire_pair {L = L}) seen sound_property
+  commutes : Commutes pair (wire_pair {L = L}) seen BothSound
   commutes = record {
     of_a = λ w made_a made_b r sound. record_same w.a w.b (sound_bounded w.a w.b sound.of_a sound.of_b) r;
     of_b = λ w made_a made_b r sound. record_same w.b w.a (sound_bounded w.b w.a sound.of_b sound.of_a) r;
@@ -17,9 +18,9 @@ module _ (L : Type 0) where
 
 pub returns : goal.returns
 returns g c = record {
-  of_true = λ head_a head_b w of_a of_b run. c.simulation.ensures.seen (start head_a head_b) w [] [] of_a of_b sound_kept (commutes _) (start_sound head_a head_b) run;
+  of_true = λ head_a head_b w of_a of_b run. seen_run pair wire_pair seen BothSound both_sound_kept (commutes _) [] [] (start_sound head_a head_b) run;
   of_wire = λ head_a head_b end of_a of_b run.
-      let from = c.simulation.ensures.comes_of (start head_a head_b) end [] [] of_a of_b sound_kept (commutes _) (start_sound head_a head_b) run in
+      let from = comes_of pair wire_pair seen BothSound both_sound_kept (commutes _) (start head_a head_b) [] [] (start_sound head_a head_b) refl run in
       record {
         world = from.end;
         run = from.run;
