@@ -4,8 +4,6 @@ use Rattle.std.proofs.lemmas.List.{map-append}
 use Rattle.two_nodes.specs.Nodes.{Half, advance}
 use Rattle.two_nodes.specs.Cutting.{cut_half, cut_outcome}
 use Rattle.ddcmp_msg.specs.Message.{MessageValue}
-use Rattle.ddcmp_msg.specs.declared.nak_reason.NakReason.{NakReason}
-use Rattle.ddcmp_msg.specs.declared.nak_reason.NakReason.TheVariants.{HeaderCheck, DataCheck}
 use Rattle.capture.specs.declared.record.Record.{Record}
 use Rattle.capture.specs.declared.event.Event.{Event}
 use Rattle.capture.specs.declared.event.Event.TheVariants as events
@@ -13,12 +11,12 @@ use Rattle.dna_model.specs.declared.state.StationEvent.{StationEvent}
 use Rattle.dna_model.specs.declared.state.StationEvent.TheVariants.{Start, Halt}
 use Rattle.dna_model.specs.declared.refusal.StationRefusal.{StationRefusal}
 use Rattle.dna_model.specs.declared.refusal.StationRefusal.TheVariants.{CrossedPeriod}
-use Rattle.dna_model.specs.Table.{user_refusal, Change, Nothing, UseCause, SendPacket, change_of, row, counts_damage}
+use Rattle.dna_model.specs.Table.{user_refusal, Change, SendPacket, change_of}
 use Rattle.dna_model.specs.Rules.{judged}
 use Rattle.dna_model.specs.Book.{ArrivalValue, Sound, HeaderBad, DataBad, body_of, keep_refusal}
 use Rattle.dna_model.specs.Station.{Station, after_event}
 use Rattle.dna_model.specs.Truth.{Truth, tag_of}
-use Rattle.dna_model.specs.StationBook.{is_new, with_packet, sends, does, station_book, sending_refusal, after_sending, truth_of, takes, meets_needs, arrival_refusal, after_arrival}
+use Rattle.dna_model.specs.StationBook.{is_new, with_packet, sends, sending_refusal, after_sending, truth_of, takes, meets_needs, arrival_refusal, after_arrival}
 use Rattle.dna_model.specs.WireStation.{HeldPacket, WireStation, with_new, wire_after_event}
 use Rattle.dna_model.specs.WireBook.{wire_after_sending, wire_after_arrival}
 use Rattle.dna_model.specs.Line.{SentUnit}
@@ -27,7 +25,7 @@ use Rattle.dna_model.specs.Node.{Node, station_machine, step}
 use Rattle.dna_model.specs.Bounds.{IsOrdered, IsWithin, IsBounded}
 use Rattle.dna_model.specs.Cut.{cut, all_with}
 use Rattle.dna_model.specs.WireNode.{wire_machine, wire_step, unlabelled, seen}
-use Rattle.dna_model.proofs.Effects.{kept_by_all, does_stays}
+use Rattle.dna_model.proofs.Effects.{arrival_stays}
 use Rattle.dna_model.proofs.CutSending.{body_at, sending_refusal_same, sending_same}
 use Rattle.dna_model.proofs.CutArriving.{arrival_refusal_same, arrival_same, header_same, data_bad_same}
 use Rattle.dna_model.proofs.MachineSame.{cut_result, cut_sent, DoTheSame, record_same as made_same}
@@ -43,15 +41,8 @@ not_crossed s m u kept = go (meets_needs judged s m u)
 -- ---- packets without labels
 
 -- an arrival gives no packet
-damaged_packets : (s : Station) (reason : NakReason) (b : Bool) → (cond b (station_book.counts reason s) s).packets ≡ s.packets
-damaged_packets s reason true = refl
-damaged_packets s reason false = refl
-
 pub arrival_packets : (s : Station) (arrival : ArrivalValue Truth) (kept : Bool) → (after_arrival s arrival kept).packets ≡ s.packets
-arrival_packets s (Sound m u) kept =
-    kept_by_all (λ (t : Station). t.packets ≡ s.packets) (does m u kept) (λ t effect e. (does_stays m u kept t effect).packets ∙ e) (row s.state m).effects s refl
-arrival_packets s HeaderBad kept = damaged_packets s HeaderCheck (counts_damage s.state)
-arrival_packets s DataBad kept = damaged_packets s DataCheck (counts_damage s.state)
+arrival_packets s arrival kept = (arrival_stays s arrival kept).packets
 
 unlabelled_bodies : (L : Type 0) (packets : List (List ℕ)) → map (body_at {L = L}) (unlabelled packets) ≡ packets
 unlabelled_bodies L [] = refl
@@ -64,8 +55,7 @@ module _ {L : Type 0} where
 
   sending_unlabelled : (s : Station) (m : MessageValue) (change : Change) → all_with {L = L} change (unlabelled s.packets) s (body_of m) ≡ unlabelled (sends s m change).packets
   sending_unlabelled s m SendPacket = new_unlabelled (is_new s) s.packets (body_of m)
-  sending_unlabelled s m UseCause = refl
-  sending_unlabelled s m Nothing = refl
+  sending_unlabelled s m change = refl
 
   -- a station without labels
   abbrev station_seen : Station → WireStation L

@@ -4,7 +4,7 @@ use Rattle.std.specs.Prelude.{slice_get, option_and_then}
 use Rattle.std.proofs.lemmas.List.{length-map, map-append, drop-append-le}
 use Rattle.std.proofs.lemmas.Option.{slice_get-map}
 use Rattle.ddcmp_msg.specs.Message.{MessageValue}
-use Rattle.dna_model.specs.Table.{WINDOW, Check, refusal_of, checks, RespIsLast, CauseIsOpen, SomeOutstanding, NumIsHighest, NumIsNext, RoomIfNew, AsFirstGiven, Change, Nothing, UseCause, SendPacket, change_of}
+use Rattle.dna_model.specs.Table.{WINDOW, Check, refusal_of, checks, RespIsLast, CauseIsOpen, SomeOutstanding, NumIsHighest, NumIsNext, RoomIfNew, AsFirstGiven, Change, SendPacket, change_of}
 use Rattle.dna_model.specs.declared.refusal.StationRefusal.{StationRefusal}
 use Rattle.dna_model.specs.Book.{body_of, num_of, first_failed, failed}
 use Rattle.dna_model.specs.Station.{Station, given, wire}
@@ -51,8 +51,7 @@ module _ {L : Type 0} where
     -- the packets with their labels are those of the station after the sending
     sending_labelled_by : (m : MessageValue) (change : Change) → AreLabelled (all_with change all s (body_of m)) (sends s m change)
     sending_labelled_by m SendPacket = new_labelled (is_new s) (body_of m)
-    sending_labelled_by m UseCause = labelled
-    sending_labelled_by m Nothing = labelled
+    sending_labelled_by m change = labelled
 
     pub sending_labelled : (m : MessageValue) → AreLabelled (all_after all s m) (after_sending s m)
     sending_labelled m = sending_labelled_by m (change_of m)
@@ -67,8 +66,7 @@ module _ {L : Type 0} where
 
     label_same_by : (change : Change) → label_by change (cut all s).variables ≡ label_at change all (s.next_to_send - 1)
     label_same_by SendPacket = ap (λ (o : Option (HeldPacket L)). option_and_then (λ (packet : HeldPacket L). packet.label) o) next_packet
-    label_same_by UseCause = refl
-    label_same_by Nothing = refl
+    label_same_by change = refl
 
     -- the label beside the packet that is sent again
     pub label_same : (m : MessageValue) → label_again (cut all s) m ≡ label_of_next all s m
@@ -128,8 +126,7 @@ module _ {L : Type 0} where
         let ahead : s.next_to_send + 1 - (s.acknowledged + 1) ≡ s.next_to_send - (s.acknowledged + 1) + 1 = omega arith in
         let held = new_held (is_new s) (body_of m) ∙ ap (λ (b : Bool). with_new b (drop s.acknowledged all) (body_of m)) new_same in
         ap₂ (λ (n : ℕ) (ps : List (HeldPacket L)). record (cut all s) { variables = record (cut all s).variables { ahead = n; held = ps } }) ahead held
-    sends_same m UseCause = refl
-    sends_same m Nothing = refl
+    sends_same m change = refl
 
     -- and what is sent changes what is kept in the same way
     pub sending_same : (m : MessageValue) → cut (all_after all s m) (after_sending s m) ≡ wire_after_sending (cut all s) m
@@ -137,8 +134,7 @@ module _ {L : Type 0} where
 
     first_same_by : (change : Change) → wire_gives_by change (cut all s).variables ≡ gives_by change s
     first_same_by SendPacket = sym new_same
-    first_same_by UseCause = refl
-    first_same_by Nothing = refl
+    first_same_by change = refl
 
     -- what is answered of it is what is true of it: whether it gives a new number
     pub first_same : (m : MessageValue) → gives_new (cut all s) m ≡ gives_number s m

@@ -61,23 +61,18 @@ packet_read m bytes packet read is = ap packet_in read ∙ is
 
 module _ (s t : Station) (hint : ℕ) (kept : Bool) (bytes : List ℕ) (unit : SentUnit) (stays : Stays s t) where
   -- the packet that was taken is the one of these bytes
-  sound_taken : reading bytes ≡ read_as.Sound unit.message → TookBy s t unit.message unit.known kept → taken_by_period t ≡ delivered_by (taken_by_period s) (Received hint kept bytes)
-  sound_taken read (inl (n, none)) = same_taken s t stays.earlier n.taken ∙ not_kept (taken_by_period s) hint kept bytes none
-  sound_taken read (inr (inl (p, none))) = same_taken s t stays.earlier p.taken ∙ not_kept (taken_by_period s) hint kept bytes none
-  sound_taken read (inr (inr (p, was))) =
+  as_delivered : (kept ≡ true → reading bytes ≡ read_as.Sound unit.message) → TookBy s t unit.message unit.known kept → taken_by_period t ≡ delivered_by (taken_by_period s) (Received hint kept bytes)
+  as_delivered read (inl (n, none)) = same_taken s t stays.earlier n.taken ∙ not_kept (taken_by_period s) hint kept bytes none
+  as_delivered read (inr (inl (p, none))) = same_taken s t stays.earlier p.taken ∙ not_kept (taken_by_period s) hint kept bytes none
+  as_delivered read (inr (inr (p, was))) =
       more_taken s t (p.body ∷ []) stays.earlier p.taken
-      ∙ was_kept (taken_by_period s) hint kept bytes p.body was (packet_read unit.message bytes (p.body ∷ []) read (ap (λ (m : MessageValue). packet_in (read_as.Sound m)) p.message))
-
-  damage_taken : kept ≡ false → TookBy s t unit.message unit.known kept → taken_by_period t ≡ delivered_by (taken_by_period s) (Received hint kept bytes)
-  damage_taken none (inl (n, e)) = same_taken s t stays.earlier n.taken ∙ not_kept (taken_by_period s) hint kept bytes none
-  damage_taken none (inr (inl (p, e))) = same_taken s t stays.earlier p.taken ∙ not_kept (taken_by_period s) hint kept bytes none
-  damage_taken none (inr (inr (p, was))) = absurd cc
+      ∙ was_kept (taken_by_period s) hint kept bytes p.body was (packet_read unit.message bytes (p.body ∷ []) (read was) (ap (λ (m : MessageValue). packet_in (read_as.Sound m)) p.message))
 
 receipt_taken : (s : Station) (hint : ℕ) (kept : Bool) (bytes : List ℕ) (unit : SentUnit) (arrival : ArrivalValue Truth) → reading unit.bytes ≡ read_as.Sound unit.message → ComesOf unit bytes arrival → arrival_refusal judged s arrival kept ≡ None →
     Took s (after_arrival s arrival kept) unit.message unit.known kept → taken_by_period (after_arrival s arrival kept) ≡ delivered_by (taken_by_period s) (Received hint kept bytes)
-receipt_taken s hint kept bytes unit (Sound m u) reads (Itself same) allowed took = sound_taken s _ hint kept bytes unit took.0 (ap reading same ∙ reads) took.1
-receipt_taken s hint kept bytes unit HeaderBad reads BadHeader allowed took = damage_taken s _ hint kept bytes unit took.0 (unkept kept (claim_allowed false kept allowed)) took.1
-receipt_taken s hint kept bytes unit DataBad reads BadData allowed took = damage_taken s _ hint kept bytes unit took.0 (unkept kept (claim_allowed false kept allowed)) took.1
+receipt_taken s hint kept bytes unit (Sound m u) reads (Itself same) allowed took = as_delivered s _ hint kept bytes unit took.0 (λ was. ap reading same ∙ reads) took.1
+receipt_taken s hint kept bytes unit HeaderBad reads BadHeader allowed took = as_delivered s _ hint kept bytes unit took.0 (λ was. absurd (let none = unkept kept (claim_allowed false kept allowed) in cc)) took.1
+receipt_taken s hint kept bytes unit DataBad reads BadData allowed took = as_delivered s _ hint kept bytes unit took.0 (λ was. absurd (let none = unkept kept (claim_allowed false kept allowed) in cc)) took.1
 
 -- ---- any record
 

@@ -12,7 +12,7 @@ use Rattle.ddcmp_msg.specs.declared.nak_reason.NakReason.TheVariants.{HeaderChec
 use Rattle.dna_model.specs.declared.state.StationEvent.{StationEvent}
 use Rattle.dna_model.specs.declared.state.StationEvent.TheVariants.{Start, Halt}
 use Rattle.dna_model.specs.declared.refusal.StationRefusal.TheVariants.{CrossedPeriod}
-use Rattle.dna_model.specs.Table.{Change, Nothing, UseCause, SendPacket, change_of, Effect, TakePartner, Respond, TakePacket, AnswerRep, row, counts_damage}
+use Rattle.dna_model.specs.Table.{Change, Nothing, SendPacket, change_of, Effect, TakePartner, Respond, TakePacket, AnswerRep, row, counts_damage}
 use Rattle.dna_model.specs.Rules.{judged}
 use Rattle.dna_model.specs.Station.{Station, PastPeriod, past, given, after_event}
 use Rattle.dna_model.specs.Delivery.{periods, BeginsWith, IsDelivered}
@@ -21,7 +21,7 @@ use Rattle.dna_model.specs.Book.{ArrivalValue, Sound, HeaderBad, DataBad, body_o
 use Rattle.dna_model.specs.StationBook.{sends, is_new, is_packet, as_first_given, sending_refusal, after_sending, truth_of, with_packet, is_next, does, takes, meets_needs, station_book, arrival_refusal, after_arrival}
 use Rattle.dna_model.specs.Bounds.{IsOrdered}
 use Rattle.dna_model.specs.Line.{SentUnit}
-use Rattle.dna_model.proofs.Effects.{kept_by_all, by_response, by_packet, by_rep, Stays, does_stays, sending_stays}
+use Rattle.dna_model.proofs.Effects.{by_response, by_packet, by_rep, Stays, arrival_stays, sending_stays}
 use Rattle.dna_model.proofs.Checks.{sending_passed}
 use Rattle.dna_model.proofs.CutArriving.{TakesBy, taken_by}
 use Rattle.dna_model.proofs.CutNode.{not_crossed}
@@ -80,8 +80,7 @@ sending_begins s m = go (change_of m)
   where
     go : (change : Change) → BeginsWith (sends s m change).packets s.packets
     go SendPacket = packets_begin (is_new s) s.packets (body_of m)
-    go UseCause = begins_same s.packets
-    go Nothing = begins_same s.packets
+    go change = begins_same s.packets
 
 pub sending_grows : (s : Station) (m : MessageValue) → GrowTo (periods s) (periods (after_sending s m))
 sending_grows s m = grow_present s (after_sending s m) (sending_stays s m).earlier (sending_begins s m)
@@ -90,9 +89,8 @@ pub sending_delivers : (s : Station) (ps : List PastPeriod) (m : MessageValue) �
 sending_delivers s ps m d = go (change_of m)
   where
     go : (change : Change) → Delivers (sends s m change) ps
-    go SendPacket = record { earlier = d.earlier; present = d.present }
-    go UseCause = record { earlier = d.earlier; present = d.present }
     go Nothing = d
+    go change = record { earlier = d.earlier; present = d.present }
 
 is_the_packet : (o : Option (List ℕ)) (body : List ℕ) → is_packet o body ≡ true → o ≡ Some body
 is_the_packet None body e = absurd cc
@@ -175,12 +173,6 @@ data_is m e = absurd cc
 module _ (s : Station) (u : Truth) (m : MessageValue) (kept : Bool) where
   -- ---- effects, one after another
 
-  effects_stay : (effects : List Effect) → Stays s (fold (does m u kept) s effects)
-  effects_stay effects = kept_by_all (Stays s) (does m u kept) one_more effects s (record { earlier = refl; period = refl; packets = refl })
-    where
-      one_more : (t : Station) (effect : Effect) → Stays s t → Stays s (does m u kept t effect)
-      one_more t effect stays = let d = does_stays m u kept t effect in record { earlier = d.earlier ∙ stays.earlier; period = d.period ∙ stays.period; packets = d.packets ∙ stays.packets }
-
   partner_stays : (t : Station) (effect : Effect) → has_partner (effect ∷ []) ≡ false → (does m u kept t effect).partner ≡ t.partner
   partner_stays t TakePartner e = absurd cc
   partner_stays t Respond e = by_response m u kept t (λ (x : Station). x.partner ≡ t.partner) refl (λ e. refl)
@@ -257,9 +249,9 @@ module _ (s : Station) (u : Truth) (m : MessageValue) (kept : Bool) where
         go true was = inr (inr (took_packet (claims was) was, was))
         go false was = no_packet (has_partner effects) refl was
 
-damaged_took : (s : Station) (u : Truth) (m : MessageValue) (kept b : Bool) (reason : NakReason) → kept ≡ false → Took s (cond b (station_book.counts reason s) s) m u kept
-damaged_took s u m kept true reason none = (record { earlier = refl; period = refl; packets = refl }, inl (record { partner = refl; taken = refl; received = refl }, none))
-damaged_took s u m kept false reason none = (record { earlier = refl; period = refl; packets = refl }, inl (record { partner = refl; taken = refl; received = refl }, none))
+damaged_took : (s : Station) (u : Truth) (m : MessageValue) (kept b : Bool) (reason : NakReason) → kept ≡ false → TookBy s (cond b (station_book.counts reason s) s) m u kept
+damaged_took s u m kept true reason none = inl (record { partner = refl; taken = refl; received = refl }, none)
+damaged_took s u m kept false reason none = inl (record { partner = refl; taken = refl; received = refl }, none)
 
 -- what is claimed to be kept can be taken
 pub claim_allowed : (takes kept : Bool) → keep_refusal takes kept ≡ None → kept ≡ true → takes ≡ true
@@ -274,10 +266,11 @@ sound_claim s m u kept = go (meets_needs judged s m u)
     go true allowed = claim_allowed (takes s m u) kept allowed
     go false allowed = absurd cc
 
+took_by : (s : Station) (unit : SentUnit) (bytes : List ℕ) (arrival : ArrivalValue Truth) (kept : Bool) → ComesOf unit bytes arrival → (is_starting s.state ≡ true → HasNone s) → arrival_refusal judged s arrival kept ≡ None → TookBy s (after_arrival s arrival kept) unit.message unit.known kept
+took_by s unit bytes (Sound m u) kept (Itself same) none allowed =
+    of_row s unit.known unit.message kept (row s.state unit.message).effects (rows_lawful s unit.known.tag s.state unit.message (not_crossed s unit.message unit.known kept allowed)) none (sound_claim s unit.message unit.known kept allowed)
+took_by s unit bytes HeaderBad kept BadHeader none allowed = damaged_took s unit.known unit.message kept (counts_damage s.state) HeaderCheck (unkept kept (claim_allowed false kept allowed))
+took_by s unit bytes DataBad kept BadData none allowed = damaged_took s unit.known unit.message kept (counts_damage s.state) DataCheck (unkept kept (claim_allowed false kept allowed))
+
 pub arrival_took : (s : Station) (unit : SentUnit) (bytes : List ℕ) (arrival : ArrivalValue Truth) (kept : Bool) → ComesOf unit bytes arrival → (is_starting s.state ≡ true → HasNone s) → arrival_refusal judged s arrival kept ≡ None → Took s (after_arrival s arrival kept) unit.message unit.known kept
-arrival_took s unit bytes (Sound m u) kept (Itself same) none allowed = (
-  effects_stay s unit.known unit.message kept (row s.state unit.message).effects,
-  of_row s unit.known unit.message kept (row s.state unit.message).effects (rows_lawful s unit.known.tag s.state unit.message (not_crossed s unit.message unit.known kept allowed)) none (sound_claim s unit.message unit.known kept allowed),
-)
-arrival_took s unit bytes HeaderBad kept BadHeader none allowed = damaged_took s unit.known unit.message kept (counts_damage s.state) HeaderCheck (unkept kept (claim_allowed false kept allowed))
-arrival_took s unit bytes DataBad kept BadData none allowed = damaged_took s unit.known unit.message kept (counts_damage s.state) DataCheck (unkept kept (claim_allowed false kept allowed))
+arrival_took s unit bytes arrival kept of_unit none allowed = (arrival_stays s arrival kept, took_by s unit bytes arrival kept of_unit none allowed)

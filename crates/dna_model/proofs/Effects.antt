@@ -1,11 +1,13 @@
 -- What an effect, and what a sending, can make of a station on true numbers: the cases of each, and what it leaves as it is.
-use Rattle.std.proofs.Common.{◌≡◌, Bool, true, false, ◌&&◌, eqb, ltb, leb, List, [], ◌∷◌, fold, refl}
+use Rattle.std.proofs.Common.{◌≡◌, Bool, true, false, ◌&&◌, eqb, ltb, leb, List, [], ◌∷◌, fold, refl, cond, ◌∙◌}
 use Rattle.ddcmp_msg.specs.Message.{MessageValue}
-use Rattle.dna_model.specs.Table.{Change, Nothing, UseCause, SendPacket, change_of, Effect, Respond, TakePacket, AnswerRep}
-use Rattle.dna_model.specs.Book.{body_of}
+use Rattle.ddcmp_msg.specs.declared.nak_reason.NakReason.{NakReason}
+use Rattle.ddcmp_msg.specs.declared.nak_reason.NakReason.TheVariants.{HeaderCheck, DataCheck}
+use Rattle.dna_model.specs.Table.{Change, Nothing, change_of, Effect, Respond, TakePacket, AnswerRep, row, counts_damage}
+use Rattle.dna_model.specs.Book.{ArrivalValue, Sound, HeaderBad, DataBad, body_of}
 use Rattle.dna_model.specs.Station.{Station, given}
 use Rattle.dna_model.specs.Truth.{Truth}
-use Rattle.dna_model.specs.StationBook.{sends, after_sending, acknowledged_by, is_next, with_data, asked, does}
+use Rattle.dna_model.specs.StationBook.{sends, after_sending, acknowledged_by, is_next, with_data, asked, does, station_book, after_arrival}
 
 -- what each effect keeps, all effects of a row keep
 module _ {S : Type 0} (P : S → Type 0) (f : S → Effect → S) (keeps : (s : S) (effect : Effect) → P s → P (f s effect)) where
@@ -49,6 +51,25 @@ does_stays m u kept s TakePacket = by_packet m u kept s (Stays s) (record { earl
 does_stays m u kept s AnswerRep = by_rep m u kept s (Stays s) (record { earlier = refl; period = refl; packets = refl }) (record { earlier = refl; period = refl; packets = refl })
 does_stays m u kept s effect = record { earlier = refl; period = refl; packets = refl }
 
+-- what each effect keeps, and one cause more, an arrival keeps
+pub kept_by_arrival : (P : Station → Type 0) → ((m : MessageValue) (u : Truth) (kept : Bool) (s : Station) (effect : Effect) → P s → P (does m u kept s effect)) →
+    ((reason : NakReason) (s : Station) → P s → P (station_book.counts reason s)) → (s : Station) (arrival : ArrivalValue Truth) (kept : Bool) → P s → P (after_arrival s arrival kept)
+kept_by_arrival P by_effect by_cause s arrival kept p = go arrival
+  where
+    damaged : (reason : NakReason) (b : Bool) → P (cond b (station_book.counts reason s) s)
+    damaged reason true = by_cause reason s p
+    damaged reason false = p
+
+    go : (arrival : ArrivalValue Truth) → P (after_arrival s arrival kept)
+    go (Sound m u) = kept_by_all P (does m u kept) (by_effect m u kept) (row s.state m).effects s p
+    go HeaderBad = damaged HeaderCheck (counts_damage s.state)
+    go DataBad = damaged DataCheck (counts_damage s.state)
+
+pub arrival_stays : (s : Station) (arrival : ArrivalValue Truth) (kept : Bool) → Stays s (after_arrival s arrival kept)
+arrival_stays s arrival kept = kept_by_arrival (Stays s)
+    (λ m u kept t effect stays. let d = does_stays m u kept t effect in record { earlier = d.earlier ∙ stays.earlier; period = d.period ∙ stays.period; packets = d.packets ∙ stays.packets })
+    (λ reason t stays. record { earlier = stays.earlier; period = stays.period; packets = stays.packets }) s arrival kept (record { earlier = refl; period = refl; packets = refl })
+
 -- what a sending leaves: all but what was given, what comes next, and the causes
 pub record StaysAs (s t : Station) : Type 0 where
   pub state : t.state ≡ s.state
@@ -61,8 +82,7 @@ pub record StaysAs (s t : Station) : Type 0 where
 
 sends_stays : (s : Station) (m : MessageValue) (change : Change) → StaysAs s (sends s m change)
 sends_stays s m Nothing = record { state = refl; period = refl; partner = refl; received = refl; acknowledged = refl; taken = refl; earlier = refl }
-sends_stays s m UseCause = record { state = refl; period = refl; partner = refl; received = refl; acknowledged = refl; taken = refl; earlier = refl }
-sends_stays s m SendPacket = record { state = refl; period = refl; partner = refl; received = refl; acknowledged = refl; taken = refl; earlier = refl }
+sends_stays s m change = record { state = refl; period = refl; partner = refl; received = refl; acknowledged = refl; taken = refl; earlier = refl }
 
 pub sending_stays : (s : Station) (m : MessageValue) → StaysAs s (after_sending s m)
 sending_stays s m = sends_stays s m (change_of m)

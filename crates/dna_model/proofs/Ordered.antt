@@ -3,18 +3,16 @@ use Rattle.std.proofs.Common.{◌≡◌, ℕ, ◌+◌, ◌-◌, ◌≤◌, Bool,
 use Rattle.std.proofs.lemmas.Bool.{and_parts}
 use Rattle.std.proofs.lemmas.List.{length_push}
 use Rattle.ddcmp_msg.specs.Message.{MessageValue, Data, Nak}
-use Rattle.ddcmp_msg.specs.declared.nak_reason.NakReason.{NakReason}
-use Rattle.ddcmp_msg.specs.declared.nak_reason.NakReason.TheVariants.{HeaderCheck, DataCheck}
 use Rattle.dna_model.specs.declared.state.StationEvent.{StationEvent}
 use Rattle.dna_model.specs.declared.state.StationEvent.TheVariants.{Start, Halt}
-use Rattle.dna_model.specs.Table.{WINDOW, Effect, GoTo, TakePartner, Respond, SetBack, TakePacket, AnswerRep, row, counts_damage}
-use Rattle.dna_model.specs.Book.{ArrivalValue, Sound, HeaderBad, DataBad, body_of}
+use Rattle.dna_model.specs.Table.{WINDOW, Effect, GoTo, TakePartner, Respond, SetBack, TakePacket, AnswerRep}
+use Rattle.dna_model.specs.Book.{ArrivalValue, body_of}
 use Rattle.dna_model.specs.Station.{Station, new_station, given, after_event}
 use Rattle.dna_model.specs.Truth.{Truth}
 use Rattle.dna_model.specs.StationBook.{is_new, has_room, with_packet, with_data, asked, does, station_book, sending_refusal, after_sending, after_arrival}
 use Rattle.dna_model.specs.Bounds.{IsOrdered}
 use Rattle.dna_model.proofs.Checks.{sending_passed}
-use Rattle.dna_model.proofs.Effects.{kept_by_all, by_response, by_packet, by_rep}
+use Rattle.dna_model.proofs.Effects.{kept_by_arrival, by_response, by_packet, by_rep}
 
 -- ---- numbers in order
 
@@ -65,11 +63,5 @@ module _ (m : MessageValue) (u : Truth) (kept : Bool) where
   does_ordered s TakePacket o = by_packet m u kept s IsOrdered o (λ e. same_ordered s o (with_data true true s (body_of m)) refl refl refl) (same_ordered s o (with_data true false s (body_of m)) refl refl refl)
   does_ordered s AnswerRep o = by_rep m u kept s IsOrdered o (same_ordered s o (asked false s) refl refl refl)
 
-damaged_ordered : (s : Station) → IsOrdered s → (counted : Bool) (reason : NakReason) → IsOrdered (cond counted (station_book.counts reason s) s)
-damaged_ordered s o true reason = same_ordered s o (station_book.counts reason s) refl refl refl
-damaged_ordered s o false reason = o
-
 pub arrival_ordered : (s : Station) (arrival : ArrivalValue Truth) (kept : Bool) → IsOrdered s → IsOrdered (after_arrival s arrival kept)
-arrival_ordered s (Sound m u) kept o = kept_by_all IsOrdered (does m u kept) (does_ordered m u kept) (row s.state m).effects s o
-arrival_ordered s HeaderBad kept o = damaged_ordered s o (counts_damage s.state) HeaderCheck
-arrival_ordered s DataBad kept o = damaged_ordered s o (counts_damage s.state) DataCheck
+arrival_ordered = kept_by_arrival IsOrdered does_ordered (λ reason s o. same_ordered s o (station_book.counts reason s) refl refl refl)

@@ -4,7 +4,7 @@ use Rattle.std.specs.Prelude.{slice_get}
 use Rattle.ddcmp_msg.specs.Message.{MessageValue, Data}
 use Rattle.ddcmp_msg.specs.Reading.{reading, Sound}
 use Rattle.dna_model.specs.declared.state.State.{State}
-use Rattle.dna_model.specs.declared.state.State.TheVariants.{Halted, Istrt, Astrt, Running}
+use Rattle.dna_model.specs.declared.state.State.TheVariants.{Istrt, Astrt, Running}
 use Rattle.dna_model.specs.declared.state.StationEvent.{StationEvent}
 use Rattle.dna_model.specs.declared.state.StationEvent.TheVariants.{Start, Halt}
 use Rattle.dna_model.specs.Station.{Station, given, after_event}
@@ -62,8 +62,8 @@ sound_beside n own other x h = record {
 
 -- ---- the user
 
-starting_new : (n : Node) (own other : List SentUnit) → IsSound n own other → IsSound (record n { station = after_event n.station Start }) own other
-starting_new n own other h = record {
+pub sound_event : (n : Node) (own other : List SentUnit) (event : StationEvent) → IsSound n own other → IsSound (record n { station = after_event n.station event }) own other
+sound_event n own other Start h = record {
   ordered = event_ordered n.station Start h.ordered;
   none = λ e. record { received = refl; acknowledged = refl; packets = refl };
   met = h.met;
@@ -72,9 +72,7 @@ starting_new n own other h = record {
   present = present_new view limits own other n.front (numbers_of (after_event n.station Start)) refl refl (omega arith)
       (λ i u at same. let l = (h.told i u at).no_later in absurd (omega arith));
 }
-
-halted : (n : Node) (own other : List SentUnit) → IsSound n own other → IsSound (record n { station = after_event n.station Halt }) own other
-halted n own other h = record {
+sound_event n own other Halt h = record {
   ordered = event_ordered n.station Halt h.ordered;
   none = λ e. absurd cc;
   met = h.met;
@@ -82,10 +80,6 @@ halted n own other h = record {
   messages = h.messages;
   present = h.present;
 }
-
-pub sound_event : (n : Node) (own other : List SentUnit) (event : StationEvent) → IsSound n own other → IsSound (record n { station = after_event n.station event }) own other
-sound_event n own other Start h = starting_new n own other h
-sound_event n own other Halt h = halted n own other h
 
 -- ---- a sending
 
@@ -95,9 +89,7 @@ nothing_given s (Data flags resp num body) e starting = absurd (in_running s.sta
   where
     in_running : (state : State) → failed (passes s (Data flags resp num body)) (checks state (Data flags resp num body)) ≡ None → is_starting state ≡ true → ⊥
     in_running Running e starting = cc
-    in_running Halted e starting = cc
-    in_running Istrt e starting = cc
-    in_running Astrt e starting = cc
+    in_running state e starting = cc
 nothing_given s m e starting = refl
 
 sending_numbers : (s : Station) (m : MessageValue) → record (numbers_of s) { given = given (after_sending s m); last = s.received } ≡ numbers_of (after_sending s m)
