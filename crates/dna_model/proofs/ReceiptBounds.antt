@@ -88,7 +88,7 @@ module _ (n : Node) (own other : List SentUnit) (h : IsSound n own other) (their
 
   module _ (lawful_number : IsGiven limits (view unit).number unit.known.given) (lawful_acks : AcksFrom limits unit.known.received unit.known.received (view unit).acks) (kept : Bool) where
     does_met : (now : State) (t : Station) (effect : Effect) → IsLawfulEffect n.station unit.message unit.known.tag now effect → IsMet now t → IsMet (goes now effect) (does unit.message unit.known kept t effect)
-    does_met now t (GoTo state) l m = record { state = refl; period = m.period; packets = m.packets; none = λ e. let x = m.none (l e) in record { received = x.received; acknowledged = x.acknowledged; packets = x.packets }; partner = m.partner; present = m.present }
+    does_met now t (GoTo state) l m = record { state = refl; period = m.period; packets = m.packets; none = λ e. m.none (l e); partner = m.partner; present = m.present }
     does_met now t TakePartner l m =
         let x = m.none l in
         let given_same : given t ≡ given n.station = ap length m.packets in
@@ -97,14 +97,14 @@ module _ (n : Node) (own other : List SentUnit) (h : IsSound n own other) (their
           state = m.state;
           period = m.period;
           packets = m.packets;
-          none = λ e. record { received = x.received; acknowledged = x.acknowledged; packets = x.packets };
+          none = λ e. x;
           partner = λ pair. sym pair.from;
           present = present_new view limits own other (k + 1) (numbers_of (does unit.message unit.known kept t TakePartner)) x.received x.acknowledged (let e : length t.packets ≡ 0 = ap length x.packets in omega arith)
               (λ i v at same.
               let q = m.present.up_to i v at same in let g = q.given in let r = q.received in let y = q.last in
               record { given = omega arith; received = omega arith; last = omega arith });
         }
-    does_met now t SetBack l m = record { state = m.state; period = m.period; packets = m.packets; none = λ e. let x = m.none e in record { received = x.received; acknowledged = x.acknowledged; packets = x.packets }; partner = m.partner; present = m.present }
+    does_met now t SetBack l m = record { state = m.state; period = m.period; packets = m.packets; none = m.none; partner = m.partner; present = m.present }
     does_met now t Respond l m = by_response unit.message unit.known kept t (IsMet now) m (λ e.
         let less = ltb-true t.acknowledged unit.known.response (and_parts _ _ e).0 in
         let fits = (acks_of unit.known unit.known.received unit.known.received (has_response unit.message) l.1 lawful_acks).1 in
@@ -126,8 +126,8 @@ module _ (n : Node) (own other : List SentUnit) (h : IsSound n own other) (their
           none = λ e. absurd (let f = l.0 in cc);
           partner = m.partner;
           present = present_received view limits own other (k + 1) (k + 1) (numbers_of t) m.present (omega arith) k unit there (omega arith) (m.partner l.2 ∙ (l.2).from) (t.received + 1) (t.received + 1) (omega arith) (omega arith) (omega arith);
-        }) (record { state = m.state; period = m.period; packets = m.packets; none = λ e. let x = m.none e in record { received = x.received; acknowledged = x.acknowledged; packets = x.packets }; partner = m.partner; present = m.present })
-    does_met now t AnswerRep l m = by_rep unit.message unit.known kept t (IsMet now) m (record { state = m.state; period = m.period; packets = m.packets; none = λ e. let x = m.none e in record { received = x.received; acknowledged = x.acknowledged; packets = x.packets }; partner = m.partner; present = m.present })
+        }) (record { state = m.state; period = m.period; packets = m.packets; none = m.none; partner = m.partner; present = m.present })
+    does_met now t AnswerRep l m = by_rep unit.message unit.known kept t (IsMet now) m (record { state = m.state; period = m.period; packets = m.packets; none = m.none; partner = m.partner; present = m.present })
 
     all_met : (effects : List Effect) (now : State) (t : Station) → AreLawful n.station unit.message unit.known.tag now effects → IsMet now t → IsMet (fold goes now effects) (fold (does unit.message unit.known kept) t effects)
     all_met [] now t l m = m
@@ -143,7 +143,7 @@ module _ (n : Node) (own other : List SentUnit) (h : IsSound n own other) (their
   met_left now t m = record { period = m.period; none = λ e. m.none (ap is_starting (sym m.state) ∙ e); present = m.present }
 
   damaged_left : (reason : NakReason) (b : Bool) → IsLeft (cond b (station_book.counts reason n.station) n.station)
-  damaged_left reason true = let u = unchanged in record { period = refl; none = λ e. let x = h.none e in record { received = x.received; acknowledged = x.acknowledged; packets = x.packets }; present = u.present }
+  damaged_left reason true = let u = unchanged in record { period = refl; none = h.none; present = u.present }
   damaged_left reason false = met_left n.station.state n.station unchanged
 
   arrival_left : (bytes : List ℕ) (arrival : ArrivalValue Truth) (kept : Bool) → ComesOf unit bytes arrival → arrival_refusal judged n.station arrival kept ≡ None → IsLeft (after_arrival n.station arrival kept)

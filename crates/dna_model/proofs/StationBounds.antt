@@ -27,10 +27,13 @@ is_starting Astrt = true
 is_starting state = false
 
 -- nothing is received, acknowledged or given
-pub record HasNone (s : Station) : Type 0 where
-  pub received : s.received ≡ 0
-  pub acknowledged : s.acknowledged ≡ 0
-  pub packets : s.packets ≡ []
+pub record AreNone (last_received highest_acknowledged : ℕ) (given_packets : List (List ℕ)) : Type 0 where
+  pub received : last_received ≡ 0
+  pub acknowledged : highest_acknowledged ≡ 0
+  pub packets : given_packets ≡ []
+
+abbrev pub HasNone : Station → Type 0
+HasNone s = AreNone s.received s.acknowledged s.packets
 
 -- of a unit that was sent
 pub record IsTold (period : ℕ) (u : SentUnit) : Type 0 where
