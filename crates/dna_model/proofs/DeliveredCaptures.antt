@@ -61,7 +61,8 @@ packet_read m bytes packet read is = ap packet_in read ∙ is
 
 module _ (s t : Station) (hint : ℕ) (kept : Bool) (bytes : List ℕ) (unit : SentUnit) (stays : Stays s t) where
   -- the packet that was taken is the one of these bytes
-  as_delivered : (kept ≡ true → reading bytes ≡ read_as.Sound unit.message) → TookBy s t unit.message unit.known kept → taken_by_period t ≡ delivered_by (taken_by_period s) (Received hint kept bytes)
+  as_delivered : (kept ≡ true → reading bytes ≡ read_as.Sound unit.message) → TookBy s t unit.message unit.known kept →
+      taken_by_period t ≡ delivered_by (taken_by_period s) (Received hint kept bytes)
   as_delivered read (inl (n, none)) = same_taken s t stays.earlier n.taken ∙ not_kept (taken_by_period s) hint kept bytes none
   as_delivered read (inr (inl (p, none))) = same_taken s t stays.earlier p.taken ∙ not_kept (taken_by_period s) hint kept bytes none
   as_delivered read (inr (inr (p, was))) =

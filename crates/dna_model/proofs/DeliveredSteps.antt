@@ -249,7 +249,8 @@ module _ (s : Station) (u : Truth) (m : MessageValue) (kept : Bool) where
         go true was = inr (inr (took_packet (claims was) was, was))
         go false was = no_packet (has_partner effects) refl was
 
-damaged_took : (s : Station) (u : Truth) (m : MessageValue) (kept b : Bool) (reason : NakReason) → kept ≡ false → TookBy s (cond b (station_book.counts reason s) s) m u kept
+damaged_took : (s : Station) (u : Truth) (m : MessageValue) (kept b : Bool) (reason : NakReason) → kept ≡ false →
+    TookBy s (cond b (station_book.counts reason s) s) m u kept
 damaged_took s u m kept true reason none = inl (record { partner = refl; taken = refl; received = refl }, none)
 damaged_took s u m kept false reason none = inl (record { partner = refl; taken = refl; received = refl }, none)
 
@@ -266,7 +267,9 @@ sound_claim s m u kept = go (meets_needs judged s m u)
     go true allowed = claim_allowed (takes s m u) kept allowed
     go false allowed = absurd cc
 
-took_by : (s : Station) (unit : SentUnit) (bytes : List ℕ) (arrival : ArrivalValue Truth) (kept : Bool) → ComesOf unit bytes arrival → (is_starting s.state ≡ true → HasNone s) → arrival_refusal judged s arrival kept ≡ None → TookBy s (after_arrival s arrival kept) unit.message unit.known kept
+took_by : (s : Station) (unit : SentUnit) (bytes : List ℕ) (arrival : ArrivalValue Truth) (kept : Bool) → ComesOf unit bytes arrival →
+    (is_starting s.state ≡ true → HasNone s) → arrival_refusal judged s arrival kept ≡ None →
+    TookBy s (after_arrival s arrival kept) unit.message unit.known kept
 took_by s unit bytes (Sound m u) kept (Itself same) none allowed =
     of_row s unit.known unit.message kept (row s.state unit.message).effects (rows_lawful s unit.known.tag s.state unit.message (not_crossed s unit.message unit.known kept allowed)) none (sound_claim s unit.message unit.known kept allowed)
 took_by s unit bytes HeaderBad kept BadHeader none allowed = damaged_took s unit.known unit.message kept (counts_damage s.state) HeaderCheck (unkept kept (claim_allowed false kept allowed))

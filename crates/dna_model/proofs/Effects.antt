@@ -52,7 +52,8 @@ does_stays m u kept s AnswerRep = by_rep m u kept s (Stays s) (record { earlier 
 does_stays m u kept s effect = record { earlier = refl; period = refl; packets = refl }
 
 -- what each effect keeps, and one cause more, an arrival keeps
-pub kept_by_arrival : (P : Station → Type 0) → ((m : MessageValue) (u : Truth) (kept : Bool) (s : Station) (effect : Effect) → P s → P (does m u kept s effect)) →
+pub kept_by_arrival : (P : Station → Type 0) →
+    ((m : MessageValue) (u : Truth) (kept : Bool) (s : Station) (effect : Effect) → P s → P (does m u kept s effect)) →
     ((reason : NakReason) (s : Station) → P s → P (station_book.counts reason s)) → (s : Station) (arrival : ArrivalValue Truth) (kept : Bool) → P s → P (after_arrival s arrival kept)
 kept_by_arrival P by_effect by_cause s arrival kept p = go arrival
   where

@@ -58,14 +58,17 @@ from_grown other further front front' q x more grown (inr t) = inr (record {
   to = t.to;
 })
 
-pub takes_beside : (ps : List PastPeriod) (other further : List SentUnit) (front front' : ℕ) → front ≤ front' → ((k : ℕ) (u : SentUnit) → slice_get other k ≡ Some u → slice_get further k ≡ Some u) → TakesInOrder ps other front → TakesInOrder ps further front'
+pub takes_beside : (ps : List PastPeriod) (other further : List SentUnit) (front front' : ℕ) → front ≤ front' →
+    ((k : ℕ) (u : SentUnit) → slice_get other k ≡ Some u → slice_get further k ≡ Some u) → TakesInOrder ps other front →
+    TakesInOrder ps further front'
 takes_beside ps other further front front' more grown t = record {
   from = λ q x at. from_grown other further front front' q x more grown (t.from q x at);
   rising = t.rising;
 }
 
 -- one period more
-pub takes_more : (ps : List PastPeriod) (z : PastPeriod) (other : List SentUnit) (front : ℕ) → TakesInOrder ps other front → IsFrom other front (length ps) z → ((q : ℕ) (x : PastPeriod) → slice_get ps q ≡ Some x → AreInOrder x z) →
+pub takes_more : (ps : List PastPeriod) (z : PastPeriod) (other : List SentUnit) (front : ℕ) → TakesInOrder ps other front →
+    IsFrom other front (length ps) z → ((q : ℕ) (x : PastPeriod) → slice_get ps q ≡ Some x → AreInOrder x z) →
     TakesInOrder (ps ++ z ∷ []) other front
 takes_more ps z other front h from rises = record { from = each_pushed ps z (IsFrom other front) h.from from; rising = pairs_pushed ps z AreInOrder h.rising rises }
 
@@ -78,7 +81,8 @@ module _ (s t : Station) (other : List SentUnit) (front : ℕ) (h : TakesInOrder
     rising = λ q r x y less at_q at_r. h.rising q r x y less (slice_get-append s.earlier (past s ∷ []) q x at_q) (slice_get-append s.earlier (past s ∷ []) r y at_r);
   }
 
-  with_last : t.earlier ≡ s.earlier → IsFrom other front (length s.earlier) (past t) → ((q : ℕ) (x : PastPeriod) → slice_get s.earlier q ≡ Some x → AreInOrder x (past t)) → TakesInOrder (periods t) other front
+  with_last : t.earlier ≡ s.earlier → IsFrom other front (length s.earlier) (past t) →
+      ((q : ℕ) (x : PastPeriod) → slice_get s.earlier q ≡ Some x → AreInOrder x (past t)) → TakesInOrder (periods t) other front
   with_last earlier last_from last_rises = subst (λ (l : List PastPeriod). TakesInOrder (l ++ past t ∷ []) other front) (sym earlier) (takes_more s.earlier (past t) other front earlier_takes last_from last_rises)
 
   last_place : slice_get (periods s) (length s.earlier) ≡ Some (past s)
@@ -101,7 +105,8 @@ module _ (s t : Station) (other : List SentUnit) (front : ℕ) (h : TakesInOrder
   pub takes_none : t.earlier ≡ s.earlier → t.taken ≡ [] → TakesInOrder (periods t) other front
   takes_none earlier none = with_last earlier (inl none) (λ q x at. inr (inl none))
 
-pub takes_start : (s : Station) (other : List SentUnit) (front : ℕ) → TakesInOrder (periods s) other front → TakesInOrder (periods (after_event s Start)) other front
+pub takes_start : (s : Station) (other : List SentUnit) (front : ℕ) → TakesInOrder (periods s) other front →
+    TakesInOrder (periods (after_event s Start)) other front
 takes_start s other front h = takes_more (periods s) (past (after_event s Start)) other front h (inl refl) (λ q x at. inr (inl refl))
 
 -- a packet is taken from the message at this place, which lies behind all that were met before

@@ -1,4 +1,4 @@
--- In every run, all that a station took stands in order among all that the other gave.
+-- What holds of each side in every run: what it sent, gave and took; and that all it took stands in order among all that the other gave.
 use Rattle.std.proofs.Common.{◌≡◌, ℕ, ◌+◌, ◌≤◌, Bool, inl, inr, Some, List, [], ◌∷◌, ◌++◌, refl, ◌∙◌, arith}
 use Rattle.std.specs.Prelude.{slice_get}
 use Rattle.std.proofs.lemmas.List.{nil_from_length}
@@ -35,7 +35,8 @@ pub record OwnOrder (n : Node) (own other : List SentUnit) : Type 0 where
   pub takes : TakesInOrder (periods n.station) other n.front
 
 module _ (own other : Half Node SentUnit) (h : IsSound own.state own.sent other.sent) (o : Offers own.state.station own.sent) (theirs : Partnered other.state.station other.sent) (p : OwnOrder own.state own.sent other.sent) where
-  receipt_takes : (hint : ℕ) (kept : Bool) (unit : SentUnit) (t : Station) → slice_get other.sent hint ≡ Some unit → own.state.front ≤ hint → Stays own.state.station t → TookBy own.state.station t unit.message unit.known kept → TakesInOrder (periods t) other.sent (hint + 1)
+  receipt_takes : (hint : ℕ) (kept : Bool) (unit : SentUnit) (t : Station) → slice_get other.sent hint ≡ Some unit → own.state.front ≤ hint →
+      Stays own.state.station t → TookBy own.state.station t unit.message unit.known kept → TakesInOrder (periods t) other.sent (hint + 1)
   receipt_takes hint kept unit t there ahead stays (inl (x, e)) =
       takes_last own.state.station t other.sent (hint + 1) (takes_beside (periods own.state.station) other.sent other.sent own.state.front (hint + 1) (omega arith) (λ k u at. at) p.takes) stays.earlier x.partner x.taken
   receipt_takes hint kept unit t there ahead stays (inr (inl (x, e))) =
@@ -87,7 +88,8 @@ pub record OrderedSide (own other : Half Node SentUnit) (made : List Record) : T
   pub places : AtPlaces own.state.station own.sent
   pub order : OwnOrder own.state own.sent other.sent
 
-module _ (own other left : Half Node SentUnit) (made of_other : List Record) (r : Record) (p : OrderedSide own other made) (theirs : OrderedSide other own of_other) (what : Happens judged own other r left) where
+module _ (own other left : Half Node SentUnit) (made of_other : List Record) (r : Record)
+    (p : OrderedSide own other made) (theirs : OrderedSide other own of_other) (what : Happens judged own other r left) where
   delivery : Left own left other
   delivery = left_by own other p.sound theirs.sound p.offers theirs.offers p.delivers r left what
 
@@ -136,7 +138,8 @@ new_side head head_other = record {
 pub start_order : (head_a head_b : Head) → BothInOrder (start head_a head_b) [] []
 start_order head_a head_b = record { of_a = new_side head_a head_b; of_b = new_side head_b head_a }
 
-pub in_order : (head_a head_b : Head) (w : World Node SentUnit) (of_a of_b : List Record) → Run pair (start head_a head_b) of_a of_b w → BothInOrder w of_a of_b
+pub in_order : (head_a head_b : Head) (w : World Node SentUnit) (of_a of_b : List Record) → Run pair (start head_a head_b) of_a of_b w →
+    BothInOrder w of_a of_b
 in_order head_a head_b = after_run OrderedSide sides_kept head_a head_b (start_order head_a head_b)
 
 -- ---- what is said of a side

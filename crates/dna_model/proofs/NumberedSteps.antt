@@ -40,7 +40,8 @@ pairs_pushed {X} xs x R of_each of_new i j y z less at_i at_j = go (at_pushed xs
 module _ {U : Type 0} (view : U → Numbered) (l : Limits) where
   -- ---- what is known of a side stays so, beside more messages of the other or a further front
 
-  module _ (other more : List U) (still : (k : ℕ) (u : U) → slice_get other k ≡ Some u → slice_get more k ≡ Some u) (below below' : ℕ) (further : below ≤ below') (now : Numbers) where
+  module _ (other more : List U) (still : (k : ℕ) (u : U) → slice_get other k ≡ Some u → slice_get more k ≡ Some u)
+      (below below' : ℕ) (further : below ≤ below') (now : Numbers) where
     source_still : (says : Numbered → Type 0) → Source view other now.partner below says → Source view more now.partner below' says
     source_still says s = record {
       place = s.place;
@@ -120,7 +121,8 @@ module _ {U : Type 0} (view : U → Numbered) (l : Limits) where
       acknowledged_from = each_pushed own u (λ i (m : U). AcknowledgedFrom view other (length other) (view m).sender) messages.acknowledged_from acknowledged_said;
     }
 
-    earlier_up_to : (i : ℕ) (m : U) → slice_get own i ≡ Some m → (view m).sender.name ≡ now.name → IsUpTo (view m).sender (record now { given = given; last = last })
+    earlier_up_to : (i : ℕ) (m : U) → slice_get own i ≡ Some m → (view m).sender.name ≡ now.name →
+        IsUpTo (view m).sender (record now { given = given; last = last })
     earlier_up_to i m at same =
         let q = present.up_to i m at same in let g = q.given in let r = q.received in let t = q.last in let mg = sending.more_given in let ml = sending.more_last in
         record { given = omega arith; received = r; last = omega arith }

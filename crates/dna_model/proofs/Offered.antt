@@ -113,5 +113,6 @@ offered_kept = record {
 start_offered : (head_a head_b : Head) → OfBoth OfferingSide (start head_a head_b) [] []
 start_offered head_a head_b = let s = start_order head_a head_b in record { of_a = record { order = s.of_a; gave = refl }; of_b = record { order = s.of_b; gave = refl } }
 
-pub all_offered : (head_a head_b : Head) (w : World Node SentUnit) (of_a of_b : List Record) → Run pair (start head_a head_b) of_a of_b w → OfBoth OfferingSide w of_a of_b
+pub all_offered : (head_a head_b : Head) (w : World Node SentUnit) (of_a of_b : List Record) → Run pair (start head_a head_b) of_a of_b w →
+    OfBoth OfferingSide w of_a of_b
 all_offered head_a head_b = after_run OfferingSide offered_kept head_a head_b (start_offered head_a head_b)

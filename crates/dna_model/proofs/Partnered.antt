@@ -20,7 +20,8 @@ use Rattle.dna_model.proofs.DeliveredSteps.{Offers, TookBy, Took}
 
 pub record Partnered (s : Station) (own : List SentUnit) : Type 0 where
   pub rise : (i j : ℕ) (u v : SentUnit) → i < j → slice_get own i ≡ Some u → slice_get own j ≡ Some v → u.known.tag.period ≤ v.known.tag.period
-  pub one_partner : (i j : ℕ) (u v : SentUnit) → i < j → slice_get own i ≡ Some u → slice_get own j ≡ Some v → is_data u.message ≡ true → is_data v.message ≡ true → u.known.tag.period ≡ v.known.tag.period → u.known.tag.partner ≡ v.known.tag.partner
+  pub one_partner : (i j : ℕ) (u v : SentUnit) → i < j → slice_get own i ≡ Some u → slice_get own j ≡ Some v → is_data u.message ≡ true →
+      is_data v.message ≡ true → u.known.tag.period ≡ v.known.tag.period → u.known.tag.partner ≡ v.known.tag.partner
   pub present : (i : ℕ) (u : SentUnit) → slice_get own i ≡ Some u → is_data u.message ≡ true → u.known.tag.period ≡ s.period → u.known.tag.partner ≡ s.partner
 
 pub new_partnered : (s : Station) → Partnered s []

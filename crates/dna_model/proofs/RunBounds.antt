@@ -59,7 +59,8 @@ start_sound head_a head_b = record { of_a = new_sound head_a; of_b = new_sound h
 pub both_sound_kept : IsKept pair BothSound
 both_sound_kept = kept_by_both SoundSide sound_kept
 
-pub sound : (head_a head_b : Head) (w : World Node SentUnit) (of_a of_b : List Record) → Run pair (start head_a head_b) of_a of_b w → BothSound w of_a of_b
+pub sound : (head_a head_b : Head) (w : World Node SentUnit) (of_a of_b : List Record) → Run pair (start head_a head_b) of_a of_b w →
+    BothSound w of_a of_b
 sound head_a head_b = after_run SoundSide sound_kept head_a head_b (start_sound head_a head_b)
 
 -- a sound node is bounded

@@ -18,8 +18,10 @@ module _ (holds : (own other : Half Node SentUnit) → List Record → Type 0) w
 
   -- of the side that makes a record, and of the side beside it
   pub record IsKeptBySides : Type 0 where
-    pub own : (own other left : Half Node SentUnit) (made of_other : List Record) (r : Record) → holds own other made → holds other own of_other → Happens judged own other r left → holds left other (made ++ r ∷ [])
-    pub other : (own other left : Half Node SentUnit) (made of_other : List Record) (r : Record) → holds own other made → holds other own of_other → Happens judged own other r left → holds other left of_other
+    pub own : (own other left : Half Node SentUnit) (made of_other : List Record) (r : Record) → holds own other made → holds other own of_other →
+        Happens judged own other r left → holds left other (made ++ r ∷ [])
+    pub other : (own other left : Half Node SentUnit) (made of_other : List Record) (r : Record) → holds own other made → holds other own of_other →
+        Happens judged own other r left → holds other left of_other
 
   pub kept_by_both : IsKeptBySides → IsKept pair OfBoth
   kept_by_both kept = record {
@@ -31,5 +33,6 @@ module _ (holds : (own other : Half Node SentUnit) → List Record → Type 0) w
         record { of_a = kept.other w.b w.a h made_b made_a r both.of_b both.of_a what; of_b = kept.own w.b w.a h made_b made_a r both.of_b both.of_a what };
   }
 
-  pub after_run : IsKeptBySides → (head_a head_b : Head) → OfBoth (start head_a head_b) [] [] → (w : World Node SentUnit) (of_a of_b : List Record) → Run pair (start head_a head_b) of_a of_b w → OfBoth w of_a of_b
+  pub after_run : IsKeptBySides → (head_a head_b : Head) → OfBoth (start head_a head_b) [] [] → (w : World Node SentUnit) (of_a of_b : List Record) →
+      Run pair (start head_a head_b) of_a of_b w → OfBoth w of_a of_b
   after_run kept head_a head_b begun w of_a of_b run = lasts pair OfBoth (kept_by_both kept) [] [] begun run

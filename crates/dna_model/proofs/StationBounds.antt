@@ -65,7 +65,8 @@ sound_beside n own other x h = record {
 
 -- ---- the user
 
-pub sound_event : (n : Node) (own other : List SentUnit) (event : StationEvent) → IsSound n own other → IsSound (record n { station = after_event n.station event }) own other
+pub sound_event : (n : Node) (own other : List SentUnit) (event : StationEvent) → IsSound n own other →
+    IsSound (record n { station = after_event n.station event }) own other
 sound_event n own other Start h = record {
   ordered = event_ordered n.station Start h.ordered;
   none = λ e. record { received = refl; acknowledged = refl; packets = refl };
