@@ -20,7 +20,7 @@ use Rattle.dna_model.specs.Node.{Node}
 use Rattle.dna_model.proofs.Happens.{Happens, Nothing, UserEvent, Sending, Receipt, ComesOf, Itself, BadHeader, BadData}
 use Rattle.dna_model.proofs.StationBounds.{IsSound}
 use Rattle.dna_model.proofs.Effects.{Stays, sending_stays}
-use Rattle.dna_model.proofs.DeliveredSteps.{TookBy, Took, arrival_took, unkept, claim_allowed}
+use Rattle.dna_model.proofs.DeliveredSteps.{TookBy, Took, arrival_took, unkept}
 
 abbrev taken : PastPeriod → List (List ℕ)
 taken period = period.taken
@@ -72,8 +72,8 @@ module _ (s t : Station) (hint : ℕ) (kept : Bool) (bytes : List ℕ) (unit : S
 receipt_taken : (s : Station) (hint : ℕ) (kept : Bool) (bytes : List ℕ) (unit : SentUnit) (arrival : ArrivalValue Truth) → reading unit.bytes ≡ read_as.Sound unit.message → ComesOf unit bytes arrival → arrival_refusal judged s arrival kept ≡ None →
     Took s (after_arrival s arrival kept) unit.message unit.known kept → taken_by_period (after_arrival s arrival kept) ≡ delivered_by (taken_by_period s) (Received hint kept bytes)
 receipt_taken s hint kept bytes unit (Sound m u) reads (Itself same) allowed took = as_delivered s _ hint kept bytes unit took.0 (λ was. ap reading same ∙ reads) took.1
-receipt_taken s hint kept bytes unit HeaderBad reads BadHeader allowed took = as_delivered s _ hint kept bytes unit took.0 (λ was. absurd (let none = unkept kept (claim_allowed false kept allowed) in cc)) took.1
-receipt_taken s hint kept bytes unit DataBad reads BadData allowed took = as_delivered s _ hint kept bytes unit took.0 (λ was. absurd (let none = unkept kept (claim_allowed false kept allowed) in cc)) took.1
+receipt_taken s hint kept bytes unit HeaderBad reads BadHeader allowed took = as_delivered s _ hint kept bytes unit took.0 (λ was. absurd (let none = unkept kept allowed in cc)) took.1
+receipt_taken s hint kept bytes unit DataBad reads BadData allowed took = as_delivered s _ hint kept bytes unit took.0 (λ was. absurd (let none = unkept kept allowed in cc)) took.1
 
 -- ---- any record
 

@@ -154,9 +154,10 @@ TookBy s t m u kept = (TookNothing s t × (kept ≡ false)) ⊎ ((TookPartner s 
 abbrev pub Took : Station → Station → MessageValue → Truth → Bool → Type 0
 Took s t m u kept = Stays s t × TookBy s t m u kept
 
-pub unkept : (kept : Bool) → (kept ≡ true → false ≡ true) → kept ≡ false
-unkept true claims = sym (claims refl)
-unkept false claims = refl
+-- where nothing can be taken
+pub unkept : (kept : Bool) → keep_refusal false kept ≡ None → kept ≡ false
+unkept true allowed = absurd cc
+unkept false allowed = refl
 
 -- a message with a packet
 record IsData (m : MessageValue) : Type 0 where
@@ -255,7 +256,7 @@ damaged_took s u m kept true reason none = inl (record { partner = refl; taken =
 damaged_took s u m kept false reason none = inl (record { partner = refl; taken = refl; received = refl }, none)
 
 -- what is claimed to be kept can be taken
-pub claim_allowed : (takes kept : Bool) → keep_refusal takes kept ≡ None → kept ≡ true → takes ≡ true
+claim_allowed : (takes kept : Bool) → keep_refusal takes kept ≡ None → kept ≡ true → takes ≡ true
 claim_allowed true kept e claims = refl
 claim_allowed false true e claims = absurd cc
 claim_allowed false false e claims = claims
@@ -272,8 +273,8 @@ took_by : (s : Station) (unit : SentUnit) (bytes : List ℕ) (arrival : ArrivalV
     TookBy s (after_arrival s arrival kept) unit.message unit.known kept
 took_by s unit bytes (Sound m u) kept (Itself same) none allowed =
     of_row s unit.known unit.message kept (row s.state unit.message).effects (rows_lawful s unit.known.tag s.state unit.message (not_crossed s unit.message unit.known kept allowed)) none (sound_claim s unit.message unit.known kept allowed)
-took_by s unit bytes HeaderBad kept BadHeader none allowed = damaged_took s unit.known unit.message kept (counts_damage s.state) HeaderCheck (unkept kept (claim_allowed false kept allowed))
-took_by s unit bytes DataBad kept BadData none allowed = damaged_took s unit.known unit.message kept (counts_damage s.state) DataCheck (unkept kept (claim_allowed false kept allowed))
+took_by s unit bytes HeaderBad kept BadHeader none allowed = damaged_took s unit.known unit.message kept (counts_damage s.state) HeaderCheck (unkept kept allowed)
+took_by s unit bytes DataBad kept BadData none allowed = damaged_took s unit.known unit.message kept (counts_damage s.state) DataCheck (unkept kept allowed)
 
 pub arrival_took : (s : Station) (unit : SentUnit) (bytes : List ℕ) (arrival : ArrivalValue Truth) (kept : Bool) → ComesOf unit bytes arrival → (is_starting s.state ≡ true → HasNone s) → arrival_refusal judged s arrival kept ≡ None → Took s (after_arrival s arrival kept) unit.message unit.known kept
 arrival_took s unit bytes arrival kept of_unit none allowed = (arrival_stays s arrival kept, took_by s unit bytes arrival kept of_unit none allowed)
