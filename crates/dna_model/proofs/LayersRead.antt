@@ -5,7 +5,6 @@ use Rattle.std.specs.Prelude.{slice_get}
 use Rattle.std.proofs.lemmas.Option.{slice_get_within}
 use Rattle.two_nodes.specs.Nodes.{Half, World}
 use Rattle.two_nodes.specs.Kept.{IsKept}
-use Rattle.two_nodes.specs.Cutting.{cut_half, cut_world}
 use Rattle.ddcmp_msg.specs.Message.{MessageValue, Data, Ack, Nak, Rep, Strt, Stack}
 use Rattle.capture.specs.declared.record.Record.{Record}
 use Rattle.dna_model.specs.declared.head.Head.{Head}
@@ -20,7 +19,7 @@ use Rattle.dna_model.specs.Links.{Carried}
 use Rattle.dna_model.specs.TrueLinks.{Links}
 use Rattle.dna_model.specs.LinkRuns.{SentMessage}
 use Rattle.dna_model.specs.Content.{content}
-use Rattle.dna_model.specs.Layers.{LayersNode, LayersUnit, to_station, stations}
+use Rattle.dna_model.specs.Layers.{LayersNode, LayersUnit, to_station}
 use Rattle.dna_model.specs.LayersPair.{layers_pair, layers_start}
 use Rattle.dna_model.proofs.NumberedSteps.{at_pushed}
 use Rattle.dna_model.proofs.StationNumbers.{is_data}
