@@ -17,7 +17,6 @@ pub mod Node
 pub mod Bounds
 pub mod Pair
 pub mod WireNode
-pub mod Verdict
 -- The logical links of one node: what look-ups and segments are; the tables, over any flow; the true flow and the one that a node keeps
 pub mod LinkTests
 pub mod Pieces
@@ -33,7 +32,8 @@ pub mod WireLinks
 pub mod CutFlow
 pub mod CutLinks
 pub mod LinkRuns
--- The node over both layers: what a packet carries, the true node, the wire node, the run, what is seen of it
+-- The node over both layers: what a packet carries, the true node, the wire node, the run, what is seen of it; and what a
+-- finding says of two captures
 pub mod Content
 pub mod Layers
 pub mod WireLayers
@@ -41,6 +41,7 @@ pub mod LayersPair
 pub mod CutLayers
 pub mod Seen
 pub mod Tells
+pub mod Verdict
 -- the links of both sides, in every run
 pub mod LinkBounds
 pub mod LinkDelivery

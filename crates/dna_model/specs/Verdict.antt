@@ -1,4 +1,4 @@
--- What a finding says of two captures.
+-- What a finding says of two captures, over both layers.
 use Rattle.std.specs.Prelude.{ℕ, List}
 use Rattle.two_nodes.specs.Nodes.{World}
 use Rattle.two_nodes.specs.Past.{Offends}
@@ -10,28 +10,27 @@ use Rattle.dna_model.specs.declared.finding.Cause.{Cause}
 use Rattle.dna_model.specs.declared.finding.Cause.TheVariants.{Step, NoSuchUnit, NoOrder}
 use Rattle.dna_model.specs.declared.finding.Finding.{Finding}
 use Rattle.dna_model.specs.declared.finding.Finding.TheVariants.{Accepted, Refused}
-use Rattle.dna_model.specs.Line.{SentUnit}
-use Rattle.dna_model.specs.Node.{Node}
-use Rattle.dna_model.specs.Pair.{pair, start, IsRun}
+use Rattle.dna_model.specs.Layers.{LayersNode, LayersUnit}
+use Rattle.dna_model.specs.LayersPair.{layers_pair, layers_start, IsLayersRun}
 
 -- What is wrong with this record of `own`, beside the records of the other side. `start` is the start with the named side first; both nodes
 -- go by the same step
-abbrev pub IsWrong : (start : World Node SentUnit) → (own other : List Record) → ℕ → Cause → Type 0
+abbrev pub IsWrong : (start : World LayersNode LayersUnit) → (own other : List Record) → ℕ → Cause → Type 0
 -- it offends: its past is a run, and in the world where that ends it is refused for this reason
-IsWrong start own other place (Step refusal) = Offends pair start own other place refusal
+IsWrong start own other place (Step refusal) = Offends layers_pair start own other place refusal
 -- all records of the other side and the earlier ones of its own are a run, and the unit that it names is not sent there
-IsWrong start own other place NoSuchUnit = LacksUnit pair start own other place
+IsWrong start own other place NoSuchUnit = LacksUnit layers_pair start own other place
 -- the earlier ones of its own and some beginning of the other side are a run, and neither side can go on
-IsWrong start own other place NoOrder = (on_other : ℕ) × IsStuck pair start own other place on_other
+IsWrong start own other place NoOrder = (on_other : ℕ) × IsStuck layers_pair start own other place on_other
 
 -- of a pair that is stuck side a is named
-abbrev pub IsWrongOfB : (start : World Node SentUnit) → (own other : List Record) → ℕ → Cause → Type 0
+abbrev pub IsWrongOfB : (start : World LayersNode LayersUnit) → (own other : List Record) → ℕ → Cause → Type 0
 IsWrongOfB start own other place (Step refusal) = IsWrong start own other place (Step refusal)
 IsWrongOfB start own other place NoSuchUnit = IsWrong start own other place NoSuchUnit
 IsWrongOfB start own other place NoOrder = ⊥
 
 -- of two captures with these heads
 abbrev pub IsVerdict : (head_a head_b : Head) → (of_a of_b : List Record) → Finding → Type 0
-IsVerdict head_a head_b of_a of_b Accepted = IsRun head_a head_b of_a of_b
-IsVerdict head_a head_b of_a of_b (Refused A place cause) = ¬ IsRun head_a head_b of_a of_b × IsWrong (start head_a head_b) of_a of_b place cause
-IsVerdict head_a head_b of_a of_b (Refused B place cause) = ¬ IsRun head_a head_b of_a of_b × IsWrongOfB (start head_b head_a) of_b of_a place cause
+IsVerdict head_a head_b of_a of_b Accepted = IsLayersRun head_a head_b of_a of_b
+IsVerdict head_a head_b of_a of_b (Refused A place cause) = ¬ IsLayersRun head_a head_b of_a of_b × IsWrong (layers_start head_a head_b) of_a of_b place cause
+IsVerdict head_a head_b of_a of_b (Refused B place cause) = ¬ IsLayersRun head_a head_b of_a of_b × IsWrongOfB (layers_start head_b head_a) of_b of_a place cause

@@ -38,7 +38,7 @@ pub use link_run_laws::{
     wire_links_see_right,
 };
 pub use link_tag::LinkTag;
-pub use nodes::{TrueNodes, WireNodes};
+pub use nodes::{TrueLayersNodes, TrueNodes, WireLayersNodes, WireNodes};
 pub use port::{LinkTest, Phase, Port};
 pub use refusal::{StationRefusal, StepRefusal};
 pub use state::{State, StationEvent};
