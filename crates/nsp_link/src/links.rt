@@ -67,6 +67,13 @@ impl<W: Window<Piece, 4096> + Drop> Links<W> {
         }
     }
 
+    /// How many links ever began. Takes no memory.
+    pub fn count(&self) -> u64
+        ensures { result ≡ length self.now.links }
+    {
+        self.links.len() as u64
+    }
+
     // The number of the first link that passes a test which only a live link passes.
     fn find(&self, test: LinkTest) -> Option<usize>
         requires { is_of_live test ≡ true }

@@ -1,5 +1,5 @@
 -- What became of a record at one end of the judge is what becomes of it at the half of the run that the end stands for.
-use Rattle.std.proofs.Common.{◌≡◌, ℕ, Bool, List, [], ◌∷◌, ◌++◌, drop, Some, None, Result, Ok, Err, refl, sym, ap, ◌∙◌, arith, length-append}
+use Rattle.std.proofs.Common.{◌≡◌, ℕ, ◌+◌, ◌≤◌, Bool, List, [], ◌∷◌, ◌++◌, drop, Some, None, Result, Ok, Err, refl, sym, ap, ◌∙◌, arith, length-append}
 use Rattle.std.specs.List.{slice_get}
 use Rattle.std.proofs.lemmas.List.{drop-append-le}
 use Rattle.two_nodes.specs.Nodes.{Outcome, Made, Waits, Refused, Answer, answered, concluded, stepped, stepped_sending, advance}
@@ -10,34 +10,34 @@ use Rattle.capture.specs.declared.event.Event.{Event}
 use Rattle.ddcmp_msg.specs.Reading.{reading}
 use Rattle.dna_model.specs.declared.head.Head.{Head}
 use Rattle.dna_model.specs.declared.refusal.StepRefusal.{StepRefusal}
-use Rattle.dna_model.specs.Rules.{judged}
-use Rattle.dna_model.specs.WireNode.{WireUnit, wire_sent_step, wire_user_step, wire_receives, wire_step}
-use Rattle.dna_model.specs.WireBook.{wire_tag}
+use Rattle.dna_model.specs.WireStation.{load}
+use Rattle.dna_model.specs.WireLayers.{WireLayers, LayersTag, WireLayersNode, WireLayersUnit}
+use Rattle.dna_model.specs.Machine.{does}
 use Rattle.pair_judge.specs.declared.line.Line.{Line}
 use Rattle.pair_judge.specs.declared.end.End.{End}
-use Rattle.pair_judge.specs.Unit.{unit_of}
 use Rattle.pair_judge.specs.Lines.{Shows}
-use Rattle.pair_judge.specs.Receipts.{IsReceived, came, node_at, node_of, station_move}
+use Rattle.pair_judge.specs.Receipts.{IsReceived, came, node_at, node_of, layers_move}
+use Rattle.pair_judge.specs.Steps.{IsSent, IsNotSent}
 use Rattle.pair_judge.specs.Making.{IsMade, StandsFor, move}
 use Rattle.pair_judge.specs.Summary.{counted}
-use Rattle.pair_judge.specs.Wire.{JudgeHalf, JudgeNode, JudgeStation}
+use Rattle.pair_judge.specs.Wire.{JudgeHalf, judge_machine, judge_receives, judge_sent_step, judge_step, judge_user_step}
 
 -- the state of the half
-pub state_is : (own : End) (incoming : Line) (mine : JudgeHalf) → StandsFor own incoming mine → mine.state ≡ node_of own.head own.station incoming
+pub state_is : (own : End) (incoming : Line) (mine : JudgeHalf) → StandsFor own incoming mine → mine.state ≡ node_of own.head own.layers incoming
 state_is own incoming mine stands =
     ap (λ (h : Head). node_at h mine.state.station mine.state.front) stands.head
-    ∙ ap (λ (s : JudgeStation). node_at own.head s mine.state.front) stands.station
-    ∙ ap (node_at own.head own.station) stands.front
+    ∙ ap (λ (l : WireLayers). node_at own.head l mine.state.front) stands.layers
+    ∙ ap (node_at own.head own.layers) stands.front
 
 -- the line after one more unit was sent
-pub pushed : (before after : Line) (sent : List WireUnit) (unit : WireUnit) → Shows before sent → after.gone ≡ before.gone → after.units.items ≡ before.units.items ++ unit ∷ [] → Shows after (sent ++ unit ∷ [])
+pub pushed : (before after : Line) (sent : List WireLayersUnit) (unit : WireLayersUnit) → Shows before sent → after.gone ≡ before.gone → after.units.items ≡ before.units.items ++ unit ∷ [] → Shows after (sent ++ unit ∷ [])
 pushed before after sent unit shows gone units = record {
   within = omega (arith, length-append sent (unit ∷ []), shows.within);
   rest = units ∙ ap (λ xs. xs ++ unit ∷ []) shows.rest ∙ sym (ap (λ n. drop n (sent ++ unit ∷ [])) gone ∙ drop-append-le before.gone sent (unit ∷ []) shows.within);
 }
 
 -- a line that is the same shows the same
-pub same_line : (before after : Line) (sent : List WireUnit) → after ≡ before → Shows before sent → Shows after sent
+pub same_line : (before after : Line) (sent : List WireLayersUnit) → after ≡ before → Shows before sent → Shows after sent
 same_line before after sent same shows = record {
   within = omega (arith, ap (λ (l : Line). l.gone) same, shows.within);
   rest = ap (λ (l : Line). l.units.items) same ∙ shows.rest ∙ ap (λ (l : Line). drop l.gone sent) (sym same);
@@ -45,72 +45,75 @@ same_line before after sent same shows = record {
 
 -- ---- a sending
 
-pub sending_made : (old new : End) (incoming : Line) (bytes : List ℕ) (mine theirs : JudgeHalf) → StandsFor old incoming mine → Shows incoming theirs.sent → ((head : Head) (front : ℕ) → wire_sent_step (node_at head old.station front) bytes (reading bytes) ≡ Sends (node_at head new.station front) (unit_of bytes (wire_tag old.station))) → new.line.units.items ≡ old.line.units.items ++ unit_of bytes (wire_tag old.station) ∷ [] → new.line.gone ≡ old.line.gone → new.head ≡ old.head → new.counts ≡ counted old.counts (Sent bytes) → IsMade (move old new incoming incoming) (Sent bytes) mine theirs
-sending_made old new incoming bytes mine theirs stands shows sends units gone head counts = record {
-  next = stepped_sending mine (node_of old.head new.station incoming) (unit_of bytes (wire_tag old.station));
+pub sending_made : (old new : End) (incoming : Line) (bytes : List ℕ) (mine theirs : JudgeHalf) → StandsFor old incoming mine → Shows incoming theirs.sent → IsSent old.layers new.layers old.line new.line bytes → new.line.gone ≡ old.line.gone → new.head ≡ old.head → new.counts ≡ counted old.counts (Sent bytes) → load new.layers.station ≤ load old.layers.station → IsMade (move old new incoming incoming) (Sent bytes) mine theirs
+sending_made old new incoming bytes mine theirs stands shows sent gone head counts loaded = record {
+  next = stepped_sending mine (node_of old.head new.layers incoming) sent.unit;
   step_is =
-      ap (λ (n : JudgeNode). answered mine theirs (wire_sent_step n bytes (reading bytes))) (state_is old incoming mine stands)
-      ∙ ap (answered mine theirs) (sends old.head incoming.gone);
+      ap (λ (n : WireLayersNode). answered mine theirs (judge_sent_step n bytes (reading bytes))) (state_is old incoming mine stands)
+      ∙ ap (answered mine theirs) (sent.step old.head incoming.gone);
   stands = record {
     head = sym head;
-    station = refl;
+    layers = refl;
     front = refl;
-    sent = pushed old.line new.line mine.sent (unit_of bytes (wire_tag old.station)) stands.sent gone units;
+    sent = pushed old.line new.line mine.sent sent.unit stands.sent gone sent.units;
   };
   incoming = shows;
   same_head = head;
   same_front = gone;
   counts = counts;
+  load = omega (arith, loaded);
 }
 
-pub sending_refused : (old : End) (incoming : Line) (bytes : List ℕ) (mine theirs : JudgeHalf) (refusal : StepRefusal) → StandsFor old incoming mine → ((head : Head) (front : ℕ) → wire_sent_step (node_at head old.station front) bytes (reading bytes) ≡ Refuses refusal) → advance (wire_step judged) mine theirs (Sent bytes) ≡ Refused refusal
+pub sending_refused : (old : End) (incoming : Line) (bytes : List ℕ) (mine theirs : JudgeHalf) (refusal : StepRefusal) → StandsFor old incoming mine → IsNotSent old.layers bytes refusal → advance judge_step mine theirs (Sent bytes) ≡ Refused refusal
 sending_refused old incoming bytes mine theirs refusal stands refuses =
-    ap (λ (n : JudgeNode). answered mine theirs (wire_sent_step n bytes (reading bytes))) (state_is old incoming mine stands)
+    ap (λ (n : WireLayersNode). answered mine theirs (judge_sent_step n bytes (reading bytes))) (state_is old incoming mine stands)
     ∙ ap (answered mine theirs) (refuses old.head incoming.gone)
 
 -- ---- a user event
 
-pub event_made : (old new : End) (incoming : Line) (event : Event) (mine theirs : JudgeHalf) → StandsFor old incoming mine → Shows incoming theirs.sent → ((head : Head) (front : ℕ) → wire_user_step (node_at head old.station front) event ≡ Goes (node_at head new.station front)) → new.line ≡ old.line → new.head ≡ old.head → new.counts ≡ counted old.counts (User event) → IsMade (move old new incoming incoming) (User event) mine theirs
-event_made old new incoming event mine theirs stands shows goes line head counts = record {
-  next = stepped mine (node_of old.head new.station incoming);
+pub event_made : (old new : End) (incoming : Line) (event : Event) (mine theirs : JudgeHalf) → StandsFor old incoming mine → Shows incoming theirs.sent → judge_machine.user old.layers event ≡ Ok new.layers → new.line ≡ old.line → new.head ≡ old.head → new.counts ≡ counted old.counts (User event) → load new.layers.station ≤ load old.layers.station + 1 → IsMade (move old new incoming incoming) (User event) mine theirs
+event_made old new incoming event mine theirs stands shows goes line head counts loaded = record {
+  next = stepped mine (node_of old.head new.layers incoming);
   step_is =
-      ap (λ (n : JudgeNode). answered mine theirs (wire_user_step n event)) (state_is old incoming mine stands)
-      ∙ ap (answered mine theirs) (goes old.head incoming.gone);
-  stands = record { head = sym head; station = refl; front = refl; sent = same_line old.line new.line mine.sent line stands.sent };
+      ap (λ (n : WireLayersNode). answered mine theirs (judge_user_step n event)) (state_is old incoming mine stands)
+      ∙ ap (λ (r : Result WireLayers StepRefusal). answered mine theirs (does {K = LayersTag} (node_of old.head old.layers incoming) r)) goes;
+  stands = record { head = sym head; layers = refl; front = refl; sent = same_line old.line new.line mine.sent line stands.sent };
   incoming = shows;
   same_head = head;
   same_front = ap (λ (l : Line). l.gone) line;
   counts = counts;
+  load = loaded;
 }
 
-pub event_refused : (old : End) (incoming : Line) (event : Event) (mine theirs : JudgeHalf) (refusal : StepRefusal) → StandsFor old incoming mine → ((head : Head) (front : ℕ) → wire_user_step (node_at head old.station front) event ≡ Refuses refusal) → advance (wire_step judged) mine theirs (User event) ≡ Refused refusal
+pub event_refused : (old : End) (incoming : Line) (event : Event) (mine theirs : JudgeHalf) (refusal : StepRefusal) → StandsFor old incoming mine → judge_machine.user old.layers event ≡ Err refusal → advance judge_step mine theirs (User event) ≡ Refused refusal
 event_refused old incoming event mine theirs refusal stands refuses =
-    ap (λ (n : JudgeNode). answered mine theirs (wire_user_step n event)) (state_is old incoming mine stands)
-    ∙ ap (answered mine theirs) (refuses old.head incoming.gone)
+    ap (λ (n : WireLayersNode). answered mine theirs (judge_user_step n event)) (state_is old incoming mine stands)
+    ∙ ap (λ (r : Result WireLayers StepRefusal). answered mine theirs (does {K = LayersTag} (node_of old.head old.layers incoming) r)) refuses
 
 -- ---- a receipt
 
 -- a receipt of a unit that was sent
-reads_unit : (mine theirs : JudgeHalf) (n : JudgeNode) (hint : ℕ) (kept : Bool) (bytes : List ℕ) (unit : WireUnit) (r : Result JudgeNode StepRefusal) → mine.state ≡ n → slice_get theirs.sent hint ≡ Some unit → wire_receives judged n hint kept bytes unit ≡ r → advance (wire_step judged) mine theirs (Received hint kept bytes) ≡ concluded mine r
+reads_unit : (mine theirs : JudgeHalf) (n : WireLayersNode) (hint : ℕ) (kept : Bool) (bytes : List ℕ) (unit : WireLayersUnit) (r : Result WireLayersNode StepRefusal) → mine.state ≡ n → slice_get theirs.sent hint ≡ Some unit → judge_receives n hint kept bytes unit ≡ r → advance judge_step mine theirs (Received hint kept bytes) ≡ concluded mine r
 reads_unit mine theirs n hint kept bytes unit r state was_sent receives_is =
-    ap (any.read mine (wire_receives judged mine.state hint kept bytes)) was_sent
-    ∙ ap (λ (s : JudgeNode). concluded mine (wire_receives judged s hint kept bytes unit)) state
+    ap (any.read mine (judge_receives mine.state hint kept bytes)) was_sent
+    ∙ ap (λ (s : WireLayersNode). concluded mine (judge_receives s hint kept bytes unit)) state
     ∙ ap (concluded mine) receives_is
 
-pub receipt_made : (old new : End) (before after : Line) (hint : ℕ) (kept : Bool) (bytes : List ℕ) (mine theirs : JudgeHalf) → StandsFor old before mine → IsReceived (station_move old.station new.station before after) (came hint kept bytes) theirs.sent → new.line ≡ old.line → new.head ≡ old.head → new.counts ≡ counted old.counts (Received hint kept bytes) → IsMade (move old new before after) (Received hint kept bytes) mine theirs
-receipt_made old new before after hint kept bytes mine theirs stands received line head counts = record {
-  next = stepped mine (node_of old.head new.station after);
-  step_is = reads_unit mine theirs (node_of old.head old.station before) hint kept bytes received.unit (Ok (node_of old.head new.station after)) (state_is old before mine stands) received.was_sent (received.step old.head);
-  stands = record { head = sym head; station = refl; front = refl; sent = same_line old.line new.line mine.sent line stands.sent };
+pub receipt_made : (old new : End) (before after : Line) (hint : ℕ) (kept : Bool) (bytes : List ℕ) (mine theirs : JudgeHalf) → StandsFor old before mine → IsReceived (layers_move old.layers new.layers before after) (came hint kept bytes) theirs.sent → new.line ≡ old.line → new.head ≡ old.head → new.counts ≡ counted old.counts (Received hint kept bytes) → load new.layers.station ≤ load old.layers.station + 1 → IsMade (move old new before after) (Received hint kept bytes) mine theirs
+receipt_made old new before after hint kept bytes mine theirs stands received line head counts loaded = record {
+  next = stepped mine (node_of old.head new.layers after);
+  step_is = reads_unit mine theirs (node_of old.head old.layers before) hint kept bytes received.unit (Ok (node_of old.head new.layers after)) (state_is old before mine stands) received.was_sent (received.step old.head);
+  stands = record { head = sym head; layers = refl; front = refl; sent = same_line old.line new.line mine.sent line stands.sent };
   incoming = received.shows;
   same_head = head;
   same_front = ap (λ (l : Line). l.gone) line;
   counts = counts;
+  load = loaded;
 }
 
-pub receipt_refused : (old : End) (before : Line) (hint : ℕ) (kept : Bool) (bytes : List ℕ) (mine theirs : JudgeHalf) (refusal : StepRefusal) → StandsFor old before mine → (unit : WireUnit) × (slice_get theirs.sent hint ≡ Some unit) × ((head : Head) → wire_receives judged (node_of head old.station before) hint kept bytes unit ≡ Err refusal) → advance (wire_step judged) mine theirs (Received hint kept bytes) ≡ Refused refusal
+pub receipt_refused : (old : End) (before : Line) (hint : ℕ) (kept : Bool) (bytes : List ℕ) (mine theirs : JudgeHalf) (refusal : StepRefusal) → StandsFor old before mine → (unit : WireLayersUnit) × (slice_get theirs.sent hint ≡ Some unit) × ((head : Head) → judge_receives (node_of head old.layers before) hint kept bytes unit ≡ Err refusal) → advance judge_step mine theirs (Received hint kept bytes) ≡ Refused refusal
 receipt_refused old before hint kept bytes mine theirs refusal stands fails =
-    reads_unit mine theirs (node_of old.head old.station before) hint kept bytes fails.0 (Err refusal) (state_is old before mine stands) fails.1 (fails.2 old.head)
+    reads_unit mine theirs (node_of old.head old.layers before) hint kept bytes fails.0 (Err refusal) (state_is old before mine stands) fails.1 (fails.2 old.head)
 
-pub receipt_waits : (hint : ℕ) (kept : Bool) (bytes : List ℕ) (mine theirs : JudgeHalf) → slice_get theirs.sent hint ≡ None → advance (wire_step judged) mine theirs (Received hint kept bytes) ≡ Waits
-receipt_waits hint kept bytes mine theirs not_sent = ap (any.read mine (wire_receives judged mine.state hint kept bytes)) not_sent
+pub receipt_waits : (hint : ℕ) (kept : Bool) (bytes : List ℕ) (mine theirs : JudgeHalf) → slice_get theirs.sent hint ≡ None → advance judge_step mine theirs (Received hint kept bytes) ≡ Waits
+receipt_waits hint kept bytes mine theirs not_sent = ap (any.read mine (judge_receives mine.state hint kept bytes)) not_sent

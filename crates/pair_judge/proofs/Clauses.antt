@@ -16,10 +16,8 @@ use Rattle.dna_model.specs.declared.finding.Finding.{Finding}
 use Rattle.dna_model.specs.declared.finding.Finding.TheVariants as findings
 use Rattle.dna_model.specs.declared.head.Head.{Head}
 use Rattle.dna_model.specs.declared.refusal.StationRefusal.{StationRefusal}
-use Rattle.dna_model.specs.Offered.{Delivers}
-use Rattle.dna_model.specs.Line.{SentUnit}
-use Rattle.dna_model.specs.Node.{Node}
-use Rattle.dna_model.specs.Pair.{IsRun, pair, start}
+use Rattle.dna_model.specs.Layers.{LayersNode, LayersUnit}
+use Rattle.dna_model.specs.LayersPair.{IsLayersRun, layers_pair, layers_start}
 use Rattle.dna_model.specs.Verdict.{IsVerdict, IsWrong, IsWrongOfB}
 use Rattle.pair_judge.specs.declared.judging.Found.{Found}
 use Rattle.pair_judge.specs.declared.summary.Summary.{Summary}
@@ -30,12 +28,11 @@ use Rattle.pair_judge.specs.declared.reason.Reason.{Reason}
 use Rattle.pair_judge.specs.declared.reason.Reason.TheVariants as reasons
 use Rattle.pair_judge.specs.Answer.{answer_of, verdict_of}
 use Rattle.pair_judge.specs.Heads.{head_of}
-use Rattle.pair_judge.specs.Finding.{EndsFor, EndsWhere, IsFoundIn, IsVerdictBehind, of_side}
+use Rattle.pair_judge.specs.Finding.{EndsFor, EndsWhere, IsCounted, IsFoundIn, IsVerdictBehind, of_side}
 use Rattle.pair_judge.specs.Faulty.{IsFaultyText, IsFaultyBehind, IsJudgeFault}
 use Rattle.pair_judge.specs.Reason.{reason_of}
 use Rattle.pair_judge.specs.Refusal.{AreRefused, IsRefusal, OffendsFor, WholeCapture}
-use Rattle.pair_judge.specs.Judged.{AcceptsOrFails, AreARun, IfTold, IsAcceptance, IsExact, IsFaultyWhere, IsRefusalWhere}
-use Rattle.pair_judge.specs.Summary.{summary_of}
+use Rattle.pair_judge.specs.Judged.{AcceptsOrFails, AreARun, HasDelivered, IfTold, IsAcceptance, IsExact, IsFaultyWhere, IsRefusalWhere}
 use Rattle.pair_judge.proofs.Found.{at_heads}
 
 -- the laws of whole texts
@@ -47,8 +44,8 @@ pub record WholeLaws : Type 0 where
 
 -- the laws of what was delivered in a run
 pub record RunLaws : Type 0 where
-  pub a_delivers : (head_a head_b : Head) (w : World Node SentUnit) (of_a of_b : List Record) → Run pair (start head_a head_b) of_a of_b w → Delivers w.a.state.station of_a of_b
-  pub b_delivers : (head_a head_b : Head) (w : World Node SentUnit) (of_a of_b : List Record) → Run pair (start head_a head_b) of_a of_b w → Delivers w.b.state.station of_b of_a
+  pub of_a : (head_a head_b : Head) (w : World LayersNode LayersUnit) (of_a of_b : List Record) → Run layers_pair (layers_start head_a head_b) of_a of_b w → HasDelivered w.a.state w.b.state of_a of_b
+  pub of_b : (head_a head_b : Head) (w : World LayersNode LayersUnit) (of_a of_b : List Record) → Run layers_pair (layers_start head_a head_b) of_a of_b w → HasDelivered w.b.state w.a.state of_b of_a
 
 -- ---- of two known texts of captures
 
@@ -64,7 +61,7 @@ verdict_on laws bytes_a bytes_b head_a head_b of_a of_b read_a read_b finding is
     let y = laws.goes_on bytes_b head_b.own head_b.peer of_b read_b is_b from_b in
     at_heads (head_of read_a) (head_of read_b) head_a head_b of_a of_b finding (same_head head_a read_a x.0 x.1) (same_head head_b read_b y.0 y.1) (verdict of_a of_b x.2 y.2)
 
-no_run : (head_a head_b : Head) (of_a of_b : List Record) (side : Side) (place : ℕ) (cause : Cause) → IsVerdict head_a head_b of_a of_b (findings.Refused side place cause) → ¬ IsRun head_a head_b of_a of_b
+no_run : (head_a head_b : Head) (of_a of_b : List Record) (side : Side) (place : ℕ) (cause : Cause) → IsVerdict head_a head_b of_a of_b (findings.Refused side place cause) → ¬ IsLayersRun head_a head_b of_a of_b
 no_run head_a head_b of_a of_b A place cause v = v.0
 no_run head_a head_b of_a of_b B place cause v = v.0
 
@@ -76,7 +73,7 @@ exact_of_found laws (Some bytes_a) None found f = tt
 exact_of_found laws (Some bytes_a) (Some bytes_b) found f = λ head_a head_b of_a of_b is_a is_b run.
     by_finding found.finding found.summary head_a head_b of_a of_b run (verdict_on laws bytes_a bytes_b head_a head_b of_a of_b f.read_a f.read_b found.finding is_a is_b f.from_a f.from_b f.verdict)
   where
-    by_finding : (finding : Finding) (summary : Summary) (head_a head_b : Head) (of_a of_b : List Record) → IsRun head_a head_b of_a of_b → IsVerdict head_a head_b of_a of_b finding → AcceptsOrFails (Ok (answer_of finding summary))
+    by_finding : (finding : Finding) (summary : Summary) (head_a head_b : Head) (of_a of_b : List Record) → IsLayersRun head_a head_b of_a of_b → IsVerdict head_a head_b of_a of_b finding → AcceptsOrFails (Ok (answer_of finding summary))
     by_finding findings.Accepted summary head_a head_b of_a of_b run v = tt
     by_finding (findings.Refused side place cause) summary head_a head_b of_a of_b run v = no_run head_a head_b of_a of_b side place cause v run
 
@@ -111,33 +108,31 @@ read_whole laws bytes read from is =
     laws.ended bytes read.own read.peer read.records (subst (λ (b : Behind). IsReadSoFar (Some bytes) (so_far read.own read.peer read.records b)) is from)
 
 module _ (laws : WholeLaws) (runs : RunLaws) (bytes_a bytes_b : List ℕ) (read_a read_b : ReadSoFar) (from_a : IsReadSoFar (Some bytes_a) read_a) (from_b : IsReadSoFar (Some bytes_b) read_b) where
-  are_a_run : (summary : Summary) → IsVerdictBehind read_a read_b findings.Accepted → read_a.behind ≡ TheEnd → read_b.behind ≡ TheEnd → summary.a ≡ summary_of read_a.records → summary.b ≡ summary_of read_b.records → AreARun bytes_a bytes_b summary
-  are_a_run summary verdict end_a end_b counts_a counts_b =
-      let run : IsRun (head_of read_a) (head_of read_b) read_a.records read_b.records = verdict read_a.records read_b.records (goes_nowhere read_a) (goes_nowhere read_b) in
-      record {
-        own_a = read_a.own;
-        peer_a = read_a.peer;
-        of_a = read_a.records;
-        own_b = read_b.own;
-        peer_b = read_b.peer;
-        of_b = read_b.records;
-        is_text_a = read_whole laws bytes_a read_a from_a end_a;
-        is_text_b = read_whole laws bytes_b read_b from_b end_b;
-        run = run;
-        delivers_a = runs.a_delivers (head_of read_a) (head_of read_b) run.0 read_a.records read_b.records run.1;
-        delivers_b = runs.b_delivers (head_of read_a) (head_of read_b) run.0 read_a.records read_b.records run.1;
-        counts_a = counts_a;
-        counts_b = counts_b;
-      }
+  are_a_run : (summary : Summary) → read_a.behind ≡ TheEnd → read_b.behind ≡ TheEnd → IsCounted (head_of read_a) (head_of read_b) read_a.records read_b.records summary → AreARun bytes_a bytes_b summary
+  are_a_run summary end_a end_b counted = record {
+    own_a = read_a.own;
+    peer_a = read_a.peer;
+    of_a = read_a.records;
+    own_b = read_b.own;
+    peer_b = read_b.peer;
+    of_b = read_b.records;
+    is_text_a = read_whole laws bytes_a read_a from_a end_a;
+    is_text_b = read_whole laws bytes_b read_b from_b end_b;
+    run = counted.run;
+    delivers_a = runs.of_a (head_of read_a) (head_of read_b) counted.run.0 read_a.records read_b.records counted.run.1;
+    delivers_b = runs.of_b (head_of read_a) (head_of read_b) counted.run.0 read_a.records read_b.records counted.run.1;
+    counts_a = counted.counts_a;
+    counts_b = counted.counts_b;
+  }
 
-  accepted_by : (finding : Finding) (summary : Summary) → IsVerdictBehind read_a read_b finding → EndsWhere finding read_a.behind read_b.behind → (finding ≡ findings.Accepted → (summary.a ≡ summary_of read_a.records) × (summary.b ≡ summary_of read_b.records)) → IsAcceptance bytes_a bytes_b (Ok (answer_of finding summary))
-  accepted_by findings.Accepted summary verdict ends counts = are_a_run summary verdict ends.0 ends.1 (counts refl).0 (counts refl).1
-  accepted_by (findings.Refused side place cause) summary verdict ends counts = tt
+  accepted_by : (finding : Finding) (summary : Summary) → EndsWhere finding read_a.behind read_b.behind → (finding ≡ findings.Accepted → IsCounted (head_of read_a) (head_of read_b) read_a.records read_b.records summary) → IsAcceptance bytes_a bytes_b (Ok (answer_of finding summary))
+  accepted_by findings.Accepted summary ends counts = are_a_run summary ends.0 ends.1 (counts refl)
+  accepted_by (findings.Refused side place cause) summary ends counts = tt
 
 pub accepted_of_found : (laws : WholeLaws) (runs : RunLaws) (text_a text_b : Option (List ℕ)) (found : Found) → IsFoundIn text_a text_b found → IfTold text_a text_b (λ bytes_a bytes_b. IsAcceptance bytes_a bytes_b (Ok (verdict_of found)))
 accepted_of_found laws runs None text_b found f = tt
 accepted_of_found laws runs (Some bytes_a) None found f = tt
-accepted_of_found laws runs (Some bytes_a) (Some bytes_b) found f = accepted_by laws runs bytes_a bytes_b f.read_a f.read_b f.from_a f.from_b found.finding found.summary f.verdict f.ends f.counts
+accepted_of_found laws runs (Some bytes_a) (Some bytes_b) found f = accepted_by laws runs bytes_a bytes_b f.read_a f.read_b f.from_a f.from_b found.finding found.summary f.ends f.counts
 
 pub accepted_of_fault : (text_a text_b : Option (List ℕ)) (fault : JudgeFault) → IfTold text_a text_b (λ bytes_a bytes_b. IsAcceptance bytes_a bytes_b (Err fault))
 accepted_of_fault None text_b fault = tt
@@ -147,19 +142,19 @@ accepted_of_fault (Some bytes_a) (Some bytes_b) fault = tt
 -- ---- refused
 
 -- the named record is there
-is_wrong_within : (start : World Node SentUnit) (own other : List Record) (place : ℕ) (cause : Cause) → IsWrong start own other place cause → place < length own
+is_wrong_within : (start : World LayersNode LayersUnit) (own other : List Record) (place : ℕ) (cause : Cause) → IsWrong start own other place cause → place < length own
 is_wrong_within start own other place (Step refusal) w = slice_get_within own place w.offender w.place
 is_wrong_within start own other place NoSuchUnit w = slice_get_within own place w.missing.waiting w.missing.is_here
 is_wrong_within start own other place NoOrder w = slice_get_within own place w.1.missing_a.waiting w.1.missing_a.is_here
 
-is_wrong_within_b : (start : World Node SentUnit) (own other : List Record) (place : ℕ) (cause : Cause) → IsWrongOfB start own other place cause → place < length own
+is_wrong_within_b : (start : World LayersNode LayersUnit) (own other : List Record) (place : ℕ) (cause : Cause) → IsWrongOfB start own other place cause → place < length own
 is_wrong_within_b start own other place (Step refusal) w = is_wrong_within start own other place (Step refusal) w
 is_wrong_within_b start own other place NoSuchUnit w = is_wrong_within start own other place NoSuchUnit w
 is_wrong_within_b start own other place NoOrder w = absurd w
 
 named_within : (head_a head_b : Head) (of_a of_b : List Record) (side : Side) (place : ℕ) (cause : Cause) → IsVerdict head_a head_b of_a of_b (findings.Refused side place cause) → place < length (of_side side of_a of_b)
-named_within head_a head_b of_a of_b A place cause v = is_wrong_within (start head_a head_b) of_a of_b place cause v.1
-named_within head_a head_b of_a of_b B place cause v = is_wrong_within_b (start head_b head_a) of_b of_a place cause v.1
+named_within head_a head_b of_a of_b A place cause v = is_wrong_within (layers_start head_a head_b) of_a of_b place cause v.1
+named_within head_a head_b of_a of_b B place cause v = is_wrong_within_b (layers_start head_b head_a) of_b of_a place cause v.1
 
 ends_for : (side : Side) (place : ℕ) (cause : Cause) (behind_a behind_b : Behind) → EndsWhere (findings.Refused side place cause) behind_a behind_b → EndsFor cause (of_side (other_side side) behind_a behind_b)
 ends_for A place cause behind_a behind_b ends = ends

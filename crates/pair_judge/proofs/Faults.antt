@@ -8,7 +8,7 @@ use Rattle.capture.specs.declared.record.Record.{Record}
 use Rattle.capture.specs.Departing.{HeadDeparts}
 use Rattle.capture.specs.Reader.{FaultShows}
 use Rattle.dna_model.specs.declared.head.Head.{Head}
-use Rattle.dna_model.specs.Pair.{IsRun}
+use Rattle.dna_model.specs.LayersPair.{IsLayersRun}
 use Rattle.pair_judge.specs.declared.course.Ahead.{Ahead}
 use Rattle.pair_judge.specs.declared.course.Ahead.TheVariants.{Unread}
 use Rattle.pair_judge.specs.Heads.{head_of}
@@ -22,11 +22,11 @@ all_made : (bytes : List ℕ) (ahead : Ahead) (made : List Record) → ahead ≡
 all_made bytes ahead made is = sym (ap (λ (x : Ahead). made ++ waiting bytes x) is ∙ append-nil made)
 
 -- the run so far, with the heads that were read
-run_of_heads : (a b : Track) → IsRead a → IsRead b → IsRun a.course.end.head b.course.end.head a.made b.made → IsRun (head_of (read_of a)) (head_of (read_of b)) a.made b.made
+run_of_heads : (a b : Track) → IsRead a → IsRead b → IsLayersRun a.course.end.head b.course.end.head a.made b.made → IsLayersRun (head_of (read_of a)) (head_of (read_of b)) a.made b.made
 run_of_heads a b read_a read_b run =
-    subst (λ (h : Head). IsRun (head_of (read_of a)) h a.made b.made) read_b.head (subst (λ (h : Head). IsRun h b.course.end.head a.made b.made) read_a.head run)
+    subst (λ (h : Head). IsLayersRun (head_of (read_of a)) h a.made b.made) read_b.head (subst (λ (h : Head). IsLayersRun h b.course.end.head a.made b.made) read_a.head run)
 
-module _ (a b : Track) (read_a : IsRead a) (read_b : IsRead b) (run : IsRun a.course.end.head b.course.end.head a.made b.made) where
+module _ (a b : Track) (read_a : IsRead a) (read_b : IsRead b) (run : IsLayersRun a.course.end.head b.course.end.head a.made b.made) where
   pub a_faulty : (fault : CaptureFault) → IsFaultOf a fault → IsJudgeFault a.text b.text (side_fault_of A fault)
   a_faulty (Departs kind line) is = inr (record {
     read_a = read_of a;

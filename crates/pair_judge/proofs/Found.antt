@@ -17,7 +17,12 @@ use Rattle.pair_judge.specs.declared.course.Ahead.TheVariants.{Unread, Waits, En
 use Rattle.pair_judge.specs.declared.course.Course.{Course}
 use Rattle.pair_judge.specs.Course.{IsRead, Track, behind, having_made, read_of, waiting, IsWaiting}
 use Rattle.pair_judge.specs.Finding.{EndsWhere}
-use Rattle.pair_judge.specs.Reached.{HasReached, IsFound}
+use Rattle.dna_model.specs.Layers.{LayersNode}
+use Rattle.dna_model.specs.WireLayers.{WireLayers}
+use Rattle.pair_judge.specs.declared.end.End.{End}
+use Rattle.pair_judge.specs.declared.summary.SideSummary.{SideSummary}
+use Rattle.pair_judge.specs.Reached.{HasReached, HasRun, IsFound}
+use Rattle.pair_judge.specs.Summary.{counts_of, summary_at, summary_of, summary_with}
 
 -- ---- what goes on behind what was read
 
@@ -139,16 +144,30 @@ module _ (a b : Track) (head_a head_b : Head) (same_a : a.course.end.head ≡ he
     counts = λ e. cc;
   }
 
-  -- both have ended
-  pub both_ended : IsVerdict head_a head_b a.made b.made Accepted → IsRead a → IsRead b → a.course.ahead ≡ Ended → b.course.ahead ≡ Ended → HasReached a.course.end b.course.end a.made b.made → IsFound a b Accepted
-  both_ended law read_a read_b ahead_a ahead_b reached = record {
+-- both have ended
+module _ (a b : Track) (reached : HasReached a.course.end b.course.end a.made b.made) (law : HasRun a.course.end.head b.course.end.head reached.world a.made b.made) where
+  counted_at : (end : End) (n : LayersNode) (links : ℕ) (made : List Record) → end.counts ≡ counts_of made → length end.layers.links.links ≡ links → links ≡ length n.station.links.links → summary_at end ≡ summary_of n made
+  counted_at end n links made counts there here =
+      ap (λ (s : SideSummary). record s { links = length end.layers.links.links }) counts ∙ ap (λ (k : ℕ). summary_with k made) (there ∙ here)
+
+  links_of : (l k : WireLayers) → l ≡ k → length k.links.links ≡ length l.links.links
+  links_of l k is = ap (λ (x : WireLayers). length x.links.links) (sym is)
+
+  pub both_ended : IsRead a → IsRead b → a.course.ahead ≡ Ended → b.course.ahead ≡ Ended → IsFound a b Accepted
+  both_ended read_a read_b ahead_a ahead_b = record {
     made_a = a.made;
     made_b = b.made;
     read_a = read_a;
     read_b = read_b;
-    verdict = λ all_a all_b goes_a goes_b. verdict_at all_a all_b a.made b.made Accepted (goes_ended a a.made all_a ahead_a goes_a) (goes_ended b b.made all_b ahead_b goes_b) law;
+    verdict = λ all_a all_b goes_a goes_b.
+        subst (λ (of_a : List Record). IsVerdict a.course.end.head b.course.end.head of_a all_b Accepted) (sym (goes_ended a a.made all_a ahead_a goes_a))
+        (subst (λ (of_b : List Record). IsVerdict a.course.end.head b.course.end.head a.made of_b Accepted) (sym (goes_ended b b.made all_b ahead_b goes_b)) law.run);
     ends = (at_the_end a.course.ahead a.come ahead_a, at_the_end b.course.ahead b.come ahead_b);
-    counts = λ e. (reached.counts_a, reached.counts_b);
+    counts = λ e. record {
+      run = law.run;
+      counts_a = counted_at a.course.end law.run.0.a.state (length reached.world.a.state.station.links.links) a.made reached.counts_a (links_of _ _ reached.stands_a.layers) law.links_a;
+      counts_b = counted_at b.course.end law.run.0.b.state (length reached.world.b.state.station.links.links) b.made reached.counts_b (links_of _ _ reached.stands_b.layers) law.links_b;
+    };
   }
 
 -- the place that is named is this one

@@ -1,5 +1,8 @@
 pub mod Sent
 pub mod Comes
+pub mod Packets
+pub mod Arrives
+pub mod Events
 pub mod Advances
 pub mod Courses
 pub mod Turns

@@ -2,7 +2,7 @@
 use Rattle.std.proofs.Common.{◌≡◌, ℕ, zero, suc, ◌+◌, ◌-◌, ◌<◌, ◌≤◌, Some, List, [], ◌∷◌, length, drop, refl, sym, ap, ◌∙◌, arith, zero-add}
 use Rattle.std.specs.List.{slice_get}
 use Rattle.std.proofs.lemmas.List.{drop-drop}
-use Rattle.dna_model.specs.WireNode.{WireUnit}
+use Rattle.dna_model.specs.WireLayers.{WireLayersUnit}
 use Rattle.pair_judge.specs.declared.line.Line.{Line}
 use Rattle.pair_judge.specs.Lines.{Shows}
 
@@ -14,13 +14,13 @@ slice_get-drop (suc n) k (x ∷ xs) =
     let e : suc (n + k) ≡ suc n + k = omega arith in slice_get-drop n k xs ∙ ap (slice_get (x ∷ xs)) e
 
 -- a unit that can still come is where the line holds it
-pub held_at : (line : Line) (sent : List WireUnit) (hint : ℕ) → Shows line sent → line.gone ≤ hint → slice_get line.units.items (hint - line.gone) ≡ slice_get sent hint
+pub held_at : (line : Line) (sent : List WireLayersUnit) (hint : ℕ) → Shows line sent → line.gone ≤ hint → slice_get line.units.items (hint - line.gone) ≡ slice_get sent hint
 held_at line sent hint shows at_least =
     let e : line.gone + (hint - line.gone) ≡ hint = omega arith in
     ap (λ xs. slice_get xs (hint - line.gone)) shows.rest ∙ slice_get-drop line.gone (hint - line.gone) sent ∙ ap (slice_get sent) e
 
 -- the line after a unit came
-pub released : (before after : Line) (sent : List WireUnit) (hint : ℕ) → Shows before sent → before.gone ≤ hint → hint < length sent → after.gone ≡ hint + 1 → after.units.items ≡ drop (hint + 1 - before.gone) before.units.items → Shows after sent
+pub released : (before after : Line) (sent : List WireLayersUnit) (hint : ℕ) → Shows before sent → before.gone ≤ hint → hint < length sent → after.gone ≡ hint + 1 → after.units.items ≡ drop (hint + 1 - before.gone) before.units.items → Shows after sent
 released before after sent hint shows at_least was_sent gone units =
     let e : before.gone + (hint + 1 - before.gone) ≡ after.gone = omega arith in
     record {

@@ -1,5 +1,5 @@
 -- Two sides whose heads have been read, and what holds of the two between turns.
-use Rattle.std.proofs.Common.{◌≡◌, ℕ, ◌+◌, ◌≤◌, List, [], ◌++◌, length, drop, Option, refl, sym, ap, subst, ◌∙◌, arith, append-nil, length-append}
+use Rattle.std.proofs.Common.{◌≡◌, ℕ, ◌+◌, ◌≤◌, List, [], ◌++◌, length, drop, Option, refl, sym, ap, ap₂, subst, ◌∙◌, arith, append-nil, length-append}
 use Rattle.std.proofs.lemmas.List.Sums.{count_by-le-length}
 use Rattle.capture.specs.declared.limit.TheConstants.{MAX_RECORDS}
 use Rattle.capture.specs.SoFar.{TheEnd}
@@ -10,12 +10,17 @@ use Rattle.pair_judge.specs.declared.course.Ahead.{Ahead}
 use Rattle.pair_judge.specs.declared.course.Ahead.TheVariants.{Unread, Waits, Ended}
 use Rattle.pair_judge.specs.declared.judging.Found.{Found}
 use Rattle.pair_judge.specs.declared.summary.SideSummary.{SideSummary}
-use Rattle.pair_judge.specs.Counting.{is_received, is_damaged, is_kept, is_start}
-use Rattle.pair_judge.specs.Finding.{EndsWhere, IsFoundIn}
-use Rattle.pair_judge.specs.Summary.{summary_of, HasRoom}
+use Rattle.pair_judge.specs.Counting.{is_received, is_damaged, is_kept, is_start, is_delivery}
+use Rattle.pair_judge.specs.Finding.{EndsWhere, IsCounted, IsFoundIn}
+use Rattle.pair_judge.specs.Summary.{counts_of, summary_at, HasRoom, HasRoomFor}
 use Rattle.pair_judge.proofs.Found.{at_heads}
 use Rattle.two_nodes.specs.Nodes.{Done}
-use Rattle.dna_model.specs.WireNode.{WireUnit, new_wire_node}
+use Rattle.dna_model.specs.declared.head.Head.{Head}
+use Rattle.dna_model.specs.WireStation.{load}
+use Rattle.dna_model.specs.WireLayers.{WireLayers, WireLayersUnit, new_wire_layers_node, wire_layers_start}
+use Rattle.pair_judge.specs.declared.summary.Summary.{Summary}
+use Rattle.pair_judge.specs.declared.end.End.{End}
+use Rattle.pair_judge.specs.Heads.{head_of}
 use Rattle.capture.specs.declared.record.Record.{Record}
 use Rattle.pair_judge.specs.declared.course.Course.{Course}
 use Rattle.pair_judge.specs.declared.line.Line.{Line}
@@ -24,7 +29,6 @@ use Rattle.pair_judge.specs.Lines.{Shows}
 use Rattle.pair_judge.specs.Making.{StandsFor}
 use Rattle.pair_judge.specs.Reached.{IsFound, IsUnderWay}
 use Rattle.pair_judge.specs.Opened.{OpensAt}
-use Rattle.pair_judge.specs.Wire.{judge_start}
 
 -- as many records are made as turns were taken
 pub record HasTaken (a b : Track) (turns : ℕ) : Type 0 where
@@ -38,16 +42,19 @@ pub record HasTaken (a b : Track) (turns : ℕ) : Type 0 where
 nothing_sent : (line : Line) → line.gone ≡ 0 → line.units.items ≡ [] → Shows line []
 nothing_sent line gone units = record {
   within = omega (arith, gone);
-  rest = units ∙ sym (subst (λ (n : ℕ). drop {A = WireUnit} n [] ≡ []) (sym gone) refl);
+  rest = units ∙ sym (subst (λ (n : ℕ). drop {A = WireLayersUnit} n [] ≡ []) (sym gone) refl);
 }
 
-stands : (text_own text_other : Option (List ℕ)) (own other : Course) (come_own come_other : Option (List ℕ)) → OpensAt text_own own come_own → OpensAt text_other other come_other → StandsFor own.end other.end.line (record { state = new_wire_node own.end.head; sent = [] })
+stands : (text_own text_other : Option (List ℕ)) (own other : Course) (come_own come_other : Option (List ℕ)) → OpensAt text_own own come_own → OpensAt text_other other come_other → StandsFor own.end other.end.line (record { state = new_wire_layers_node own.end.head; sent = [] })
 stands text_own text_other own other come_own come_other o p = record {
   head = refl;
-  station = sym o.station;
+  layers = sym o.layers;
   front = sym p.gone;
   sent = nothing_sent own.end.line o.gone o.units;
 }
+
+no_load : (course : Course) → course.end.layers ≡ (new_wire_layers_node course.end.head).station → load course.end.layers.station ≤ 0
+no_load course is = subst (λ (l : WireLayers). load l.station ≤ 0) (sym is) (omega arith)
 
 pub started : (text_a text_b : Option (List ℕ)) (a b : Course) (come_a come_b : Option (List ℕ)) → OpensAt text_a a come_a → OpensAt text_b b come_b → HasTaken (along text_a a come_a []) (along text_b b come_b []) 0
 started text_a text_b a b come_a come_b o p = record {
@@ -57,12 +64,14 @@ started text_a text_b a b come_a come_b o p = record {
     read_a = o.read;
     read_b = p.read;
     reached = record {
-      world = judge_start a.end.head b.end.head;
+      world = wire_layers_start a.end.head b.end.head;
       run = Done;
       stands_a = stands text_a text_b a b come_a come_b o p;
       stands_b = stands text_b text_a b a come_b come_a p o;
       counts_a = o.counts;
       counts_b = p.counts;
+      load_a = no_load a o.layers;
+      load_b = no_load b p.layers;
     };
   };
   count = refl;
@@ -72,8 +81,17 @@ started text_a text_b a b come_a come_b o p = record {
 
 -- ---- at the end
 
+-- the same of the same heads, records and counts
+counted_so : {head_a head_b head_a' head_b' : Head} {of_a of_b of_a' of_b' : List Record} {summary summary' : Summary} → head_a ≡ head_a' → head_b ≡ head_b' → of_a ≡ of_a' → of_b ≡ of_b' → summary ≡ summary' → IsCounted head_a head_b of_a of_b summary → IsCounted head_a' head_b' of_a' of_b' summary'
+counted_so {head_a} {head_b} {head_a'} {head_b'} {of_a} {of_b} {of_a'} {of_b'} {summary} same_a same_b all_a all_b is counts =
+    subst (λ (s : Summary). IsCounted head_a' head_b' of_a' of_b' s) is
+    (subst (λ (ys : List Record). IsCounted head_a' head_b' of_a' ys summary) all_b
+    (subst (λ (xs : List Record). IsCounted head_a' head_b' xs of_b summary) all_a
+    (subst (λ (h : Head). IsCounted head_a' h of_a of_b summary) same_b
+    (subst (λ (h : Head). IsCounted h head_b of_a of_b summary) same_a counts))))
+
 -- a finding of the turn is one of the two texts
-pub found_in : (a b : Track) (found : Found) → IsFound a b found.finding → found.summary.a ≡ a.course.end.counts → found.summary.b ≡ b.course.end.counts → IsFoundIn a.text b.text found
+pub found_in : (a b : Track) (found : Found) → IsFound a b found.finding → found.summary.a ≡ summary_at a.course.end → found.summary.b ≡ summary_at b.course.end → IsFoundIn a.text b.text found
 found_in a b found f counts_a counts_b = record {
   read_a = read_of (having_made a f.made_a);
   read_b = read_of (having_made b f.made_b);
@@ -92,22 +110,24 @@ found_in a b found f counts_a counts_b = record {
         by_ahead (Waits entry) e = absurd (cc)
         by_ahead Ended e = sym (append-nil made)
 
-    counted : found.finding ≡ Accepted → EndsWhere found.finding (read_of a).behind (read_of b).behind → (a.course.end.counts ≡ summary_of f.made_a) × (b.course.end.counts ≡ summary_of f.made_b)
-        → (found.summary.a ≡ summary_of (f.made_a ++ waiting a.course.capture.bytes a.course.ahead)) × (found.summary.b ≡ summary_of (f.made_b ++ waiting b.course.capture.bytes b.course.ahead))
+    counted : found.finding ≡ Accepted → EndsWhere found.finding (read_of a).behind (read_of b).behind → IsCounted a.course.end.head b.course.end.head f.made_a f.made_b (record { a = summary_at a.course.end; b = summary_at b.course.end })
+        → IsCounted (head_of (read_of (having_made a f.made_a))) (head_of (read_of (having_made b f.made_b))) (f.made_a ++ waiting a.course.capture.bytes a.course.ahead) (f.made_b ++ waiting b.course.capture.bytes b.course.ahead) found.summary
     counted is ends counts =
         let both = subst (λ (finding : Finding). EndsWhere finding (read_of a).behind (read_of b).behind) is ends in
-        (counts_a ∙ counts.0 ∙ ap summary_of (nothing_waits a f.made_a both.0), counts_b ∙ counts.1 ∙ ap summary_of (nothing_waits b f.made_b both.1))
+        counted_so f.read_a.head f.read_b.head (nothing_waits a f.made_a both.0) (nothing_waits b f.made_b both.1) (sym (ap₂ (λ (x y : SideSummary). record { a = x; b = y }) counts_a counts_b)) counts
 
 -- ---- room
 
-pub has_room : (s : SideSummary) (made : List Record) → s ≡ summary_of made → length made ≤ MAX_RECORDS → HasRoom s
-has_room s made e few =
+pub has_room : (end : End) (made : List Record) → end.counts ≡ counts_of made → load end.layers.station ≤ length made → length made ≤ MAX_RECORDS → HasRoom end
+has_room end made e loaded few =
     let sent = count_by-le-length is_sent made in
     let received = count_by-le-length is_received made in
     let damaged = count_by-le-length is_damaged made in
     let kept = count_by-le-length is_kept made in
     let periods = count_by-le-length is_start made in
-    rw e (record { records = omega arith; sent = omega arith; received = omega arith; damaged = omega arith; kept = omega arith; periods = omega arith })
+    let up = count_by-le-length is_delivery made in
+    let room : HasRoomFor (counts_of made) = record { records = omega arith; sent = omega arith; received = omega arith; damaged = omega arith; kept = omega arith; periods = omega arith; up = omega arith } in
+    record { counts = subst (λ (s : SideSummary). HasRoomFor s) (sym e) room; station = omega arith }
 
 pub few_made : (t : Track) → IsRead t → length t.made ≤ MAX_RECORDS
 few_made t h = omega (arith, h.so_far.fits.few, length-append t.made (waiting t.course.capture.bytes t.course.ahead))

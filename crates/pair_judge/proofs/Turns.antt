@@ -1,5 +1,5 @@
 -- What one record does to the world that both sides of the judge stand for.
-use Rattle.std.proofs.Common.{◌≡◌, ℕ, ◌+◌, Bool, true, false, cond, List, [], ◌∷◌, ◌++◌, length, Option, refl, sym, ap, subst, ◌∙◌, arith, length-append, count_by}
+use Rattle.std.proofs.Common.{◌≡◌, ℕ, ◌+◌, ◌≤◌, Bool, true, false, cond, List, [], ◌∷◌, ◌++◌, length, Option, refl, sym, ap, subst, ◌∙◌, arith, length-append, count_by}
 use Rattle.std.proofs.lemmas.List.Sums.{sum_by_push}
 use Rattle.two_nodes.specs.Nodes.{Run}
 use Rattle.capture.specs.declared.record.Record.{Record}
@@ -8,14 +8,16 @@ use Rattle.dna_model.specs.Machine.{is_sent}
 use Rattle.pair_judge.specs.declared.line.Line.{Line}
 use Rattle.pair_judge.specs.declared.end.End.{End}
 use Rattle.pair_judge.specs.declared.summary.SideSummary.{SideSummary}
-use Rattle.pair_judge.specs.Counting.{is_received, is_damaged, is_kept, is_start, more_if}
-use Rattle.pair_judge.specs.Summary.{summary_of, counted}
+use Rattle.dna_model.specs.WireStation.{load}
+use Rattle.dna_model.specs.WireLayers.{WireLayers, wire_layers_pair, wire_layers_start}
+use Rattle.pair_judge.specs.Counting.{is_received, is_damaged, is_kept, is_start, is_delivery, more_if}
+use Rattle.pair_judge.specs.Summary.{counts_of, counted}
 use Rattle.pair_judge.specs.Making.{IsMade, Move, StandsFor, move}
 use Rattle.pair_judge.specs.Lines.{Shows}
 use Rattle.pair_judge.specs.declared.course.Course.{Course}
 use Rattle.pair_judge.specs.Course.{IsBlocked, IsRead, MayRead, Track, WaitsAt, along}
 use Rattle.pair_judge.specs.Reached.{HasReached, IsHeldUp}
-use Rattle.pair_judge.specs.Wire.{JudgeWorld, JudgeHalf, judge_pair, judge_start}
+use Rattle.pair_judge.specs.Wire.{JudgeWorld, JudgeHalf}
 
 -- ---- counts
 
@@ -26,14 +28,15 @@ more_is false n = omega arith
 count_by-push : (p : Record → Bool) (rs : List Record) (r : Record) → count_by p (rs ++ r ∷ []) ≡ more_if (p r) (count_by p rs)
 count_by-push p rs r = sum_by_push (λ x. cond (p x) 1 0) rs r ∙ more_is (p r) (count_by p rs)
 
-pub summary_of-push : (rs : List Record) (r : Record) → summary_of (rs ++ r ∷ []) ≡ counted (summary_of rs) r
-summary_of-push rs r =
+pub counts_of-push : (rs : List Record) (r : Record) → counts_of (rs ++ r ∷ []) ≡ counted (counts_of rs) r
+counts_of-push rs r =
     let records : length (rs ++ r ∷ []) ≡ length rs + 1 = length-append rs (r ∷ []) in
     let sent = count_by-push is_sent rs r in
     let received = count_by-push is_received rs r in
     let damaged = count_by-push is_damaged rs r in
     let kept = count_by-push is_kept rs r in
     let periods = count_by-push is_start rs r in
+    let up = count_by-push is_delivery rs r in
     cc
 
 -- ---- a side made its next record
@@ -41,46 +44,50 @@ summary_of-push rs r =
 -- `incoming` led to the side that made it
 pub record IsSame (old new : End) (after : Line) : Type 0 where
   pub head : new.head ≡ old.head
-  pub station : new.station ≡ old.station
+  pub layers : new.layers ≡ old.layers
   pub counts : new.counts ≡ old.counts
   pub line : new.line ≡ after
 
 -- a run from the start with the heads of these ends
-started_so : (a b a' b' : End) {made_a made_b : List Record} {w : JudgeWorld} → a'.head ≡ a.head → b'.head ≡ b.head → Run judge_pair (judge_start a.head b.head) made_a made_b w → Run judge_pair (judge_start a'.head b'.head) made_a made_b w
+started_so : (a b a' b' : End) {made_a made_b : List Record} {w : JudgeWorld} → a'.head ≡ a.head → b'.head ≡ b.head → Run wire_layers_pair (wire_layers_start a.head b.head) made_a made_b w → Run wire_layers_pair (wire_layers_start a'.head b'.head) made_a made_b w
 started_so a b a' b' {made_a} {made_b} {w} same_a same_b run =
-    subst (λ (h : Head). Run judge_pair (judge_start h b'.head) made_a made_b w) (sym same_a) (subst (λ (h : Head). Run judge_pair (judge_start a.head h) made_a made_b w) (sym same_b) run)
+    subst (λ (h : Head). Run wire_layers_pair (wire_layers_start h b'.head) made_a made_b w) (sym same_a) (subst (λ (h : Head). Run wire_layers_pair (wire_layers_start a.head h) made_a made_b w) (sym same_b) run)
 
 -- the other side stands for the same half
 pub stands_on : (own own' other other' : End) (after : Line) (r : Record) (mine theirs : JudgeHalf) → StandsFor other own.line theirs → IsMade (move own own' other.line after) r mine theirs → IsSame other other' after → StandsFor other' own'.line theirs
 stands_on own own' other other' after r mine theirs stands made same = record {
   head = stands.head ∙ sym same.head;
-  station = stands.station ∙ sym same.station;
+  layers = stands.layers ∙ sym same.layers;
   front = stands.front ∙ sym made.same_front;
   sent = rw same.line made.incoming;
 }
 
-pub reached_by_a : (a a' b b' : End) (after : Line) (made_a made_b : List Record) (r : Record) → (h : HasReached a b made_a made_b) → (m : IsMade (move a a' b.line after) r h.world.a h.world.b) → IsSame b b' after → Run judge_pair (judge_start a.head b.head) (made_a ++ r ∷ []) made_b (record { a = m.next; b = h.world.b }) → HasReached a' b' (made_a ++ r ∷ []) made_b
+pub reached_by_a : (a a' b b' : End) (after : Line) (made_a made_b : List Record) (r : Record) → (h : HasReached a b made_a made_b) → (m : IsMade (move a a' b.line after) r h.world.a h.world.b) → IsSame b b' after → Run wire_layers_pair (wire_layers_start a.head b.head) (made_a ++ r ∷ []) made_b (record { a = m.next; b = h.world.b }) → HasReached a' b' (made_a ++ r ∷ []) made_b
 reached_by_a a a' b b' after made_a made_b r h m same run = record {
   world = record { a = m.next; b = h.world.b };
   run = started_so a b a' b' m.same_head same.head run;
   stands_a = rw same.line m.stands;
   stands_b = stands_on a a' b b' after r h.world.a h.world.b h.stands_b m same;
-  counts_a = m.counts ∙ ap (λ (s : SideSummary). counted s r) h.counts_a ∙ sym (summary_of-push made_a r);
+  counts_a = m.counts ∙ ap (λ (s : SideSummary). counted s r) h.counts_a ∙ sym (counts_of-push made_a r);
   counts_b = same.counts ∙ h.counts_b;
+  load_a = omega (arith, m.load, h.load_a, length-append made_a (r ∷ []));
+  load_b = subst (λ (l : WireLayers). load l.station ≤ length made_b) (sym same.layers) h.load_b;
 }
 
-pub reached_by_b : (a a' b b' : End) (after : Line) (made_a made_b : List Record) (r : Record) → (h : HasReached a b made_a made_b) → (m : IsMade (move b b' a.line after) r h.world.b h.world.a) → IsSame a a' after → Run judge_pair (judge_start a.head b.head) made_a (made_b ++ r ∷ []) (record { a = h.world.a; b = m.next }) → HasReached a' b' made_a (made_b ++ r ∷ [])
+pub reached_by_b : (a a' b b' : End) (after : Line) (made_a made_b : List Record) (r : Record) → (h : HasReached a b made_a made_b) → (m : IsMade (move b b' a.line after) r h.world.b h.world.a) → IsSame a a' after → Run wire_layers_pair (wire_layers_start a.head b.head) made_a (made_b ++ r ∷ []) (record { a = h.world.a; b = m.next }) → HasReached a' b' made_a (made_b ++ r ∷ [])
 reached_by_b a a' b b' after made_a made_b r h m same run = record {
   world = record { a = h.world.a; b = m.next };
   run = started_so a b a' b' same.head m.same_head run;
   stands_a = stands_on b b' a a' after r h.world.b h.world.a h.stands_a m same;
   stands_b = rw same.line m.stands;
   counts_a = same.counts ∙ h.counts_a;
-  counts_b = m.counts ∙ ap (λ (s : SideSummary). counted s r) h.counts_b ∙ sym (summary_of-push made_b r);
+  counts_b = m.counts ∙ ap (λ (s : SideSummary). counted s r) h.counts_b ∙ sym (counts_of-push made_b r);
+  load_a = subst (λ (l : WireLayers). load l.station ≤ length made_a) (sym same.layers) h.load_a;
+  load_b = omega (arith, m.load, h.load_b, length-append made_b (r ∷ []));
 }
 
 -- the number of the next record
-pub next_place : (s : SideSummary) (made : List Record) → s ≡ summary_of made → s.records ≡ length made
+pub next_place : (s : SideSummary) (made : List Record) → s ≡ counts_of made → s.records ≡ length made
 next_place s made e = ap (λ (x : SideSummary). x.records) e
 
 -- nothing was made
@@ -88,17 +95,19 @@ pub reached_still : (a a' b b' : End) (made_a made_b : List Record) → HasReach
 reached_still a a' b b' made_a made_b h same_a same_b = record {
   world = h.world;
   run = started_so a b a' b' same_a.head same_b.head h.run;
-  stands_a = record { head = h.stands_a.head ∙ sym same_a.head; station = h.stands_a.station ∙ sym same_a.station; front = h.stands_a.front ∙ ap (λ (l : Line). l.gone) (sym same_b.line); sent = rw same_a.line h.stands_a.sent };
-  stands_b = record { head = h.stands_b.head ∙ sym same_b.head; station = h.stands_b.station ∙ sym same_b.station; front = h.stands_b.front ∙ ap (λ (l : Line). l.gone) (sym same_a.line); sent = rw same_b.line h.stands_b.sent };
+  stands_a = record { head = h.stands_a.head ∙ sym same_a.head; layers = h.stands_a.layers ∙ sym same_a.layers; front = h.stands_a.front ∙ ap (λ (l : Line). l.gone) (sym same_b.line); sent = rw same_a.line h.stands_a.sent };
+  stands_b = record { head = h.stands_b.head ∙ sym same_b.head; layers = h.stands_b.layers ∙ sym same_b.layers; front = h.stands_b.front ∙ ap (λ (l : Line). l.gone) (sym same_a.line); sent = rw same_b.line h.stands_b.sent };
   counts_a = same_a.counts ∙ h.counts_a;
   counts_b = same_b.counts ∙ h.counts_b;
+  load_a = subst (λ (l : WireLayers). load l.station ≤ length made_a) (sym same_a.layers) h.load_a;
+  load_b = subst (λ (l : WireLayers). load l.station ≤ length made_b) (sym same_b.layers) h.load_b;
 }
 
 -- an end that is the same
 pub same_end : (old new : End) → new ≡ old → IsSame old new old.line
 same_end old new same = record {
   head = ap (λ (e : End). e.head) same;
-  station = ap (λ (e : End). e.station) same;
+  layers = ap (λ (e : End). e.layers) same;
   counts = ap (λ (e : End). e.counts) same;
   line = ap (λ (e : End). e.line) same;
 }

@@ -4,7 +4,7 @@ use Rattle.ddcmp_msg.specs.Reading.{ReadingValue, reading, Sound, HeaderBad, Dat
 use Rattle.capture.specs.declared.record.Record.{Record}
 use Rattle.capture.specs.declared.record.Record.TheVariants.{Sent, Received, User}
 use Rattle.capture.specs.declared.event.Event.{Event}
-use Rattle.capture.specs.declared.event.Event.TheVariants.{Start}
+use Rattle.capture.specs.declared.event.Event.TheVariants.{Start, Up}
 
 abbrev pub is_received : Record → Bool
 is_received (Sent bytes) = false
@@ -36,6 +36,16 @@ abbrev pub is_start : Record → Bool
 is_start (Sent bytes) = false
 is_start (Received hint kept bytes) = false
 is_start (User event) = starts event
+
+-- a message is delivered
+abbrev pub delivers : Event → Bool
+delivers (Up link bytes) = true
+delivers event = false
+
+abbrev pub is_delivery : Record → Bool
+is_delivery (Sent bytes) = false
+is_delivery (Received hint kept bytes) = false
+is_delivery (User event) = delivers event
 
 -- the count, and one more where the fact holds
 abbrev pub more_if : Bool → ℕ → ℕ

@@ -12,8 +12,6 @@ use Rattle.capture.specs.Reader.{CaptureState}
 use Rattle.capture.specs.Range.{NumbersFit}
 use Rattle.capture.specs.SoFar.{Behind, ToCome, TheEnd, ReadSoFar, so_far, IsReadSoFar, DepartsBehind}
 use Rattle.dna_model.specs.declared.refusal.StepRefusal.{StepRefusal}
-use Rattle.dna_model.specs.Rules.{judged}
-use Rattle.dna_model.specs.WireNode.{wire_step}
 use Rattle.pair_judge.specs.declared.line.Line.{Line}
 use Rattle.pair_judge.specs.declared.end.End.{End}
 use Rattle.pair_judge.specs.declared.course.Ahead.{Ahead}
@@ -23,7 +21,7 @@ use Rattle.pair_judge.specs.declared.course.Advance.{Advance}
 use Rattle.pair_judge.specs.declared.course.Advance.TheVariants as answers
 use Rattle.pair_judge.specs.Heads.{head_of}
 use Rattle.pair_judge.specs.Lines.{Shows}
-use Rattle.pair_judge.specs.Wire.{JudgeHalf}
+use Rattle.pair_judge.specs.Wire.{JudgeHalf, judge_step}
 use Rattle.pair_judge.specs.Making.{Move, StandsFor, IsMade}
 
 -- the reader has not failed, and has not come to the end unseen
@@ -100,7 +98,7 @@ pub record IsStill (m : Move) : Type 0 where
 
 -- the record waits for its unit, whatever the halves are that the two sides stand for
 abbrev pub WaitsAt : End → Line → Record → Type 0
-WaitsAt own incoming r = (mine theirs : JudgeHalf) → StandsFor own incoming mine → Shows incoming theirs.sent → advance (wire_step judged) mine theirs r ≡ any.Waits
+WaitsAt own incoming r = (mine theirs : JudgeHalf) → StandsFor own incoming mine → Shows incoming theirs.sent → advance judge_step mine theirs r ≡ any.Waits
 
 -- the next record was made
 pub record IsAdvanced (m : Move) (t : Track) : Type 0 where
@@ -128,7 +126,7 @@ pub record IsRefused (m : Move) (t : Track) (refusal : StepRefusal) : Type 0 whe
   pub next : Record
   pub read : IsRead (having_made t (t.made ++ next ∷ []))
   pub counts : m.new.counts ≡ m.old.counts
-  pub refused : (mine theirs : JudgeHalf) → StandsFor m.old m.before mine → Shows m.before theirs.sent → advance (wire_step judged) mine theirs next ≡ any.Refused refusal
+  pub refused : (mine theirs : JudgeHalf) → StandsFor m.old m.before mine → Shows m.before theirs.sent → advance judge_step mine theirs next ≡ any.Refused refusal
 
 abbrev pub AdvanceIs : Advance → Move → Track → Type 0
 AdvanceIs answers.Made m t = IsAdvanced m t

@@ -7,7 +7,7 @@ use Rattle.capture.specs.declared.fault.CaptureFault.TheVariants as capture
 use Rattle.capture.specs.declared.fault.Departure.{Departure}
 use Rattle.capture.specs.declared.record.Record.{Record}
 use Rattle.capture.specs.SoFar.{ReadSoFar, IsReadSoFar, DepartsBehind, HeadDepartsAt}
-use Rattle.dna_model.specs.Pair.{IsRun}
+use Rattle.dna_model.specs.LayersPair.{IsLayersRun}
 use Rattle.pair_judge.specs.declared.fault.JudgeFault.{JudgeFault}
 use Rattle.pair_judge.specs.declared.fault.JudgeFault.TheVariants.{Capture, OutOfMemory}
 use Rattle.pair_judge.specs.declared.fault.TextFault.{TextFault}
@@ -32,7 +32,7 @@ pub record IsFaultyBehind (text_a text_b : Option (List ℕ)) (side : Side) (kin
   pub begins_a : Begins made_a read_a
   pub begins_b : Begins made_b read_b
   pub all_before : of_side side made_a made_b ≡ (of_side side read_a read_b).records
-  pub run : IsRun (head_of read_a) (head_of read_b) made_a made_b
+  pub run : IsLayersRun (head_of read_a) (head_of read_b) made_a made_b
 
 -- the head's line departs, before any record; or the line behind the records that were read does
 abbrev pub IsFaultyText : Option (List ℕ) → Option (List ℕ) → Side → Departure → ℕ → Type 0

@@ -12,7 +12,10 @@ use Rattle.dna_model.specs.declared.finding.Finding.TheVariants.{Accepted, Refus
 use Rattle.dna_model.specs.Verdict.{IsVerdict}
 use Rattle.pair_judge.specs.declared.judging.Found.{Found}
 use Rattle.pair_judge.specs.Heads.{head_of}
+use Rattle.dna_model.specs.LayersPair.{IsLayersRun}
+use Rattle.pair_judge.specs.declared.summary.Summary.{Summary}
 use Rattle.pair_judge.specs.Summary.{summary_of}
+use Rattle.dna_model.specs.declared.head.Head.{Head}
 
 -- what a side has
 abbrev pub of_side : {X : Type 0} → Side → X → X → X
@@ -35,6 +38,12 @@ abbrev pub IsVerdictBehind : ReadSoFar → ReadSoFar → Finding → Type 0
 IsVerdictBehind read_a read_b finding =
     (all_a all_b : List Record) → GoesOn read_a all_a → GoesOn read_b all_b → IsVerdict (head_of read_a) (head_of read_b) all_a all_b finding
 
+-- all of these records are a run, and this summary is the counts of them and of the links at its end
+pub record IsCounted (head_a head_b : Head) (of_a of_b : List Record) (summary : Summary) : Type 0 where
+  pub run : IsLayersRun head_a head_b of_a of_b
+  pub counts_a : summary.a ≡ summary_of run.0.a.state of_a
+  pub counts_b : summary.b ≡ summary_of run.0.b.state of_b
+
 -- So much was read of the two texts, and of whatever goes on behind it this is the verdict; an acceptance comes with the
 -- counts of all records.
 pub record IsFoundIn (text_a text_b : Option (List ℕ)) (found : Found) : Type 0 where
@@ -44,4 +53,4 @@ pub record IsFoundIn (text_a text_b : Option (List ℕ)) (found : Found) : Type 
   pub from_b : IsReadSoFar text_b read_b
   pub verdict : IsVerdictBehind read_a read_b found.finding
   pub ends : EndsWhere found.finding read_a.behind read_b.behind
-  pub counts : found.finding ≡ Accepted → (found.summary.a ≡ summary_of read_a.records) × (found.summary.b ≡ summary_of read_b.records)
+  pub counts : found.finding ≡ Accepted → IsCounted (head_of read_a) (head_of read_b) read_a.records read_b.records found.summary

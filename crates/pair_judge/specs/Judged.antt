@@ -4,7 +4,10 @@ use Rattle.capture.specs.declared.record.Record.{Record}
 use Rattle.capture.specs.Range.{IsText}
 use Rattle.dna_model.specs.declared.head.Head.{Head}
 use Rattle.dna_model.specs.Offered.{Delivers}
-use Rattle.dna_model.specs.Pair.{IsRun}
+use Rattle.dna_model.specs.Layers.{LayersNode}
+use Rattle.dna_model.specs.LayersPair.{IsLayersRun, link_events}
+use Rattle.dna_model.specs.LinkDelivery.{DeliversLinks}
+use Rattle.dna_model.specs.LinkCaptures.{AreUpFrom}
 use Rattle.pair_judge.specs.declared.summary.Summary.{Summary}
 use Rattle.pair_judge.specs.declared.verdict.Verdict.{Verdict}
 use Rattle.pair_judge.specs.declared.verdict.Verdict.TheVariants.{Accepted, Refused}
@@ -15,8 +18,17 @@ use Rattle.pair_judge.specs.Faulty.{IsFaultyText}
 use Rattle.pair_judge.specs.Refusal.{IsRefusal}
 use Rattle.pair_judge.specs.Summary.{summary_of}
 
--- The bytes are the texts of two captures, all of whose records are one run of the two specified stations; what was delivered to each is,
--- in order, of what the other side was offered; and the summary counts the records.
+-- What was delivered to a node, beside what was given and handed in at the other one
+pub record HasDelivered (own other : LayersNode) (of_own of_other : List Record) : Type 0 where
+  -- packets: in every period a beginning of what the partner period was offered, and over all periods in order among all of that
+  pub packets : Delivers own.station.station of_own of_other
+  -- messages: on every link a beginning of what was handed in at its partner, and nothing without a partner
+  pub messages : DeliversLinks own.station.links other.station.links
+  -- the same, read off the two captures
+  pub captured : AreUpFrom (link_events of_own) (link_events of_other) own.station.links.links other.station.links.links
+
+-- The bytes are the texts of two captures, all of whose records are one run of the two specified nodes; what was delivered to each is,
+-- in order, of what the other side was offered and handed; and the summary counts the records and the links.
 pub record AreARun (text_a text_b : List ℕ) (summary : Summary) : Type 0 where
   pub own_a : ℕ
   pub peer_a : ℕ
@@ -26,11 +38,11 @@ pub record AreARun (text_a text_b : List ℕ) (summary : Summary) : Type 0 where
   pub of_b : List Record
   pub is_text_a : IsText own_a peer_a of_a text_a
   pub is_text_b : IsText own_b peer_b of_b text_b
-  pub run : IsRun (record { own = own_a; peer = peer_a }) (record { own = own_b; peer = peer_b }) of_a of_b
-  pub delivers_a : Delivers run.0.a.state.station of_a of_b
-  pub delivers_b : Delivers run.0.b.state.station of_b of_a
-  pub counts_a : summary.a ≡ summary_of of_a
-  pub counts_b : summary.b ≡ summary_of of_b
+  pub run : IsLayersRun (record { own = own_a; peer = peer_a }) (record { own = own_b; peer = peer_b }) of_a of_b
+  pub delivers_a : HasDelivered run.0.a.state run.0.b.state of_a of_b
+  pub delivers_b : HasDelivered run.0.b.state run.0.a.state of_b of_a
+  pub counts_a : summary.a ≡ summary_of run.0.a.state of_a
+  pub counts_b : summary.b ≡ summary_of run.0.b.state of_b
 
 -- ---- the clauses of an answer
 
@@ -49,7 +61,7 @@ AcceptsOrFails (Err OutOfMemory) = Unit {0}
 abbrev pub IsExact : List ℕ → List ℕ → Answer → Type 0
 IsExact bytes_a bytes_b answer =
     (head_a head_b : Head) (of_a of_b : List Record) → IsText head_a.own head_a.peer of_a bytes_a → IsText head_b.own head_b.peer of_b bytes_b
-    → IsRun head_a head_b of_a of_b → AcceptsOrFails answer
+    → IsLayersRun head_a head_b of_a of_b → AcceptsOrFails answer
 
 -- Accepted: the bytes are such texts.
 abbrev pub IsAcceptance : List ℕ → List ℕ → Answer → Type 0

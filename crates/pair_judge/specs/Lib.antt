@@ -8,9 +8,12 @@ pub mod Faulty
 pub mod Refusal
 pub mod Judged
 pub mod Wire
+pub mod Events
+pub mod Packets
 pub mod Unit
 pub mod Lines
 pub mod Receipts
+pub mod Steps
 pub mod Making
 pub mod Course
 pub mod Reached

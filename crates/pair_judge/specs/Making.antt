@@ -1,22 +1,21 @@
 -- One side of the judge beside the half of a run that it stands for, and what became of one record there.
-use Rattle.std.specs.Prelude.{◌≡◌}
+use Rattle.std.specs.Prelude.{◌≡◌, ◌+◌, ◌≤◌}
 use Rattle.two_nodes.specs.Nodes.{Outcome, advance}
 use Rattle.two_nodes.specs.Nodes as any
 use Rattle.capture.specs.declared.record.Record.{Record}
-use Rattle.dna_model.specs.Rules.{judged}
-use Rattle.dna_model.specs.WireNode.{wire_step}
+use Rattle.dna_model.specs.WireStation.{load}
 use Rattle.pair_judge.specs.declared.line.Line.{Line}
 use Rattle.pair_judge.specs.declared.end.End.{End}
 use Rattle.pair_judge.specs.declared.making.Made.{Made}
 use Rattle.pair_judge.specs.declared.making.Made.TheVariants.{Done, Waits, Fails}
 use Rattle.pair_judge.specs.Lines.{Shows}
 use Rattle.pair_judge.specs.Summary.{counted}
-use Rattle.pair_judge.specs.Wire.{JudgeHalf}
+use Rattle.pair_judge.specs.Wire.{JudgeHalf, judge_step}
 
 -- this end of the judge, with the line from the other side, stands for that half of the run
 pub record StandsFor (own : End) (incoming : Line) (half : JudgeHalf) : Type 0 where
   pub head : half.state.head ≡ own.head
-  pub station : half.state.station ≡ own.station
+  pub layers : half.state.station ≡ own.layers
   pub front : half.state.front ≡ incoming.gone
   pub sent : Shows own.line half.sent
 
@@ -33,18 +32,19 @@ move old new before after = record { old = old; new = new; before = before; afte
 -- the record is made, and the end stands for the half after it
 pub record IsMade (m : Move) (r : Record) (own other : JudgeHalf) : Type 0 where
   pub next : JudgeHalf
-  pub step_is : advance (wire_step judged) own other r ≡ any.Made next
+  pub step_is : advance judge_step own other r ≡ any.Made next
   pub stands : StandsFor m.new m.after next
   pub incoming : Shows m.after other.sent
   pub same_head : m.new.head ≡ m.old.head
   pub same_front : m.new.line.gone ≡ m.old.line.gone
   pub counts : m.new.counts ≡ counted m.old.counts r
+  pub load : load m.new.layers.station ≤ load m.old.layers.station + 1
 
 abbrev pub MadeIs : Made → Move → Record → JudgeHalf → JudgeHalf → Type 0
 MadeIs Done m r own other = IsMade m r own other
 -- the unit that the record names is not sent yet
-MadeIs Waits m r own other = advance (wire_step judged) own other r ≡ any.Waits
-MadeIs (Fails refusal) m r own other = advance (wire_step judged) own other r ≡ any.Refused refusal
+MadeIs Waits m r own other = advance judge_step own other r ≡ any.Waits
+MadeIs (Fails refusal) m r own other = advance judge_step own other r ≡ any.Refused refusal
 
 -- a record that waits leaves all as it was
 abbrev pub LeavesWaiting : Made → Move → Type 0

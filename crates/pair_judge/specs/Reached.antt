@@ -1,29 +1,41 @@
 -- Both sides of the judge beside the world that the records made so far led to, and what a turn leads to.
-use Rattle.std.specs.Prelude.{◌≡◌, ℕ, ◌+◌, Bool, true, false, List, length, Option, Some, None}
+use Rattle.std.specs.Prelude.{◌≡◌, ℕ, ◌+◌, ◌≤◌, Bool, true, false, List, length, Option, Some, None}
 use Rattle.two_nodes.specs.Nodes.{Run}
 use Rattle.capture.specs.declared.record.Record.{Record}
 use Rattle.capture.specs.SoFar.{GoesOn}
+use Rattle.dna_model.specs.declared.head.Head.{Head}
 use Rattle.dna_model.specs.declared.finding.Finding.{Finding}
+use Rattle.dna_model.specs.LayersPair.{IsLayersRun}
 use Rattle.dna_model.specs.declared.finding.Finding.TheVariants.{Accepted}
 use Rattle.dna_model.specs.Verdict.{IsVerdict}
 use Rattle.pair_judge.specs.declared.line.Line.{Line}
 use Rattle.pair_judge.specs.declared.end.End.{End}
 use Rattle.pair_judge.specs.declared.course.Ahead.TheVariants.{Ended}
 use Rattle.pair_judge.specs.declared.course.Course.{Course}
-use Rattle.pair_judge.specs.Wire.{JudgeWorld, judge_pair, judge_start}
+use Rattle.dna_model.specs.WireStation.{load}
+use Rattle.dna_model.specs.WireLayers.{wire_layers_pair, wire_layers_start}
+use Rattle.pair_judge.specs.Wire.{JudgeWorld}
 use Rattle.pair_judge.specs.Making.{StandsFor}
 use Rattle.pair_judge.specs.Course.{IsRead, Track, WaitsAt, IsWaiting, having_made, read_of}
-use Rattle.pair_judge.specs.Finding.{EndsWhere}
-use Rattle.pair_judge.specs.Summary.{summary_of}
+use Rattle.pair_judge.specs.Finding.{EndsWhere, IsCounted}
+use Rattle.pair_judge.specs.Summary.{counts_of, summary_at}
+
+-- these records, which led the wire nodes to this world, are a run, and as many links began there
+pub record HasRun (head_a head_b : Head) (w : JudgeWorld) (of_a of_b : List Record) : Type 0 where
+  pub run : IsLayersRun head_a head_b of_a of_b
+  pub links_a : length w.a.state.station.links.links ≡ length run.0.a.state.station.links.links
+  pub links_b : length w.b.state.station.links.links ≡ length run.0.b.state.station.links.links
 
 -- some order of these records leads to a world that the two ends stand for
 pub record HasReached (a b : End) (made_a made_b : List Record) : Type 0 where
   pub world : JudgeWorld
-  pub run : Run judge_pair (judge_start a.head b.head) made_a made_b world
+  pub run : Run wire_layers_pair (wire_layers_start a.head b.head) made_a made_b world
   pub stands_a : StandsFor a b.line world.a
   pub stands_b : StandsFor b a.line world.b
-  pub counts_a : a.counts ≡ summary_of made_a
-  pub counts_b : b.counts ≡ summary_of made_b
+  pub counts_a : a.counts ≡ counts_of made_a
+  pub counts_b : b.counts ≡ counts_of made_b
+  pub load_a : load a.layers.station ≤ length made_a
+  pub load_b : load b.layers.station ≤ length made_b
 
 -- of each text what was read is known, and what was made of it leads here
 pub record IsUnderWay (a b : Track) : Type 0 where
@@ -59,7 +71,7 @@ pub record IsFound (a b : Track) (finding : Finding) : Type 0 where
   pub verdict : (all_a all_b : List Record) → GoesOn (read_of (having_made a made_a)) all_a → GoesOn (read_of (having_made b made_b)) all_b
       → IsVerdict a.course.end.head b.course.end.head all_a all_b finding
   pub ends : EndsWhere finding (read_of a).behind (read_of b).behind
-  pub counts : finding ≡ Accepted → (a.course.end.counts ≡ summary_of made_a) × (b.course.end.counts ≡ summary_of made_b)
+  pub counts : finding ≡ Accepted → IsCounted a.course.end.head b.course.end.head made_a made_b (record { a = summary_at a.course.end; b = summary_at b.course.end })
 
 abbrev pub TurnIs : Option Finding → Track → Track → Type 0
 TurnIs None a b = HasGoneOn a b

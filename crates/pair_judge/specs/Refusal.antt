@@ -11,7 +11,7 @@ use Rattle.dna_model.specs.declared.finding.Cause.TheVariants.{Step}
 use Rattle.dna_model.specs.declared.finding.Finding.TheVariants.{Refused}
 use Rattle.dna_model.specs.declared.head.Head.{Head}
 use Rattle.dna_model.specs.declared.refusal.StepRefusal.{StepRefusal}
-use Rattle.dna_model.specs.Pair.{pair, start, IsRun}
+use Rattle.dna_model.specs.LayersPair.{layers_pair, layers_start, IsLayersRun}
 use Rattle.dna_model.specs.Verdict.{IsVerdict}
 use Rattle.pair_judge.specs.declared.reason.Reason.{Reason}
 use Rattle.pair_judge.specs.declared.reason.Reason.TheVariants.{NoSuchUnit, NoOrder}
@@ -46,12 +46,12 @@ pub record WholeCapture : Type 0 where
 pub record OffendsFor (a b : WholeCapture) (side : Side) (place : ℕ) (reason : Reason) : Type 0 where
   pub refusal : StepRefusal
   pub is_reason : reason ≡ reason_of (Step refusal)
-  pub offends : Offends pair (start (of_side side a.head b.head) (of_side side b.head a.head))
+  pub offends : Offends layers_pair (layers_start (of_side side a.head b.head) (of_side side b.head a.head))
       (of_side side a.records b.records) (of_side side b.records a.records) place refusal
 
 -- the captures are no run; a cause of this reason is the verdict; and but for two reasons the record offends
 pub record AreRefused (a b : WholeCapture) (side : Side) (place : ℕ) (reason : Reason) : Type 0 where
-  pub no_run : ¬ IsRun a.head b.head a.records b.records
+  pub no_run : ¬ IsLayersRun a.head b.head a.records b.records
   pub cause : Cause
   pub is_reason : reason ≡ reason_of cause
   pub verdict : IsVerdict a.head b.head a.records b.records (Refused side place cause)

@@ -2,8 +2,8 @@
 use Rattle.std.specs.Prelude.{ℕ, false, List}
 use Rattle.ddcmp_msg.specs.Message.{MessageValue, Strt}
 use Rattle.ddcmp_msg.specs.Reading.{ReadingValue, reading, Sound, HeaderBad, DataBad, Malformed}
-use Rattle.dna_model.specs.declared.tag.Tag.{Tag}
-use Rattle.dna_model.specs.WireNode.{WireUnit}
+use Rattle.dna_model.specs.WireLayers.{LayersTag, WireLayersUnit}
+use Rattle.pair_judge.specs.declared.unit_tag.UnitTag.{UnitTag}
 
 abbrev pub IsSoundReading : ReadingValue → Type 0
 IsSoundReading (Sound message) = Unit {0}
@@ -18,5 +18,8 @@ message_of HeaderBad = Strt (record { quick_sync = false; select = false })
 message_of DataBad = Strt (record { quick_sync = false; select = false })
 message_of (Malformed departure) = Strt (record { quick_sync = false; select = false })
 
-abbrev pub unit_of : List ℕ → Tag → WireUnit
+abbrev pub unit_of : List ℕ → LayersTag → WireLayersUnit
 unit_of bytes tag = record { bytes = bytes; message = message_of (reading bytes); known = tag }
+
+abbrev pub tags_of : UnitTag → LayersTag
+tags_of tag = record { station = tag.station; link = tag.link }

@@ -1,25 +1,32 @@
--- The nodes that the judge runs: the wire nodes of `dna_model`, with no label beside a packet.
-use Rattle.two_nodes.specs.Nodes.{Half, Nodes, World}
+-- The nodes that the judge runs: the wire nodes over both layers of `dna_model`.
+use Rattle.std.specs.Prelude.{ℕ, Bool, List, Result}
+use Rattle.two_nodes.specs.Nodes.{Answer, Half, World}
+use Rattle.ddcmp_msg.specs.Reading.{ReadingValue}
 use Rattle.capture.specs.declared.record.Record.{Record}
-use Rattle.dna_model.specs.declared.head.Head.{Head}
+use Rattle.capture.specs.declared.event.Event.{Event}
 use Rattle.dna_model.specs.declared.refusal.StepRefusal.{StepRefusal}
-use Rattle.dna_model.specs.WireStation.{WireStation}
-use Rattle.dna_model.specs.WireNode.{WireNode, WireUnit, wire_pair, wire_start}
-
-abbrev pub JudgeStation : Type 0
-JudgeStation = WireStation (Unit {0})
-
-abbrev pub JudgeNode : Type 0
-JudgeNode = WireNode (Unit {0})
+use Rattle.dna_model.specs.Rules.{judged}
+use Rattle.dna_model.specs.Machine.{Machine, user_step, sent_step, receives, step}
+use Rattle.dna_model.specs.WireLayers.{WireLayers, LayersTag, WireLayersNode, WireLayersUnit, wire_layers_machine}
 
 abbrev pub JudgeHalf : Type 0
-JudgeHalf = Half JudgeNode WireUnit
+JudgeHalf = Half WireLayersNode WireLayersUnit
 
 abbrev pub JudgeWorld : Type 0
-JudgeWorld = World JudgeNode WireUnit
+JudgeWorld = World WireLayersNode WireLayersUnit
 
-abbrev pub judge_pair : Nodes JudgeNode Record WireUnit StepRefusal
-judge_pair = wire_pair {L = Unit {0}}
+-- by the rules that a judge asks
+abbrev pub judge_machine : Machine WireLayers LayersTag
+judge_machine = wire_layers_machine judged
 
-abbrev pub judge_start : (head_a head_b : Head) → JudgeWorld
-judge_start head_a head_b = wire_start {L = Unit {0}} head_a head_b
+abbrev pub judge_step : WireLayersNode → Record → Answer WireLayersNode WireLayersUnit StepRefusal
+judge_step n r = step judge_machine n r
+
+abbrev pub judge_user_step : WireLayersNode → Event → Answer WireLayersNode WireLayersUnit StepRefusal
+judge_user_step n event = user_step judge_machine n event
+
+abbrev pub judge_sent_step : WireLayersNode → List ℕ → ReadingValue → Answer WireLayersNode WireLayersUnit StepRefusal
+judge_sent_step n bytes read = sent_step judge_machine n bytes read
+
+abbrev pub judge_receives : WireLayersNode → ℕ → Bool → List ℕ → WireLayersUnit → Result WireLayersNode StepRefusal
+judge_receives n hint kept bytes unit = receives judge_machine n hint kept bytes unit

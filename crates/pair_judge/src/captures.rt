@@ -9,40 +9,42 @@ ghost use Rattle.dna_model.specs.declared.finding.Cause.TheVariants as causes;
 ghost use Rattle.dna_model.specs.declared.finding.Finding.TheVariants as findings;
 ghost use Rattle.dna_model.specs.declared.refusal.StepRefusal.{StepRefusal};
 ghost use Rattle.dna_model.specs.Verdict.{IsVerdict};
-ghost use Rattle.pair_judge.specs.Wire.{JudgeNode, JudgeWorld, judge_pair, judge_start};
+ghost use Rattle.dna_model.specs.WireLayers.{wire_layers_pair, wire_layers_start};
+ghost use Rattle.pair_judge.specs.Reached.{HasRun};
+ghost use Rattle.pair_judge.specs.Wire.{JudgeWorld};
 
-use dna_model::{TrueNodes, wire_nodes_see_right};
+use dna_model::{TrueLayersNodes, wire_layers_see_right};
 use two_nodes::{both_waiting, one_waiting, refused_record};
 use wire_base::Side;
 
 /// Each way for the judge to end is a verdict on every pair of captures that begins with the records made so far.
 pub fn endings()
     ensures accepted { (head_a head_b : Head) (w : JudgeWorld) (of_a of_b : List Record)
-        → Run judge_pair (judge_start head_a head_b) of_a of_b w → IsVerdict head_a head_b of_a of_b findings.Accepted }
+        → Run wire_layers_pair (wire_layers_start head_a head_b) of_a of_b w → HasRun head_a head_b w of_a of_b }
     ensures a_refused { (head_a head_b : Head) (w : JudgeWorld) (done_a rest_a done_b rest_b : List Record) (r : Record) (refusal : StepRefusal)
-        → Run judge_pair (judge_start head_a head_b) done_a done_b w
-        → advance judge_pair.node_a w.a w.b r ≡ any.Refused refusal
+        → Run wire_layers_pair (wire_layers_start head_a head_b) done_a done_b w
+        → advance wire_layers_pair.node_a w.a w.b r ≡ any.Refused refusal
         → IsVerdict head_a head_b (done_a ++ r ∷ rest_a) (done_b ++ rest_b) (findings.Refused Side.A (length done_a) (causes.Step refusal)) }
     ensures b_refused { (head_a head_b : Head) (w : JudgeWorld) (done_a rest_a done_b rest_b : List Record) (r : Record) (refusal : StepRefusal)
-        → Run judge_pair (judge_start head_a head_b) done_a done_b w
-        → advance judge_pair.node_b w.b w.a r ≡ any.Refused refusal
+        → Run wire_layers_pair (wire_layers_start head_a head_b) done_a done_b w
+        → advance wire_layers_pair.node_b w.b w.a r ≡ any.Refused refusal
         → IsVerdict head_a head_b (done_a ++ rest_a) (done_b ++ r ∷ rest_b) (findings.Refused Side.B (length done_b) (causes.Step refusal)) }
     ensures stuck { (head_a head_b : Head) (w : JudgeWorld) (done_a rest_a done_b rest_b : List Record) (r s : Record)
-        → Run judge_pair (judge_start head_a head_b) done_a done_b w
-        → advance judge_pair.node_a w.a w.b r ≡ any.Waits
-        → advance judge_pair.node_b w.b w.a s ≡ any.Waits
+        → Run wire_layers_pair (wire_layers_start head_a head_b) done_a done_b w
+        → advance wire_layers_pair.node_a w.a w.b r ≡ any.Waits
+        → advance wire_layers_pair.node_b w.b w.a s ≡ any.Waits
         → IsVerdict head_a head_b (done_a ++ r ∷ rest_a) (done_b ++ s ∷ rest_b) (findings.Refused Side.A (length done_a) causes.NoOrder) }
     ensures a_lacks { (head_a head_b : Head) (w : JudgeWorld) (done_a rest_a all_b : List Record) (r : Record)
-        → Run judge_pair (judge_start head_a head_b) done_a all_b w
-        → advance judge_pair.node_a w.a w.b r ≡ any.Waits
+        → Run wire_layers_pair (wire_layers_start head_a head_b) done_a all_b w
+        → advance wire_layers_pair.node_a w.a w.b r ≡ any.Waits
         → IsVerdict head_a head_b (done_a ++ r ∷ rest_a) all_b (findings.Refused Side.A (length done_a) causes.NoSuchUnit) }
     ensures b_lacks { (head_a head_b : Head) (w : JudgeWorld) (all_a done_b rest_b : List Record) (r : Record)
-        → Run judge_pair (judge_start head_a head_b) all_a done_b w
-        → advance judge_pair.node_b w.b w.a r ≡ any.Waits
+        → Run wire_layers_pair (wire_layers_start head_a head_b) all_a done_b w
+        → advance wire_layers_pair.node_b w.b w.a r ≡ any.Waits
         → IsVerdict head_a head_b all_a (done_b ++ r ∷ rest_b) (findings.Refused Side.B (length done_b) causes.NoSuchUnit) }
 {
-    wire_nodes_see_right::<()>();
-    refused_record::<TrueNodes>();
-    both_waiting::<TrueNodes>();
-    one_waiting::<TrueNodes>();
+    wire_layers_see_right();
+    refused_record::<TrueLayersNodes>();
+    both_waiting::<TrueLayersNodes>();
+    one_waiting::<TrueLayersNodes>();
 }

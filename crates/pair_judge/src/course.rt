@@ -65,7 +65,7 @@ impl Course {
         reader: &mut Tally<R>,
     ) -> Result<Advance, CaptureFault>
         requires may_read { MayRead self.old }
-        requires room { HasRoom self.old.end.counts }
+        requires room { HasRoom self.old.end }
         ensures advance { IfOk result (λ advance. (text : Option (List ℕ)) (made : List Record) →
             IsRead (along text self.old (to_come self.old.capture.unread (R.remaining (tally_lent reader.old))) made) →
             AdvanceIs advance (move self.old.end self.new.end incoming.old incoming.new)
@@ -124,7 +124,7 @@ impl Course {
         requires unread { self.old.ahead ≡ Ahead.Unread }
         requires reading { self.old.capture.phase ≡ Phase.Reading }
         requires numbers { NumbersFit (record_with entry self.old.capture.bytes) }
-        requires room { HasRoom self.old.end.counts }
+        requires room { HasRoom self.old.end }
         ensures advance { IfOk result (λ advance. (text come : Option (List ℕ)) (made : List Record) →
             IsRead (along text self.old come (made ++ record_with entry self.old.capture.bytes ∷ [])) →
             AdvanceIs advance (move self.old.end self.new.end incoming.old incoming.new) (along text self.new come made)) }

@@ -13,15 +13,18 @@ ghost use Rattle.pair_judge.specs.Judged.{IfTold, IsAcceptance, IsExact, IsFault
 ghost use Rattle.pair_judge.specs.Opened.{OpensAt};
 
 use crate::course::{Ahead, Course};
-use crate::end::{End, Station};
+use crate::end::End;
 use crate::fault::JudgeFault;
+use crate::layers::Layers;
 use crate::line::Line;
 use crate::reason::Reason;
 use crate::summary::{SideSummary, Summary};
 use crate::turn::{side_fault, turn};
 use crate::verdict::Verdict;
 use capture::{CaptureReader, MAX_RECORDS, text_read_on, whole_text};
-use dna_model::{Finding, Head, captures_deliver_in_order};
+use dna_model::{
+    Finding, Head, captures_deliver_in_order, layers_deliver_in_order, layers_run_as_stations,
+};
 use std::alloc::Global;
 use std::io::Read;
 use wire_base::{Side, Tally};
@@ -74,6 +77,8 @@ pub fn judge<R: Read, S: Read>(
 {
     whole_text();
     captures_deliver_in_order();
+    layers_run_as_stations();
+    layers_deliver_in_order();
     match find(alloc, a, b) {
         Ok(found) => Ok(verdict(found)),
         Err(fault) => Err(fault),
@@ -118,8 +123,8 @@ fn find<R: Read, S: Read>(
             Ok(None) => {}
             Ok(Some(finding)) => {
                 let summary = Summary {
-                    a: course_a.end.counts,
-                    b: course_b.end.counts,
+                    a: course_a.end.summary(),
+                    b: course_b.end.summary(),
                 };
                 return Ok(Found { finding, summary });
             }
@@ -143,16 +148,16 @@ fn open<R: Read>(alloc: Global, side: Side, reader: &mut Tally<R>) -> Result<Cou
         Ok(capture) => capture,
         Err(fault) => return Err(side_fault(side, fault)),
     };
-    let Ok(station) = Station::new(alloc) else {
-        return Err(JudgeFault::OutOfMemory);
-    };
     let head = Head {
         own: capture.own(),
         peer: capture.peer(),
     };
+    let Ok(layers) = Layers::new(alloc, head) else {
+        return Err(JudgeFault::OutOfMemory);
+    };
     let end = End {
         head,
-        station,
+        layers,
         line: Line::new(alloc),
         counts: SideSummary::new(),
     };

@@ -8,20 +8,23 @@
 mod captures;
 mod course;
 mod end;
-mod event;
 mod fault;
 mod judging;
+mod layers;
 mod line;
 mod line_unit;
 mod making;
+mod packet;
 mod reason;
 mod receipt;
 mod refusal;
 mod sending;
+mod step_fault;
 mod summary;
 #[cfg(test)]
 mod tests;
 mod turn;
+mod unit_tag;
 mod verdict;
 
 pub use fault::{JudgeFault, TextFault};

@@ -3,37 +3,37 @@
 ghost use Rattle.std.specs.Prelude.{◌≡◌};
 ghost use Rattle.ddcmp_msg.specs.Reading.{reading};
 
+use crate::unit_tag::UnitTag;
 use capture::Bytes;
-use ddcmp_station::Tag;
 use std::marker::Model;
 
-/// A unit that was sent: its bytes, which are a sound message, and its tag. A contract sees it as the unit of the
+/// A unit that was sent: its bytes, which are a sound message, and its tags. A contract sees it as the unit of the
 /// definitions, whose message is what its bytes say.
 #[derive(Drop)]
 pub struct LineUnit {
     bytes: Bytes,
-    tag: Tag,
+    tag: UnitTag,
 }
 
 impl Model for LineUnit {
-    ghost use Rattle.dna_model.specs.WireNode.{WireUnit};
+    ghost use Rattle.dna_model.specs.WireLayers.{WireLayersUnit};
     ghost use Rattle.ddcmp_msg.specs.Reading.{reading};
-    ghost use Rattle.pair_judge.specs.Unit.{unit_of, IsSoundReading};
+    ghost use Rattle.pair_judge.specs.Unit.{unit_of, tags_of, IsSoundReading};
 
-    ghost Value = { WireUnit };
+    ghost Value = { WireLayersUnit };
 
-    ghost view = { λ u. unit_of u.bytes u.tag };
+    ghost view = { λ u. unit_of u.bytes (tags_of u.tag) };
 
     ghost invariant = { λ u. IsSoundReading (reading u.bytes) };
 }
 
 impl LineUnit {
-    ghost use Rattle.pair_judge.specs.Unit.{unit_of, IsSoundReading};
+    ghost use Rattle.pair_judge.specs.Unit.{unit_of, tags_of, IsSoundReading};
 
     /// These bytes with this tag.
-    pub fn new(bytes: Bytes, tag: Tag) -> LineUnit
+    pub fn new(bytes: Bytes, tag: UnitTag) -> LineUnit
         requires { IsSoundReading (reading bytes) }
-        ensures { result ≡ unit_of bytes tag }
+        ensures { result ≡ unit_of bytes (tags_of tag) }
     {
         LineUnit { bytes, tag }
     }
@@ -48,8 +48,8 @@ impl LineUnit {
     }
 
     /// The tag that it was sent with.
-    pub fn tag(&self) -> Tag
-        ensures { result ≡ self.now.known }
+    pub fn tag(&self) -> UnitTag
+        ensures { tags_of result ≡ self.now.known }
     {
         self.tag
     }

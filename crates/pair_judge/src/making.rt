@@ -5,6 +5,9 @@ ghost use Rattle.capture.specs.declared.record.Record.TheVariants as Record;
 ghost use Rattle.capture.specs.Entries.{record_with};
 ghost use Rattle.capture.specs.Range.{NumbersFit};
 ghost use Rattle.capture.specs.declared.limit.TheConstants.{MAX_HINT};
+ghost use Rattle.dna_model.specs.LinkUser.{view};
+ghost use Rattle.pair_judge.specs.Counting.{delivers};
+ghost use Rattle.pair_judge.specs.Events.{event_of_station, event_of_links};
 ghost use Rattle.pair_judge.specs.Lines.{Shows};
 ghost use Rattle.pair_judge.specs.Summary.{HasRoom};
 ghost use Rattle.pair_judge.specs.declared.line.Line.{Line};
@@ -12,12 +15,14 @@ ghost use Rattle.pair_judge.specs.Making.{IfFails, LeavesWaiting, MadeIs, NeverW
 ghost use Rattle.pair_judge.specs.Wire.{JudgeHalf};
 
 use crate::end::End;
-use crate::event::happen;
 use crate::line::Line;
 use crate::receipt::{Receipt, receive};
-use crate::sending::{SendFault, send};
-use capture::{Bytes, Entry, Event};
+use crate::sending::send;
+use crate::step_fault::StepFault;
+use capture::Entry;
+use ddcmp_station::StationEvent;
 use dna_model::StepRefusal;
+use nsp_link::LinkEvent;
 use std::alloc::{AllocError, Global};
 
 /// What became of a record.
@@ -32,7 +37,7 @@ pub enum Made {
 }
 
 /// Makes one record of a side, to which this line leads from the other side: that of the entry and these bytes. An error: there
-/// is no memory for the unit that the record sends, or for the message of its event.
+/// is no memory for the unit that the record sends, or for what the links keep of its packet or of its event.
 #[inline(always)]
 pub fn make(
     alloc: Global,
@@ -41,7 +46,7 @@ pub fn make(
     entry: Entry,
     bytes: &[u8],
 ) -> Result<Made, AllocError>
-    requires room { HasRoom own.old.counts }
+    requires room { HasRoom own.old }
     requires numbers { NumbersFit (record_with entry bytes.now) }
     ensures made { IfOk result (λ made. (mine theirs : JudgeHalf) →
         StandsFor own.old incoming.old mine → Shows incoming.old theirs.sent →
@@ -52,27 +57,33 @@ pub fn make(
 {
     match entry {
         Entry::Sent => make_sent(alloc, own, bytes),
-        Entry::Received { kept, hint } => Ok(make_received(own, incoming, hint, kept, bytes)),
-        Entry::Start => Ok(make_event(own, Event::Start)),
-        Entry::Halt => Ok(make_event(own, Event::Halt)),
-        Entry::Open { link } => Ok(make_event(own, Event::Open { link })),
-        Entry::Accept { partner, link } => Ok(make_event(own, Event::Accept { partner, link })),
-        Entry::Reject { partner, link } => Ok(make_event(own, Event::Reject { partner, link })),
+        Entry::Received { kept, hint } => make_received(own, incoming, hint, kept, bytes),
+        Entry::Start => Ok(make_station_event(own, StationEvent::Start)),
+        Entry::Halt => Ok(make_station_event(own, StationEvent::Halt)),
+        Entry::Open { link } => make_link_event(own, LinkEvent::Open { link }),
+        Entry::Accept { partner, link } => make_link_event(
+            own,
+            LinkEvent::Accept { partner, link },
+        ),
+        Entry::Reject { partner, link } => make_link_event(
+            own,
+            LinkEvent::Reject { partner, link },
+        ),
         Entry::In { link } => {
-            let bytes = Bytes::copied(alloc, bytes)?;
-            Ok(make_event(own, Event::In { link, bytes }))
+            let message = bytes;
+            make_link_event(own, LinkEvent::In { link, message })
         }
         Entry::Up { link } => {
-            let bytes = Bytes::copied(alloc, bytes)?;
-            Ok(make_event(own, Event::Up { link, bytes }))
+            let message = bytes;
+            make_link_event(own, LinkEvent::Up { link, message })
         }
-        Entry::Close { link } => Ok(make_event(own, Event::Close { link })),
+        Entry::Close { link } => make_link_event(own, LinkEvent::Close { link }),
     }
 }
 
 #[inline(always)]
 fn make_sent(alloc: Global, own: &mut End, bytes: &[u8]) -> Result<Made, AllocError>
-    requires { HasRoom own.old.counts }
+    requires { HasRoom own.old }
     ensures made { IfOk result (λ made. (incoming : Line) (mine theirs : JudgeHalf) →
         StandsFor own.old incoming mine → Shows incoming theirs.sent →
         MadeIs made (move own.old own.new incoming incoming) (Record.Sent bytes.now) mine theirs) }
@@ -80,54 +91,92 @@ fn make_sent(alloc: Global, own: &mut End, bytes: &[u8]) -> Result<Made, AllocEr
     ensures counts { IfOk result (λ made. IfFails made (own.new.counts ≡ own.old.counts)) }
     ensures head { own.new.head ≡ own.old.head }
 {
-    match send(alloc, &mut own.station, &mut own.line, bytes) {
+    match send(alloc, &mut own.layers, &mut own.line, bytes) {
         Ok(()) => {
             own.counts = own.counts.with_sending();
             Ok(Made::Done)
         }
         Err(fault) => match fault {
-            SendFault::Refused(refusal) => Ok(Made::Fails(refusal)),
-            SendFault::OutOfMemory => Err(AllocError),
+            StepFault::Refused(refusal) => Ok(Made::Fails(refusal)),
+            StepFault::OutOfMemory => Err(AllocError),
         },
     }
 }
 
 #[inline(always)]
-fn make_received(own: &mut End, incoming: &mut Line, hint: u64, kept: bool, bytes: &[u8]) -> Made
-    requires room { HasRoom own.old.counts }
+fn make_received(
+    own: &mut End,
+    incoming: &mut Line,
+    hint: u64,
+    kept: bool,
+    bytes: &[u8],
+) -> Result<Made, AllocError>
+    requires room { HasRoom own.old }
     requires hint { hint ≤ MAX_HINT }
-    ensures made { (mine theirs : JudgeHalf) →
+    ensures made { IfOk result (λ made. (mine theirs : JudgeHalf) →
         StandsFor own.old incoming.old mine → Shows incoming.old theirs.sent →
-        MadeIs result (move own.old own.new incoming.old incoming.new) (Record.Received hint kept bytes.now) mine theirs }
-    ensures waits { LeavesWaiting result (move own.old own.new incoming.old incoming.new) }
-    ensures counts { IfFails result (own.new.counts ≡ own.old.counts) }
+        MadeIs made (move own.old own.new incoming.old incoming.new) (Record.Received hint kept bytes.now) mine theirs) }
+    ensures waits { IfOk result (λ made. LeavesWaiting made (move own.old own.new incoming.old incoming.new)) }
+    ensures counts { IfOk result (λ made. IfFails made (own.new.counts ≡ own.old.counts)) }
     ensures head { own.new.head ≡ own.old.head }
 {
-    match receive(&mut own.station, incoming, hint, kept, bytes) {
-        Receipt::Done { damaged } => {
+    match receive(&mut own.layers, incoming, hint, kept, bytes) {
+        Ok(Receipt::Done { damaged }) => {
             own.counts = own.counts.with_receipt(damaged, kept);
-            Made::Done
+            Ok(Made::Done)
         }
-        Receipt::Waits => Made::Waits,
-        Receipt::Fails(refusal) => Made::Fails(refusal),
+        Ok(Receipt::Waits) => Ok(Made::Waits),
+        Ok(Receipt::Fails(refusal)) => Ok(Made::Fails(refusal)),
+        Err(AllocError) => Err(AllocError),
     }
 }
 
 #[inline(always)]
-fn make_event(own: &mut End, event: Event) -> Made
-    requires { HasRoom own.old.counts }
+fn make_station_event(own: &mut End, event: StationEvent) -> Made
+    requires { HasRoom own.old }
     ensures made { (incoming : Line) (mine theirs : JudgeHalf) →
         StandsFor own.old incoming mine → Shows incoming theirs.sent →
-        MadeIs result (move own.old own.new incoming incoming) (Record.User event) mine theirs }
+        MadeIs result (move own.old own.new incoming incoming) (Record.User (event_of_station event)) mine theirs }
     ensures waits { NeverWaits result }
     ensures counts { IfFails result (own.new.counts ≡ own.old.counts) }
     ensures head { own.new.head ≡ own.old.head }
 {
-    match happen(&mut own.station, &event) {
+    match own.layers.start_or_halt(event) {
         Ok(()) => {
-            own.counts = own.counts.with_event(&event);
+            own.counts = own.counts.with_station_event(event);
             Made::Done
         }
         Err(refusal) => Made::Fails(refusal),
+    }
+}
+
+#[inline(always)]
+fn make_link_event(own: &mut End, event: LinkEvent) -> Result<Made, AllocError>
+    requires { HasRoom own.old }
+    ensures made { IfOk result (λ made. (incoming : Line) (mine theirs : JudgeHalf) →
+        StandsFor own.old incoming mine → Shows incoming theirs.sent →
+        MadeIs made (move own.old own.new incoming incoming) (Record.User (event_of_links (view event.entry))) mine theirs) }
+    ensures waits { IfOk result NeverWaits }
+    ensures counts { IfOk result (λ made. IfFails made (own.new.counts ≡ own.old.counts)) }
+    ensures head { own.new.head ≡ own.old.head }
+{
+    let delivers = is_delivery(&event);
+    match own.layers.at_links(event) {
+        Ok(()) => {
+            own.counts = own.counts.with_link_event(delivers);
+            Ok(Made::Done)
+        }
+        Err(StepFault::Refused(refusal)) => Ok(Made::Fails(refusal)),
+        Err(StepFault::OutOfMemory) => Err(AllocError),
+    }
+}
+
+// Whether a message is delivered.
+fn is_delivery(event: &LinkEvent) -> bool
+    ensures { result ≡ delivers (event_of_links (view event.now)) }
+{
+    match event {
+        LinkEvent::Up { .. } => true,
+        _ => false,
     }
 }

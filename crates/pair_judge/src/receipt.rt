@@ -1,23 +1,25 @@
 //! A receipt: the bytes that came beside the unit that their hint names.
 
-ghost use Rattle.std.specs.Prelude.{◌≡◌, ◌+◌, ◌^◌, ◌<◌, ◌≤◌, List, IfSome};
+ghost use Rattle.std.specs.Prelude.{◌≡◌, ◌+◌, ◌^◌, ◌<◌, ◌≤◌, List, IfOk, IfSome, Ok};
 ghost use Rattle.std.specs.Option.{option_map};
-ghost use Rattle.dna_model.specs.declared.refusal.StepRefusal.{StepRefusal};
-ghost use Rattle.dna_model.specs.WireNode.{WireUnit};
+ghost use Rattle.dna_model.specs.WireLayers.{WireLayersUnit};
 ghost use Rattle.dna_model.specs.WireStation.{load};
 ghost use Rattle.dna_model.specs.Line as line;
 ghost use Rattle.ddcmp_station.specs.Arrival.{arrival_view};
 ghost use Rattle.ddcmp_msg.specs.Reading.{reading};
 ghost use Rattle.pair_judge.specs.Counting.{shows_damage};
 ghost use Rattle.pair_judge.specs.Lines.{Shows};
-ghost use Rattle.pair_judge.specs.Receipts.{ReceiptIs, came, is_damage, station_move};
+ghost use Rattle.pair_judge.specs.Steps.{with_link};
+ghost use Rattle.pair_judge.specs.Receipts.{ReceiptIs, came, is_damage, layers_move};
 
-use crate::end::Station;
+use crate::layers::Layers;
 use crate::line::Line;
 use crate::line_unit::LineUnit;
+use crate::step_fault::StepFault;
 use ddcmp_msg::{Reading, read_unit};
-use ddcmp_station::{Arrival, StationFault};
+use ddcmp_station::Arrival;
 use dna_model::StepRefusal;
+use std::alloc::AllocError;
 
 /// What became of a receipt.
 #[derive(Clone, Copy, Debug, PartialEq, Eq)]
@@ -34,41 +36,39 @@ pub enum Receipt {
 /// those before it.
 ///
 /// It fails in this order: `HintOrder` where the unit or a later one came before; it waits where the unit is not sent yet;
-/// `Undetected` where the bytes are not the unit's and show no damage; and as the station refuses the arrival.
+/// `Undetected` where the bytes are not the unit's and show no damage; and as the station and the links refuse the arrival. An error: there is
+/// no memory for what the links keep of a packet.
 #[inline(always)]
 pub fn receive(
-    station: &mut Station,
+    layers: &mut Layers,
     line: &mut Line,
     hint: u64,
     kept: bool,
     bytes: &[u8],
-) -> Receipt
+) -> Result<Receipt, AllocError>
     requires hint { hint < 2 ^ 63 }
-    requires load { load station.old < 2 ^ 63 }
-    ensures receipt { (sent : List WireUnit) → Shows line.old sent →
-        ReceiptIs result (station_move station.old station.new line.old line.new) (came hint kept bytes.now) sent }
-    ensures waits { result ≡ Receipt.Waits → (station.new ≡ station.old) × (line.new ≡ line.old) }
-    ensures load { load station.new ≤ load station.old + 1 }
-    ensures unchanged { (refusal : StepRefusal) → result ≡ Receipt.Fails refusal → station.new ≡ station.old }
+    requires load { load layers.old.station < 2 ^ 63 }
+    ensures receipt { IfOk result (λ receipt. (sent : List WireLayersUnit) → Shows line.old sent →
+        ReceiptIs receipt (layers_move layers.old layers.new line.old line.new) (came hint kept bytes.now) sent) }
+    ensures waits { result ≡ Ok Receipt.Waits → (layers.new ≡ layers.old) × (line.new ≡ line.old) }
+    ensures load { load layers.new.station ≤ load layers.old.station + 1 }
 {
     if hint < line.gone {
-        return Receipt::Fails(StepRefusal::HintOrder);
+        return Ok(Receipt::Fails(StepRefusal::HintOrder));
     }
     match line.unit(hint) {
-        None => Receipt::Waits,
+        None => Ok(Receipt::Waits),
         Some(unit) => match coming(unit, bytes) {
-            None => Receipt::Fails(StepRefusal::Undetected),
+            None => Ok(Receipt::Fails(StepRefusal::Undetected)),
             Some(arrival) => {
                 let damaged = is_damaged(&arrival);
-                match station.arrived(arrival, kept) {
-                    Ok(_) => {
+                match layers.arrived(arrival, unit.tag().link, kept) {
+                    Ok(()) => {
                         line.release(hint);
-                        Receipt::Done { damaged }
+                        Ok(Receipt::Done { damaged })
                     }
-                    Err(StationFault::Refused(refusal)) => {
-                        Receipt::Fails(StepRefusal::Station(refusal))
-                    }
-                    Err(StationFault::OutOfMemory) => unreachable!(),
+                    Err(StepFault::Refused(refusal)) => Ok(Receipt::Fails(refusal)),
+                    Err(StepFault::OutOfMemory) => Err(AllocError),
                 }
             }
         },
@@ -79,14 +79,14 @@ pub fn receive(
 // as sound can be the unit's own.
 #[inline(always)]
 fn coming<'a>(unit: &LineUnit, bytes: &'a [u8]) -> Option<Arrival<'a>>
-    ensures coming { option_map arrival_view result ≡ line.coming unit.now bytes.now }
+    ensures coming { option_map (λ arrival. with_link unit.now.known.link (arrival_view arrival)) result ≡ line.coming unit.now bytes.now }
     ensures damage { IfSome result (λ arrival. is_damage (arrival_view arrival) ≡ shows_damage (reading bytes.now)) }
 {
     let own = unit.bytes();
     match read_unit(bytes) {
         Reading::Sound(message) => {
             if bytes == own {
-                return Some(Arrival::Sound(message, unit.tag()));
+                return Some(Arrival::Sound(message, unit.tag().station));
             }
             None
         }

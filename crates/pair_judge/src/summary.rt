@@ -2,8 +2,9 @@
 
 ghost use Rattle.std.specs.Prelude.{◌≡◌, ◌<◌, ◌^◌};
 ghost use Rattle.pair_judge.specs.Counting.{more_if, starts};
+ghost use Rattle.pair_judge.specs.Events.{event_of_station};
 
-use capture::Event;
+use ddcmp_station::StationEvent;
 
 /// The counts of one side of an accepted pair.
 #[derive(Clone, Copy, Debug, PartialEq, Eq)]
@@ -20,9 +21,9 @@ pub struct SideSummary {
     pub kept: u64,
     /// Starts of the station.
     pub periods: u64,
-    /// Link instances that began. Provisional: 0, since links are not judged yet.
+    /// Links that began: that were opened here, or by a CI that was kept.
     pub links: u64,
-    /// Messages that were delivered to a user. Provisional: 0, likewise.
+    /// Messages that were delivered to a user.
     pub up: u64,
 }
 
@@ -38,11 +39,12 @@ pub struct Summary {
 impl SideSummary {
     ghost use Rattle.std.specs.Prelude.{◌≡◌, ◌+◌, []};
     ghost use Rattle.pair_judge.specs.Counting.{more_if, starts};
-    ghost use Rattle.pair_judge.specs.Summary.{summary_of, HasRoom};
+    ghost use Rattle.pair_judge.specs.Events.{event_of_station};
+    ghost use Rattle.pair_judge.specs.Summary.{counts_of, HasRoomFor};
 
     /// Of no records.
     pub fn new() -> SideSummary
-        ensures { result ≡ summary_of [] }
+        ensures { result ≡ counts_of [] }
     {
         SideSummary {
             records: 0,
@@ -58,7 +60,7 @@ impl SideSummary {
 
     /// With one sending more.
     pub fn with_sending(self) -> SideSummary
-        requires { HasRoom self }
+        requires { HasRoomFor self }
         ensures { result ≡ record self { records = self.records + 1; sent = self.sent + 1 } }
     {
         SideSummary {
@@ -70,7 +72,7 @@ impl SideSummary {
 
     /// With one receipt more.
     pub fn with_receipt(self, damaged: bool, kept: bool) -> SideSummary
-        requires { HasRoom self }
+        requires { HasRoomFor self }
         ensures { result ≡ record self {
           records = self.records + 1;
           received = self.received + 1;
@@ -87,16 +89,35 @@ impl SideSummary {
         }
     }
 
-    /// With one user event more.
-    pub fn with_event(self, event: &Event) -> SideSummary
-        requires { HasRoom self }
-        ensures { result ≡ record self { records = self.records + 1; periods = more_if (starts event.now) self.periods } }
+    /// With one event of the station more.
+    pub fn with_station_event(self, event: StationEvent) -> SideSummary
+        requires { HasRoomFor self }
+        ensures { result ≡ record self { records = self.records + 1; periods = more_if (starts (event_of_station event)) self.periods } }
     {
         SideSummary {
             records: self.records + 1,
             periods: one_more_if(is_start(event), self.periods),
             ..self
         }
+    }
+
+    /// With one event of the links more, which delivers a message or does not.
+    pub fn with_link_event(self, delivers: bool) -> SideSummary
+        requires { HasRoomFor self }
+        ensures { result ≡ record self { records = self.records + 1; up = more_if delivers self.up } }
+    {
+        SideSummary {
+            records: self.records + 1,
+            up: one_more_if(delivers, self.up),
+            ..self
+        }
+    }
+
+    /// With so many links.
+    pub fn with_links(self, links: u64) -> SideSummary
+        ensures { result ≡ record self { links = links } }
+    {
+        SideSummary { links, ..self }
     }
 }
 
@@ -108,11 +129,11 @@ fn one_more_if(fact: bool, count: u64) -> u64
     if fact { count + 1 } else { count }
 }
 
-fn is_start(event: &Event) -> bool
-    ensures { result ≡ starts event.now }
+fn is_start(event: StationEvent) -> bool
+    ensures { result ≡ starts (event_of_station event) }
 {
     match event {
-        Event::Start => true,
-        _ => false,
+        StationEvent::Start => true,
+        StationEvent::Halt => false,
     }
 }

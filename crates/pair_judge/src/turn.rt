@@ -16,7 +16,7 @@ use crate::captures::endings;
 use crate::course::{Advance, Course};
 use crate::fault::{JudgeFault, TextFault};
 use capture::CaptureFault;
-use dna_model::{Cause, Finding, WireNodes};
+use dna_model::{Cause, Finding, WireLayersNodes};
 use std::io::Read;
 use two_nodes::reading_on;
 use wire_base::{Side, Tally};
@@ -32,8 +32,8 @@ pub fn turn<R: Read, S: Read>(
 ) -> Result<Option<Finding>, JudgeFault>
     requires may_read_a { MayRead a.old }
     requires may_read_b { MayRead b.old }
-    requires room_a { HasRoom a.old.end.counts }
-    requires room_b { HasRoom b.old.end.counts }
+    requires room_a { HasRoom a.old.end }
+    requires room_b { HasRoom b.old.end }
     ensures turn { IfOk result (λ turn. (text_a text_b : Option (List ℕ)) (made_a made_b : List Record) →
         IsUnderWay (along text_a a.old (to_come a.old.capture.unread (R.remaining (tally_lent reader_a.old))) made_a)
         (along text_b b.old (to_come b.old.capture.unread (S.remaining (tally_lent reader_b.old))) made_b) →
@@ -48,7 +48,7 @@ pub fn turn<R: Read, S: Read>(
     ensures reads_b { CountsReads (is_failed_read_of Side.B result) (tally_faults reader_b.old) (tally_faults reader_b.new) }
 {
     endings();
-    reading_on::<WireNodes<()>>();
+    reading_on::<WireLayersNodes>();
     match a.advance(&mut b.end.line, reader_a) {
         Ok(Advance::Made) => Ok(None),
         Ok(Advance::Fails(refusal)) => Ok(Some(refused(Side::A, a, Cause::Step(refusal)))),
@@ -67,7 +67,7 @@ fn turn_of_b<S: Read>(
     reader_b: &mut Tally<S>,
 ) -> Result<Option<Finding>, JudgeFault>
     requires may_read { MayRead b.old }
-    requires room { HasRoom b.old.end.counts }
+    requires room { HasRoom b.old.end }
     ensures turn { IfOk result (λ turn. (text_a text_b come_a : Option (List ℕ)) (made_a made_b : List Record) →
         IsUnderWay (along text_a a.old come_a made_a)
         (along text_b b.old (to_come b.old.capture.unread (S.remaining (tally_lent reader_b.old))) made_b) →
@@ -84,7 +84,7 @@ fn turn_of_b<S: Read>(
     ensures other { is_failed_read_of Side.A result ≡ false }
 {
     endings();
-    reading_on::<WireNodes<()>>();
+    reading_on::<WireLayersNodes>();
     match b.advance(&mut a.end.line, reader_b) {
         Ok(Advance::Made) => Ok(None),
         Ok(Advance::Fails(refusal)) => Ok(Some(refused(Side::B, b, Cause::Step(refusal)))),

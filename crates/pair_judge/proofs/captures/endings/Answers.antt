@@ -1,45 +1,43 @@
 use Rattle.std.proofs.Common.{◌∷◌, ◌++◌, length, sym, ◌∙◌}
 use Rattle.two_nodes.specs.Nodes.{advance}
-use Rattle.dna_model.specs.Node.{new_node}
-use Rattle.dna_model.specs.Pair.{pair, start}
-use Rattle.pair_judge.proofs.Seen.{refused_there, waits_there}
+use Rattle.dna_model.specs.Layers.{new_layers_node}
+use Rattle.dna_model.specs.LayersPair.{layers_pair, layers_start}
+use Rattle.pair_judge.proofs.Seen.{has_run, refused_there, waits_there}
 use Rattle.pair_judge.proofs.captures.endings.Goals as goal
 
 pub returns-clause-accepted : goal.returns-clause-accepted
-returns-clause-accepted c = λ head_a head_b w of_a of_b run.
-    let s = c.wire_nodes_see_right.ensures.of_wire head_a head_b w of_a of_b run in
-    (s.world, s.run)
+returns-clause-accepted c = λ head_a head_b w of_a of_b run. has_run head_a head_b w of_a of_b (c.wire_layers_see_right.ensures.of_wire head_a head_b w of_a of_b run)
 
 pub returns-clause-a_refused : goal.returns-clause-a_refused
 returns-clause-a_refused c = λ head_a head_b w done_a rest_a done_b rest_b r refusal run refused.
-    let s = c.wire_nodes_see_right.ensures.of_wire head_a head_b w done_a done_b run in
-    let there = refused_there (advance pair.node_a s.world.a s.world.b r) refusal (sym (s.same_a r) ∙ refused) in
-    (c.refused_record.ensures.a_ends (start head_a head_b) s.world r refusal done_a rest_a done_b rest_b s.run there, c.refused_record.ensures.a_offends (new_node head_a) (new_node head_b) s.world r refusal done_a rest_a done_b rest_b s.run there)
+    let s = c.wire_layers_see_right.ensures.of_wire head_a head_b w done_a done_b run in
+    let there = refused_there (advance layers_pair.node_a s.world.a s.world.b r) refusal (sym (s.same_a r) ∙ refused) in
+    (c.refused_record.ensures.a_ends (layers_start head_a head_b) s.world r refusal done_a rest_a done_b rest_b s.run there, c.refused_record.ensures.a_offends (new_layers_node head_a) (new_layers_node head_b) s.world r refusal done_a rest_a done_b rest_b s.run there)
 
 pub returns-clause-b_refused : goal.returns-clause-b_refused
 returns-clause-b_refused c = λ head_a head_b w done_a rest_a done_b rest_b r refusal run refused.
-    let s = c.wire_nodes_see_right.ensures.of_wire head_a head_b w done_a done_b run in
-    let there = refused_there (advance pair.node_b s.world.b s.world.a r) refusal (sym (s.same_b r) ∙ refused) in
-    (c.refused_record.ensures.b_ends (start head_a head_b) s.world r refusal done_a rest_a done_b rest_b s.run there, c.refused_record.ensures.b_offends (new_node head_a) (new_node head_b) s.world r refusal done_a rest_a done_b rest_b s.run there)
+    let s = c.wire_layers_see_right.ensures.of_wire head_a head_b w done_a done_b run in
+    let there = refused_there (advance layers_pair.node_b s.world.b s.world.a r) refusal (sym (s.same_b r) ∙ refused) in
+    (c.refused_record.ensures.b_ends (layers_start head_a head_b) s.world r refusal done_a rest_a done_b rest_b s.run there, c.refused_record.ensures.b_offends (new_layers_node head_a) (new_layers_node head_b) s.world r refusal done_a rest_a done_b rest_b s.run there)
 
 pub returns-clause-stuck : goal.returns-clause-stuck
 returns-clause-stuck c = λ head_a head_b w done_a rest_a done_b rest_b r s run waits_a waits_b.
-    let v = c.wire_nodes_see_right.ensures.of_wire head_a head_b w done_a done_b run in
-    let there_a = waits_there (advance pair.node_a v.world.a v.world.b r) (sym (v.same_a r) ∙ waits_a) in
-    let there_b = waits_there (advance pair.node_b v.world.b v.world.a s) (sym (v.same_b s) ∙ waits_b) in
-    let stuck = c.both_waiting.ensures.stuck (new_node head_a) (new_node head_b) v.world r s done_a rest_a done_b rest_b v.run there_a there_b in
-    (c.both_waiting.ensures.no_run (new_node head_a) (new_node head_b) (done_a ++ r ∷ rest_a) (done_b ++ s ∷ rest_b) (length done_a) (length done_b) stuck, (length done_b, stuck))
+    let v = c.wire_layers_see_right.ensures.of_wire head_a head_b w done_a done_b run in
+    let there_a = waits_there (advance layers_pair.node_a v.world.a v.world.b r) (sym (v.same_a r) ∙ waits_a) in
+    let there_b = waits_there (advance layers_pair.node_b v.world.b v.world.a s) (sym (v.same_b s) ∙ waits_b) in
+    let stuck = c.both_waiting.ensures.stuck (new_layers_node head_a) (new_layers_node head_b) v.world r s done_a rest_a done_b rest_b v.run there_a there_b in
+    (c.both_waiting.ensures.no_run (new_layers_node head_a) (new_layers_node head_b) (done_a ++ r ∷ rest_a) (done_b ++ s ∷ rest_b) (length done_a) (length done_b) stuck, (length done_b, stuck))
 
 pub returns-clause-a_lacks : goal.returns-clause-a_lacks
 returns-clause-a_lacks c = λ head_a head_b w done_a rest_a all_b r run waits.
-    let s = c.wire_nodes_see_right.ensures.of_wire head_a head_b w done_a all_b run in
-    let there = waits_there (advance pair.node_a s.world.a s.world.b r) (sym (s.same_a r) ∙ waits) in
-    let lacks = c.one_waiting.ensures.a_lacks (new_node head_a) (new_node head_b) s.world r done_a rest_a all_b s.run there in
-    (c.one_waiting.ensures.a_ends (new_node head_a) (new_node head_b) (done_a ++ r ∷ rest_a) all_b (length done_a) lacks, lacks)
+    let s = c.wire_layers_see_right.ensures.of_wire head_a head_b w done_a all_b run in
+    let there = waits_there (advance layers_pair.node_a s.world.a s.world.b r) (sym (s.same_a r) ∙ waits) in
+    let lacks = c.one_waiting.ensures.a_lacks (new_layers_node head_a) (new_layers_node head_b) s.world r done_a rest_a all_b s.run there in
+    (c.one_waiting.ensures.a_ends (new_layers_node head_a) (new_layers_node head_b) (done_a ++ r ∷ rest_a) all_b (length done_a) lacks, lacks)
 
 pub returns-clause-b_lacks : goal.returns-clause-b_lacks
 returns-clause-b_lacks c = λ head_a head_b w all_a done_b rest_b r run waits.
-    let s = c.wire_nodes_see_right.ensures.of_wire head_a head_b w all_a done_b run in
-    let there = waits_there (advance pair.node_b s.world.b s.world.a r) (sym (s.same_b r) ∙ waits) in
-    let lacks = c.one_waiting.ensures.b_lacks (new_node head_a) (new_node head_b) s.world r all_a done_b rest_b s.run there in
-    (c.one_waiting.ensures.b_ends (new_node head_a) (new_node head_b) all_a (done_b ++ r ∷ rest_b) (length done_b) lacks, lacks)
+    let s = c.wire_layers_see_right.ensures.of_wire head_a head_b w all_a done_b run in
+    let there = waits_there (advance layers_pair.node_b s.world.b s.world.a r) (sym (s.same_b r) ∙ waits) in
+    let lacks = c.one_waiting.ensures.b_lacks (new_layers_node head_a) (new_layers_node head_b) s.world r all_a done_b rest_b s.run there in
+    (c.one_waiting.ensures.b_ends (new_layers_node head_a) (new_layers_node head_b) all_a (done_b ++ r ∷ rest_b) (length done_b) lacks, lacks)

@@ -16,7 +16,7 @@ pub returns-in-Ok-Some-clause-found : goal.returns-in-Ok-Some-clause-found
 returns-in-Ok-Some-clause-found g c =
     let h = c.loop.invariant.0 in
     let turned = rw c.in-Ok-Some.field-0-is at c.in-Ok-Some.ensures.turn in
-    found_in _ _ _ (turned (g.R.Read.remaining (tally_lent c.args.a.now)) (g.S.Read.remaining (tally_lent c.args.b.now)) h.made_a h.made_b h.under_way) refl refl
+    found_in _ _ _ (turned (g.R.Read.remaining (tally_lent c.args.a.now)) (g.S.Read.remaining (tally_lent c.args.b.now)) h.made_a h.made_b h.under_way) c.summary.ensures c.summary-in-Ok-Some.ensures
 
 pub loop-preserved : goal.loop-preserved
 loop-preserved g c =

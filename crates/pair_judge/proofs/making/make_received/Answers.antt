@@ -6,17 +6,17 @@ use Rattle.pair_judge.specs.Summary.{counted}
 use Rattle.pair_judge.proofs.Advances.{receipt_made, receipt_refused}
 use Rattle.pair_judge.proofs.making.make_received.Goals as goal
 
-pub returns-in-Done-clause-made : goal.returns-in-Done-clause-made
-returns-in-Done-clause-made c = λ mine theirs stands shows.
+pub returns-in-Ok-Done-clause-made : goal.returns-in-Ok-Done-clause-made
+returns-in-Ok-Done-clause-made c = λ mine theirs stands shows.
     let old = c.args.own.now.counts in
     let bytes = c.args.bytes.now in
-    let came = c.in-Done.ensures.receipt theirs.sent shows in
-    let damaged : c.in-Done.damaged ≡ shows_damage (reading bytes) = came.1 in
+    let came = (rw c.in-Ok-Done.field-0-is at c.in-Ok-Done.ensures.receipt) theirs.sent shows in
+    let damaged : c.in-Ok-Done.damaged ≡ shows_damage (reading bytes) = came.1 in
     let counts : c.with_receipt-own.result ≡ counted old (Received c.args.hint c.args.kept bytes) =
     c.with_receipt-own.ensures ∙ ap (λ d. record old { records = old.records + 1; received = old.received + 1; damaged = more_if d old.damaged; kept = more_if c.args.kept old.kept }) damaged in
-    receipt_made c.args.own.now _ c.args.incoming.now c.receive.new.line c.args.hint c.args.kept bytes mine theirs stands came.0 refl refl counts
+    receipt_made c.args.own.now _ c.args.incoming.now c.receive.new.line c.args.hint c.args.kept bytes mine theirs stands came.0 refl refl counts c.receive.ensures.load
 
-pub returns-in-Fails-clause-made : goal.returns-in-Fails-clause-made
-returns-in-Fails-clause-made c = λ mine theirs stands shows.
-    let fails = c.in-Fails.ensures.receipt theirs.sent shows in
-    receipt_refused c.args.own.now c.args.incoming.now c.args.hint c.args.kept c.args.bytes.now mine theirs c.in-Fails.refusal stands fails
+pub returns-in-Ok-Fails-clause-made : goal.returns-in-Ok-Fails-clause-made
+returns-in-Ok-Fails-clause-made c = λ mine theirs stands shows.
+    let fails = (rw c.in-Ok-Fails.field-0-is at c.in-Ok-Fails.ensures.receipt) theirs.sent shows in
+    receipt_refused c.args.own.now c.args.incoming.now c.args.hint c.args.kept c.args.bytes.now mine theirs c.in-Ok-Fails.refusal stands fails

@@ -5,7 +5,7 @@ use Rattle.pair_judge.specs.declared.course.Ahead.TheVariants.{Ended}
 use Rattle.pair_judge.specs.declared.fault.JudgeFault.{JudgeFault}
 use Rattle.pair_judge.specs.Faulty.{IsJudgeFault}
 use Rattle.pair_judge.specs.Reached.{IsHeldUp, IsStopped}
-use Rattle.pair_judge.specs.Wire.{judge_start}
+use Rattle.dna_model.specs.WireLayers.{wire_layers_start}
 use Rattle.pair_judge.proofs.Turns.{reached_by_b, reached_still, same_end, same_read, next_place}
 use Rattle.pair_judge.proofs.Found.{at_place, b_fails, both_wait, a_waits, b_waits, both_ended}
 use Rattle.pair_judge.proofs.Faults.{b_faulty}
@@ -17,14 +17,14 @@ returns-in-Ok-Made-clause-turn g c = λ text_a text_b come_a made_a made_b under
     let m = advanced text_b made_b under.read_b in
     let h = under.reached in
     let made = m.made_it h.world.b h.world.a h.stands_b h.stands_a.sent in
-    let run = c.reading_on.ensures.of_b (judge_start c.args.a.now.end.head c.args.b.now.end.head) h.world made.next m.next made_a made_b h.run made.step_is in
+    let run = c.reading_on.ensures.of_b (wire_layers_start c.args.a.now.end.head c.args.b.now.end.head) h.world made.next m.next made_a made_b h.run made.step_is in
     record {
       made_a = made_a;
       made_b = made_b ++ m.next ∷ [];
       under_way = record {
         read_a = same_read text_a c.args.a.now _ come_a made_a refl refl refl under.read_a;
         read_b = m.read;
-        reached = reached_by_b c.args.a.now.end _ c.args.b.now.end c.advance.new.self.end c.advance.new.incoming made_a made_b m.next h made (record { head = refl; station = refl; counts = refl; line = refl }) run;
+        reached = reached_by_b c.args.a.now.end _ c.args.b.now.end c.advance.new.self.end c.advance.new.incoming made_a made_b m.next h made (record { head = refl; layers = refl; counts = refl; line = refl }) run;
       };
       one_more = omega (arith, length-append made_b (m.next ∷ []));
     }
@@ -77,10 +77,11 @@ returns-in-Ok-Ended-2-clause-turn g c = λ text_a text_b come_a made_a made_b un
     let m = over text_b made_b under.read_b in
     let h = under.reached in
     let ended : c.args.a.now.ahead ≡ Ended = subst (λ (w : Bool). IsStopped w c.args.a.now c.args.b.now.end.line) c.if-a_waits-2.false stopped in
-    both_ended _ _ c.args.a.now.end.head c.args.b.now.end.head refl c.advance.ensures.head 0 (c.endings.ensures.accepted _ _ h.world made_a made_b h.run) (same_read text_a c.args.a.now _ come_a made_a refl refl refl under.read_a) m.read ended m.ahead (reached_still c.args.a.now.end _ c.args.b.now.end c.advance.new.self.end made_a made_b h (record { head = refl; station = refl; counts = refl; line = m.still.same_line }) (same_end c.args.b.now.end c.advance.new.self.end m.still.same_end))
+    let now = reached_still c.args.a.now.end _ c.args.b.now.end c.advance.new.self.end made_a made_b h (record { head = refl; layers = refl; counts = refl; line = m.still.same_line }) (same_end c.args.b.now.end c.advance.new.self.end m.still.same_end) in
+    both_ended _ _ now (c.endings.ensures.accepted _ _ now.world made_a made_b now.run) (same_read text_a c.args.a.now _ come_a made_a refl refl refl under.read_a) m.read ended m.ahead
 
 pub returns-in-Err-clause-fault : goal.returns-in-Err-clause-fault
 returns-in-Err-clause-fault g c = λ text_a text_b come_a made_a made_b under.
     let h = under.reached in
-    let run = c.endings.ensures.accepted _ _ h.world made_a made_b h.run in
+    let run = (c.endings.ensures.accepted _ _ h.world made_a made_b h.run).run in
     subst (λ (fault : JudgeFault). IsJudgeFault text_a text_b fault) (sym c.side_fault.ensures) (b_faulty _ _ under.read_a under.read_b run c.in-Err.fault (c.in-Err.ensures.fault text_b made_b under.read_b))

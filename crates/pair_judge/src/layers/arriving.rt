@@ -1,0 +1,95 @@
+//! What comes to a side.
+
+ghost use Rattle.std.specs.Prelude.{◌≡◌, ◌+◌, ◌^◌, ◌<◌, ◌≤◌, Ok, Err, OnOk, IfErr};
+ghost use Rattle.dna_packet.specs.Nsp as nsp;
+ghost use Rattle.dna_model.specs.declared.link_refusal.LinkRefusal.{LinkRefusal};
+ghost use Rattle.dna_model.specs.declared.refusal.StepRefusal.TheVariants as StepRefusal;
+ghost use Rattle.dna_model.specs.Content as spec;
+ghost use Rattle.dna_model.specs.LinkArriving.{of_partner};
+ghost use Rattle.dna_model.specs.Rules.{judged};
+ghost use Rattle.dna_model.specs.WireStation.{load};
+ghost use Rattle.dna_model.specs.WireLinks.{wire_links_arrived};
+ghost use Rattle.dna_model.specs.WireLayers.{tag_or_none, wire_keeps_packet};
+ghost use Rattle.ddcmp_station.specs.Arrival.{arrival_view};
+ghost use Rattle.pair_judge.specs.Packets.{one_view};
+ghost use Rattle.pair_judge.specs.Steps.{IfRefused, with_link};
+ghost use Rattle.pair_judge.specs.Wire.{judge_machine};
+
+use super::{Layers, OF_NO_LINK};
+use crate::packet::{Carried, content};
+use crate::step_fault::StepFault;
+use ddcmp_station::{Arrival, StationFault};
+use dna_model::{LinkTag, StepRefusal};
+use nsp_link::LinkFault;
+
+impl Layers {
+    /// This came, with the tag of its packet, and the node kept the packet or did not. A packet that is kept is read again and goes to the
+    /// links.
+    ///
+    /// `Refused`, in this order: as the station refuses; as the links refuse. `OutOfMemory`: memory for a link or for the piece of a
+    /// message was refused.
+    pub fn arrived(
+        &mut self,
+        arrival: Arrival,
+        link: Option<LinkTag>,
+        kept: bool,
+    ) -> Result<(), StepFault>
+        requires { load self.old.station < 2 ^ 63 }
+        ensures ok { OnOk result (judge_machine.arrives self.old (with_link link (arrival_view arrival.entry)) kept ≡ Ok self.new) }
+        ensures refused { IfErr result (IfRefused (λ refusal.
+            judge_machine.arrives self.old (with_link link (arrival_view arrival.entry)) kept ≡ Err refusal)) }
+        ensures load { load self.new.station ≤ load self.old.station + 1 }
+    {
+        match self.station.arrived(arrival, kept) {
+            Ok(Some(packet)) => self.keep(packet, tag_of(link)),
+            Ok(None) => Ok(()),
+            Err(StationFault::Refused(refusal)) => {
+                Err(StepFault::Refused(StepRefusal::Station(refusal)))
+            }
+            Err(StationFault::OutOfMemory) => unreachable!(),
+        }
+    }
+
+    // This packet is kept, with this tag: it goes to the links.
+    fn keep(&mut self, packet: &[u8], tag: LinkTag) -> Result<(), StepFault>
+        ensures ok { OnOk result (wire_keeps_packet judged self.old tag (spec.content packet.now) ≡ Ok self.new) }
+        ensures refused { IfErr result (IfRefused (λ refusal. wire_keeps_packet judged self.old tag (spec.content packet.now) ≡ Err refusal)) }
+        ensures station { self.new.station ≡ self.old.station }
+    {
+        match content(packet) {
+            Ok(Some(carried)) => self.take(&carried, tag),
+            Ok(None) => Ok(()),
+            Err(refusal) => Err(StepFault::Refused(refusal)),
+        }
+    }
+
+    // The links take this message, with this tag.
+    fn take(&mut self, carried: &Carried, tag: LinkTag) -> Result<(), StepFault>
+        requires { nsp.IsInRange (nsp.view carried.now.message) }
+        ensures ok { OnOk result (wire_links_arrived of_partner self.old.links (one_view carried.now) tag ≡ Ok self.new.links) }
+        ensures refused { IfErr result (IfRefused (λ refusal. (why : LinkRefusal)
+            × (wire_links_arrived of_partner self.old.links (one_view carried.now) tag ≡ Err why) × (refusal ≡ StepRefusal.Links why))) }
+        ensures station { self.new.station ≡ self.old.station }
+    {
+        match self
+            .links
+            .arrived(carried.dst, carried.src, &carried.message, tag)
+        {
+            Ok(()) => Ok(()),
+            Err(LinkFault::Refused(refusal)) => Err(StepFault::Refused(StepRefusal::Links(
+                refusal,
+            ))),
+            Err(LinkFault::OutOfMemory) => Err(StepFault::OutOfMemory),
+        }
+    }
+}
+
+// The tag beside a packet. Each packet that was sent has one.
+fn tag_of(link: Option<LinkTag>) -> LinkTag
+    ensures { result ≡ tag_or_none link }
+{
+    match link {
+        Some(tag) => tag,
+        None => OF_NO_LINK,
+    }
+}

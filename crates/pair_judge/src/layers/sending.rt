@@ -1,0 +1,109 @@
+//! What the node of a side sends.
+
+ghost use Rattle.std.specs.Prelude.{◌≡◌, ◌<◌, ◌≤◌, Ok, Err, Some, length, IfOk, IfErr};
+ghost use Rattle.ddcmp_msg.specs.Message.{view};
+ghost use Rattle.dna_packet.specs.Nsp as nsp;
+ghost use Rattle.dna_model.specs.declared.link_refusal.LinkRefusal.{LinkRefusal};
+ghost use Rattle.dna_model.specs.declared.refusal.StepRefusal.TheVariants as StepRefusal;
+ghost use Rattle.dna_model.specs.declared.tag.Tag.{Tag};
+ghost use Rattle.dna_model.specs.Book.{body_of};
+ghost use Rattle.dna_model.specs.Content as spec;
+ghost use Rattle.dna_model.specs.WireStation.{load};
+ghost use Rattle.dna_model.specs.WireLinks.{wire_links_sent};
+ghost use Rattle.dna_model.specs.WireLayers.{WireLayers, wire_sends_first};
+ghost use Rattle.pair_judge.specs.Packets.{one_view};
+ghost use Rattle.pair_judge.specs.Steps.{IfRefused};
+ghost use Rattle.pair_judge.specs.Unit.{tags_of};
+ghost use Rattle.pair_judge.specs.Wire.{judge_machine};
+
+use super::{Layers, OF_NO_LINK};
+use crate::packet::{Carried, content};
+use crate::step_fault::StepFault;
+use crate::unit_tag::UnitTag;
+use ddcmp_msg::Message;
+use ddcmp_station::StationFault;
+use dna_model::{LinkTag, StepRefusal};
+use nsp_link::LinkFault;
+
+impl Layers {
+    /// The node sent this message: the tags that its unit goes with. A packet is read and goes to the links when it is first sent, and
+    /// keeps the tag that it got then.
+    ///
+    /// `Refused`, in this order: as the station refuses; `BadPacket`, `BadNsp`; as the links refuse. `OutOfMemory`: memory for the packet,
+    /// or for the piece of a message, was refused.
+    pub fn sent(&mut self, message: &Message) -> Result<UnitTag, StepFault>
+        ensures ok { IfOk result (λ tag. judge_machine.sends self.old (view message.now) ≡ Ok (self.new, tags_of tag)) }
+        ensures refused { IfErr result (IfRefused (λ refusal. judge_machine.sends self.old (view message.now) ≡ Err refusal)) }
+        ensures load { load self.new.station ≤ load self.old.station }
+    {
+        let sent = match self.station.sent(message) {
+            Ok(sent) => sent,
+            Err(StationFault::Refused(refusal)) => {
+                return Err(StepFault::Refused(StepRefusal::Station(refusal)));
+            }
+            Err(StationFault::OutOfMemory) => return Err(StepFault::OutOfMemory),
+        };
+        if !sent.first {
+            return Ok(UnitTag {
+                station: sent.tag,
+                link: sent.label,
+            });
+        }
+        let tag = match self.label_first(packet_of(message)) {
+            Ok(tag) => tag,
+            Err(fault) => return Err(fault),
+        };
+        Ok(UnitTag {
+            station: sent.tag,
+            link: Some(tag),
+        })
+    }
+
+    // This packet was given the newest number: it goes to the links, and gets its tag as label.
+    fn label_first(&mut self, packet: &[u8]) -> Result<LinkTag, StepFault>
+        requires { 0 < length self.old.station.variables.held }
+        ensures ok { IfOk result (λ link. (before : WireLayers) (tag : Tag) → before.links ≡ self.old.links →
+            wire_sends_first before (self.old.station, tag) (spec.content packet.now) ≡ Ok (self.new, record { station = tag; link = Some link })) }
+        ensures refused { IfErr result (IfRefused (λ refusal. (before : WireLayers) (tag : Tag) → before.links ≡ self.old.links →
+            wire_sends_first before (self.old.station, tag) (spec.content packet.now) ≡ Err refusal)) }
+        ensures load { load self.new.station ≡ load self.old.station }
+    {
+        let link = match content(packet) {
+            Ok(Some(carried)) => match self.send(&carried) {
+                Ok(link) => link,
+                Err(fault) => return Err(fault),
+            },
+            Ok(None) => OF_NO_LINK,
+            Err(refusal) => return Err(StepFault::Refused(refusal)),
+        };
+        self.station.label(link);
+        Ok(link)
+    }
+
+    // The links send this message.
+    fn send(&mut self, carried: &Carried) -> Result<LinkTag, StepFault>
+        requires { nsp.IsInRange (nsp.view carried.now.message) }
+        ensures ok { IfOk result (λ link. wire_links_sent self.old.links (one_view carried.now)
+            ≡ Ok (record { links = self.new.links; truth = record { tag = link; known = tt } })) }
+        ensures refused { IfErr result (IfRefused (λ refusal. (why : LinkRefusal) × (wire_links_sent self.old.links (one_view carried.now) ≡ Err why) × (refusal ≡ StepRefusal.Links why))) }
+        ensures station { self.new.station ≡ self.old.station }
+    {
+        match self.links.sent(carried.dst, carried.src, &carried.message) {
+            Ok(tag) => Ok(tag),
+            Err(LinkFault::Refused(refusal)) => Err(StepFault::Refused(StepRefusal::Links(
+                refusal,
+            ))),
+            Err(LinkFault::OutOfMemory) => Err(StepFault::OutOfMemory),
+        }
+    }
+}
+
+// The packet of a data message.
+fn packet_of<'a>(message: &Message<'a>) -> &'a [u8]
+    ensures { result.now ≡ body_of (view message.now) }
+{
+    match message {
+        Message::Data { body, .. } => body,
+        _ => &[],
+    }
+}

@@ -1,0 +1,47 @@
+//! What the user of a side does.
+
+ghost use Rattle.std.specs.Prelude.{◌≡◌, ◌+◌, ◌^◌, ◌<◌, ◌≤◌, Ok, Err, OnOk, IfErr};
+ghost use Rattle.dna_model.specs.LinkUser.{view};
+ghost use Rattle.dna_model.specs.WireStation.{load};
+ghost use Rattle.pair_judge.specs.Events.{event_of_station, event_of_links};
+ghost use Rattle.pair_judge.specs.Steps.{IfRefused};
+ghost use Rattle.pair_judge.specs.Wire.{judge_machine};
+
+use super::Layers;
+use crate::step_fault::StepFault;
+use ddcmp_station::{StationEvent, StationFault};
+use dna_model::StepRefusal;
+use nsp_link::{LinkEvent, LinkFault};
+
+impl Layers {
+    /// The user starts or halts the station. `WrongUserEvent`: a start in a state other than HALTED (DDCMP 4.1, startup state table).
+    /// Takes no memory.
+    pub fn start_or_halt(&mut self, event: StationEvent) -> Result<(), StepRefusal>
+        requires { load self.old.station < 2 ^ 63 }
+        ensures ok { OnOk result (judge_machine.user self.old (event_of_station event) ≡ Ok self.new) }
+        ensures refused { IfErr result (λ refusal. judge_machine.user self.old (event_of_station event) ≡ Err refusal) }
+        ensures load { load self.new.station ≤ load self.old.station + 1 }
+    {
+        match self.station.user(event) {
+            Ok(()) => Ok(()),
+            Err(StationFault::Refused(refusal)) => Err(StepRefusal::Station(refusal)),
+            Err(StationFault::OutOfMemory) => unreachable!(),
+        }
+    }
+
+    /// The user of the links does this, and is refused as they refuse it. `OutOfMemory`: memory for a link, an address or a message was
+    /// refused.
+    pub fn at_links(&mut self, event: LinkEvent) -> Result<(), StepFault>
+        ensures ok { OnOk result (judge_machine.user self.old (event_of_links (view event.entry)) ≡ Ok self.new) }
+        ensures refused { IfErr result (IfRefused (λ refusal. judge_machine.user self.old (event_of_links (view event.entry)) ≡ Err refusal)) }
+        ensures station { self.new.station ≡ self.old.station }
+    {
+        match self.links.user(event) {
+            Ok(()) => Ok(()),
+            Err(LinkFault::Refused(refusal)) => Err(StepFault::Refused(StepRefusal::Links(
+                refusal,
+            ))),
+            Err(LinkFault::OutOfMemory) => Err(StepFault::OutOfMemory),
+        }
+    }
+}

@@ -1,0 +1,12 @@
+//! Why a side made no step.
+
+use dna_model::StepRefusal;
+
+/// Why a side made no step.
+#[derive(Clone, Copy, Debug, PartialEq, Eq)]
+pub enum StepFault {
+    /// No node may make it.
+    Refused(StepRefusal),
+    /// It is allowed so far, and memory that it needs was refused.
+    OutOfMemory,
+}

@@ -1,0 +1,11 @@
+//! What the judge keeps beside a unit, and no byte of it tells.
+
+use dna_model::{LinkTag, Tag};
+
+/// What a unit was sent with: which start of its station it belongs to; and of a data message the tag that its packet got when it was
+/// first sent.
+#[derive(Clone, Copy, Debug, PartialEq, Eq)]
+pub struct UnitTag {
+    pub station: Tag,
+    pub link: Option<LinkTag>,
+}
