@@ -7,4 +7,5 @@ pub mod Rule
 pub mod OneReading
 pub mod Damage
 pub mod Agreement
+pub mod SoundUnits
 pub mod Rows

@@ -123,3 +123,10 @@ unfoldable pub reading : List ℕ → ReadingValue
 reading unit =
     if nat_lt (length unit) 8 then HeaderBad
     else (if is_good (take 8 unit) then checked_reading (slice_index unit 0) unit else HeaderBad)
+
+-- a message, and no departure or damage
+abbrev pub IsSound : ReadingValue → Type 0
+IsSound (Sound message) = Unit {0}
+IsSound HeaderBad = ⊥
+IsSound DataBad = ⊥
+IsSound (Malformed departure) = ⊥

@@ -20,7 +20,7 @@ pub use laws::{
 };
 pub use message::Message;
 pub use nak_reason::NakReason;
-pub use reading::{Reading, read_unit};
+pub use reading::{Reading, read_sound, read_unit};
 pub use writing::write_unit;
 
 #[cfg(test)]

@@ -5,7 +5,7 @@ ghost use Rattle.std.specs.Borrow.{Bor};
 ghost use Rattle.ddcmp_msg.specs.Message.{MessageValue, view, reason_of};
 ghost use Rattle.ddcmp_msg.specs.Spelling.{IsUnit};
 ghost use Rattle.ddcmp_msg.specs.ReadingRule.{IsReading};
-ghost use Rattle.ddcmp_msg.specs.Reading.{Sound, reading_view, LiesIn, count_of, data_reading, control_reading, nak_reading, plain_reading, if_zero, if_address, reading};
+ghost use Rattle.ddcmp_msg.specs.Reading.{Sound, IsSound, reading_view, BodyLiesIn, LiesIn, count_of, data_reading, control_reading, nak_reading, plain_reading, if_zero, if_address, reading};
 
 use crate::layout::{ACK, ADDRESS, CHECK_LEN, DLE, ENQ, HEADER_LEN, NAK, REP, SOH, STACK, STRT};
 use crate::{Departure, Flags, Message, NakReason};
@@ -47,6 +47,27 @@ pub fn read_unit(bytes: &[u8]) -> Reading<'_>
     ensures body { LiesIn result bytes.entry }
 {
     reading_of(bytes)
+}
+
+/// The message of a unit that is known to be sound, as a unit is whose bytes are those of one that was read. No check is
+/// computed again. Takes no memory.
+pub fn read_sound(bytes: &[u8]) -> Message<'_>
+    requires { IsSound (reading bytes.now) }
+    ensures value { reading bytes.now ≡ Sound (view result) }
+    ensures body { BodyLiesIn result bytes.entry }
+{
+    if bytes[0] == SOH {
+        return Message::Data {
+            flags: Flags::from_byte(bytes[2]),
+            resp: bytes[3],
+            num: bytes[4],
+            body: &bytes[HEADER_LEN..bytes.len() - CHECK_LEN],
+        };
+    }
+    match read_control(bytes) {
+        Reading::Sound(message) => message,
+        _ => unreachable!(),
+    }
 }
 
 // The reading, test by test. That it follows the rule is shown once, for the whole of it, in `read_unit`.

@@ -1,15 +1,12 @@
 -- A unit that is held, as the definitions see it: its message is what its bytes say.
 use Rattle.std.specs.Prelude.{ℕ, false, List}
 use Rattle.ddcmp_msg.specs.Message.{MessageValue, Strt}
-use Rattle.ddcmp_msg.specs.Reading.{ReadingValue, reading, Sound, HeaderBad, DataBad, Malformed}
+use Rattle.ddcmp_msg.specs.Reading.{ReadingValue, reading, Sound, HeaderBad, DataBad, Malformed, IsSound}
 use Rattle.dna_model.specs.WireLayers.{LayersTag, WireLayersUnit}
 use Rattle.pair_judge.specs.declared.unit_tag.UnitTag.{UnitTag}
 
 abbrev pub IsSoundReading : ReadingValue → Type 0
-IsSoundReading (Sound message) = Unit {0}
-IsSoundReading HeaderBad = ⊥
-IsSoundReading DataBad = ⊥
-IsSoundReading (Malformed departure) = ⊥
+IsSoundReading r = IsSound r
 
 -- the message of a sound reading; for any other reading some message
 abbrev pub message_of : ReadingValue → MessageValue

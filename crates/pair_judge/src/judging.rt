@@ -148,6 +148,9 @@ fn open<R: Read>(alloc: Global, side: Side, reader: &mut Tally<R>) -> Result<Cou
         Ok(capture) => capture,
         Err(fault) => return Err(side_fault(side, fault)),
     };
+    let Ok(line) = Line::new(alloc) else {
+        return Err(JudgeFault::OutOfMemory);
+    };
     let head = Head {
         own: capture.own(),
         peer: capture.peer(),
@@ -158,7 +161,7 @@ fn open<R: Read>(alloc: Global, side: Side, reader: &mut Tally<R>) -> Result<Cou
     let end = End {
         head,
         layers,
-        line: Line::new(alloc),
+        line,
         counts: SideSummary::new(),
     };
     Ok(Course {

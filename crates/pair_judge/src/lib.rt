@@ -19,6 +19,7 @@ mod reason;
 mod receipt;
 mod refusal;
 mod sending;
+mod spare;
 mod step_fault;
 mod summary;
 #[cfg(test)]

@@ -53,4 +53,10 @@ impl LineUnit {
     {
         self.tag
     }
+
+    /// Its bytes, in the memory that they have. Takes no memory.
+    pub fn into_bytes(self) -> Bytes {
+        let LineUnit { bytes, tag: _ } = self;
+        bytes
+    }
 }

@@ -16,7 +16,7 @@ use crate::layers::Layers;
 use crate::line::Line;
 use crate::line_unit::LineUnit;
 use crate::step_fault::StepFault;
-use ddcmp_msg::{Reading, read_unit};
+use ddcmp_msg::{Reading, read_sound, read_unit};
 use ddcmp_station::Arrival;
 use dna_model::StepRefusal;
 use std::alloc::AllocError;
@@ -75,21 +75,19 @@ pub fn receive(
     }
 }
 
-// What comes with these bytes for this unit: its message, or damage; or nothing that can come of it. Only bytes that read
-// as sound can be the unit's own.
+// What comes with these bytes for this unit: its message, or damage; or nothing that can come of it. The unit's own bytes are
+// known to be sound, and no check of them is computed again.
 #[inline(always)]
 fn coming<'a>(unit: &LineUnit, bytes: &'a [u8]) -> Option<Arrival<'a>>
     ensures coming { option_map (λ arrival. with_link unit.now.known.link (arrival_view arrival)) result ≡ line.coming unit.now bytes.now }
     ensures damage { IfSome result (λ arrival. is_damage (arrival_view arrival) ≡ shows_damage (reading bytes.now)) }
 {
     let own = unit.bytes();
+    if bytes == own {
+        return Some(Arrival::Sound(read_sound(bytes), unit.tag().station));
+    }
     match read_unit(bytes) {
-        Reading::Sound(message) => {
-            if bytes == own {
-                return Some(Arrival::Sound(message, unit.tag().station));
-            }
-            None
-        }
+        Reading::Sound(_) => None,
         Reading::HeaderBad => Some(Arrival::HeaderBad),
         Reading::DataBad => Some(Arrival::DataBad),
         Reading::Malformed(_) => None,

@@ -15,7 +15,6 @@ use crate::line::Line;
 use crate::line_unit::LineUnit;
 use crate::step_fault::StepFault;
 use crate::unit_tag::UnitTag;
-use capture::Bytes;
 use ddcmp_msg::{Reading, read_unit};
 use dna_model::StepRefusal;
 use std::alloc::Global;
@@ -41,7 +40,7 @@ pub fn send(
         Ok(tag) => tag,
         Err(fault) => return Err(fault),
     };
-    let Ok(own) = Bytes::copied(alloc, bytes) else {
+    let Ok(own) = line.copied(alloc, bytes) else {
         return Err(StepFault::OutOfMemory);
     };
     line.push(LineUnit::new(own, tag))
