@@ -51,6 +51,7 @@ pub fn read_unit(bytes: &[u8]) -> Reading<'_>
 
 /// The message of a unit that is known to be sound, as a unit is whose bytes are those of one that was read. No check is
 /// computed again. Takes no memory.
+#[inline(always)]
 pub fn read_sound(bytes: &[u8]) -> Message<'_>
     requires { IsSound (reading bytes.now) }
     ensures value { reading bytes.now ≡ Sound (view result) }
@@ -129,6 +130,7 @@ fn count(bytes: &[u8]) -> usize
 }
 
 // A control message whose header is good.
+#[inline(always)]
 fn read_control(bytes: &[u8]) -> Reading<'_>
     requires { 8 ≤ length bytes.now }
     ensures value { reading_view result ≡ control_reading bytes.now }
@@ -145,6 +147,7 @@ fn read_control(bytes: &[u8]) -> Reading<'_>
 }
 
 // A NAK, whose SUBTYPE is its reason.
+#[inline(always)]
 fn read_nak(subtype: u8, bytes: &[u8]) -> Reading<'_>
     requires { 8 ≤ length bytes.now }
     ensures value { reading_view result ≡ nak_reading (reason_of subtype) bytes.now }
@@ -162,6 +165,7 @@ fn read_nak(subtype: u8, bytes: &[u8]) -> Reading<'_>
 }
 
 // A control message of SUBTYPE 0, by its TYPE.
+#[inline(always)]
 fn read_plain(kind: u8, bytes: &[u8]) -> Reading<'_>
     requires { 8 ≤ length bytes.now }
     ensures value { reading_view result ≡ plain_reading kind bytes.now }
@@ -185,6 +189,7 @@ fn read_plain(kind: u8, bytes: &[u8]) -> Reading<'_>
 }
 
 // A byte that the format gives as 0.
+#[inline(always)]
 fn if_zero(byte: u8, reading: Reading<'_>) -> Reading<'_>
     ensures value { reading_view result ≡ if_zero byte (reading_view reading.entry) }
     ensures body { (unit : Bor (List ℕ)) → LiesIn reading.entry unit → LiesIn result unit }
@@ -196,6 +201,7 @@ fn if_zero(byte: u8, reading: Reading<'_>) -> Reading<'_>
 }
 
 // The address, of which one value alone is right.
+#[inline(always)]
 fn if_address(address: u8, message: Message<'_>) -> Reading<'_>
     ensures value { reading_view result ≡ if_address address (view message.entry) }
     ensures body { (unit : Bor (List ℕ)) → LiesIn (Reading.Sound message.entry) unit → LiesIn result unit }

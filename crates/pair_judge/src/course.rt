@@ -1,6 +1,6 @@
 //! One side, along its capture.
 
-ghost use Rattle.std.specs.Prelude.{◌≡◌, ◌≢◌, IfOk, IfErr, List, [], ◌∷◌, ◌++◌, Option, ℕ};
+ghost use Rattle.std.specs.Prelude.{◌≡◌, ◌≢◌, true, IfOk, IfErr, List, [], ◌∷◌, ◌++◌, Option, ℕ};
 ghost use Rattle.capture.specs.Faulty.{CountsReads, is_failed_read};
 ghost use Rattle.capture.specs.declared.record.Record.{Record};
 ghost use Rattle.capture.specs.Entries.{record_with};
@@ -12,6 +12,7 @@ ghost use Rattle.wire_base.specs.Tally.{tally_faults, tally_lent};
 ghost use Rattle.pair_judge.specs.Summary.{HasRoom};
 ghost use Rattle.pair_judge.specs.Course.{AdvanceIs, IsFaultOf, IsRead, IsReadyFor, MayRead, NextIs, along};
 ghost use Rattle.pair_judge.specs.Making.{move};
+ghost use Rattle.pair_judge.specs.Reached.{IsHeldUp};
 
 use crate::end::End;
 use crate::line::Line;
@@ -59,6 +60,7 @@ impl Course {
     ///
     /// `Departs`, `Read`: the next record can't be read. `OutOfMemory`: there is no room for the message of its event, or for the unit that it
     /// sends. The course has no use after any of them.
+    #[inline(always)]
     pub fn advance<R: Read>(
         &mut self,
         incoming: &mut Line,
@@ -78,10 +80,33 @@ impl Course {
         ensures first { IfErr result (λ fault. fault ≢ CaptureFault.Failed) }
         ensures reads { CountsReads (is_failed_read result) (tally_faults reader.old) (tally_faults reader.new) }
     {
+        if self.is_held_up(incoming) {
+            return Ok(Advance::Blocked);
+        }
         match self.next(reader) {
             Ok(Some(entry)) => self.make(incoming, entry),
             Ok(None) => Ok(Advance::Ended),
             Err(fault) => Err(fault),
+        }
+    }
+
+    // Whether a record was read and waits for a unit that is not sent yet. It is asked at each turn of the other side.
+    #[inline(always)]
+    fn is_held_up(&self, incoming: &Line) -> bool
+        ensures { result ≡ true → IsHeldUp self.now incoming.now }
+    {
+        let Ahead::Waits(entry) = self.ahead else {
+            return false;
+        };
+        let Entry::Received { kept: _, hint } = entry else {
+            return false;
+        };
+        if hint < incoming.gone {
+            return false;
+        }
+        match incoming.unit(hint) {
+            Some(_) => false,
+            None => true,
         }
     }
 

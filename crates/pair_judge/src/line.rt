@@ -44,6 +44,7 @@ impl Line {
     }
 
     /// One more unit was sent.
+    #[inline(always)]
     pub fn push(&mut self, unit: LineUnit) -> Result<(), AllocError>
         ensures ok { OnOk result (self.new.units.items ≡ self.old.units.items ++ unit ∷ []) }
         ensures gone { self.new.gone ≡ self.old.gone }
@@ -53,6 +54,7 @@ impl Line {
     }
 
     /// The unit with this number, if it was sent.
+    #[inline(always)]
     pub fn unit(&self, number: u64) -> Option<&LineUnit>
         requires { self.now.gone ≤ number }
         ensures { option_copied result ≡ slice_get self.now.units.items (number - self.now.gone) }
@@ -62,6 +64,7 @@ impl Line {
     }
 
     /// The unit with this number came: it and those before it can't come any more. Takes no memory.
+    #[inline(always)]
     pub fn release(&mut self, number: u64)
         requires within { self.old.gone ≤ number }
         requires sent { number < self.old.gone + length self.old.units.items }

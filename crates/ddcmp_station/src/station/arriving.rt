@@ -45,6 +45,7 @@ impl<T: Copy, W: Window<HeldPacket<T>, 256>> Station<T, W> {
     /// - `WrongKeep`, after it: nothing is taken, and `kept` says that something was.
     ///
     /// After either the station is as it was.
+    #[inline(always)]
     pub fn arrived<'a>(
         &mut self,
         arrival: Arrival<'a>,
@@ -69,6 +70,7 @@ impl<T: Copy, W: Window<HeldPacket<T>, 256>> Station<T, W> {
     }
 
     // A sound message came.
+    #[inline(always)]
     fn meet<'a>(
         &mut self,
         message: Message<'a>,

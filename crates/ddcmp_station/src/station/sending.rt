@@ -47,6 +47,7 @@ impl<T: Copy, W: Window<HeldPacket<T>, 256>> Station<T, W> {
     /// `OutOfMemory`, after all of these and for a new number alone: a growth was refused. After any of them the station is as it
     /// was.
     #[tactic(auto, using(crate::proofs::Sendable::sendable))]
+    #[inline(always)]
     pub fn sent(&mut self, message: &Message) -> Result<SentAs<T>, StationFault>
         ensures allowed { OnOk result (wire_sending_refusal self.old (view message.now) ≡ None) }
         ensures ok { OnOk result (self.new ≡ wire_after_sending self.old (view message.now)) }
