@@ -20,11 +20,11 @@ def startups(a, b, records):
         sent_b += 1
 
 
-def never_received(a, b, records):
-    """Units of side a that never come."""
+def never_received(a, b, count):
+    """So many units of side a that never come."""
     a.write('ddcap 1 1.1 1.2\nu start\n')
     b.write('ddcap 1 1.2 1.1\n')
-    for _ in range(records // 1000):
+    for _ in range(count // 1000):
         a.write(('s %s\n' % STRT) * 1000)
 
 
@@ -240,10 +240,10 @@ def faulty_segments(a, b, records):
         session.acknowledges(other)
 
 
-def links_in_turn(a, b, records):
-    """Links one after another, each with a message of one byte each way; addresses are given again."""
+def links_in_turn(a, b, count):
+    """So many links one after another, each with a message of one byte each way; addresses are given again."""
     session, bodies = Session(a, b), Bodies(1)
-    for number in range(records // 10):
+    for number in range(count):
         link = Link(session, number % 60000 + 1, number % 50000 + 1)
         for own in (0, 1):
             session.carries(own, link.segment(own, bodies, number))
