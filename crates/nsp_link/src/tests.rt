@@ -1,6 +1,9 @@
 mod act;
+mod any;
 mod lists;
 mod many;
+mod model;
+mod random;
 mod rows;
 mod segments;
 mod window;
