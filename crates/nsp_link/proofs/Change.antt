@@ -55,13 +55,8 @@ module _ (node peer : ℕ) (items : List (LinkOf WireFlow)) (s : WireLinks) (is 
       ap (λ (r : Result (Sending WireFlow (Unit {0})) LinkRefusal). carries wire_flows s n link r) (ap step (sym (same_link link found)) ∙ e)
       ∙ ap (λ (t : WireLinks). Ok (record { links = t; truth = truth_of wire_flows n link tt })) (sym (change_made (with_flow m.flow) m rest link found))
 
-  same_fault : (step : LinkOf WireFlow → Result (Sending WireFlow (Unit {0})) LinkRefusal) (new : Bool) (link : LinkOf WireFlow) → slice_get s.links n ≡ Some link → (fault : LinkFault) → IsFault (step l) new fault → IsFault (step link) true fault
-  same_fault step new link found (Refused refusal) h = ap step (sym (same_link link found)) ∙ h
-  same_fault step new link found OutOfMemory h = (subst (λ (k : LinkOf WireFlow). IsOk (step k)) (same_link link found) h.0, refl)
-
-  pub fault_made : {A : Type 0} (step : LinkOf WireFlow → Result (Sending WireFlow (Unit {0})) LinkRefusal) (new : Bool) (r : Result A LinkFault) → IfErr r (λ fault. IsFault (step l) new fault) → (link : LinkOf WireFlow) → slice_get s.links n ≡ Some link → IfErr r (λ fault. IsFault (step link) true fault)
-  fault_made step new (Ok x) h link found = h
-  fault_made step new (Err fault) h link found = same_fault step new link found fault h
+  pub fault_made : {A : Type 0} (step : LinkOf WireFlow → Result (Sending WireFlow (Unit {0})) LinkRefusal) (new : LinkOf WireFlow → Bool) (r : Result A LinkFault) → IfErr r (λ fault. IsFault (step l) (new l) fault) → (link : LinkOf WireFlow) → slice_get s.links n ≡ Some link → IfErr r (λ fault. IsFault (step link) (new link) fault)
+  fault_made step new r h link found = subst (λ (k : LinkOf WireFlow). IfErr r (λ fault. IsFault (step k) (new k) fault)) (same_link link found) h
 
   pub refusal_made : {A : Type 0} (step : LinkOf WireFlow → Result (Sending WireFlow (Unit {0})) LinkRefusal) (r : Result A LinkRefusal) → IfErr r (λ refusal. step l ≡ Err refusal) → (link : LinkOf WireFlow) → slice_get s.links n ≡ Some link → IfErr r (λ refusal. step link ≡ Err refusal)
   refusal_made step (Ok x) h link found = h

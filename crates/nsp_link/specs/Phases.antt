@@ -1,10 +1,14 @@
 -- The phase that a message asks for.
 use Rattle.std.specs.Prelude.{Bool, true, false}
-use Rattle.dna_packet.specs.Nsp.{NspValue, DataSegment, ConnectInitiate}
+use Rattle.dna_packet.specs.Nsp.{SegmentValue, NspValue, DataSegment, ConnectInitiate}
 use Rattle.dna_model.specs.declared.port.Phase.{Phase}
 use Rattle.dna_model.specs.declared.port.Phase.TheVariants.{Calling, Confirming, Running, Disconnecting}
 use Rattle.dna_model.specs.LinkTests.{is_calling, is_confirming, is_running, is_disconnecting}
+use Rattle.dna_model.specs.declared.port.LinkTest.TheVariants.{TheLink}
+use Rattle.dna_model.specs.Links.{with_link}
 use Rattle.dna_model.specs.LinkUser.{LinkEventValue, Open, Accept, Reject, In}
+use Rattle.dna_model.specs.WireFlow.{is_new}
+use Rattle.dna_model.specs.WireLinks.{WireLinks}
 
 -- messages ask for Calling, Confirming, RUN or DI
 abbrev pub is_in : Phase → Phase → Bool
@@ -24,10 +28,13 @@ event_takes_memory (Reject partner link) = true
 event_takes_memory (In link message) = true
 event_takes_memory event = false
 
--- a segment may be new
-abbrev pub sending_takes_memory : NspValue → Bool
-sending_takes_memory (DataSegment s) = true
-sending_takes_memory m = false
+-- a segment that is new is kept; a repeat and any other message is not
+abbrev pub gives_new : WireLinks → SegmentValue → Bool
+gives_new s segment = with_link (TheLink segment.srcaddr segment.dstaddr) s false (λ number link. is_new segment link.flow.kept)
+
+abbrev pub sending_takes_memory : WireLinks → NspValue → Bool
+sending_takes_memory s (DataSegment segment) = gives_new s segment
+sending_takes_memory s m = false
 
 -- a segment may be held, and a CI begin a link
 abbrev pub arrival_takes_memory : NspValue → Bool

@@ -10,7 +10,7 @@ ghost use Rattle.dna_model.specs.LinkTests.{is_live};
 ghost use Rattle.dna_model.specs.LinkUser.{delivered};
 ghost use Rattle.dna_model.specs.LinkSending.{carries, segment_of, truth_of};
 ghost use Rattle.dna_model.specs.LinkArriving.{of_partner, confirmed, running};
-ghost use Rattle.dna_model.specs.WireFlow.{WireFlow, wire_flows, hands_in, delivers, sends_acks, takes_acks, takes_segment};
+ghost use Rattle.dna_model.specs.WireFlow.{WireFlow, wire_flows, hands_in, delivers, is_new, sends_acks, takes_acks, takes_segment};
 ghost use Rattle.nsp_link.specs.Fault.{IsFault};
 
 use super::Links;
@@ -66,7 +66,8 @@ impl<W: Window<Piece, 4096> + Drop> Links<W> {
             → OnOk result (carries wire_flows self.old number link (segment_of wire_flows (segment_view segment.now) link)
             ≡ Ok (record { links = self.new; truth = truth_of wire_flows number link tt })) }
         ensures refused { (link : LinkOf WireFlow) → slice_get self.old.links number ≡ Some link
-            → IfErr result (λ fault. IsFault (segment_of wire_flows (segment_view segment.now) link) true fault) }
+            → IfErr result (λ fault. IsFault (segment_of wire_flows (segment_view segment.now) link)
+            (is_new (segment_view segment.now) link.flow.kept) fault) }
         ensures err { OnErr result (self.new ≡ self.old) }
     {
         self.links[number].send_segment(self.alloc, segment)

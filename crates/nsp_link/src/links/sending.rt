@@ -12,7 +12,7 @@ ghost use Rattle.dna_model.specs.WireFlow.{WireFlow, wire_flows};
 ghost use Rattle.nsp_link.specs.Fault.{IsFault};
 ghost use Rattle.nsp_link.specs.Index.{is_of_live};
 ghost use Rattle.dna_model.specs.WireLinks.{wire_links_sent};
-ghost use Rattle.nsp_link.specs.Phases.{is_in, sending_takes_memory};
+ghost use Rattle.nsp_link.specs.Phases.{is_in, gives_new, sending_takes_memory};
 
 use super::Links;
 use crate::link::Link;
@@ -49,7 +49,7 @@ impl<W: Window<Piece, 4096> + Drop> Links<W> {
         ensures ok { IfOk result (λ tag. wire_links_sent self.old (record { dst = dst; src = src; message = nsp.view message.now })
             ≡ Ok (record { links = self.new; truth = record { tag = tag; known = tt } })) }
         ensures refused { IfErr result (λ fault. IsFault (wire_links_sent self.old (record { dst = dst; src = src; message = nsp.view message.now }))
-            (sending_takes_memory (nsp.view message.now)) fault) }
+            (sending_takes_memory self.old (nsp.view message.now)) fault) }
         ensures err { OnErr result (self.new ≡ self.old) }
     {
         if src != self.node {
@@ -67,7 +67,7 @@ impl<W: Window<Piece, 4096> + Drop> Links<W> {
         ensures ok { IfOk result (λ tag. message_sent wire_flows self.old (nsp.view message.now)
             ≡ Ok (record { links = self.new; truth = record { tag = tag; known = tt } })) }
         ensures refused { IfErr result (λ fault. IsFault (message_sent wire_flows self.old (nsp.view message.now))
-            (sending_takes_memory (nsp.view message.now)) fault) }
+            (sending_takes_memory self.old (nsp.view message.now)) fault) }
         ensures err { OnErr result (self.new ≡ self.old) }
     {
         match message {
@@ -178,7 +178,8 @@ impl<W: Window<Piece, 4096> + Drop> Links<W> {
         requires segnum { segment.now.number < 4096 }
         ensures ok { IfOk result (λ tag. message_sent wire_flows self.old (nsp.DataSegment (segment_view segment.now))
             ≡ Ok (record { links = self.new; truth = record { tag = tag; known = tt } })) }
-        ensures refused { IfErr result (λ fault. IsFault (message_sent wire_flows self.old (nsp.DataSegment (segment_view segment.now))) true fault) }
+        ensures refused { IfErr result (λ fault. IsFault (message_sent wire_flows self.old (nsp.DataSegment (segment_view segment.now)))
+            (gives_new self.old (segment_view segment.now)) fault) }
         ensures err { OnErr result (self.new ≡ self.old) }
     {
         let test = LinkTest::TheLink {

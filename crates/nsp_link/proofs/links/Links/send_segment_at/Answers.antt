@@ -21,4 +21,4 @@ returns-clause-ok g c = λ link there.
 pub returns-clause-refused : goal.returns-clause-refused
 returns-clause-refused g c = λ link there.
     let l = c.self.inside in
-    fault_made l.node l.peer l.links.items c.args.self.now c.self.view_is c.args.number c.index_mut.result.now c.requires.within c.index_mut.ensures.value (segment_of wire_flows (segment_view c.args.segment.now)) (is_new (segment_view c.args.segment.now) c.index_mut.result.now.flow.kept) c.send_segment.result c.send_segment.ensures.refused link there
+    fault_made l.node l.peer l.links.items c.args.self.now c.self.view_is c.args.number c.index_mut.result.now c.requires.within c.index_mut.ensures.value (segment_of wire_flows (segment_view c.args.segment.now)) (λ (k : LinkOf WireFlow). is_new (segment_view c.args.segment.now) k.flow.kept) c.send_segment.result c.send_segment.ensures.refused link there
