@@ -58,6 +58,10 @@ module _ (node peer : ℕ) (items : List (LinkOf WireFlow)) (s : WireLinks) (is 
   pub fault_made : {A : Type 0} (step : LinkOf WireFlow → Result (Sending WireFlow (Unit {0})) LinkRefusal) (new : LinkOf WireFlow → Bool) (r : Result A LinkFault) → IfErr r (λ fault. IsFault (step l) (new l) fault) → (link : LinkOf WireFlow) → slice_get s.links n ≡ Some link → IfErr r (λ fault. IsFault (step link) (new link) fault)
   fault_made step new r h link found = subst (λ (k : LinkOf WireFlow). IfErr r (λ fault. IsFault (step k) (new k) fault)) (same_link link found) h
 
+  -- why memory was asked for
+  pub held_made : {A E : Type 0} (test : LinkOf WireFlow → Bool) (r : Result A E) → IfErr r (λ e. test l ≡ true) → (link : LinkOf WireFlow) → slice_get s.links n ≡ Some link → IfErr r (λ e. test link ≡ true)
+  held_made test r h link found = subst (λ (k : LinkOf WireFlow). IfErr r (λ e. test k ≡ true)) (same_link link found) h
+
   pub refusal_made : {A : Type 0} (step : LinkOf WireFlow → Result (Sending WireFlow (Unit {0})) LinkRefusal) (r : Result A LinkRefusal) → IfErr r (λ refusal. step l ≡ Err refusal) → (link : LinkOf WireFlow) → slice_get s.links n ≡ Some link → IfErr r (λ refusal. step link ≡ Err refusal)
   refusal_made step (Ok x) h link found = h
   refusal_made step (Err refusal) h link found = ap step (sym (same_link link found)) ∙ h

@@ -1,12 +1,13 @@
 -- The steps of one link's segments in parts, as the code takes them.
-use Rattle.std.specs.Prelude.{ℕ, Bool, ◌&&◌, ◌||◌, nat_lt, nat_le, List, length, fold}
+use Rattle.std.specs.Prelude.{ℕ, ◌+◌, ◌-◌, Bool, ◌&&◌, ◌||◌, nat_lt, nat_le, List, length, fold}
 use Rattle.wire_base.specs.Window.{WindowView}
 use Rattle.dna_packet.specs.declared.ack_word.AckWord.{AckWord}
 use Rattle.dna_packet.specs.Nsp.{SegmentValue}
 use Rattle.dna_model.specs.Flow.{REACH, distance, is_of_data}
-use Rattle.dna_model.specs.Pieces.{piece_of}
-use Rattle.dna_model.specs.WireFlow.{WireFlow, highest_given, is_repeat, segment_taken}
+use Rattle.dna_model.specs.Pieces.{piece_of, in_order}
+use Rattle.dna_model.specs.WireFlow.{LinkVariables, WireFlow, highest_given, is_repeat, segment_taken}
 use Rattle.nsp_link.specs.Outstanding.{acknowledged_to}
+use Rattle.nsp_link.specs.Received.{is_missing_at}
 
 -- a segment that is not new is one of the last 2,047 given, and, while that one is not acknowledged, carries the same
 abbrev pub is_true_repeat_at : ℕ → SegmentValue → WireFlow → Bool
@@ -14,6 +15,13 @@ is_true_repeat_at below s f = (nat_lt below REACH && (f.gave_many || nat_lt belo
 
 abbrev pub is_true_repeat : SegmentValue → WireFlow → Bool
 is_true_repeat s f = is_true_repeat_at (distance s.number (highest_given f.kept)) s f
+
+-- a segment that comes is at most 2,047 above the highest received without a gap, and missing
+abbrev pub is_missing : (above : ℕ) → LinkVariables → Bool
+is_missing above k = (nat_le 1 above && nat_le above REACH) && is_missing_at (in_order k.pieces + above - 1) k.pieces
+
+abbrev pub is_held : SegmentValue → LinkVariables → Bool
+is_held s k = is_missing (distance k.received s.number) k
 
 -- its piece is held, and its words are not read
 abbrev pub with_held : SegmentValue → WireFlow → WireFlow

@@ -1,14 +1,15 @@
 -- The phase that a message asks for.
-use Rattle.std.specs.Prelude.{Bool, true, false}
+use Rattle.std.specs.Prelude.{ℕ, Bool, true, false}
 use Rattle.dna_packet.specs.Nsp.{SegmentValue, NspValue, DataSegment, ConnectInitiate}
 use Rattle.dna_model.specs.declared.port.Phase.{Phase}
 use Rattle.dna_model.specs.declared.port.Phase.TheVariants.{Calling, Confirming, Running, Disconnecting}
 use Rattle.dna_model.specs.LinkTests.{is_calling, is_confirming, is_running, is_disconnecting}
-use Rattle.dna_model.specs.declared.port.LinkTest.TheVariants.{TheLink}
+use Rattle.dna_model.specs.declared.port.LinkTest.TheVariants.{TheLink, LiveTo, ActedOn}
 use Rattle.dna_model.specs.Links.{with_link}
 use Rattle.dna_model.specs.LinkUser.{LinkEventValue, Open, Accept, Reject, In}
 use Rattle.dna_model.specs.WireFlow.{is_new}
 use Rattle.dna_model.specs.WireLinks.{WireLinks}
+use Rattle.nsp_link.specs.Flow.{is_held}
 
 -- messages ask for Calling, Confirming, RUN or DI
 abbrev pub is_in : Phase → Phase → Bool
@@ -36,8 +37,14 @@ abbrev pub sending_takes_memory : WireLinks → NspValue → Bool
 sending_takes_memory s (DataSegment segment) = gives_new s segment
 sending_takes_memory s m = false
 
--- a segment may be held, and a CI begin a link
-abbrev pub arrival_takes_memory : NspValue → Bool
-arrival_takes_memory (DataSegment s) = true
-arrival_takes_memory (ConnectInitiate retransmitted src services info segsize user_data) = true
-arrival_takes_memory m = false
+-- a segment that is held is kept; a CI that is no repeat begins a link
+abbrev pub holds_segment : WireLinks → SegmentValue → Bool
+holds_segment s segment = with_link (ActedOn segment.dstaddr segment.srcaddr) s false (λ number link. is_held segment link.flow.kept)
+
+abbrev pub begins_link : WireLinks → (far : ℕ) → Bool
+begins_link s far = with_link (LiveTo far) s true (λ number link. false)
+
+abbrev pub arrival_takes_memory : WireLinks → NspValue → Bool
+arrival_takes_memory s (DataSegment segment) = holds_segment s segment
+arrival_takes_memory s (ConnectInitiate retransmitted src services info segsize user_data) = begins_link s src
+arrival_takes_memory s m = false

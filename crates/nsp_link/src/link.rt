@@ -14,6 +14,7 @@ ghost use Rattle.dna_model.specs.LinkArriving as arriving;
 ghost use Rattle.dna_model.specs.WireFlow.{wire_flows, hands_in, delivers, sends_acks, sending, takes_segment, takes_acks};
 ghost use Rattle.dna_model.specs.WireFlow as spec;
 ghost use Rattle.nsp_link.specs.Fault.{IsFault};
+ghost use Rattle.nsp_link.specs.Flow.{is_held};
 
 use crate::flow::Flow;
 use crate::{LinkFault, LinkRefusal, LinkTag, Piece};
@@ -244,6 +245,7 @@ impl<W: Window<Piece, 4096> + Drop> Link<W> {
         ensures ok { OnOk result (self.new ≡ running wire_flows of_partner (λ link. takes_segment (segment_view segment.now) tt link.flow) self.old) }
         ensures lives { is_live self.new.port.phase ≡ true }
         ensures own { self.new.port.own ≡ self.old.port.own }
+        ensures held { IfErr result (λ e. is_held (segment_view segment.now) self.old.flow.kept ≡ true) }
         ensures err { OnErr result (self.new ≡ self.old) }
     {
         match &mut self.flow {

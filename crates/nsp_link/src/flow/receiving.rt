@@ -1,11 +1,11 @@
 //! What comes of the segments of one link.
 
-ghost use Rattle.std.specs.Prelude.{◌≡◌, ◌<◌, OnOk, OnErr};
+ghost use Rattle.std.specs.Prelude.{◌≡◌, ◌<◌, true, OnOk, OnErr, IfErr};
 ghost use Rattle.std.specs.List.{AllByRecursion};
 ghost use Rattle.dna_packet.specs.AckWord.{IsAckWord};
 ghost use Rattle.dna_packet.specs.Nsp.{segment_view};
 ghost use Rattle.dna_model.specs.WireFlow.{takes_segment, takes_acks};
-ghost use Rattle.nsp_link.specs.Flow.{with_held};
+ghost use Rattle.nsp_link.specs.Flow.{with_held, is_held};
 
 use super::Flow;
 use crate::Piece;
@@ -31,6 +31,7 @@ impl<W: Window<Piece, 4096> + Drop> Flow<W> {
         requires acks { AllByRecursion IsAckWord segment.now.acks.items }
         requires number { segment.now.number < 4096 }
         ensures ok { OnOk result (self.new ≡ takes_segment (segment_view segment.now) tt self.old) }
+        ensures held { IfErr result (λ e. is_held (segment_view segment.now) self.old.kept ≡ true) }
         ensures err { OnErr result (self.new ≡ self.old) }
     {
         self.hold(alloc, segment)?;
@@ -43,6 +44,7 @@ impl<W: Window<Piece, 4096> + Drop> Flow<W> {
     fn hold(&mut self, alloc: Global, segment: &Segment) -> Result<(), AllocError>
         requires { segment.now.number < 4096 }
         ensures ok { OnOk result (self.new ≡ with_held (segment_view segment.now) self.old) }
+        ensures held { IfErr result (λ e. is_held (segment_view segment.now) self.old.kept ≡ true) }
         ensures err { OnErr result (self.new ≡ self.old) }
     {
         let highest = self.received.value();

@@ -11,7 +11,7 @@ ghost use Rattle.dna_model.specs.LinkArriving as arriving;
 ghost use Rattle.dna_model.specs.WireFlow.{wire_flows};
 ghost use Rattle.dna_model.specs.WireLinks.{wire_links_arrived};
 ghost use Rattle.nsp_link.specs.Fault.{IsFault};
-ghost use Rattle.nsp_link.specs.Phases.{arrival_takes_memory};
+ghost use Rattle.nsp_link.specs.Phases.{arrival_takes_memory, holds_segment, begins_link};
 
 use super::Links;
 use crate::{LinkFault, LinkRefusal, LinkTag, Piece};
@@ -42,7 +42,7 @@ impl<W: Window<Piece, 4096> + Drop> Links<W> {
         ensures ok { OnOk result (wire_links_arrived of_partner self.old (record { dst = dst; src = src; message = nsp.view message.now }) tag
             ≡ Ok self.new) }
         ensures refused { IfErr result (λ fault. IsFault (wire_links_arrived of_partner self.old
-            (record { dst = dst; src = src; message = nsp.view message.now }) tag) (arrival_takes_memory (nsp.view message.now)) fault) }
+            (record { dst = dst; src = src; message = nsp.view message.now }) tag) (arrival_takes_memory self.old (nsp.view message.now)) fault) }
         ensures err { OnErr result (self.new ≡ self.old) }
     {
         if src != self.peer {
@@ -59,7 +59,7 @@ impl<W: Window<Piece, 4096> + Drop> Links<W> {
         requires { nsp.IsInRange (nsp.view message.now) }
         ensures ok { OnOk result (message_arrived wire_flows of_partner self.old (nsp.view message.now) (record { tag = tag; known = tt }) ≡ Ok self.new) }
         ensures refused { IfErr result (λ fault. IsFault (message_arrived wire_flows of_partner self.old (nsp.view message.now)
-            (record { tag = tag; known = tt })) (arrival_takes_memory (nsp.view message.now)) fault) }
+            (record { tag = tag; known = tt })) (arrival_takes_memory self.old (nsp.view message.now)) fault) }
         ensures err { OnErr result (self.new ≡ self.old) }
     {
         match message {
@@ -161,7 +161,7 @@ impl<W: Window<Piece, 4096> + Drop> Links<W> {
         ensures ok { OnOk result (message_arrived wire_flows of_partner self.old (nsp.DataSegment (segment_view segment.now))
             (record { tag = tag; known = tt }) ≡ Ok self.new) }
         ensures refused { IfErr result (λ fault. IsFault (message_arrived wire_flows of_partner self.old (nsp.DataSegment (segment_view segment.now))
-            (record { tag = tag; known = tt })) true fault) }
+            (record { tag = tag; known = tt })) (holds_segment self.old (segment_view segment.now)) fault) }
         ensures err { OnErr result (self.new ≡ self.old) }
     {
         let test = LinkTest::ActedOn {
@@ -189,7 +189,8 @@ impl<W: Window<Piece, 4096> + Drop> Links<W> {
         ensures ok { OnOk result (message_arrived wire_flows of_partner self.old (nsp.ConnectInitiate message.now.retransmitted message.now.srcaddr
             message.now.services message.now.info message.now.segsize message.now.user_data.now) (record { tag = tag; known = tt }) ≡ Ok self.new) }
         ensures refused { IfErr result (λ fault. IsFault (message_arrived wire_flows of_partner self.old (nsp.ConnectInitiate message.now.retransmitted
-            message.now.srcaddr message.now.services message.now.info message.now.segsize message.now.user_data.now) (record { tag = tag; known = tt })) true fault) }
+            message.now.srcaddr message.now.services message.now.info message.now.segsize message.now.user_data.now) (record { tag = tag; known = tt }))
+            (begins_link self.old message.now.srcaddr) fault) }
         ensures err { OnErr result (self.new ≡ self.old) }
     {
         if let Some(number) = self.find(LinkTest::LiveTo {

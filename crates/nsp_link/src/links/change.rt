@@ -12,6 +12,7 @@ ghost use Rattle.dna_model.specs.LinkSending.{carries, segment_of, truth_of};
 ghost use Rattle.dna_model.specs.LinkArriving.{of_partner, confirmed, running};
 ghost use Rattle.dna_model.specs.WireFlow.{WireFlow, wire_flows, hands_in, delivers, is_new, sends_acks, takes_acks, takes_segment};
 ghost use Rattle.nsp_link.specs.Fault.{IsFault};
+ghost use Rattle.nsp_link.specs.Flow.{is_held};
 
 use super::Links;
 use crate::{LinkFault, LinkRefusal, LinkTag, Piece};
@@ -135,6 +136,8 @@ impl<W: Window<Piece, 4096> + Drop> Links<W> {
         requires segnum { segment.now.number < 4096 }
         ensures ok { (link : LinkOf WireFlow) → slice_get self.old.links number ≡ Some link
             → OnOk result (self.new ≡ changed number (running wire_flows of_partner (λ l. takes_segment (segment_view segment.now) tt l.flow) link) self.old) }
+        ensures held { (link : LinkOf WireFlow) → slice_get self.old.links number ≡ Some link
+            → IfErr result (λ e. is_held (segment_view segment.now) link.flow.kept ≡ true) }
         ensures err { OnErr result (self.new ≡ self.old) }
     {
         self.links[number].take_segment(self.alloc, segment)
