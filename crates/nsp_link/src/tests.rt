@@ -1,5 +1,6 @@
 mod act;
 mod any;
+mod both;
 mod lists;
 mod many;
 mod model;
