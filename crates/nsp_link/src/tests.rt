@@ -1,6 +1,7 @@
 mod act;
 mod any;
 mod both;
+mod events;
 mod lists;
 mod many;
 mod model;

@@ -1,8 +1,11 @@
 //! One link with its refusals, the repeated connect message, and one node whose links meet every kind of message.
 
-pub const ROWS: &str =
-    "one link | none missing; b up 2 61 62 63 64 65; b up 2; b sends data-ack 1 2 04 80 | a comes 1 | made
-nothing acknowledged | one missing | b sends data-ack 1 2 00 80 | made
+/// Two messages go over one link; their first segment is lost, and comes when it is sent again.
+pub const ONE_LINK: &str =
+    "one link | none missing; b up 2 61 62 63 64 65; b up 2; b sends data-ack 1 2 04 80 | a comes 1 | made";
+
+/// Its refusals, and the rest.
+pub const ROWS: &str = "nothing acknowledged | one missing | b sends data-ack 1 2 00 80 | made
 acknowledges over a gap | one missing | b sends data-ack 1 2 01 80 | WrongAck
 delivered too early | one missing | b up 2 61 62 63 64 65 | WrongDelivery
 second message first | none missing | b up 2 | WrongDelivery
