@@ -14,3 +14,4 @@ mod transfer;
 mod units;
 mod window;
 mod words;
+mod worked_session;

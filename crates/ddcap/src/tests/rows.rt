@@ -158,3 +158,10 @@ fn reads_a_record_when_its_turn_comes(rt: HostRuntime) -> Result<(), Fail> {
     }
     Ok(())
 }
+
+#[test]
+fn packet_with_padding(rt: HostRuntime) -> Result<(), Fail> {
+    let a = "u start; s STRT; s STRT; r 0 STACK; s ACK0; s 810100000101e3818001a0";
+    let printed = "refused a 5 line 7: 15 BadPacket\n";
+    Ok(expect_verdict(&rt, rt.alloc(), a, LOST_B, printed)?)
+}
