@@ -87,7 +87,7 @@ is_sent (User event) = false
 abbrev pub pair_of : {S K : Type 0} → Machine S K → Nodes (NodeOf S) Record (UnitOf K) StepRefusal
 pair_of machine = record { node_a = step machine; node_b = step machine; named = named_unit; sends = is_sent }
 
--- ---- a station alone. Provisional: packets are carried unread
+-- ---- a station alone: packets are carried unread
 
 abbrev pub unless_refused : {X : Type 0} → Option StationRefusal → X → Result X StepRefusal
 unless_refused None x = Ok x
@@ -97,7 +97,7 @@ module _ {S K : Type 0} (rules : Rules) (book : Book S K) where
   abbrev pub user_by : S → Event → Result S StepRefusal
   user_by s events.Start = unless_refused (user_refusal (book.state s) Start) (book.after_event s Start)
   user_by s events.Halt = unless_refused (user_refusal (book.state s) Halt) (book.after_event s Halt)
-  -- provisional: links are not judged yet, and their events change nothing
+  -- it has no links, and their events change nothing
   user_by s (events.Open link) = Ok s
   user_by s (events.Accept partner link) = Ok s
   user_by s (events.Reject partner link) = Ok s

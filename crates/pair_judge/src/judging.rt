@@ -39,17 +39,18 @@ pub struct Found {
     pub summary: Summary,
 }
 
-/// Decides whether the texts that two readers give up to their ends are captures that together are a run of two DDCMP
-/// stations over a line that loses and damages but never reorders.
+/// Decides whether the texts that two readers give up to their ends are captures that together are a run of two nodes, each a DDCMP
+/// station with its NSP links on top, over a line that loses and damages but never reorders.
 ///
 /// Both texts are opened, a's first. Then a record is read only when its turn comes: side a's next one as long as a is
 /// neither blocked nor at its end, and otherwise one of b; a side is blocked where its next record is the receipt of a unit not
 /// yet sent. So a fault that stands behind the record of a refusal is not met. Of each direction only the units above the last
 /// hint received are held.
 ///
-/// `Accepted`: both texts are texts of captures, all records of both are one run of two stations whose numbers have no bound, what
-/// was delivered to each side is, in order, of what the other was offered, and the summary is the counts of the records. Of two
-/// texts of captures that are a run nothing else is answered, but for want of memory and a failed read.
+/// `Accepted`: both texts are texts of captures, all records of both are one run of two nodes whose numbers have no bound, what
+/// was delivered to each side is, in order, of what the other was offered, and on each link of what its partner was handed, and the
+/// summary is the counts of the records and of the links. Of two texts of captures that are a run nothing else is answered, but for
+/// want of memory and a failed read.
 ///
 /// `Refused`: however the texts go on behind what was read of them by then, they are no run, and the named record is the place:
 /// it can't be made for this reason though all that it rests on can; or it waits for a unit that is never sent (`NoSuchUnit`); or
@@ -59,8 +60,7 @@ pub struct Found {
 /// were made, are a run; or a read of that side failed. `OutOfMemory`: a growth was refused. At every answer but a failed read of a
 /// side the count of its reader's failed calls stands as it stood. After any answer the readers have given what was read ahead, and nothing is said of the rest.
 ///
-/// The contract says nothing of when `OutOfMemory` is answered, nor of the order of reading. For now packets are carried unread,
-/// and link events are not judged: a pair whose packets or link events no node allows is accepted.
+/// The contract says nothing of when `OutOfMemory` is answered, nor of the order of reading.
 pub fn judge<R: Read, S: Read>(
     alloc: Global,
     a: &mut Tally<R>,

@@ -1,8 +1,7 @@
-//! The judge of a pair of captures: whether the records of both are together a run of the two DDCMP stations of one line, which
-//! loses and damages units but never reorders them; and if not, which record of which side can't be made, and why. It reads two
-//! counted readers, each once from its front on, and takes memory of the allocator that it is passed. It touches no file, clock
-//! or thread, writes and prints nothing, and looks at no order but that of each capture's own records. Provisional: packets are
-//! carried unread, and logical links are not judged yet.
+//! The judge of a pair of captures: whether the records of both are together a run of the two nodes of one line, each a DDCMP station with
+//! its NSP links on top, where the line loses and damages units but never reorders them; and if not, which record of which side can't be
+//! made, and why. It reads two counted readers, each once from its front on, and takes memory of the allocator that it is passed. It
+//! touches no file, clock or thread, writes and prints nothing, and looks at no order but that of each capture's own records.
 #![tactic(auto)]
 
 mod captures;

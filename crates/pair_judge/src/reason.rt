@@ -10,7 +10,7 @@ use std::fmt;
 ///
 /// By whose fault each comes: 2, 3 and 4 by the hints, or by captures that do not pair; 5 by the line (damage that no block
 /// check shows) or likewise; 1, 6 to 11, 15 to 17 and 20 to 23 by the sender; 18 and 19 by the sender or a user; 14 and 26 by
-/// a user; 12 and 24 by the receiver's own claim; 13 and 25 by nobody. 15 to 26 do not arise yet.
+/// a user; 12 and 24 by the receiver's own claim; 13 and 25 by nobody.
 #[derive(Clone, Copy, Debug, PartialEq, Eq)]
 pub enum Reason {
     /// 1: the bytes that were sent are no sound message.
