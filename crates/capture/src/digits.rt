@@ -11,8 +11,11 @@ use crate::bytes::Bytes;
 use crate::fault::{Departure, PartFault};
 use std::alloc::Global;
 
-// As many bytes are spelled again at a time.
+// As many bytes of a long text are spelled again at a time.
 const BLOCK: usize = 128;
+
+// As many bytes at most are spelled one by one: a unit that carries no data, or little.
+const FEW: usize = 32;
 
 // What the digits are as bytes, if they are pairs of digits 0 to 9 and a to f: a digit's low four bits, and 9 more for a
 // letter, which has bit 6. Of another text it answers what it likes, since what it answers is spelled again.
@@ -29,6 +32,42 @@ fn guess(text: &[u8], bytes: &mut [u8])
 
 // Whether the text is how `hex` spells these bytes.
 fn spells(bytes: &[u8], text: &[u8]) -> bool
+    requires { length text.now ≡ 2 * length bytes.now }
+    ensures value { IsTrue result ↔ (encode_lower bytes.now ≡ text.now) }
+    ensures bytes { IsBytes bytes.now }
+{
+    if bytes.len() <= FEW {
+        return spells_few(bytes, text);
+    }
+    spells_many(bytes, text)
+}
+
+// The same, a byte at a time: what it is spelled as need not go through memory.
+fn spells_few(bytes: &[u8], text: &[u8]) -> bool
+    requires { length text.now ≡ 2 * length bytes.now }
+    ensures value { IsTrue result ↔ (encode_lower bytes.now ≡ text.now) }
+    ensures bytes { IsBytes bytes.now }
+{
+    let mut done = 0;
+    while done < bytes.len() {
+        let end = done + 1;
+        let mut two = [0u8; 2];
+        let spelled = &mut two[..];
+        match hex::encode_to_slice(&bytes[done..end], spelled) {
+            Ok(()) => {}
+            Err(_) => unreachable!(),
+        }
+        if &text[2 * done..2 * end] != &*spelled {
+            return false;
+        }
+        done = end;
+    }
+    true
+}
+
+// The same, in blocks.
+#[inline(never)]
+fn spells_many(bytes: &[u8], text: &[u8]) -> bool
     requires { length text.now ≡ 2 * length bytes.now }
     ensures value { IsTrue result ↔ (encode_lower bytes.now ≡ text.now) }
     ensures bytes { IsBytes bytes.now }

@@ -105,6 +105,7 @@ impl<T: Copy, W: Window<HeldPacket<T>, 256>> Station<T, W> {
     // ---- what refuses
 
     // Whether the periods of a message are what its row needs.
+    #[inline(always)]
     fn meets(&self, message: &Message, tag: Tag) -> bool
         ensures { result ≡ meets (row self.now.variables.state (view message.now)).needs (wire_tag self.now) tag }
     {
@@ -129,6 +130,7 @@ impl<T: Copy, W: Window<HeldPacket<T>, 256>> Station<T, W> {
     }
 
     // Whether the packet of a message can be taken: data with the next number, where data is acted on.
+    #[inline(always)]
     fn takes(&self, message: &Message) -> bool
         ensures { result ≡ (has_packet (row self.now.variables.state (view message.now)).effects
             && wire_is_next self.now.variables (num_of (view message.now))) }
@@ -149,6 +151,7 @@ impl<T: Copy, W: Window<HeldPacket<T>, 256>> Station<T, W> {
     // ---- what it does
 
     // The effects of a sound message, row by row.
+    #[inline(always)]
     fn take_step(&mut self, message: &Message, tag: Tag, kept: bool)
         requires { load self.old < 2 ^ 63 }
         ensures load { load self.new ≤ load self.old + 1 }

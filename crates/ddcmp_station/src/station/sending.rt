@@ -83,6 +83,7 @@ impl<T: Copy, W: Window<HeldPacket<T>, 256>> Station<T, W> {
     }
 
     // What a message that may be sent is sent as.
+    #[inline(always)]
     fn sent_as(&self, message: &Message) -> SentAs<T>
         ensures { result ≡ sent_as self.now (view message.now) }
     {
@@ -120,6 +121,7 @@ impl<T: Copy, W: Window<HeldPacket<T>, 256>> Station<T, W> {
     // ---- what refuses
 
     // Why the message may not be sent, or `None` where it may.
+    #[inline(always)]
     fn refusal_to_send(&self, message: &Message) -> Option<StationRefusal>
         ensures { result ≡ wire_sending_refusal self.now (view message.now) }
     {
@@ -137,6 +139,7 @@ impl<T: Copy, W: Window<HeldPacket<T>, 256>> Station<T, W> {
         }
     }
 
+    #[inline(always)]
     fn refusal_in_running(&self, message: &Message) -> Option<StationRefusal>
         ensures { result ≡ failed (wire_passes self.now (view message.now)) (checks State.Running (view message.now)) }
     {
