@@ -120,16 +120,6 @@ held_up m t blocked is = record {
   waits = subst (λ (e : End). WaitsAt e m.after blocked.next) (sym blocked.still.same_end ∙ is) (subst (λ (l : Line). WaitsAt m.old l blocked.next) (sym blocked.still.same_line) blocked.waits);
 }
 
--- a side that is held up stays blocked
-pub blocked_still : (text : Option (List ℕ)) (course : Course) (incoming : Line) (come : Option (List ℕ)) (made : List Record) → IsHeldUp course incoming → IsRead (along text course come made) → IsBlocked (move course.end course.end incoming incoming) (along text course come made)
-blocked_still text course incoming come made held read = record {
-  next = held.next;
-  read = read;
-  ahead = held.ahead;
-  waits = held.waits;
-  still = record { same_end = refl; same_line = refl };
-}
-
 pub may_read_still : (old new : Course) → new.capture ≡ old.capture → new.ahead ≡ old.ahead → MayRead old → MayRead new
 may_read_still old new capture ahead may = rw (capture, ahead) may
 

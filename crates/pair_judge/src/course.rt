@@ -80,9 +80,6 @@ impl Course {
         ensures first { IfErr result (λ fault. fault ≢ CaptureFault.Failed) }
         ensures reads { CountsReads (is_failed_read result) (tally_faults reader.old) (tally_faults reader.new) }
     {
-        if self.is_held_up(incoming) {
-            return Ok(Advance::Blocked);
-        }
         match self.next(reader) {
             Ok(Some(entry)) => self.make(incoming, entry),
             Ok(None) => Ok(Advance::Ended),
@@ -90,9 +87,9 @@ impl Course {
         }
     }
 
-    // Whether a record was read and waits for a unit that is not sent yet. It is asked at each turn of the other side.
+    /// Whether a record was read and waits for a unit that is not sent yet: `advance` would find it blocked. `false` says nothing.
     #[inline(always)]
-    fn is_held_up(&self, incoming: &Line) -> bool
+    pub fn is_held_up(&self, incoming: &Line) -> bool
         ensures { result ≡ true → IsHeldUp self.now incoming.now }
     {
         let Ahead::Waits(entry) = self.ahead else {

@@ -49,7 +49,8 @@ impl Line {
         ensures ok { OnOk result (self.new.units.items ≡ self.old.units.items ++ unit ∷ []) }
         ensures gone { self.new.gone ≡ self.old.gone }
     {
-        self.units.push_back(unit)?;
+        self.units.reserve(1)?;
+        self.units.push_back_reserved(unit);
         Ok(())
     }
 

@@ -37,6 +37,10 @@ impl Spare {
             Some(place) => self.rooms.swap_remove(place),
             None => self.short_of_room(alloc, bytes.len())?,
         };
+        if own.len() == bytes.len() {
+            own.copy_from_slice(bytes);
+            return Ok(Bytes::new(own));
+        }
         own.clear();
         own.extend_from_slice(bytes)?;
         Ok(Bytes::new(own))

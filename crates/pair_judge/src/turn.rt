@@ -49,6 +49,9 @@ pub fn turn<R: Read, S: Read>(
 {
     endings();
     reading_on::<WireLayersNodes>();
+    if a.is_held_up(&b.end.line) {
+        return turn_of_b(a, true, b, reader_b);
+    }
     match a.advance(&mut b.end.line, reader_a) {
         Ok(Advance::Made) => Ok(None),
         Ok(Advance::Fails(refusal)) => Ok(Some(refused(Side::A, a, Cause::Step(refusal)))),

@@ -6,7 +6,6 @@ use Rattle.wire_base.specs.Tally.{tally_lent}
 use Rattle.pair_judge.specs.declared.end.End.{End}
 use Rattle.pair_judge.specs.Course.{AdvanceIs, along}
 use Rattle.pair_judge.specs.Making.{move}
-use Rattle.pair_judge.proofs.Turns.{blocked_still}
 use Rattle.pair_judge.proofs.course.Course.advance.Goals as goal
 
 pub returns-in-Ok-Some-clause-advance : goal.returns-in-Ok-Some-clause-advance
@@ -17,8 +16,3 @@ returns-in-Ok-Some-clause-advance g c =
     let made_it = h text (to_come c.next.new.self.capture.unread left) made (next text made read) in
     let at_end = subst (λ (e : End). AdvanceIs advance (move e c.make.new.self.end c.args.incoming.now c.make.new.incoming) (along text c.make.new.self (to_come c.next.new.self.capture.unread left) made)) c.next.ensures.end made_it in
     subst (λ (s : CaptureState). AdvanceIs advance (move c.args.self.now.end c.make.new.self.end c.args.incoming.now c.make.new.incoming) (along text c.make.new.self (to_come s.unread left) made)) (sym c.make.ensures.capture) at_end) c.make.ensures.advance
-
-pub returns-then-is_held_up-clause-advance : goal.returns-then-is_held_up-clause-advance
-returns-then-is_held_up-clause-advance g c = λ text made read.
-    let left = g.R.Read.remaining (tally_lent c.args.reader.now) in
-    blocked_still text c.args.self.now c.args.incoming.now (to_come c.args.self.now.capture.unread left) made (c.is_held_up.ensures c.if-is_held_up.true) read
