@@ -93,3 +93,6 @@ mod LinkOwners
 mod LinkReadSteps
 mod LinkCounts
 mod LinkRunBounds
+-- the player
+mod PlayRowSteps
+mod PlayRows
