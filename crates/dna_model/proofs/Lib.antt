@@ -100,3 +100,5 @@ mod PlayRowsStation
 mod PlayRowsSteps
 mod PlayRowsLinks
 mod PlayRowsLinkTurns
+mod PlayRowsBounds
+mod PlayRowsScripts
