@@ -103,3 +103,4 @@ mod PlayRowsLinks
 mod PlayRowsLinkTurns
 mod PlayRowsBounds
 mod PlayRowsScripts
+mod PlayRowsText
