@@ -14,6 +14,7 @@ mod link_refusal;
 pub mod link_run_laws;
 mod link_tag;
 mod nodes;
+pub mod play_laws;
 mod port;
 mod refusal;
 mod state;
@@ -39,6 +40,7 @@ pub use link_run_laws::{
 };
 pub use link_tag::LinkTag;
 pub use nodes::{TrueLayersNodes, TrueNodes, WireLayersNodes, WireNodes};
+pub use play_laws::played_records_are_made;
 pub use port::{LinkTest, Phase, Port};
 pub use refusal::{StationRefusal, StepRefusal};
 pub use state::{State, StationEvent};
