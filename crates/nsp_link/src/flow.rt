@@ -1,12 +1,14 @@
 //! The segments of one link, both ways.
 
-ghost use Rattle.std.specs.Prelude.{◌≡◌, ◌<◌, ◌+◌, ◌==◌, Ok, Err, None, true, false, length, nat_lt, nat_le, OnOk, OnErr, IfOk, IfErr, if◌then◌else◌};
+ghost use Rattle.std.specs.Prelude.{◌≡◌, ◌<◌, ◌+◌, ◌==◌, Ok, Err, None, true, false, length, nat_lt, nat_le, OnOk, OnErr, IfOk, IfErr};
+ghost use Rattle.std.specs.Prelude.{if◌then◌else◌};
 ghost use Rattle.std.specs.List.{AllByRecursion};
 ghost use Rattle.dna_packet.specs.AckWord.{IsAckWord};
 ghost use Rattle.dna_packet.specs.Nsp.{segment_view};
 ghost use Rattle.dna_model.specs.Pieces.{piece_of};
 ghost use Rattle.dna_model.specs.Flow.{wire, distance};
-ghost use Rattle.dna_model.specs.WireFlow.{empty, hands_in, delivers, sends_acks, sends_segment, sends_new, sends_again, is_repeat, takes_segment, takes_acks, ends, sending};
+ghost use Rattle.dna_model.specs.WireFlow.{empty, hands_in, delivers, sends_acks, sends_segment, sends_new, sends_again, is_repeat};
+ghost use Rattle.dna_model.specs.WireFlow.{takes_segment, takes_acks, ends, sending};
 ghost use Rattle.dna_model.specs.WireFlow as spec;
 ghost use Rattle.nsp_link.specs.Fault.{IsFault};
 

@@ -24,8 +24,8 @@ use std::alloc::{AllocError, Global};
 use std::marker::Model;
 use wire_base::Window;
 
-/// One end of a logical link (NSP 4.0, ports). Its segments lie in memory of their own, which is given back when it has ended and
-/// nothing is left to deliver.
+/// One end of a logical link (NSP 4.0, ports). Its segments lie in memory of their own. That is given back when the link ends with
+/// nothing left to deliver, and else when its own address is given to another link.
 #[derive(Drop)]
 pub struct Link<W: Window<Piece, 4096> + Drop> {
     port: Port,

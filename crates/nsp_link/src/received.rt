@@ -1,6 +1,7 @@
 //! The segments of a link that are received and not delivered.
 
-ghost use Rattle.std.specs.Prelude.{◌≡◌, ◌+◌, ◌-◌, ◌^◌, ◌<◌, ◌≤◌, ◌==◌, ◌++◌, ◌∷◌, [], true, None, Some, length, drop, take, replicate, option_copied, OnOk, OnErr, IfOk};
+ghost use Rattle.std.specs.Prelude.{◌≡◌, ◌+◌, ◌-◌, ◌^◌, ◌<◌, ◌≤◌, ◌==◌, ◌++◌, ◌∷◌, [], true, None, Some, length, drop, take, replicate};
+ghost use Rattle.std.specs.Prelude.{option_copied, OnOk, OnErr, IfOk};
 ghost use Rattle.std.specs.VecDeque.{deque_len, deque_capacity};
 ghost use Rattle.dna_model.specs.Pieces.{in_order, in_whole_messages};
 ghost use Rattle.dna_model.specs.Pieces as spec;

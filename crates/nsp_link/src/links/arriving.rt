@@ -21,9 +21,13 @@ use wire_base::Window;
 
 impl<W: Window<Piece, 4096> + Drop> Links<W> {
     /// This message came, from node `src` to node `dst`, with the tag that it was sent with (NSP 4.0, port states, data segments and
-    /// acknowledgements). A CI that begins a link takes memory, and a segment that is held takes memory for a copy of its data; no other
-    /// message takes any. What is not acted on changes nothing. The fields are in range: numbers are below 4,096, and a data
-    /// acknowledgement has a word.
+    /// acknowledgements). The fields are in range: numbers are below 4,096, and a data acknowledgement has a word.
+    ///
+    /// A CI begins a link, but where a live link has its SRCADDR as the other side's address it is a repeat. A CC is for the link in
+    /// Calling; a DI or a DC ends a live link; a segment, an acknowledgement, a link service or an interrupt is acted on in Confirming,
+    /// which goes to RUN, and in RUN. A message that finds no such link changes nothing, nor do a repeat, a connect acknowledgement and
+    /// a no operation. A CI that begins a link takes memory, and so does a segment that is held, which is missing and at most 2,047
+    /// above the highest received without a gap, for a copy of its data; no other message takes any.
     ///
     /// `Refused`, the first that fits:
     ///
@@ -57,7 +61,8 @@ impl<W: Window<Piece, 4096> + Drop> Links<W> {
     // The same of a message that comes from the other node to this one.
     fn take(&mut self, message: &Nsp, tag: LinkTag) -> Result<(), LinkFault>
         requires { nsp.IsInRange (nsp.view message.now) }
-        ensures ok { OnOk result (message_arrived wire_flows of_partner self.old (nsp.view message.now) (record { tag = tag; known = tt }) ≡ Ok self.new) }
+        ensures ok { OnOk result (message_arrived wire_flows of_partner self.old (nsp.view message.now) (record { tag = tag; known = tt })
+            ≡ Ok self.new) }
         ensures refused { IfErr result (λ fault. IsFault (message_arrived wire_flows of_partner self.old (nsp.view message.now)
             (record { tag = tag; known = tt })) (arrival_takes_memory self.old (nsp.view message.now)) fault) }
         ensures err { OnErr result (self.new ≡ self.old) }
@@ -88,7 +93,8 @@ impl<W: Window<Piece, 4096> + Drop> Links<W> {
         ensures ok { OnOk result (message_arrived wire_flows of_partner self.old (nsp.ConnectConfirm message.now.dstaddr message.now.srcaddr
             message.now.services message.now.info message.now.segsize message.now.user_data.now) (record { tag = tag; known = tt }) ≡ Ok self.new) }
         ensures refused { IfErr result (λ fault. IsFault (message_arrived wire_flows of_partner self.old (nsp.ConnectConfirm message.now.dstaddr
-            message.now.srcaddr message.now.services message.now.info message.now.segsize message.now.user_data.now) (record { tag = tag; known = tt })) false fault) }
+            message.now.srcaddr message.now.services message.now.info message.now.segsize message.now.user_data.now)
+            (record { tag = tag; known = tt })) false fault) }
         ensures err { OnErr result (self.new ≡ self.old) }
     {
         let Some(number) = self.find(LinkTest::CallingAt {
@@ -110,7 +116,8 @@ impl<W: Window<Piece, 4096> + Drop> Links<W> {
     #[tactic(auto, using(crate::proofs::Index::found_links))]
     fn other(&mut self, own: u16, far: u16, tag: LinkTag) -> Result<(), LinkFault>
         ensures ok { OnOk result (arriving.acted_on wire_flows of_partner own far tag (λ link. link.flow) self.old ≡ Ok self.new) }
-        ensures refused { IfErr result (λ fault. IsFault (arriving.acted_on wire_flows of_partner own far tag (λ link. link.flow) self.old) false fault) }
+        ensures refused { IfErr result (λ fault. IsFault (arriving.acted_on wire_flows of_partner own far tag (λ link. link.flow) self.old)
+            false fault) }
         ensures err { OnErr result (self.new ≡ self.old) }
     {
         let Some(number) = self.find(LinkTest::ActedOn { own, far }) else {
@@ -188,9 +195,9 @@ impl<W: Window<Piece, 4096> + Drop> Links<W> {
     fn connect_initiate(&mut self, message: &ConnectInitiate, tag: LinkTag) -> Result<(), LinkFault>
         ensures ok { OnOk result (message_arrived wire_flows of_partner self.old (nsp.ConnectInitiate message.now.retransmitted message.now.srcaddr
             message.now.services message.now.info message.now.segsize message.now.user_data.now) (record { tag = tag; known = tt }) ≡ Ok self.new) }
-        ensures refused { IfErr result (λ fault. IsFault (message_arrived wire_flows of_partner self.old (nsp.ConnectInitiate message.now.retransmitted
-            message.now.srcaddr message.now.services message.now.info message.now.segsize message.now.user_data.now) (record { tag = tag; known = tt }))
-            (begins_link self.old message.now.srcaddr) fault) }
+        ensures refused { IfErr result (λ fault. IsFault (message_arrived wire_flows of_partner self.old (nsp.ConnectInitiate
+            message.now.retransmitted message.now.srcaddr message.now.services message.now.info message.now.segsize
+            message.now.user_data.now) (record { tag = tag; known = tt })) (begins_link self.old message.now.srcaddr) fault) }
         ensures err { OnErr result (self.new ≡ self.old) }
     {
         if let Some(number) = self.find(LinkTest::LiveTo {

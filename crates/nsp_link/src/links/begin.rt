@@ -1,6 +1,7 @@
 //! How a link begins, and how it gets its own address.
 
-ghost use Rattle.std.specs.Prelude.{◌≡◌, ◌<◌, ◌+◌, ◌++◌, ◌∷◌, [], ℕ, Option, Some, None, true, false, eqb, length, slice_get, slice_set, OnOk, OnErr, IfOk, IfErr, if◌then◌else◌};
+ghost use Rattle.std.specs.Prelude.{◌≡◌, ◌<◌, ◌+◌, ◌++◌, ◌∷◌, [], ℕ, Option, Some, None, true, false, eqb, length, slice_get, slice_set};
+ghost use Rattle.std.specs.Prelude.{OnOk, OnErr, IfOk, IfErr, if◌then◌else◌};
 ghost use Rattle.std.specs.Vec.{vec_len, vec_capacity};
 ghost use Rattle.std.specs.Ordering.{nat_cmp};
 ghost use Rattle.std.specs.BTreeMap.{get};
@@ -223,7 +224,8 @@ fn answered_at<W: Window<Piece, 4096> + Drop>(
     requires answers { is_called phase ≡ false }
     ensures index { IsIndexed links.new.items live.now.items (λ q. get nat_cmp holders.new q) }
     ensures ok { (link : LinkOf WireFlow) → slice_get links.old.items number ≡ Some link
-        → OnOk result (links.new.items ≡ slice_set (forgotten_at (get nat_cmp holders.old own) links.old.items) number (answered wire_flows phase own link)) }
+        → OnOk result (links.new.items ≡ slice_set (forgotten_at (get nat_cmp holders.old own) links.old.items) number
+        (answered wire_flows phase own link)) }
     ensures err { OnErr result (links.new.items ≡ links.old.items) }
 {
     let _port = links[number].port();

@@ -1,6 +1,7 @@
 //! How one of the links changes in its place.
 
-ghost use Rattle.std.specs.Prelude.{◌≡◌, ◌<◌, Ok, Err, None, Some, true, false, length, slice_get, OnOk, OnErr, IfOk, IfErr, IfSome, if◌then◌else◌, position, eqb};
+ghost use Rattle.std.specs.Prelude.{◌≡◌, ◌<◌, Ok, Err, None, Some, true, false, length, slice_get, OnOk, OnErr, IfOk, IfErr, IfSome};
+ghost use Rattle.std.specs.Prelude.{if◌then◌else◌, position, eqb};
 ghost use Rattle.nsp_link.specs.Index.{without};
 ghost use Rattle.std.specs.List.{AllByRecursion};
 ghost use Rattle.dna_packet.specs.AckWord.{IsAckWord};
@@ -47,7 +48,8 @@ impl<W: Window<Piece, 4096> + Drop> Links<W> {
     pub(super) fn deliver_at(&mut self, number: usize, message: &[u8]) -> bool
         requires within { number < length self.old.links }
         ensures told { (link : LinkOf WireFlow) → slice_get self.old.links number ≡ Some link
-            → delivered wire_flows number link self.old (delivers message.now link.flow) ≡ (if result then Ok self.new else Err LinkRefusal.WrongDelivery) }
+            → delivered wire_flows number link self.old (delivers message.now link.flow)
+            ≡ (if result then Ok self.new else Err LinkRefusal.WrongDelivery) }
         ensures no { result ≡ false → self.new ≡ self.old }
     {
         self.links[number].deliver(message)
@@ -135,7 +137,8 @@ impl<W: Window<Piece, 4096> + Drop> Links<W> {
         requires acks { AllByRecursion IsAckWord segment.now.acks.items }
         requires segnum { segment.now.number < 4096 }
         ensures ok { (link : LinkOf WireFlow) → slice_get self.old.links number ≡ Some link
-            → OnOk result (self.new ≡ changed number (running wire_flows of_partner (λ l. takes_segment (segment_view segment.now) tt l.flow) link) self.old) }
+            → OnOk result (self.new ≡ changed number
+            (running wire_flows of_partner (λ l. takes_segment (segment_view segment.now) tt l.flow) link) self.old) }
         ensures held { (link : LinkOf WireFlow) → slice_get self.old.links number ≡ Some link
             → IfErr result (λ e. is_held (segment_view segment.now) link.flow.kept ≡ true) }
         ensures err { OnErr result (self.new ≡ self.old) }

@@ -30,18 +30,22 @@ const NO_LINK: LinkTag = LinkTag {
 
 impl<W: Window<Piece, 4096> + Drop> Links<W> {
     /// Their node sent this message to node `dst` as node `src` (NSP 4.0, port states, data segments and acknowledgements). The answer
-    /// is the tag that the message goes with. A segment that is new takes memory for a copy of its data, and no other message takes any.
-    /// The fields are in range: numbers are below 4,096, and a data acknowledgement has a word.
+    /// is the tag that the message goes with. The fields are in range: numbers are below 4,096, and a data acknowledgement has a word.
+    /// A segment that is new takes memory for a copy of its data, and the first one of a link for the window; no other message takes
+    /// any.
     ///
     /// `Refused`, the first that fits:
     ///
     /// - `WrongNode`: `src` is not this node, or `dst` not the other one.
-    /// - `NoLink`: no live link has the addresses that the message asks for; a DC asks for none.
-    /// - `LinkState`: the link is not in the phase that the message asks for; of a DC, a live link has its addresses.
-    /// - `WrongAck`: an acknowledgement word names a number that may not be acknowledged.
+    /// - `NoLink`: of a CI, no live link that was opened here has its SRCADDR; of a connect acknowledgement, no live link that a CI began
+    ///   has its DSTADDR; of any other message but a DC and a no operation, no live link has its two addresses.
+    /// - `LinkState`: the link is not in the phase that the message asks for (Calling for a CI, Confirming for a CC, DI for a DI, RUN for
+    ///   the others; a connect acknowledgement asks for none); of a DC, a live link has its two addresses.
+    /// - `WrongAck`: an acknowledgement word does not name a number from the last one sent through the highest received without a gap,
+    ///   nor, in a segment that is not new, an earlier one, at most 2,047 below the last one sent.
     /// - `LinkWindowFull`: a new segment while 2,047 are not acknowledged.
     /// - `SegmentTooLong`: a new segment has more data than the other side takes.
-    /// - `WrongSegment`: a segment is neither the next piece of what was handed in nor a true repeat of one of the last 2,047.
+    /// - `WrongSegment`: a segment is neither new and the next piece of what was handed in nor a true repeat of one of the last 2,047.
     ///
     /// `OutOfMemory`, after all of these: memory was refused. After any of them the links are as they were.
     pub fn sent(&mut self, dst: u16, src: u16, message: &Nsp) -> Result<LinkTag, LinkFault>

@@ -4,7 +4,7 @@
 mod coming;
 
 use super::segments::{DONE, FROM_A, FROM_B, SENT, data_ack, refused, segment, segment_of};
-use super::world::{Answer, World};
+use super::world::World;
 use crate::{LinkRefusal, Piece};
 use LinkRefusal::{LinkWindowFull, WrongAck, WrongSegment};
 use std::alloc::Global;
@@ -20,19 +20,10 @@ struct Reached {
     received: u64,
 }
 
-const fn gave(given: u64, acknowledged: u64) -> Reached {
+fn numbers_at([given, acknowledged, last, received]: [u64; 4]) -> Reached {
     Reached {
         given,
         acknowledged,
-        last: 0,
-        received: 0,
-    }
-}
-
-const fn got(last: u64, received: u64) -> Reached {
-    Reached {
-        given: 1,
-        acknowledged: 0,
         last,
         received,
     }
@@ -88,171 +79,91 @@ fn world_at<W: Window<Piece, 4096> + Drop>(
     world
 }
 
-// The row's name, the numbers at a, the words, number and data of a segment that it sends, and the answer.
-type SentRow = (
-    &'static str,
-    Reached,
-    &'static [u64],
-    u64,
-    &'static [u8],
-    Answer,
-);
+// The row's name; what is given, acknowledged, last acknowledged here and received at a; the words and the number of a segment that it
+// sends; and whether it may.
+type SentRow = (&'static str, [u64; 4], &'static [u64], u64, bool);
 
-fn sends_at_each<W: Window<Piece, 4096> + Drop>(rt: &impl Abort, alloc: Global, rows: &[SentRow]) {
-    for (name, reached, words, number, body, answer) in rows {
-        let mut world: World<W> = world_at(rt, alloc, *reached);
-        let bytes = segment_of(0x60, FROM_A, words, *number, body);
-        assert_eq!(rt; world.a.says(bytes.as_slice()), *answer, "{name}");
+// Each segment is sent, or refused for this reason.
+fn sends_each<W: Window<Piece, 4096> + Drop>(
+    rt: &impl Abort,
+    alloc: Global,
+    rows: &[SentRow],
+    refusal: LinkRefusal,
+) {
+    for (name, numbers, words, number, is_sent) in rows {
+        let mut world: World<W> = world_at(rt, alloc, numbers_at(*numbers));
+        let bytes = segment_of(0x60, FROM_A, words, *number, b"\x05");
+        let answer = if *is_sent { SENT } else { refused(refusal) };
+        assert_eq!(rt; world.a.says(bytes.as_slice()), answer, "{name}");
     }
 }
 
-const BODY: &[u8] = b"\x05";
+fn sends_each_over_both(rt: &impl Abort, alloc: Global, rows: &[SentRow], refusal: LinkRefusal) {
+    sends_each::<PlainWindow<Piece, 4096>>(rt, alloc, rows, refusal);
+    sends_each::<RingWindow<Piece, 4096>>(rt, alloc, rows, refusal);
+}
+
+const NEW: [SentRow; 3] = [
+    ("number 4,096", [4_095, 2_049, 0, 0], &[], 4_096, true),
+    ("window full", [4_096, 2_049, 0, 0], &[], 4_097, false),
+    ("one fewer", [4_096, 2_050, 0, 0], &[], 4_097, true),
+];
 
 #[test]
 fn link_window_full(rt: HostRuntime) {
-    let full = refused(LinkWindowFull);
-    let rows: [SentRow; 7] = [
-        ("number 4,096", gave(4_095, 2_049), &[], 4_096, BODY, SENT),
-        (
-            "link window full",
-            gave(4_096, 2_049),
-            &[],
-            4_097,
-            BODY,
-            full,
-        ),
-        (
-            "one more acknowledged",
-            gave(4_096, 2_050),
-            &[],
-            4_097,
-            BODY,
-            SENT,
-        ),
-        (
-            "window before length",
-            gave(4_096, 2_049),
-            &[],
-            4_097,
-            b"\x05\x05\x05",
-            full,
-        ),
-        (
-            "words before window",
-            gave(4_096, 2_049),
-            &[1],
-            4_097,
-            BODY,
-            refused(WrongAck),
-        ),
-        (
-            "number 4,096 again",
-            gave(4_096, 2_049),
-            &[],
-            4_096,
-            BODY,
-            SENT,
-        ),
-        (
-            "number 4,095 again",
-            gave(4_096, 2_049),
-            &[],
-            4_095,
-            BODY,
-            SENT,
-        ),
-    ];
-    sends_at_each::<PlainWindow<Piece, 4096>>(&rt, rt.alloc(), &rows);
-    sends_at_each::<RingWindow<Piece, 4096>>(&rt, rt.alloc(), &rows);
+    sends_each_over_both(&rt, rt.alloc(), &NEW, LinkWindowFull);
 }
+
+// A full window comes before too much data.
+fn has_a_full_window_first<W: Window<Piece, 4096> + Drop>(rt: &impl Abort, alloc: Global) {
+    let mut world: World<W> = world_at(rt, alloc, numbers_at([2_047, 0, 0, 0]));
+    let long = segment_of(0x60, FROM_A, &[], 2_048, b"\x05\x05\x05");
+    assert_eq!(rt; world.a.says(long.as_slice()), refused(LinkWindowFull));
+    assert_eq!(rt; world.a.hears(&data_ack(FROM_B, 1)), DONE);
+    assert_eq!(rt;
+        world.a.says(long.as_slice()),
+        refused(LinkRefusal::SegmentTooLong)
+    );
+}
+
+#[test]
+fn window_before_length(rt: HostRuntime) {
+    has_a_full_window_first::<PlainWindow<Piece, 4096>>(&rt, rt.alloc());
+    has_a_full_window_first::<RingWindow<Piece, 4096>>(&rt, rt.alloc());
+}
+
+const AGAIN: [SentRow; 10] = [
+    ("number 4,096", [4_096, 2_049, 0, 0], &[], 4_096, true),
+    ("number 4,095", [4_096, 2_049, 0, 0], &[], 4_095, true),
+    ("the lowest", [3_000, 3_000, 0, 0], &[], 954, true),
+    ("below the lowest", [3_000, 3_000, 0, 0], &[], 953, false),
+    ("first of 2,047", [2_047, 2_047, 0, 0], &[], 1, true),
+    ("none of 2,047", [2_047, 2_047, 0, 0], &[], 0, false),
+    ("none of 2,046", [2_046, 2_046, 0, 0], &[], 0, false),
+    ("below zero", [2_046, 2_046, 0, 0], &[], 4_095, false),
+    ("over the wrap", [4_100, 4_100, 0, 0], &[], 4_090, true),
+    ("at the wrap", [4_096, 4_096, 0, 0], &[], 4_095, true),
+];
 
 #[test]
 fn repeats_reach_back_2047(rt: HostRuntime) {
-    let wrong = refused(WrongSegment);
-    let rows: [SentRow; 8] = [
-        ("the lowest", gave(3_000, 3_000), &[], 954, BODY, SENT),
-        (
-            "below the lowest",
-            gave(3_000, 3_000),
-            &[],
-            953,
-            BODY,
-            wrong,
-        ),
-        ("the first of 2,047", gave(2_047, 2_047), &[], 1, BODY, SENT),
-        ("none of 2,047", gave(2_047, 2_047), &[], 0, BODY, wrong),
-        ("none of 2,046", gave(2_046, 2_046), &[], 0, BODY, wrong),
-        ("below zero", gave(2_046, 2_046), &[], 4_095, BODY, wrong),
-        (
-            "before the wrap",
-            gave(4_100, 4_100),
-            &[],
-            4_090,
-            BODY,
-            SENT,
-        ),
-        (
-            "just before the wrap",
-            gave(4_096, 4_096),
-            &[],
-            4_095,
-            BODY,
-            SENT,
-        ),
-    ];
-    sends_at_each::<PlainWindow<Piece, 4096>>(&rt, rt.alloc(), &rows);
-    sends_at_each::<RingWindow<Piece, 4096>>(&rt, rt.alloc(), &rows);
+    sends_each_over_both(&rt, rt.alloc(), &AGAIN, WrongSegment);
 }
+
+const WORDS: [SentRow; 10] = [
+    ("in a new one", [4_096, 2_049, 0, 0], &[1], 4_097, false),
+    ("the lowest", [1, 0, 5_000, 5_000], &[2_953], 1, true),
+    ("below it", [1, 0, 5_000, 5_000], &[2_952], 1, false),
+    ("0 of 2,047", [1, 0, 2_047, 2_047], &[0], 1, true),
+    ("0 of 2,048", [1, 0, 2_048, 2_048], &[0], 1, false),
+    ("below zero", [1, 0, 2_046, 2_046], &[4_095], 1, false),
+    ("two", [1, 0, 4_090, 4_100], &[4_100, 4_099], 1, true),
+    ("beyond", [1, 0, 4_090, 4_100], &[4_101], 1, false),
+    ("over the wrap", [1, 0, 4_100, 4_100], &[4_095], 1, true),
+    ("at the wrap", [1, 0, 4_096, 4_100], &[4_095], 1, true),
+];
 
 #[test]
 fn words_of_repeats_reach_back_2047(rt: HostRuntime) {
-    let wrong = refused(WrongAck);
-    let rows: [SentRow; 9] = [
-        ("the lowest", got(5_000, 5_000), &[2_953], 1, BODY, SENT),
-        (
-            "below the lowest",
-            got(5_000, 5_000),
-            &[2_952],
-            1,
-            BODY,
-            wrong,
-        ),
-        ("0 of 2,047", got(2_047, 2_047), &[0], 1, BODY, SENT),
-        ("0 of 2,048", got(2_048, 2_048), &[0], 1, BODY, wrong),
-        ("below zero", got(2_046, 2_046), &[4_095], 1, BODY, wrong),
-        (
-            "across the wrap",
-            got(4_090, 4_100),
-            &[4_100, 4_099],
-            1,
-            BODY,
-            SENT,
-        ),
-        (
-            "beyond the wrap",
-            got(4_090, 4_100),
-            &[4_101],
-            1,
-            BODY,
-            wrong,
-        ),
-        (
-            "back over the wrap",
-            got(4_100, 4_100),
-            &[4_095],
-            1,
-            BODY,
-            SENT,
-        ),
-        (
-            "back from the wrap",
-            got(4_096, 4_100),
-            &[4_095],
-            1,
-            BODY,
-            SENT,
-        ),
-    ];
-    sends_at_each::<PlainWindow<Piece, 4096>>(&rt, rt.alloc(), &rows);
-    sends_at_each::<RingWindow<Piece, 4096>>(&rt, rt.alloc(), &rows);
+    sends_each_over_both(&rt, rt.alloc(), &WORDS, WrongAck);
 }

@@ -1,6 +1,6 @@
 //! What comes near number 4,096: words, and segments up to 2,047 ahead.
 
-use super::{gave, got, world_at};
+use super::{numbers_at, world_at};
 use crate::tests::segments::{DONE, FROM_A, FROM_B, SENT, data_ack, refused, segment, segment_of};
 use crate::tests::world::World;
 use crate::{LinkRefusal, Piece};
@@ -18,7 +18,7 @@ fn takes_words_at_the_wrap<W: Window<Piece, 4096> + Drop>(rt: &impl Abort, alloc
         (4_089, 4_090),
     ];
     for (word, acknowledged) in rows {
-        let mut world: World<W> = world_at(rt, alloc, gave(4_100, 4_090));
+        let mut world: World<W> = world_at(rt, alloc, numbers_at([4_100, 4_090, 0, 0]));
         assert_eq!(rt; world.a.hears(&data_ack(FROM_B, word)), DONE);
         for number in 4_091..=4_100 {
             let other = segment_of(0x00, FROM_A, &[], number, b"other");
@@ -51,7 +51,7 @@ fn takes_segments_at_the_wrap<W: Window<Piece, 4096> + Drop>(rt: &impl Abort, al
         ("2,048 below", 2_042, 4_090, 4_090),
     ];
     for (name, first, through, highest) in rows {
-        let mut world: World<W> = world_at(rt, alloc, got(4_090, 4_090));
+        let mut world: World<W> = world_at(rt, alloc, numbers_at([1, 0, 4_090, 4_090]));
         assert_eq!(rt; world.a.hears(segment(FROM_B, first).as_slice()), DONE);
         for number in 4_091..=through {
             assert_eq!(rt; world.a.hears(segment(FROM_B, number).as_slice()), DONE);
