@@ -1,5 +1,5 @@
 -- What a link that changes in its place makes of the links.
-use Rattle.std.proofs.Common.{◌≡◌, ℕ, ◌<◌, Bool, true, false, cond, Option, Some, None, Result, Ok, Err, OnOk, IfErr, IsOk, List, length, get_or, set, refl, sym, subst, ap, ◌∙◌}
+use Rattle.std.proofs.Common.{◌≡◌, ℕ, ◌<◌, Bool, true, false, cond, Option, Some, None, Result, Ok, Err, OnOk, IfErr, List, length, get_or, set, refl, sym, subst, ap, ◌∙◌}
 use Rattle.std.specs.Prelude.{slice_get}
 use Rattle.std.proofs.lemmas.List.{set-get_or}
 use Rattle.dna_model.specs.declared.link_refusal.LinkRefusal.{LinkRefusal}
@@ -8,7 +8,6 @@ use Rattle.dna_model.specs.Flow.{Sending}
 use Rattle.dna_model.specs.LinkUser.{delivered}
 use Rattle.dna_model.specs.LinkSending.{carries, truth_of}
 use Rattle.nsp_link.specs.declared.fault.LinkFault.{LinkFault}
-use Rattle.nsp_link.specs.declared.fault.LinkFault.TheVariants.{Refused, OutOfMemory}
 use Rattle.nsp_link.specs.Fault.{IsFault}
 use Rattle.std.proofs.lemmas.Option.{slice_get_read}
 use Rattle.dna_model.specs.LinkTests.{is_live}

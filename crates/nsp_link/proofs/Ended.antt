@@ -1,5 +1,5 @@
 -- A link that has ended with nothing left to deliver keeps nothing.
-use Rattle.std.proofs.Common.{◌≡◌, Bool, true, Option, List, [], ◌∷◌, length, eqb, refl, sym, ap, ◌∙◌, arith}
+use Rattle.std.proofs.Common.{◌≡◌, true, Option, List, [], ◌∷◌, length, eqb, refl, sym, ap, ◌∙◌, arith}
 use Rattle.std.proofs.lemmas.Bool.{eqb-true}
 use Rattle.dna_model.specs.Pieces.{Piece}
 use Rattle.dna_model.specs.WireFlow.{WireFlow, empty, with_pieces_alone, ends}
