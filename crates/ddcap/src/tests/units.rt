@@ -5,7 +5,8 @@ use std::alloc::{AllocError, Global};
 use std::ops::RangeInclusive;
 use std::process::Abort;
 
-const NONE: Flags = Flags {
+/// No flags.
+pub const NO_FLAGS: Flags = Flags {
     quick_sync: false,
     select: false,
 };
@@ -96,7 +97,7 @@ fn add_data(
 ) -> Result<(), AllocError> {
     let num = (number % 256) as u8;
     let message = Message::Data {
-        flags: NONE,
+        flags: NO_FLAGS,
         resp: 0,
         num,
         body: &[5, num],
@@ -106,8 +107,12 @@ fn add_data(
     text.push_str("\n")
 }
 
-// The unit of a message that is in range.
-fn written(rt: &impl Abort, alloc: Global, message: &Message<'_>) -> Result<Vec<u8>, AllocError> {
+/// The unit of a message that is in range.
+pub fn written(
+    rt: &impl Abort,
+    alloc: Global,
+    message: &Message<'_>,
+) -> Result<Vec<u8>, AllocError> {
     assert!(rt; message.in_range());
     write_unit(alloc, message)
 }
