@@ -3,6 +3,7 @@
 mod contradictory;
 mod devices;
 mod limits;
+mod link_pairs;
 mod pair;
 mod reasons;
 mod rows;
