@@ -6,7 +6,7 @@ use Rattle.std.specs.Str.{bytes_eq}
 use Rattle.std.proofs.lemmas.Bool.{cases_Bool, and_parts, and_from, and_right, cases_lt, eqb-true, leb-true, leb-false, cond_both}
 use Rattle.std.proofs.lemmas.Option.{same_Some}
 use Rattle.std.proofs.Math.Seq.{take-add}
-use Rattle.std.proofs.lemmas.List.{take_all}
+use Rattle.std.proofs.lemmas.List.{take_all, take-append-drop, length-drop}
 use Rattle.std.proofs.lemmas.List.Sums.{AllPass-from_list_all, list_all-from_AllPass}
 use Rattle.std.proofs.lemmas.Slice.Eq.{bytes_eq-Decides}
 use Rattle.hex.specs.Hex.{IsBytes, decode_of, decode_pairs, decode_sized, hex_digit_value, is_hex_digit, value_at, pair_value, digit_or_error, encode_lower, encode_with, lower_digits}
@@ -223,6 +223,24 @@ pub spelled_whole : (bytes text : List ℕ) (done : ℕ) → length text ≡ 2 *
     → take (2 * done) (encode_lower bytes) ≡ take (2 * done) text → encode_lower bytes ≡ text
 spelled_whole bytes text done twice all e =
     sym (take_all (2 * done) (encode_lower bytes) (omega (arith, length-encode_with lower_digits bytes))) ∙ e ∙ take_all (2 * done) text (omega arith)
+
+-- what stands behind the first n
+pub all_behind : (n : ℕ) (xs : List ℕ) → take (length xs - n) (drop n xs) ≡ drop n xs
+all_behind n xs = take_all (length xs - n) (drop n xs) (omega (arith, length-drop n xs))
+
+-- a text that is spelled so in two parts
+pub spelled_parts : (bytes text : List ℕ) (n : ℕ) → encode_lower (take n bytes) ≡ take (2 * n) text → encode_lower (drop n bytes) ≡ drop (2 * n) text → encode_lower bytes ≡ text
+spelled_parts bytes text n front rest =
+    sym (take-append-drop (2 * n) (encode_lower bytes))
+    ∙ ap₂ ◌++◌ (sym (encode_with-take lower_digits n bytes) ∙ front) (sym (encode_with-drop lower_digits n bytes) ∙ rest)
+    ∙ take-append-drop (2 * n) text
+
+-- the parts of a text that is spelled so
+pub front_spelled : (bytes text : List ℕ) (n : ℕ) → encode_lower bytes ≡ text → encode_lower (take n bytes) ≡ take (2 * n) text
+front_spelled bytes text n e = encode_with-take lower_digits n bytes ∙ ap (take (2 * n)) e
+
+pub rest_spelled : (bytes text : List ℕ) (n : ℕ) → encode_lower bytes ≡ text → encode_lower (drop n bytes) ≡ drop (2 * n) text
+rest_spelled bytes text n e = encode_with-drop lower_digits n bytes ∙ ap (drop (2 * n)) e
 
 -- ---- pairs of digits, told by their spelling
 

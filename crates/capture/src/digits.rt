@@ -5,6 +5,7 @@ ghost use Rattle.std.specs.Option.{is_some};
 ghost use Rattle.std.specs.List.{list_all};
 ghost use Rattle.hex.specs.Hex.{IsBytes, encode_lower};
 ghost use Rattle.capture.specs.Entries.{front_of};
+ghost use Rattle.capture.specs.declared.digits.TheConstants.{EIGHT};
 ghost use Rattle.capture.specs.Reading.{Gives, bytes_at, is_digit, pairs_at};
 
 use crate::bytes::Bytes;
@@ -14,8 +15,10 @@ use std::alloc::Global;
 // As many bytes of a long text are spelled again at a time.
 const BLOCK: usize = 128;
 
-// As many bytes at most are spelled one by one: a unit that carries no data, or little.
+// As many bytes at most are spelled in pieces of eight: a unit that carries no data, or little.
 const FEW: usize = 32;
+
+const EIGHT: usize = 8;
 
 // What the digits are as bytes, if they are pairs of digits 0 to 9 and a to f: a digit's low four bits, and 9 more for a
 // letter, which has bit 6. Of another text it answers what it likes, since what it answers is spelled again.
@@ -42,8 +45,41 @@ fn spells(bytes: &[u8], text: &[u8]) -> bool
     spells_many(bytes, text)
 }
 
-// The same, a byte at a time: what it is spelled as need not go through memory.
+// The same of few bytes.
 fn spells_few(bytes: &[u8], text: &[u8]) -> bool
+    requires { length text.now ≡ 2 * length bytes.now }
+    ensures value { IsTrue result ↔ (encode_lower bytes.now ≡ text.now) }
+    ensures bytes { IsBytes bytes.now }
+{
+    let whole = bytes.len() / EIGHT * EIGHT;
+    if !spells_eights(&bytes[..whole], &text[..2 * whole]) {
+        return false;
+    }
+    spells_singly(&bytes[whole..], &text[2 * whole..])
+}
+
+// The same, eight bytes at a time: with a number that is known beforehand no loop is left, and what they are spelled as never
+// goes through memory.
+fn spells_eights(bytes: &[u8], text: &[u8]) -> bool
+    requires eights { length bytes.now % EIGHT ≡ 0 }
+    requires twice { length text.now ≡ 2 * length bytes.now }
+    ensures value { IsTrue result ↔ (encode_lower bytes.now ≡ text.now) }
+    ensures bytes { IsBytes bytes.now }
+{
+    let mut done = 0;
+    while done < bytes.len() {
+        let end = done + EIGHT;
+        if !spells_singly(&bytes[done..end], &text[2 * done..2 * end]) {
+            return false;
+        }
+        done = end;
+    }
+    true
+}
+
+// The same, a byte at a time.
+#[inline(always)]
+fn spells_singly(bytes: &[u8], text: &[u8]) -> bool
     requires { length text.now ≡ 2 * length bytes.now }
     ensures value { IsTrue result ↔ (encode_lower bytes.now ≡ text.now) }
     ensures bytes { IsBytes bytes.now }

@@ -214,6 +214,7 @@ impl<T: Copy, W: Window<HeldPacket<T>, 256>> Station<T, W> {
     }
 
     // Data in RUNNING: its RESP, and then its packet.
+    #[inline(always)]
     fn receive_data(&mut self, resp: u8, num: u8, kept: bool)
         requires { load self.old < 2 ^ 63 }
         ensures load { load self.new ≤ load self.old + 1 }

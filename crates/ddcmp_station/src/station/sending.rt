@@ -112,8 +112,7 @@ impl<T: Copy, W: Window<HeldPacket<T>, 256>> Station<T, W> {
         ensures ok { OnOk result (self.new ≡ record self.old { variables = sends_packet self.old.variables body.now }) }
         ensures err { OnErr result (self.new ≡ self.old) }
     {
-        let mut copy = Vec::new(self.alloc);
-        copy.extend_from_slice(body)?;
+        let copy = Vec::from_slice(self.alloc, body)?;
         self.variables.send_new(HeldPacket::new(copy))?;
         Ok(())
     }
@@ -199,6 +198,7 @@ impl<T: Copy, W: Window<HeldPacket<T>, 256>> Station<T, W> {
     }
 
     // Data have the next number to send. A new packet has room in the window; one that is sent again is as first given.
+    #[inline(always)]
     fn refusal_of_data(&self, resp: u8, num: u8, body: &[u8]) -> Option<StationRefusal>
         ensures { result ≡ if num == wire (self.now.variables.acknowledged + 1 + self.now.variables.ahead)
             then (if resp == self.now.variables.received

@@ -1,18 +1,19 @@
-use Rattle.std.proofs.Common.{refl, sym, ◌+◌, ◌∙◌, arith}
-use Rattle.capture.proofs.BytesLaws.{spelled_more, spelled_piece, spelled_whole, not_both, was_true}
+use Rattle.std.proofs.Common.{◌/◌, ◌*◌, length, refl, sym, ap, ◌∙◌, arith}
+use Rattle.hex.specs.Hex.{encode_lower}
+use Rattle.capture.proofs.BytesLaws.{all_behind, spelled_parts, front_spelled, rest_spelled}
 use Rattle.capture.proofs.digits.spells_few.Goals as goal
 
-pub returns-then-ne-clause-value : goal.returns-then-ne-clause-value
-returns-then-ne-clause-value c =
-    (λ no. absurd cc, λ e. absurd (not_both _ (sym c.ne.ensures ∙ c.if-ne.true) (spelled_piece c.args.bytes.now c.args.text.now _ c.loop-done.done (c.loop-done.done + 1) (omega arith) e c.in-Ok.ensures.written)))
-
-pub loop-done-preserved : goal.loop-done-preserved
-loop-done-preserved c =
-    let same = was_true _ (sym c.ne.ensures ∙ c.if-ne.false) in
-    let more = spelled_more c.args.bytes.now c.args.text.now _ c.loop-done.done (c.loop-done.done + 1) (omega arith) c.loop-done.invariant.1 c.in-Ok.ensures.written same in
-    (omega arith, more)
+pub returns-then-not-spells_eights-clause-value : goal.returns-then-not-spells_eights-clause-value
+returns-then-not-spells_eights-clause-value c =
+    let n = length c.args.bytes.now / 8 * 8 in
+    (λ no. absurd cc, λ e. c.if-not-spells_eights.ensures.value.1 (front_spelled c.args.bytes.now c.args.text.now n e))
 
 pub returns-clause-value : goal.returns-clause-value
 returns-clause-value c =
-    let whole = spelled_whole c.args.bytes.now c.args.text.now c.loop-done.done c.requires (omega arith) c.loop-done.invariant.1 in
-    (λ t. whole, λ e. refl)
+    let bytes = c.args.bytes.now in
+    let text = c.args.text.now in
+    let n = length bytes / 8 * 8 in (
+      λ t. spelled_parts bytes text n (c.if-not-spells_eights.ensures.value.0 refl)
+          (ap encode_lower (sym (all_behind n bytes)) ∙ c.spells_singly.ensures.value.0 t ∙ all_behind (2 * n) text),
+      λ e. c.spells_singly.ensures.value.1 (ap encode_lower (all_behind n bytes) ∙ rest_spelled bytes text n e ∙ sym (all_behind (2 * n) text)),
+    )

@@ -1,7 +1,7 @@
 -- As far as the loop has come, the text is how the bytes are spelled.
 use Rattle.std.proofs.Common.{◌≡◌, ◌≤◌, ◌*◌, ◌-◌, take, length}
 use Rattle.hex.specs.Hex.{encode_lower}
-use Rattle.capture.proofs.digits.spells_few.Given as goal
+use Rattle.capture.proofs.digits.spells_singly.Given as goal
 
 abbrev pub invariant-loop-done : goal.invariant-loop-done
 invariant-loop-done l = (l.done ≤ length l.bytes) × (take (2 * l.done) (encode_lower l.bytes) ≡ take (2 * l.done) l.text)
