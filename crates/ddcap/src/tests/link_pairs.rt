@@ -271,7 +271,11 @@ fn each_turn_of_each_row_has_its_line(rt: HostRuntime) -> Result<(), Fail> {
         for turns in shared_turns(heading) {
             in_row = in_row.saturating_add(expect_each_once(&rt, heading, lines, turns));
         }
-        assert_eq!(&rt; count_of(lines, None), in_row, "turns that {heading} does not have");
+        assert_eq!(&rt;
+            count_of(lines, None),
+            in_row,
+            "turns that {heading} does not have"
+        );
         count = count.saturating_add(in_row);
     }
     let mut in_all = 0usize;
