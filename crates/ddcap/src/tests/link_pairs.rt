@@ -199,9 +199,15 @@ fn expect_accepted(rt: &impl Abort, line: &str, printed: &str, counts: &str) {
         assert!(rt; false, "{line}, and not {printed}");
         return;
     };
-    let (of_a, of_b) = lines.split_once("\n").unwrap_or((lines, ""));
+    let Some((of_a, of_b)) = lines.split_once("\n") else {
+        assert!(rt; false, "{line}, and not {printed}");
+        return;
+    };
     let counts = counts.strip_prefix("; ").unwrap_or(counts);
-    let (want_a, want_b) = counts.split_once("; ").unwrap_or((counts, counts));
+    let (want_a, want_b) = match counts.split_once("; ") {
+        Some((want_a, want_b)) => (want_a, want_b),
+        None => (counts, counts),
+    };
     assert!(rt; of_a.ends_with(want_a), "{line}, and not {printed}");
     assert!(rt;
         of_b.strip_suffix("\n")
