@@ -26,6 +26,14 @@ use wire_base::Window;
 
 /// The links of one node, with three verbs: [`Links::user`], what their user does; [`Links::sent`], their node sent this;
 /// [`Links::arrived`], this came.
+///
+/// A link goes through the phases of `Phase` (NSP 4.0, port states):
+///
+/// - `Open` begins one in Calling, and a CC that comes leads it to RUN.
+/// - A CI that comes begins one in Called. `Accept` leads it to Confirming, and what comes for it then to RUN; `Reject` leads it to DI; a DC
+///   that is sent with SRCADDR 0 ends it.
+/// - `Close` leads from Confirming and RUN to DI.
+/// - A DI or a DC that comes ends a link in any phase but Called.
 #[derive(Drop)]
 pub struct Links<W: Window<Piece, 4096> + Drop> {
     node: u16,
