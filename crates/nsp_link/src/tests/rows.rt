@@ -33,6 +33,7 @@ gets 0 0 whole 1 2 01 00 0a; gets 0 0 whole 1 2 02 00 0a; gets 0 0 whole 1 2 03 
 sends CI 1; sends CI 2; sends CI 3; sends connect-ack 1; sends connect-ack 2; sends connect-ack 3; sends CC 1 2; sends CC 2 1
 sends DI 2 1; sends DI 1 2; sends DC 2 1; sends DC 1 2; sends link-service 2 1; sends link-service 1 2; gets 0 - CC 1 2
 gets 0 0 link-service 1 2; gets 0 0 link-service 2 1; gets 1 0 link-service 1 2; gets 1 1 link-service 2 1; gets 0 0 CC 1 2
+sends whole 2 1 01 00 09; sends whole 2 1 02 00 09; sends first 2 1 01 00 61 62; sends whole 1 2 01 00 09; sends whole 1 2 02 00 09
 gets 0 - CI 1; gets 1 - CI 2; gets 2 - CI 3; accept 1 4; accept 2 5; reject 3 6; sends CC 1 4; sends CC 2 5; sends DI 3 6
 close 1; close 2; close 3; sends DI 2 1; sends DI 1 2; sends DC 1 0; sends DC 2 0; sends DC 3 0; open 1; open 2; open 3
 gets 0 0 DC 1 2; gets 0 0 DI 2 1; open 1; open 2; up 1 0a; up 2 0a; sends CI 1; sends CI 2; sends CI 3";
