@@ -1,7 +1,7 @@
-//! What a reader must believe of the protocols: one station, one node with its line, the run of two captures and the
-//! verdict on them, as definitions in `specs/`, with the few types that code and definitions share; the same station and node
-//! on numbers modulo 256 (the wire station, the wire node); and laws of all these. It decides nothing and touches no file and no
-//! memory: the machines above are proved to follow these definitions.
+//! What a reader must believe of the protocols: one station, the links of a node, one node with its line, the run of two captures, the
+//! verdict on them, and what a script stands for, as definitions in `specs/`, with the few types that code and definitions share; the
+//! same station, links and node on numbers modulo 256 and 4,096 (the wire station, links and node); and laws of all these. It decides
+//! nothing and touches no file and no memory: the machines above are proved to follow these definitions.
 #![tactic(auto)]
 
 mod finding;

@@ -58,8 +58,8 @@ pub enum Advance {
 impl Course {
     /// Makes the next record, which is read first where none waits. The line leads to this side from the other one.
     ///
-    /// `Departs`, `Read`: the next record can't be read. `OutOfMemory`: there is no room for the message of its event, or for the unit that it
-    /// sends. The course has no use after any of them.
+    /// `Departs`, `Read`: the next record can't be read. `OutOfMemory`: there is no room for the message of its event, for the unit, the packet or the
+    /// piece that it sends, or for the link or the piece that it keeps. The course has no use after any of them.
     #[inline(always)]
     pub fn advance<R: Read>(
         &mut self,

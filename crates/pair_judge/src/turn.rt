@@ -23,7 +23,7 @@ use wire_base::{Side, Tally};
 
 /// Makes one record, or finds that the judge is at its end: `None` where it is not yet.
 ///
-/// `Capture`: the next record of that side can't be read. `OutOfMemory`: there is no room for a record or a unit.
+/// `Capture`: the next record of that side can't be read. `OutOfMemory`: there is no room for what the record sends, keeps or hands in.
 pub fn turn<R: Read, S: Read>(
     a: &mut Course,
     b: &mut Course,
