@@ -19,10 +19,10 @@ use Rattle.dna_model.proofs.LayersRowUnits.{CI_1, CONNECT_ACK_1, CC_1_2, ACK_2_1
 use Rattle.dna_model.proofs.LayersRowUnits.{true_start, wire_start, IsTrueRun, IsWireRun, RefusedOfA, RefusedOfB, Turn, A, B, all_made, b_refused}
 
 -- The worked example of the player: one unit is lost, one damaged, and one packet finds no buffer
-abbrev player_example_a : List Record
+abbrev pub player_example_a : List Record
 player_example_a = User Start ∷ Sent STRT ∷ Sent STRT ∷ Received 0 false STACK ∷ Sent ACK0 ∷ User (Open 1) ∷ Sent CI_1 ∷ Received 1 false NAK_HEADER0 ∷ Sent CI_1 ∷ Received 2 false NAK_BUFFER0 ∷ Sent CI_1 ∷ Received 3 true CONNECT_ACK_1 ∷ []
 
-abbrev player_example_b : List Record
+abbrev pub player_example_b : List Record
 player_example_b = User Start ∷ Received 1 false STRT ∷ Sent STACK ∷ Received 2 false ACK0 ∷ Received 3 false damaged_CI_1 ∷ Sent NAK_HEADER0 ∷ Received 4 false CI_1 ∷ Sent NAK_BUFFER0 ∷ Received 5 true CI_1 ∷ Sent CONNECT_ACK_1 ∷ []
 
 player_example_true : IsTrueRun player_example_a player_example_b

@@ -87,3 +87,6 @@ mod LinkOwners
 mod LinkReadSteps
 mod LinkCounts
 mod LinkRunBounds
+-- the player
+mod PlayRowSteps
+mod PlayRows

@@ -44,3 +44,15 @@ pub mod LayersPair
 pub mod LinkBounds
 pub mod LinkDelivery
 pub mod LinkCaptures
+-- The player: a script; what an end owes, what it sends next and how that is put together; what a step makes, and what a script stands for
+pub mod Script
+pub mod Owed
+pub mod LinkOwed
+pub mod NextSent
+pub mod Compose
+pub mod HasLine
+pub mod Player
+pub mod Stepped
+pub mod Receipt
+pub mod Play
+pub mod Played

@@ -1,0 +1,57 @@
+-- How the worked rows of the player are stated: scripts over nodes 1.1 and 1.2, and what becomes of them.
+use Rattle.std.proofs.Common.{◌≡◌, ℕ, ◌+◌, ◌-◌, ◌*◌, true, false, List, [], ◌∷◌, Result, Ok, Err}
+use Rattle.std.specs.Prelude.{nat_lt, if◌then◌else◌}
+use Rattle.wire_base.specs.declared.side.Side.TheVariants.{A, B}
+use Rattle.capture.specs.declared.record.Record.{Record}
+use Rattle.capture.specs.declared.record.Record.TheVariants.{Sent, Received}
+use Rattle.dna_model.specs.Script.{StepValue, ScriptStep, Script}
+use Rattle.dna_model.specs.Stepped.{Stop}
+use Rattle.dna_model.specs.Played.{Played, Stopped, plays_all, play}
+
+abbrev pub a : StepValue → ScriptStep
+a step = record { side = A; step = step }
+
+abbrev pub b : StepValue → ScriptStep
+b step = record { side = B; step = step }
+
+abbrev pub script : List ScriptStep → Script
+script steps = record { node_a = 0x0401; node_b = 0x0402; steps = steps }
+
+-- What becomes of a script: its captures; or how many of its steps are made, why the next one is not, and the captures of those before it
+pub data Becomes : Type 0 where
+  Captures : (of_a of_b : List Record) → Becomes
+  StopsAt : (steps : ℕ) → Stop → (of_a of_b : List Record) → Becomes
+
+abbrev pub becomes : Result Played Stopped → Becomes
+becomes (Ok end) = Captures end.of_a end.of_b
+becomes (Err stopped) = StopsAt stopped.steps stopped.stop stopped.so_far.of_a stopped.so_far.of_b
+
+-- what these steps add behind those
+abbrev behind : Result Played Stopped → List ScriptStep → Result Played Stopped
+behind (Ok end) steps = plays_all 0 (record end { of_a = []; of_b = [] }) steps
+behind (Err stopped) steps = Err stopped
+
+abbrev pub IsPlayed : List ScriptStep → Becomes → Type 0
+IsPlayed steps made = becomes (play (script steps)) ≡ made
+
+abbrev pub Adds : (first steps : List ScriptStep) → Becomes → Type 0
+Adds first steps made = becomes (behind (play (script first)) steps) ≡ made
+
+-- ---- records, with bytes in hexadecimal as a capture has them
+
+abbrev digit : ℕ → ℕ
+digit code = if nat_lt code 0x61 then code - 0x30 else code - 0x57
+
+abbrev pub hex : List ℕ → List ℕ
+hex [] = []
+hex (high ∷ []) = []
+hex (high ∷ low ∷ rest) = (16 * digit high + digit low) ∷ hex rest
+
+abbrev pub s : List ℕ → Record
+s digits = Sent (hex digits)
+
+abbrev pub r : ℕ → List ℕ → Record
+r hint digits = Received hint false (hex digits)
+
+abbrev pub k : ℕ → List ℕ → Record
+k hint digits = Received hint true (hex digits)
