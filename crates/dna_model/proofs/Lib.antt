@@ -90,3 +90,7 @@ mod LinkRunBounds
 -- the player
 mod PlayRowSteps
 mod PlayRows
+mod PlayRowsStation
+mod PlayRowsSteps
+mod PlayRowsLinks
+mod PlayRowsLinkTurns

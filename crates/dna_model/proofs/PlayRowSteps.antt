@@ -1,11 +1,11 @@
 -- How the worked rows of the player are stated: scripts over nodes 1.1 and 1.2, and what becomes of them.
-use Rattle.std.proofs.Common.{◌≡◌, ℕ, ◌+◌, ◌-◌, ◌*◌, true, false, List, [], ◌∷◌, Result, Ok, Err}
+use Rattle.std.proofs.Common.{◌≡◌, ℕ, ◌+◌, ◌-◌, ◌*◌, true, false, List, [], ◌∷◌, ◌++◌, Result, Ok, Err}
 use Rattle.std.specs.Prelude.{nat_lt, if◌then◌else◌}
 use Rattle.wire_base.specs.declared.side.Side.TheVariants.{A, B}
 use Rattle.capture.specs.declared.record.Record.{Record}
 use Rattle.capture.specs.declared.record.Record.TheVariants.{Sent, Received}
-use Rattle.dna_model.specs.Script.{StepValue, ScriptStep, Script}
-use Rattle.dna_model.specs.Stepped.{Stop}
+use Rattle.dna_model.specs.Script.{StepValue, ScriptStep, Script, Start, Send, Deliver, Open, Accept, Reject}
+use Rattle.dna_model.specs.Stepped.{Stop, BadStep}
 use Rattle.dna_model.specs.Played.{Played, Stopped, plays_all, play}
 
 abbrev pub a : StepValue → ScriptStep
@@ -16,6 +16,25 @@ b step = record { side = B; step = step }
 
 abbrev pub script : List ScriptStep → Script
 script steps = record { node_a = 0x0401; node_b = 0x0402; steps = steps }
+
+-- ---- records, with bytes in hexadecimal as a capture has them
+
+abbrev digit : ℕ → ℕ
+digit code = if nat_lt code 0x61 then code - 0x30 else code - 0x57
+
+abbrev pub hex : List ℕ → List ℕ
+hex [] = []
+hex (high ∷ []) = []
+hex (high ∷ low ∷ rest) = (16 * digit high + digit low) ∷ hex rest
+
+abbrev pub s : List ℕ → Record
+s digits = Sent (hex digits)
+
+abbrev pub r : ℕ → List ℕ → Record
+r hint digits = Received hint false (hex digits)
+
+abbrev pub k : ℕ → List ℕ → Record
+k hint digits = Received hint true (hex digits)
 
 -- What becomes of a script: its captures; or how many of its steps are made, why the next one is not, and the captures of those before it
 pub data Becomes : Type 0 where
@@ -37,21 +56,34 @@ IsPlayed steps made = becomes (play (script steps)) ≡ made
 abbrev pub Adds : (first steps : List ScriptStep) → Becomes → Type 0
 Adds first steps made = becomes (behind (play (script first)) steps) ≡ made
 
--- ---- records, with bytes in hexadecimal as a capture has them
+abbrev pub ASends : (first : List ScriptStep) → (digits : List ℕ) → Type 0
+ASends first digits = Adds first (a Send ∷ []) (Captures (s digits ∷ []) [])
 
-abbrev digit : ℕ → ℕ
-digit code = if nat_lt code 0x61 then code - 0x30 else code - 0x57
+abbrev pub BSends : (first : List ScriptStep) → (digits : List ℕ) → Type 0
+BSends first digits = Adds first (b Send ∷ []) (Captures [] (s digits ∷ []))
 
-abbrev pub hex : List ℕ → List ℕ
-hex [] = []
-hex (high ∷ []) = []
-hex (high ∷ low ∷ rest) = (16 * digit high + digit low) ∷ hex rest
+-- this step can't be made behind those
+abbrev pub IsBad : (first : List ScriptStep) → ScriptStep → Type 0
+IsBad first step = Adds first (step ∷ []) (StopsAt 0 BadStep [] [])
 
-abbrev pub s : List ℕ → Record
-s digits = Sent (hex digits)
+-- ---- what rows begin with
 
-abbrev pub r : ℕ → List ℕ → Record
-r hint digits = Received hint false (hex digits)
+-- both stations are in RUNNING and owe nothing
+abbrev pub running : List ScriptStep
+running = a Start ∷ b Start ∷ a Send ∷ b Deliver ∷ b Send ∷ a Deliver ∷ a Send ∷ b Deliver ∷ []
 
-abbrev pub k : ℕ → List ℕ → Record
-k hint digits = Received hint true (hex digits)
+-- a has opened link 1, and b is called
+abbrev pub called : List ScriptStep
+called = running ++ a Open ∷ a Send ∷ b Deliver ∷ []
+
+-- b has accepted with link 1, and its CC is on the line
+abbrev pub accepted : List ScriptStep
+accepted = called ++ b (Accept 1) ∷ b Send ∷ []
+
+-- both ends of the link are in RUN
+abbrev pub linked : List ScriptStep
+linked = accepted ++ a Deliver ∷ a Send ∷ b Deliver ∷ []
+
+-- b has rejected with link 1, and its DI is on the line
+abbrev pub rejected : List ScriptStep
+rejected = called ++ b (Reject 1) ∷ b Send ∷ []

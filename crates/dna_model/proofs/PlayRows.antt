@@ -1,36 +1,50 @@
--- Worked rows of the player.
-use Rattle.std.proofs.Common.{◌≡◌, ℕ, true, false, List, [], ◌∷◌, ◌++◌, refl}
+-- The worked script of the player: one unit is lost, one damaged, and one packet finds no buffer.
+use Rattle.std.proofs.Common.{◌≡◌, [], ◌∷◌, List, refl}
 use Rattle.std.specs.Prelude.{codes}
-use Rattle.capture.specs.Text.{head_line, record_lines}
 use Rattle.wire_base.specs.BlockCheck.{is_good, check_of, after_byte, shift}
 use Rattle.ddcmp_msg.specs.Reading.{reading}
 use Rattle.ddcmp_msg.specs.Spelling.{spelling}
 use Rattle.capture.specs.declared.record.Record.{Record}
-use Rattle.capture.specs.declared.record.Record.TheVariants.{Sent, Received, User}
+use Rattle.capture.specs.declared.record.Record.TheVariants.{User}
 use Rattle.capture.specs.declared.event.Event.TheVariants as event
-use Rattle.dna_model.specs.Script.{ScriptStep, Start, Halt, Timer, Send, Deliver, Refuse, Lose, Damage, Open, Close}
+use Rattle.dna_model.specs.Script.{ScriptStep, Start, Timer, Send, Deliver, Refuse, Lose, Damage, Open, Close}
 use Rattle.dna_model.specs.Player.{end_step}
 use Rattle.dna_model.specs.Stepped.{BadStep}
 use Rattle.dna_model.specs.Play.{plays}
 use Rattle.dna_model.specs.Played.{plays_step}
-use Rattle.dna_model.proofs.PlayRowSteps.{a, b, s, r, k, IsPlayed, Adds, Captures, StopsAt}
+use Rattle.dna_model.proofs.PlayRowSteps.{a, b, s, r, k, IsPlayed, Captures, StopsAt}
 use Rattle.dna_model.proofs.LayersRows.{player_example_a, player_example_b}
 
--- The worked example: one unit is lost, one damaged, and one packet finds no buffer
 abbrev example : List ScriptStep
 example = a Start ∷ b Start ∷ a Send ∷ b Lose ∷ a Timer ∷ a Send ∷ b Deliver ∷ b Send ∷ a Deliver ∷ a Send ∷ b Deliver ∷ a Open ∷ a Send ∷ b (Damage 0 132) ∷ b Send ∷ a Deliver ∷ a Send ∷ b Refuse ∷ b Send ∷ a Deliver ∷ a Send ∷ b Deliver ∷ b Send ∷ a Deliver ∷ []
 
-scripted_example : IsPlayed example (Captures player_example_a player_example_b)
+abbrev example_a : List Record
+example_a = User event.Start ∷ s (codes "0506c00000017595") ∷ s (codes "0506c00000017595") ∷ r 0 (codes "0507c00000014855") ∷ s (codes "050100000001fc55") ∷ User (event.Open 1) ∷ s (codes "810f000001018a40020204010400180000010001020002ed98") ∷ r 1 (codes "050201000001b9a9") ∷ s (codes "810f000001018a40020204010400180000010001020002ed98") ∷ r 2 (codes "050208000001ba35") ∷ s (codes "810f000001018a40020204010400180000010001020002ed98") ∷ k 3 (codes "81090001010153800201040204002401002cd5") ∷ []
+
+abbrev example_b : List Record
+example_b = User event.Start ∷ r 1 (codes "0506c00000017595") ∷ s (codes "0507c00000014855") ∷ r 2 (codes "050100000001fc55") ∷ r 3 (codes "050f000001018a40020204010400180000010001020002ed98") ∷ s (codes "050201000001b9a9") ∷ r 4 (codes "810f000001018a40020204010400180000010001020002ed98") ∷ s (codes "050208000001ba35") ∷ k 5 (codes "810f000001018a40020204010400180000010001020002ed98") ∷ s (codes "81090001010153800201040204002401002cd5") ∷ []
+
+scripted_example : IsPlayed example (Captures example_a example_b)
 unfolding reading spelling is_good check_of after_byte shift end_step plays plays_step
 scripted_example = refl
 
--- The same by its text
-example_a : player_example_a ≡ User event.Start ∷ s (codes "0506c00000017595") ∷ s (codes "0506c00000017595") ∷ r 0 (codes "0507c00000014855") ∷ s (codes "050100000001fc55") ∷ User (event.Open 1) ∷ s (codes "810f000001018a40020204010400180000010001020002ed98") ∷ r 1 (codes "050201000001b9a9") ∷ s (codes "810f000001018a40020204010400180000010001020002ed98") ∷ r 2 (codes "050208000001ba35") ∷ s (codes "810f000001018a40020204010400180000010001020002ed98") ∷ k 3 (codes "81090001010153800201040204002401002cd5") ∷ []
-example_a = refl
+-- they are the captures of a run
+same_as_the_run_of_a : example_a ≡ player_example_a
+same_as_the_run_of_a = refl
 
-abbrev running : List ScriptStep
-running = a Start ∷ b Start ∷ a Send ∷ b Deliver ∷ b Send ∷ a Deliver ∷ a Send ∷ b Deliver ∷ []
+same_as_the_run_of_b : example_b ≡ player_example_b
+same_as_the_run_of_b = refl
 
-line_13 : Adds running (a Open ∷ a Send ∷ []) (Captures (User (event.Open 1) ∷ s (codes "810f000001018a40020204010400180000010001020002ed98") ∷ []) [])
+-- with another step in its place, line 13 of the script is bad: no link has this address. The captures are those of the lines before it
+abbrev closes_instead : List ScriptStep
+closes_instead = a Start ∷ b Start ∷ a Send ∷ b Lose ∷ a Timer ∷ a Send ∷ b Deliver ∷ b Send ∷ a Deliver ∷ a Send ∷ b Deliver ∷ a (Close 1) ∷ a Send ∷ b (Damage 0 132) ∷ b Send ∷ a Deliver ∷ a Send ∷ b Refuse ∷ b Send ∷ a Deliver ∷ a Send ∷ b Deliver ∷ b Send ∷ a Deliver ∷ []
+
+abbrev closes_instead_a : List Record
+closes_instead_a = User event.Start ∷ s (codes "0506c00000017595") ∷ s (codes "0506c00000017595") ∷ r 0 (codes "0507c00000014855") ∷ s (codes "050100000001fc55") ∷ []
+
+abbrev closes_instead_b : List Record
+closes_instead_b = User event.Start ∷ r 1 (codes "0506c00000017595") ∷ s (codes "0507c00000014855") ∷ r 2 (codes "050100000001fc55") ∷ []
+
+closed_before_the_answer : IsPlayed closes_instead (StopsAt 11 BadStep closes_instead_a closes_instead_b)
 unfolding reading spelling is_good check_of after_byte shift end_step plays plays_step
-line_13 = refl
+closed_before_the_answer = refl
