@@ -94,3 +94,5 @@ mod PlayRowsStation
 mod PlayRowsSteps
 mod PlayRowsLinks
 mod PlayRowsLinkTurns
+mod PlayRowsBounds
+mod PlayRowsScripts

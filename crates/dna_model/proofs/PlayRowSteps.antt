@@ -14,8 +14,11 @@ a step = record { side = A; step = step }
 abbrev pub b : StepValue → ScriptStep
 b step = record { side = B; step = step }
 
+abbrev pub script_between : (node_a node_b : ℕ) → List ScriptStep → Script
+script_between node_a node_b steps = record { node_a = node_a; node_b = node_b; steps = steps }
+
 abbrev pub script : List ScriptStep → Script
-script steps = record { node_a = 0x0401; node_b = 0x0402; steps = steps }
+script steps = script_between 0x0401 0x0402 steps
 
 -- ---- records, with bytes in hexadecimal as a capture has them
 
@@ -50,8 +53,11 @@ abbrev behind : Result Played Stopped → List ScriptStep → Result Played Stop
 behind (Ok end) steps = plays_all 0 (record end { of_a = []; of_b = [] }) steps
 behind (Err stopped) steps = Err stopped
 
+abbrev pub IsPlayedBetween : (node_a node_b : ℕ) → List ScriptStep → Becomes → Type 0
+IsPlayedBetween node_a node_b steps made = becomes (play (script_between node_a node_b steps)) ≡ made
+
 abbrev pub IsPlayed : List ScriptStep → Becomes → Type 0
-IsPlayed steps made = becomes (play (script steps)) ≡ made
+IsPlayed steps made = IsPlayedBetween 0x0401 0x0402 steps made
 
 abbrev pub Adds : (first steps : List ScriptStep) → Becomes → Type 0
 Adds first steps made = becomes (behind (play (script first)) steps) ≡ made
