@@ -88,6 +88,7 @@ mod LinkReadSteps
 mod LinkCounts
 mod LinkRunBounds
 -- the player
+mod PlayLines
 mod PlayRowSteps
 mod PlayRows
 mod PlayRowsStation
