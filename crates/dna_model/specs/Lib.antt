@@ -56,3 +56,5 @@ pub mod Stepped
 pub mod Receipt
 pub mod Play
 pub mod Played
+pub mod ScriptText
+pub mod PlayedText
