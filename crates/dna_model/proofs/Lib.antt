@@ -97,3 +97,4 @@ mod PlayRowsLinks
 mod PlayRowsLinkTurns
 mod PlayRowsBounds
 mod PlayRowsScripts
+mod PlayRowsText
