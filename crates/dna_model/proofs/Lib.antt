@@ -89,6 +89,8 @@ mod LinkCounts
 mod LinkRunBounds
 -- the player
 mod PlayLines
+mod PlayedSteps
+mod PlayedRuns
 mod PlayRowSteps
 mod PlayRows
 mod PlayRowsStation

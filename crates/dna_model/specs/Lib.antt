@@ -58,3 +58,4 @@ pub mod Play
 pub mod Played
 pub mod ScriptText
 pub mod PlayedText
+pub mod PlayRun

@@ -1,0 +1,26 @@
+-- The run of the player's own nodes, which ask no rule on tags.
+use Rattle.std.specs.Prelude.{List}
+use Rattle.std.specs.List.{AllByRecursion}
+use Rattle.two_nodes.specs.Nodes.{Nodes, World, Run}
+use Rattle.capture.specs.declared.record.Record.{Record}
+use Rattle.capture.specs.Range.{IsRecord}
+use Rattle.dna_model.specs.declared.refusal.StepRefusal.{StepRefusal}
+use Rattle.dna_model.specs.Machine.{pair_of}
+use Rattle.dna_model.specs.Layers.{LayersNode, LayersUnit, layers_machine}
+use Rattle.dna_model.specs.LayersPair.{layers_start}
+use Rattle.dna_model.specs.Script.{Script}
+use Rattle.dna_model.specs.Player.{by_bytes}
+use Rattle.dna_model.specs.Played.{Played, head_a, head_b}
+
+abbrev pub player_pair : Nodes LayersNode Record LayersUnit StepRefusal
+player_pair = pair_of (layers_machine by_bytes)
+
+-- the nodes of both ends, with all units that they sent
+abbrev pub world_of : Played → World LayersNode LayersUnit
+world_of played = record { a = played.a.half; b = played.b.half }
+
+-- The records so far are made by the two nodes, in some order, and each has a line
+pub record ArePlayed (script : Script) (played : Played) : Type 0 where
+  pub run : Run player_pair (layers_start (head_a script) (head_b script)) played.of_a played.of_b (world_of played)
+  pub lines_a : AllByRecursion IsRecord played.of_a
+  pub lines_b : AllByRecursion IsRecord played.of_b
