@@ -58,7 +58,7 @@ module _ (script : Script) where
   more_of_a b of_a of_b (First {own} {next} {end} {r} {later} m rest) h =
       let told = makes_tells own b r next m in
       subst (λ (x : List Record). AreMade script (record { a = end; b = b }) x of_b) (append_assoc of_a (r ∷ []) later)
-          (more_of_a b (of_a ++ r ∷ []) of_b rest (record { run = one_more_of_a player_pair r next h.run told.1; lines_a = with_line of_a r h.lines_a (line_told r told.0); lines_b = h.lines_b }))
+      (more_of_a b (of_a ++ r ∷ []) of_b rest (record { run = one_more_of_a player_pair r next h.run told.1; lines_a = with_line of_a r h.lines_a (line_told r told.0); lines_b = h.lines_b }))
 
   more_of_b : (a : PlayHalf) {own end : PlayHalf} {records : List Record} (of_a of_b : List Record) → MakesAll a own records end → AreMade script (record { a = a; b = own }) of_a of_b → AreMade script (record { a = a; b = end }) of_a (of_b ++ records)
   unfolding end_step
@@ -66,7 +66,7 @@ module _ (script : Script) where
   more_of_b a of_a of_b (First {own} {next} {end} {r} {later} m rest) h =
       let told = makes_tells own a r next m in
       subst (λ (x : List Record). AreMade script (record { a = a; b = end }) of_a x) (append_assoc of_b (r ∷ []) later)
-          (more_of_b a of_a (of_b ++ r ∷ []) rest (record { run = one_more_of_b player_pair r next h.run told.1; lines_a = h.lines_a; lines_b = with_line of_b r h.lines_b (line_told r told.0) }))
+      (more_of_b a of_a (of_b ++ r ∷ []) rest (record { run = one_more_of_b player_pair r next h.run told.1; lines_a = h.lines_a; lines_b = with_line of_b r h.lines_b (line_told r told.0) }))
 
   -- ---- a step, and all steps
 
@@ -106,3 +106,9 @@ module _ (script : Script) where
 
   pub is_played : SoFarPlayed (play script)
   is_played = all_played 0 (not_begun script) script.steps (record { run = Done; lines_a = tt; lines_b = tt })
+
+  pub whole_is_played : (played : Played) → play script ≡ Ok played → ArePlayed script played
+  whole_is_played played e = subst SoFarPlayed e is_played
+
+  pub stopped_is_played : (stopped : Stopped) → play script ≡ Err stopped → ArePlayed script stopped.so_far
+  stopped_is_played stopped e = subst SoFarPlayed e is_played

@@ -14,6 +14,7 @@ mod link_refusal;
 pub mod link_run_laws;
 mod link_tag;
 mod nodes;
+pub mod play_laws;
 mod port;
 mod refusal;
 mod state;
@@ -26,7 +27,9 @@ pub use laws::{
     cut_sending, delivered_in_order, numbers_in_order, numbers_within_bounds,
     packets_at_their_places, wire_nodes_see_right,
 };
-pub use layers_laws::{layers_deliver_in_order, layers_run_as_stations, links_meet_packets_in_order};
+pub use layers_laws::{
+    layers_deliver_in_order, layers_run_as_stations, links_meet_packets_in_order,
+};
 pub use link_event::LinkEvent;
 pub use link_laws::{cut_flow, cut_link_steps};
 pub use link_refusal::LinkRefusal;
@@ -36,6 +39,7 @@ pub use link_run_laws::{
 };
 pub use link_tag::LinkTag;
 pub use nodes::{TrueNodes, WireNodes};
+pub use play_laws::played_records_are_made;
 pub use port::{LinkTest, Phase, Port};
 pub use refusal::{StationRefusal, StepRefusal};
 pub use state::{State, StationEvent};
