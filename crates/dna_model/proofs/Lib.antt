@@ -91,6 +91,8 @@ mod LinkRunBounds
 mod PlayLines
 mod PlayedSteps
 mod PlayedRuns
+mod OneStart
+mod OneStartMeets
 mod PlayRowSteps
 mod PlayRows
 mod PlayRowsStation

@@ -1,10 +1,12 @@
 -- The run of the player's own nodes, which ask no rule on tags.
-use Rattle.std.specs.Prelude.{List}
+use Rattle.std.specs.Prelude.{ℕ, ◌+◌, if◌then◌else◌, List, [], ◌∷◌}
 use Rattle.std.specs.List.{AllByRecursion}
 use Rattle.two_nodes.specs.Nodes.{Nodes, World, Run}
 use Rattle.capture.specs.declared.record.Record.{Record}
+use Rattle.capture.specs.declared.record.Record.TheVariants.{Sent, Received, User}
 use Rattle.capture.specs.Range.{IsRecord}
 use Rattle.dna_model.specs.declared.refusal.StepRefusal.{StepRefusal}
+use Rattle.dna_model.specs.Delivery.{begins}
 use Rattle.dna_model.specs.Machine.{pair_of}
 use Rattle.dna_model.specs.Layers.{LayersNode, LayersUnit, layers_machine}
 use Rattle.dna_model.specs.LayersPair.{layers_start}
@@ -24,3 +26,13 @@ pub record ArePlayed (script : Script) (played : Played) : Type 0 where
   pub run : Run player_pair (layers_start (head_a script) (head_b script)) played.of_a played.of_b (world_of played)
   pub lines_a : AllByRecursion IsRecord played.of_a
   pub lines_b : AllByRecursion IsRecord played.of_b
+
+-- how often a period begins in a capture
+abbrev pub starts_in : Record → ℕ
+starts_in (User event) = if begins event then 1 else 0
+starts_in (Sent bytes) = 0
+starts_in (Received hint kept bytes) = 0
+
+abbrev pub starts : List Record → ℕ
+starts [] = 0
+starts (r ∷ later) = starts_in r + starts later
