@@ -93,6 +93,7 @@ mod PlayedSteps
 mod PlayedRuns
 mod OneStart
 mod OneStartMeets
+mod LinkAddresses
 mod PlayRowSteps
 mod PlayRows
 mod PlayRowsStation
