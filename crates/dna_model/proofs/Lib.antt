@@ -94,6 +94,7 @@ mod PlayedRuns
 mod OneStart
 mod OneStartMeets
 mod LinkAddresses
+mod LinkMessages
 mod PlayRowSteps
 mod PlayRows
 mod PlayRowsStation
