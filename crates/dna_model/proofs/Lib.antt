@@ -95,6 +95,7 @@ mod OneStart
 mod OneStartMeets
 mod LinkAddresses
 mod LinkMessages
+mod LinkAddressRuns
 mod PlayRowSteps
 mod PlayRows
 mod PlayRowsStation

@@ -16,6 +16,7 @@ use Rattle.dna_model.specs.LinkUser.{LinkEventValue, opened, answered}
 use Rattle.dna_model.specs.TrueFlow.{TrueFlow, Numbers, true_flows}
 use Rattle.dna_model.specs.TrueLinks.{Links}
 use Rattle.dna_model.specs.LinkCaptures.{given_address}
+use Rattle.dna_model.specs.PlayAddresses.{IsHigher, higher}
 use Rattle.dna_model.specs.LinkRuns.{SentMessage}
 use Rattle.dna_model.proofs.NumberedSteps.{at_pushed}
 use Rattle.dna_model.proofs.LinkReads.{at_is}
@@ -199,15 +200,6 @@ module _ (links : LinkList) (n : ℕ) (l k : LinkOf TrueFlow) (there : slice_get
   answer_keeps i a o = set_keeps links n l k there a (λ x. let e = sym unnamed ∙ ap (λ (y : LinkOf TrueFlow). y.port.own) (same_Some l x.link (sym there ∙ x.there)) ∙ x.owns in absurd cc) i o
 
 -- ---- the user
-
--- an event that gives an address gives a higher one than any before
-abbrev pub IsHigher : ℕ → Option ℕ → Type 0
-IsHigher most None = Unit {0}
-IsHigher most (Some address) = most < address
-
-abbrev pub higher : ℕ → Option ℕ → ℕ
-higher most None = most
-higher most (Some address) = address
 
 pub record LeavesAddressed (old others left : LinkList) (most : ℕ) : Type 0 where
   pub addressed : AreAddressed left others most

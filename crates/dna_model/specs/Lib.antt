@@ -59,3 +59,4 @@ pub mod Played
 pub mod ScriptText
 pub mod PlayedText
 pub mod PlayRun
+pub mod PlayAddresses
