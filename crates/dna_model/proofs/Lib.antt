@@ -96,6 +96,7 @@ mod OneStartMeets
 mod LinkAddresses
 mod LinkMessages
 mod LinkAddressRuns
+mod PlayerChecked
 mod PlayRowSteps
 mod PlayRows
 mod PlayRowsStation

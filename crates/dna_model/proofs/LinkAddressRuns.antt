@@ -78,7 +78,7 @@ module _ (own other : LinkSide) (most others : ℕ) (h : IsAddressedSide own oth
 
 -- ---- all steps
 
-rise_parts : (most : ℕ) (first later : List LinkEventValue) → AddressesRise most (first ++ later) → AddressesRise most first × AddressesRise (highest most first) later
+pub rise_parts : (most : ℕ) (first later : List LinkEventValue) → AddressesRise most (first ++ later) → AddressesRise most first × AddressesRise (highest most first) later
 rise_parts most [] later r = (tt, r)
 rise_parts most (event ∷ first) later r = let p = rise_parts (higher most (given_address event)) first later r.1 in ((r.0, p.0), p.1)
 

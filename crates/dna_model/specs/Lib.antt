@@ -58,5 +58,5 @@ pub mod Play
 pub mod Played
 pub mod ScriptText
 pub mod PlayedText
-pub mod PlayRun
 pub mod PlayAddresses
+pub mod PlayRun

@@ -1,5 +1,5 @@
 -- The run of the player's own nodes, which ask no rule on tags.
-use Rattle.std.specs.Prelude.{ℕ, ◌+◌, if◌then◌else◌, List, [], ◌∷◌}
+use Rattle.std.specs.Prelude.{ℕ, ◌+◌, ◌≤◌, if◌then◌else◌, List, [], ◌∷◌}
 use Rattle.std.specs.List.{AllByRecursion}
 use Rattle.two_nodes.specs.Nodes.{Nodes, World, Run}
 use Rattle.capture.specs.declared.record.Record.{Record}
@@ -9,9 +9,10 @@ use Rattle.dna_model.specs.declared.refusal.StepRefusal.{StepRefusal}
 use Rattle.dna_model.specs.Delivery.{begins}
 use Rattle.dna_model.specs.Machine.{pair_of}
 use Rattle.dna_model.specs.Layers.{LayersNode, LayersUnit, layers_machine}
-use Rattle.dna_model.specs.LayersPair.{layers_start}
+use Rattle.dna_model.specs.LayersPair.{layers_start, link_events}
 use Rattle.dna_model.specs.Script.{Script}
 use Rattle.dna_model.specs.Player.{by_bytes}
+use Rattle.dna_model.specs.PlayAddresses.{AddressesRise}
 use Rattle.dna_model.specs.Played.{Played, head_a, head_b}
 
 abbrev pub player_pair : Nodes LayersNode Record LayersUnit StepRefusal
@@ -36,3 +37,8 @@ starts_in (Received hint kept bytes) = 0
 abbrev pub starts : List Record → ℕ
 starts [] = 0
 starts (r ∷ later) = starts_in r + starts later
+
+-- the side starts at most once, and gives its link addresses in order
+pub record IsOrderly (records : List Record) : Type 0 where
+  pub few : starts records ≤ 1
+  pub rise : AddressesRise 0 (link_events records)
