@@ -97,6 +97,7 @@ mod LinkAddresses
 mod LinkMessages
 mod LinkAddressRuns
 mod PlayerChecked
+mod PlayedOrder
 mod PlayRowSteps
 mod PlayRows
 mod PlayRowsStation

@@ -226,7 +226,7 @@ module _ (own other : Half Node SentUnit) (mine : AreBegun own.state.station own
 
 -- ---- in every run
 
-starts-append : (made : List Record) (r : Record) → starts (made ++ r ∷ []) ≡ starts made + starts_in r
+pub starts-append : (made : List Record) (r : Record) → starts (made ++ r ∷ []) ≡ starts made + starts_in r
 starts-append [] r = omega arith
 starts-append (first ∷ made) r = let e = starts-append made r in omega arith
 

@@ -2,6 +2,8 @@
 use Rattle.std.specs.Prelude.{ℕ, ◌+◌, ◌≤◌, if◌then◌else◌, List, [], ◌∷◌}
 use Rattle.std.specs.List.{AllByRecursion}
 use Rattle.two_nodes.specs.Nodes.{Nodes, World, Run}
+use Rattle.wire_base.specs.declared.side.Side.{Side}
+use Rattle.wire_base.specs.declared.side.Side.TheVariants.{A, B}
 use Rattle.capture.specs.declared.record.Record.{Record}
 use Rattle.capture.specs.declared.record.Record.TheVariants.{Sent, Received, User}
 use Rattle.capture.specs.Range.{IsRecord}
@@ -10,7 +12,7 @@ use Rattle.dna_model.specs.Delivery.{begins}
 use Rattle.dna_model.specs.Machine.{pair_of}
 use Rattle.dna_model.specs.Layers.{LayersNode, LayersUnit, layers_machine}
 use Rattle.dna_model.specs.LayersPair.{layers_start, link_events}
-use Rattle.dna_model.specs.Script.{Script}
+use Rattle.dna_model.specs.Script.{StepValue, ScriptStep, Script, Start}
 use Rattle.dna_model.specs.Player.{by_bytes}
 use Rattle.dna_model.specs.PlayAddresses.{AddressesRise}
 use Rattle.dna_model.specs.Played.{Played, head_a, head_b}
@@ -42,3 +44,22 @@ starts (r ∷ later) = starts_in r + starts later
 pub record IsOrderly (records : List Record) : Type 0 where
   pub few : starts records ≤ 1
   pub rise : AddressesRise 0 (link_events records)
+
+-- how often a side is started by these steps
+abbrev pub starts_now : StepValue → ℕ
+starts_now Start = 1
+starts_now step = 0
+
+abbrev pub starts_at : Side → Side → StepValue → ℕ
+starts_at A A step = starts_now step
+starts_at B B step = starts_now step
+starts_at side other step = 0
+
+abbrev pub starts_of : Side → List ScriptStep → ℕ
+starts_of side [] = 0
+starts_of side (step ∷ later) = starts_at side step.side step.step + starts_of side later
+
+-- each side is started at most once
+pub record StartsOnce (steps : List ScriptStep) : Type 0 where
+  pub of_a : starts_of A steps ≤ 1
+  pub of_b : starts_of B steps ≤ 1
