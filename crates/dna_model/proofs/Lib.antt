@@ -98,6 +98,7 @@ mod LinkMessages
 mod LinkAddressRuns
 mod PlayerChecked
 mod PlayedOrder
+mod PlayedChecked
 mod PlayRowSteps
 mod PlayRows
 mod PlayRowsStation

@@ -68,8 +68,8 @@ module _ (own other : LinkSide) (most others : ℕ) (h : IsAddressedSide own oth
       let l = sent_stays own.links other.links.links most h.links packet.message made (sent_did true_flows own.links made packet does) in
       let m = sent_from own.links other.links.links most h.links packet.message made (checked _ _ _ made does).1 in
       sends_left made.links (Some (record { packet = packet; truth = made.truth })) l.addressed l.keeps
-          (λ u e. subst (λ (x : SentMessage). IsAddressed made.links.links other.links.links x.packet.message x.truth.tag) (same_Some (record { packet = packet; truth = made.truth }) u e)
-          (message_kept own.links.links other.links.links made.links.links other.links.links packet.message made.truth.tag l.keeps (λ i n o. o) m))
+      (λ u e. subst (λ (x : SentMessage). IsAddressed made.links.links other.links.links x.packet.message x.truth.tag) (same_Some (record { packet = packet; truth = made.truth }) u e)
+      (message_kept own.links.links other.links.links made.links.links other.links.links packet.message made.truth.tag l.keeps (λ i n o. o) m))
   step_left left events rise SendsNone = sends_left own.links None h.links (λ i n o. o) (λ u e. absurd cc)
   step_left left events rise (Keeps place unit links ahead there does) =
       let l = came_stays own.links other.links.links most h.links unit.truth unit.packet.message links (theirs.told place unit there).from (checked _ _ _ links does).1 in
@@ -141,7 +141,7 @@ module _ (own other : LinkSide) (most others : ℕ) (h : IsAddressedSide own oth
       let partner = h.links.far number link found.there src (at_is link.port.far src both.1) in
       let same = theirs.links.distinct partner.number sender.number src partner.owns sender.owns in
       ap₂ (λ (x y : Bool). x && y) (ap₂ are_same partner.is sender.is ∙ at_same (Some sender.number) partner.number (ap Some (sym same)))
-          (partner_is dst number link is found.there (at_is link.port.own dst both.0))
+      (partner_is dst number link is found.there (at_is link.port.own dst both.0))
 
   acted_same : (src dst : ℕ) (takes : LinkOf TrueFlow → TrueFlow) → source u.packet.message ≡ Some src → target u.packet.message ≡ Some dst →
       acted_on true_flows of_anyone dst src tag takes own.links ≡ acted_on true_flows of_partner dst src tag takes own.links

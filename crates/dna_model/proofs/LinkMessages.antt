@@ -84,8 +84,8 @@ module _ (s : Links) (others : LinkList) (most : ℕ) (h : AreAddressed s.links 
   in_phase_from m test is_right made tells e =
       looked test s (Err NoLink) (λ number link. check (is_right link.port.phase) LinkState (Ok (unchanged true_flows s number link))) (Ok made) e (λ missing e. absurd cc)
       (λ number link found e.
-        let c = checked _ _ _ made e in let t = tells link found.passed in
-        subst (SentFrom m) (same_sent (unchanged true_flows s number link) made c.1) (of_link m number link t.0 found.there t.1 t.2 t.3))
+      let c = checked _ _ _ made e in let t = tells link found.passed in
+      subst (SentFrom m) (same_sent (unchanged true_flows s number link) made c.1) (of_link m number link t.0 found.there t.1 t.2 t.3))
     where
       same_sent : (x y : Sent TrueFlow Numbers) → ◌≡◌ {A = Result (Sent TrueFlow Numbers) LinkRefusal} (Ok x) (Ok y) → x ≡ y
       same_sent x y e = cc

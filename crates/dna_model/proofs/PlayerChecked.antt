@@ -186,8 +186,17 @@ module _ (head_a head_b : Head) where
         let a = reached_addressed head_a.own head_a.peer head_b.own head_b.peer h.joined.joined.reached orderly_a.rise orderly_b.rise in
         let count_a = h.begun.count_a in let few_a = orderly_a.few in let count_b = h.begun.count_b in let few_b = orderly_b.few in
         record {
-          few = omega arith; others = omega arith; begun = h.begun.of_a; theirs = h.begun.of_b; told = h.joined.b_told;
-          front = h.joined.joined.front_a; of_other = h.joined.joined.front_b; most = _; most_of_other = _; addressed = a.of_a; other_addressed = a.of_b;
+          few = omega arith;
+          others = omega arith;
+          begun = h.begun.of_a;
+          theirs = h.begun.of_b;
+          told = h.joined.b_told;
+          front = h.joined.joined.front_a;
+          of_other = h.joined.joined.front_b;
+          most = _;
+          most_of_other = _;
+          addressed = a.of_a;
+          other_addressed = a.of_b;
         }
 
     ready_b : IsReady w.b w.a
@@ -196,8 +205,17 @@ module _ (head_a head_b : Head) where
         let a = reached_addressed head_a.own head_a.peer head_b.own head_b.peer h.joined.joined.reached orderly_a.rise orderly_b.rise in
         let count_a = h.begun.count_a in let few_a = orderly_a.few in let count_b = h.begun.count_b in let few_b = orderly_b.few in
         record {
-          few = omega arith; others = omega arith; begun = h.begun.of_b; theirs = h.begun.of_a; told = h.joined.a_told;
-          front = h.joined.joined.front_b; of_other = h.joined.joined.front_a; most = _; most_of_other = _; addressed = a.of_b; other_addressed = a.of_a;
+          few = omega arith;
+          others = omega arith;
+          begun = h.begun.of_b;
+          theirs = h.begun.of_a;
+          told = h.joined.a_told;
+          front = h.joined.joined.front_b;
+          of_other = h.joined.joined.front_a;
+          most = _;
+          most_of_other = _;
+          addressed = a.of_b;
+          other_addressed = a.of_a;
         }
 
 -- a beginning of what is orderly
