@@ -99,6 +99,7 @@ mod LinkAddressRuns
 mod PlayerChecked
 mod PlayedOrder
 mod PlayedChecked
+mod StationPays
 mod PlayRowSteps
 mod PlayRows
 mod PlayRowsStation
