@@ -5,6 +5,7 @@ mod devices;
 mod limits;
 mod link_pairs;
 mod pair;
+mod pair_lists;
 mod reasons;
 mod rows;
 mod show;

@@ -11,50 +11,62 @@ pub const NO_FLAGS: Flags = Flags {
     select: false,
 };
 
+const UNITS: &str = "\
+STRT = 0506c00000017595
+STACK = 0507c00000014855
+ACK0 = 050100000001fc55
+ACK1 = 050100010001ad95
+ACK44 = 0501002c00013d9c
+ACK250 = 050100fa0001dc64
+NAK1 = 050201000001b9a9
+NAK2 = 050202000001b9ed
+NAK3 = 050203000001b811
+NAK8 = 050208000001ba35
+NAK9 = 050209000001bbc9
+NAK16 = 050210000001bc95
+NAK17 = 050211000001bd69
+NAK1R1 = 050201010001e869
+NAK2R1 = 050202010001e82d
+NAK8R1 = 050208010001ebf5
+NAK9R1 = 050209010001ea09
+NAK3R1 = 050203010001e9d1
+NAK3R44 = 0502032c000179d8
+NAK3R254 = 050203fe0001d9e1
+REP0 = 0503000000018595
+REP1 = 0503000001018405
+REP2 = 05030000020184f5
+REP44 = 050300002c019955
+DATA1 = 810100000101e38105c003
+DATA2 = 810100000201e37105c003
+DATA3 = 810100000301e2e105c003
+DATA0R1 = 810100010001b3d105c003
+DATA1R1 = 810100010101b24105c003
+DATA2R1 = 810100010201b2b105c003
+OTHER0 = 810100000001e2110741c2
+OTHER1 = 810100000101e3810741c2
+OTHER1R1 = 810100010101b2410741c2
+BAD_HEADER = 0506c00000017594
+BAD_DATA1 = 810100000101e38105c083
+MALFORMED = 900000000001dc90";
+
+/// The value of this name in a list, whose lines are `NAME = VALUE`.
+pub fn value_of<'a>(list: &'a str, name: &str) -> Option<&'a str> {
+    for line in list.split("\n") {
+        if let Some((one, value)) = line.split_once(" = ")
+            && one == name
+        {
+            return Some(value);
+        }
+    }
+    None
+}
+
 /// The digits of the unit with this name; digits stand for themselves. `DATA2` is data number 2 with the packet 05, `OTHER1`
 /// number 1 with the packet 07, `NAK3` a NAK for reason 3, `REP1` a REP for number 1. A RESP that is not 0 stands behind an
 /// R; in an ACK it is the number. Numbers are those of the line, modulo 256. `BAD_HEADER` and `BAD_DATA1` are damaged units, and
 /// `MALFORMED` is one whose check is right.
 pub fn digits_of(unit: &str) -> &str {
-    match unit {
-        "STRT" => "0506c00000017595",
-        "STACK" => "0507c00000014855",
-        "ACK0" => "050100000001fc55",
-        "ACK1" => "050100010001ad95",
-        "ACK44" => "0501002c00013d9c",
-        "ACK250" => "050100fa0001dc64",
-        "NAK1" => "050201000001b9a9",
-        "NAK2" => "050202000001b9ed",
-        "NAK3" => "050203000001b811",
-        "NAK8" => "050208000001ba35",
-        "NAK9" => "050209000001bbc9",
-        "NAK16" => "050210000001bc95",
-        "NAK17" => "050211000001bd69",
-        "NAK1R1" => "050201010001e869",
-        "NAK2R1" => "050202010001e82d",
-        "NAK8R1" => "050208010001ebf5",
-        "NAK9R1" => "050209010001ea09",
-        "NAK3R1" => "050203010001e9d1",
-        "NAK3R44" => "0502032c000179d8",
-        "NAK3R254" => "050203fe0001d9e1",
-        "REP0" => "0503000000018595",
-        "REP1" => "0503000001018405",
-        "REP2" => "05030000020184f5",
-        "REP44" => "050300002c019955",
-        "DATA1" => "810100000101e38105c003",
-        "DATA2" => "810100000201e37105c003",
-        "DATA3" => "810100000301e2e105c003",
-        "DATA0R1" => "810100010001b3d105c003",
-        "DATA1R1" => "810100010101b24105c003",
-        "DATA2R1" => "810100010201b2b105c003",
-        "OTHER0" => "810100000001e2110741c2",
-        "OTHER1" => "810100000101e3810741c2",
-        "OTHER1R1" => "810100010101b2410741c2",
-        "BAD_HEADER" => "0506c00000017594",
-        "BAD_DATA1" => "810100000101e38105c083",
-        "MALFORMED" => "900000000001dc90",
-        other => other,
-    }
+    value_of(UNITS, unit).unwrap_or(unit)
 }
 
 /// Adds the sendings of data messages with these numbers.
