@@ -17,29 +17,22 @@ true_start = layers_start head_1 head_2
 abbrev pub wire_start : World WireLayersNode WireLayersUnit
 wire_start = wire_layers_start head_1 head_2
 
-abbrev pub IsTrueRun : (of_a of_b : List Record) → Type 0
-IsTrueRun of_a of_b = any.IsRun layers_pair true_start of_a of_b
-
-abbrev pub IsWireRun : (of_a of_b : List Record) → Type 0
-IsWireRun of_a of_b = any.IsRun wire_layers_pair wire_start of_a of_b
-
--- The records of a and of b are made, and one more of a is refused
-pub record RefusedOfA {S U : Type 0} (nodes : Nodes S Record U StepRefusal) (start : World S U) (as' bs : List Record) (of_a : Record) (refusal : StepRefusal) : Type 0 where
-  pub world : World S U
-  pub run : Run nodes start as' bs world
-  pub refused : advance nodes.node_a world.a world.b of_a ≡ Refused refusal
-
--- the same of one more of b
-pub record RefusedOfB {S U : Type 0} (nodes : Nodes S Record U StepRefusal) (start : World S U) (as' bs : List Record) (of_b : Record) (refusal : StepRefusal) : Type 0 where
-  pub world : World S U
-  pub run : Run nodes start as' bs world
-  pub refused : advance nodes.node_b world.b world.a of_b ≡ Refused refusal
-
--- ---- a long row is computed record by record, in this order
-
+-- Whose record is next
 pub data Turn : Type 0 where
   A : Turn
   B : Turn
+
+abbrev step_of : {S U : Type 0} → Nodes S Record U StepRefusal → World S U → Turn → Record → Outcome S U StepRefusal
+step_of nodes w A r = advance nodes.node_a w.a w.b r
+step_of nodes w B r = advance nodes.node_b w.b w.a r
+
+-- The records of a and of b are made, and one more of this side is refused
+pub record RefusedNext {S U : Type 0} (nodes : Nodes S Record U StepRefusal) (start : World S U) (side : Turn) (as' bs : List Record) (next : Record) (refusal : StepRefusal) : Type 0 where
+  pub world : World S U
+  pub run : Run nodes start as' bs world
+  pub refused : step_of nodes world side next ≡ Refused refusal
+
+-- ---- a row is computed record by record, in this order
 
 module _ {S U : Type 0} (nodes : Nodes S Record U StepRefusal) where
   abbrev made_by_a : World S U → Outcome S U StepRefusal → Option (World S U)
@@ -90,7 +83,7 @@ module _ {S U : Type 0} (nodes : Nodes S Record U StepRefusal) where
     run_to : (end : World S U) → led (Some start) order xs ys ≡ Some end → Run nodes start xs ys end
     run_to end e = let r = led_runs (Some start) order xs ys end e in subst (λ (v : World S U). Run nodes v xs ys end) (sym (same_Some start r.0 r.1)) r.2
 
-    pub all_made : is_some (led (Some start) order xs ys) ≡ true → any.IsRun nodes start xs ys
+    all_made : is_some (led (Some start) order xs ys) ≡ true → any.IsRun nodes start xs ys
     all_made = go (led (Some start) order xs ys) refl
       where
         go : (o : Option (World S U)) → led (Some start) order xs ys ≡ o → is_some o ≡ true → any.IsRun nodes start xs ys
@@ -102,21 +95,36 @@ module _ {S U : Type 0} (nodes : Nodes S Record U StepRefusal) where
     refused_with Waits = None
     refused_with (Refused refusal) = Some refusal
 
-    abbrev refusal_of_b : Record → Option (World S U) → Option StepRefusal
-    refusal_of_b r None = None
-    refusal_of_b r (Some w) = refused_with (advance nodes.node_b w.b w.a r)
+    abbrev refusal_of : Turn → Record → Option (World S U) → Option StepRefusal
+    refusal_of side r None = None
+    refusal_of side r (Some w) = refused_with (step_of nodes w side r)
 
-    pub b_refused : (r : Record) (refusal : StepRefusal) → refusal_of_b r (led (Some start) order xs ys) ≡ Some refusal → RefusedOfB nodes start xs ys r refusal
-    b_refused r refusal = go (led (Some start) order xs ys) refl
+    next_refused : (side : Turn) (r : Record) (refusal : StepRefusal) → refusal_of side r (led (Some start) order xs ys) ≡ Some refusal → RefusedNext nodes start side xs ys r refusal
+    next_refused side r refusal = go (led (Some start) order xs ys) refl
       where
         is_refused : (o : Outcome S U StepRefusal) → refused_with o ≡ Some refusal → o ≡ Refused refusal
         is_refused (Made h) e = absurd cc
         is_refused Waits e = absurd cc
         is_refused (Refused other) e = ap Refused (same_Some other refusal e)
 
-        go : (o : Option (World S U)) → led (Some start) order xs ys ≡ o → refusal_of_b r o ≡ Some refusal → RefusedOfB nodes start xs ys r refusal
+        go : (o : Option (World S U)) → led (Some start) order xs ys ≡ o → refusal_of side r o ≡ Some refusal → RefusedNext nodes start side xs ys r refusal
         go None e is = absurd cc
-        go (Some end) e is = record { world = end; run = run_to end e; refused = is_refused (advance nodes.node_b end.b end.a r) is }
+        go (Some end) e is = record { world = end; run = run_to end e; refused = is_refused (step_of nodes end side r) is }
+
+-- ---- on true numbers, and as nodes keep them
+
+abbrev pub IsRunOfBoth : (of_a of_b : List Record) → Type 0
+IsRunOfBoth of_a of_b = any.IsRun layers_pair true_start of_a of_b × any.IsRun wire_layers_pair wire_start of_a of_b
+
+abbrev pub RefusedByBoth : (side : Turn) (of_a of_b : List Record) → Record → StepRefusal → Type 0
+RefusedByBoth side of_a of_b r refusal = RefusedNext layers_pair true_start side of_a of_b r refusal × RefusedNext wire_layers_pair wire_start side of_a of_b r refusal
+
+module _ (order : List Turn) where
+  pub both_run : (xs ys : List Record) → is_some (led layers_pair (Some true_start) order xs ys) ≡ true → is_some (led wire_layers_pair (Some wire_start) order xs ys) ≡ true → IsRunOfBoth xs ys
+  both_run xs ys of_true of_wire = (all_made layers_pair order true_start xs ys of_true, all_made wire_layers_pair order wire_start xs ys of_wire)
+
+  pub both_refused : (side : Turn) (xs ys : List Record) (r : Record) (refusal : StepRefusal) → refusal_of layers_pair order true_start xs ys side r (led layers_pair (Some true_start) order xs ys) ≡ Some refusal → refusal_of wire_layers_pair order wire_start xs ys side r (led wire_layers_pair (Some wire_start) order xs ys) ≡ Some refusal → RefusedByBoth side xs ys r refusal
+  both_refused side xs ys r refusal of_true of_wire = (next_refused layers_pair order true_start xs ys side r refusal of_true, next_refused wire_layers_pair order wire_start xs ys side r refusal of_wire)
 
 -- CI of link 1 from a: NUM 1, RESP 0
 abbrev pub CI_1 : List ℕ
