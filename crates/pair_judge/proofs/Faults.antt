@@ -5,7 +5,9 @@ use Rattle.wire_base.specs.declared.side.Side.{Side}
 use Rattle.capture.specs.declared.fault.CaptureFault.{CaptureFault}
 use Rattle.capture.specs.declared.fault.CaptureFault.TheVariants.{Departs, Read, OutOfMemory, Failed}
 use Rattle.capture.specs.declared.record.Record.{Record}
+use Rattle.capture.specs.declared.fault.Departure.{Departure}
 use Rattle.capture.specs.Departing.{HeadDeparts}
+use Rattle.capture.specs.SoFar.{DepartsBehind}
 use Rattle.capture.specs.Reader.{FaultShows}
 use Rattle.dna_model.specs.declared.head.Head.{Head}
 use Rattle.dna_model.specs.LayersPair.{IsLayersRun}
@@ -14,7 +16,7 @@ use Rattle.pair_judge.specs.declared.course.Ahead.TheVariants.{Unread}
 use Rattle.pair_judge.specs.Heads.{head_of}
 use Rattle.pair_judge.specs.Finding.{of_side}
 use Rattle.pair_judge.specs.Course.{IsFaultOf, IsRead, Track, read_of, waiting}
-use Rattle.pair_judge.specs.Faulty.{IsJudgeFault, side_fault_of}
+use Rattle.pair_judge.specs.Faulty.{IsFaultyText, IsJudgeFault, side_fault_of}
 
 -- ---- records
 
@@ -27,41 +29,28 @@ run_of_heads a b read_a read_b run =
     subst (λ (h : Head). IsLayersRun (head_of (read_of a)) h a.made b.made) read_b.head (subst (λ (h : Head). IsLayersRun h b.course.end.head a.made b.made) read_a.head run)
 
 module _ (a b : Track) (read_a : IsRead a) (read_b : IsRead b) (run : IsLayersRun a.course.end.head b.course.end.head a.made b.made) where
-  pub a_faulty : (fault : CaptureFault) → IsFaultOf a fault → IsJudgeFault a.text b.text (side_fault_of A fault)
-  a_faulty (Departs kind line) is = inr (record {
+  -- the line behind all records of this side departs
+  departed : (side : Side) (kind : Departure) (line : ℕ) → DepartsBehind (of_side side (read_of a) (read_of b)) kind line → of_side side a.made b.made ≡ (of_side side (read_of a) (read_of b)).records → IsFaultyText a.text b.text side kind line
+  departed side kind line departs all_before = inr (record {
     read_a = read_of a;
     read_b = read_of b;
     from_a = read_a.so_far;
     from_b = read_b.so_far;
-    departs = is.1;
+    departs = departs;
     made_a = a.made;
     made_b = b.made;
     begins_a = (waiting a.course.capture.bytes a.course.ahead, refl);
     begins_b = (waiting b.course.capture.bytes b.course.ahead, refl);
-    all_before = all_made a.course.capture.bytes a.course.ahead a.made is.0;
+    all_before = all_before;
     run = run_of_heads a b read_a read_b run;
   })
-  a_faulty Read is = tt
-  a_faulty OutOfMemory is = tt
-  a_faulty Failed is = tt
 
-  pub b_faulty : (fault : CaptureFault) → IsFaultOf b fault → IsJudgeFault a.text b.text (side_fault_of B fault)
-  b_faulty (Departs kind line) is = inr (record {
-    read_a = read_of a;
-    read_b = read_of b;
-    from_a = read_a.so_far;
-    from_b = read_b.so_far;
-    departs = is.1;
-    made_a = a.made;
-    made_b = b.made;
-    begins_a = (waiting a.course.capture.bytes a.course.ahead, refl);
-    begins_b = (waiting b.course.capture.bytes b.course.ahead, refl);
-    all_before = all_made b.course.capture.bytes b.course.ahead b.made is.0;
-    run = run_of_heads a b read_a read_b run;
-  })
-  b_faulty Read is = tt
-  b_faulty OutOfMemory is = tt
-  b_faulty Failed is = tt
+  pub faulty : (side : Side) (fault : CaptureFault) → IsFaultOf (of_side side a b) fault → IsJudgeFault a.text b.text (side_fault_of side fault)
+  faulty A (Departs kind line) is = departed A kind line is.1 (all_made a.course.capture.bytes a.course.ahead a.made is.0)
+  faulty B (Departs kind line) is = departed B kind line is.1 (all_made b.course.capture.bytes b.course.ahead b.made is.0)
+  faulty side Read is = tt
+  faulty side OutOfMemory is = tt
+  faulty side Failed is = tt
 
 -- ---- heads
 

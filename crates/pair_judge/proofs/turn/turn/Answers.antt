@@ -6,7 +6,7 @@ use Rattle.pair_judge.specs.Faulty.{IsJudgeFault}
 use Rattle.dna_model.specs.WireLayers.{wire_layers_start}
 use Rattle.pair_judge.proofs.Turns.{reached_by_a, same_read, next_place}
 use Rattle.pair_judge.proofs.Found.{at_place, a_fails}
-use Rattle.pair_judge.proofs.Faults.{a_faulty}
+use Rattle.pair_judge.proofs.Faults.{faulty}
 use Rattle.pair_judge.proofs.turn.turn.Goals as goal
 
 pub returns-in-Ok-Made-clause-turn : goal.returns-in-Ok-Made-clause-turn
@@ -41,4 +41,4 @@ pub returns-in-Err-clause-fault : goal.returns-in-Err-clause-fault
 returns-in-Err-clause-fault g c = λ text_a text_b made_a made_b under.
     let h = under.reached in
     let run = (c.endings.ensures.accepted _ _ h.world made_a made_b h.run).run in
-    subst (λ (fault : JudgeFault). IsJudgeFault text_a text_b fault) (sym c.side_fault.ensures) (a_faulty _ _ under.read_a under.read_b run c.in-Err.fault (c.in-Err.ensures.fault text_a made_a under.read_a))
+    subst (λ (fault : JudgeFault). IsJudgeFault text_a text_b fault) (sym c.side_fault.ensures) (faulty _ _ under.read_a under.read_b run A c.in-Err.fault (c.in-Err.ensures.fault text_a made_a under.read_a))

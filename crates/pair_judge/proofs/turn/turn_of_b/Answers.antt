@@ -8,7 +8,7 @@ use Rattle.pair_judge.specs.Reached.{IsHeldUp, IsStopped}
 use Rattle.dna_model.specs.WireLayers.{wire_layers_start}
 use Rattle.pair_judge.proofs.Turns.{reached_by_b, reached_still, same_end, same_read, next_place}
 use Rattle.pair_judge.proofs.Found.{at_place, b_fails, both_wait, a_waits, b_waits, both_ended}
-use Rattle.pair_judge.proofs.Faults.{b_faulty}
+use Rattle.pair_judge.proofs.Faults.{faulty}
 use Rattle.pair_judge.proofs.turn.turn_of_b.Goals as goal
 
 pub returns-in-Ok-Made-clause-turn : goal.returns-in-Ok-Made-clause-turn
@@ -84,4 +84,4 @@ pub returns-in-Err-clause-fault : goal.returns-in-Err-clause-fault
 returns-in-Err-clause-fault g c = λ text_a text_b come_a made_a made_b under.
     let h = under.reached in
     let run = (c.endings.ensures.accepted _ _ h.world made_a made_b h.run).run in
-    subst (λ (fault : JudgeFault). IsJudgeFault text_a text_b fault) (sym c.side_fault.ensures) (b_faulty _ _ under.read_a under.read_b run c.in-Err.fault (c.in-Err.ensures.fault text_b made_b under.read_b))
+    subst (λ (fault : JudgeFault). IsJudgeFault text_a text_b fault) (sym c.side_fault.ensures) (faulty _ _ under.read_a under.read_b run B c.in-Err.fault (c.in-Err.ensures.fault text_b made_b under.read_b))
