@@ -15,7 +15,7 @@ use Rattle.dna_model.specs.WireLayers.{WireLayers, LayersTag, WireLayersNode, Wi
 use Rattle.dna_model.specs.Machine.{does}
 use Rattle.pair_judge.specs.declared.line.Line.{Line}
 use Rattle.pair_judge.specs.declared.end.End.{End}
-use Rattle.pair_judge.specs.Lines.{Shows}
+use Rattle.pair_judge.specs.Lines.{held, Shows}
 use Rattle.pair_judge.specs.Receipts.{IsReceived, came, node_at, node_of, layers_move}
 use Rattle.pair_judge.specs.Steps.{IsSent, IsNotSent}
 use Rattle.pair_judge.specs.Making.{IsMade, StandsFor, move}
@@ -30,7 +30,7 @@ state_is own incoming mine stands =
     ∙ ap (node_at own.head own.layers) stands.front
 
 -- the line after one more unit was sent
-pub pushed : (before after : Line) (sent : List WireLayersUnit) (unit : WireLayersUnit) → Shows before sent → after.gone ≡ before.gone → after.units.items ≡ before.units.items ++ unit ∷ [] → Shows after (sent ++ unit ∷ [])
+pub pushed : (before after : Line) (sent : List WireLayersUnit) (unit : WireLayersUnit) → Shows before sent → after.gone ≡ before.gone → held after ≡ held before ++ unit ∷ [] → Shows after (sent ++ unit ∷ [])
 pushed before after sent unit shows gone units = record {
   within = omega (arith, length-append sent (unit ∷ []), shows.within);
   rest = units ∙ ap (λ xs. xs ++ unit ∷ []) shows.rest ∙ sym (ap (λ n. drop n (sent ++ unit ∷ [])) gone ∙ drop-append-le before.gone sent (unit ∷ []) shows.within);
@@ -40,7 +40,7 @@ pushed before after sent unit shows gone units = record {
 pub same_line : (before after : Line) (sent : List WireLayersUnit) → after ≡ before → Shows before sent → Shows after sent
 same_line before after sent same shows = record {
   within = omega (arith, ap (λ (l : Line). l.gone) same, shows.within);
-  rest = ap (λ (l : Line). l.units.items) same ∙ shows.rest ∙ ap (λ (l : Line). drop l.gone sent) (sym same);
+  rest = ap held same ∙ shows.rest ∙ ap (λ (l : Line). drop l.gone sent) (sym same);
 }
 
 -- ---- a sending

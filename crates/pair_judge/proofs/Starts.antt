@@ -25,7 +25,7 @@ use Rattle.capture.specs.declared.record.Record.{Record}
 use Rattle.pair_judge.specs.declared.course.Course.{Course}
 use Rattle.pair_judge.specs.declared.line.Line.{Line}
 use Rattle.pair_judge.specs.Course.{IsRead, MayRead, Track, along, behind, having_made, read_of, waiting}
-use Rattle.pair_judge.specs.Lines.{Shows}
+use Rattle.pair_judge.specs.Lines.{held, Shows}
 use Rattle.pair_judge.specs.Making.{StandsFor}
 use Rattle.pair_judge.specs.Reached.{IsFound, IsUnderWay}
 use Rattle.pair_judge.specs.Opened.{OpensAt}
@@ -39,7 +39,7 @@ pub record HasTaken (a b : Track) (turns : ℕ) : Type 0 where
   pub may_read_a : MayRead a.course
   pub may_read_b : MayRead b.course
 
-nothing_sent : (line : Line) → line.gone ≡ 0 → line.units.items ≡ [] → Shows line []
+nothing_sent : (line : Line) → line.gone ≡ 0 → held line ≡ [] → Shows line []
 nothing_sent line gone units = record {
   within = omega (arith, gone);
   rest = units ∙ sym (subst (λ (n : ℕ). drop {A = WireLayersUnit} n [] ≡ []) (sym gone) refl);

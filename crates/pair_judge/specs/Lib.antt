@@ -11,6 +11,8 @@ pub mod Wire
 pub mod Events
 pub mod Packets
 pub mod Unit
+pub mod Held
+pub mod Runs
 pub mod Lines
 pub mod Receipts
 pub mod Steps

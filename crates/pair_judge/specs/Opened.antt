@@ -3,6 +3,7 @@ use Rattle.std.specs.Prelude.{◌≡◌, ℕ, List, [], Option}
 use Rattle.dna_model.specs.WireLayers.{new_wire_layers_node}
 use Rattle.pair_judge.specs.declared.course.Course.{Course}
 use Rattle.pair_judge.specs.Course.{IsRead, MayRead, along}
+use Rattle.pair_judge.specs.Lines.{held}
 use Rattle.pair_judge.specs.Summary.{counts_of}
 
 -- nothing is made, nothing was sent, and of the text the head alone was read
@@ -10,6 +11,6 @@ pub record OpensAt (text : Option (List ℕ)) (course : Course) (come : Option (
   pub read : IsRead (along text course come [])
   pub layers : course.end.layers ≡ (new_wire_layers_node course.end.head).station
   pub gone : course.end.line.gone ≡ 0
-  pub units : course.end.line.units.items ≡ []
+  pub units : held course.end.line ≡ []
   pub counts : course.end.counts ≡ counts_of []
   pub may_read : MayRead course

@@ -11,6 +11,7 @@ use Rattle.dna_model.specs.WireLayers.{WireLayers, LayersTag, WireLayersUnit}
 use Rattle.pair_judge.specs.declared.line.Line.{Line}
 use Rattle.pair_judge.specs.declared.step_fault.StepFault.{StepFault}
 use Rattle.pair_judge.specs.declared.step_fault.StepFault.TheVariants.{Refused, OutOfMemory}
+use Rattle.pair_judge.specs.Lines.{held}
 use Rattle.pair_judge.specs.Receipts.{node_at}
 use Rattle.pair_judge.specs.Wire.{judge_sent_step}
 
@@ -29,7 +30,7 @@ with_link link DataBad = DataBad
 pub record IsSent (old new : WireLayers) (before after : Line) (bytes : List ℕ) : Type 0 where
   pub unit : WireLayersUnit
   pub step : (head : Head) (front : ℕ) → judge_sent_step (node_at head old front) bytes (reading bytes) ≡ Sends (node_at head new front) unit
-  pub units : after.units.items ≡ before.units.items ++ unit ∷ []
+  pub units : held after ≡ held before ++ unit ∷ []
 
 -- they can't be, for this reason
 abbrev pub IsNotSent : WireLayers → List ℕ → StepRefusal → Type 0

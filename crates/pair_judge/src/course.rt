@@ -101,10 +101,10 @@ impl Course {
         if hint < incoming.gone {
             return false;
         }
-        match incoming.unit(hint) {
-            Some(_) => false,
-            None => true,
+        if incoming.was_sent(hint) {
+            return false;
         }
+        true
     }
 
     // The record that waits, or else the next one of the text; `None` at its end.

@@ -8,6 +8,8 @@ mod captures;
 mod course;
 mod end;
 mod fault;
+mod held_link;
+mod held_unit;
 mod judging;
 mod layers;
 mod line;
@@ -21,6 +23,7 @@ mod sending;
 mod spare;
 mod step_fault;
 mod summary;
+mod tags;
 #[cfg(test)]
 mod tests;
 mod turn;

@@ -3,60 +3,62 @@
 ghost use Rattle.std.specs.Prelude.{◌≡◌};
 ghost use Rattle.ddcmp_msg.specs.Reading.{reading};
 
-use crate::unit_tag::UnitTag;
-use capture::Bytes;
+use crate::held_unit::HeldUnit;
+use dna_model::{LinkTag, Tag};
 use std::marker::Model;
 
-/// A unit that was sent: its bytes, which are a sound message, and its tags. A contract sees it as the unit of the
+/// A unit that was sent, as a line lends it: its bytes, which are a sound message, and its tags. A contract sees it as the unit of the
 /// definitions, whose message is what its bytes say.
 #[derive(Drop)]
-pub struct LineUnit {
-    bytes: Bytes,
-    tag: UnitTag,
+pub struct LineUnit<'a> {
+    unit: &'a HeldUnit,
+    tag: &'a Tag,
 }
 
-impl Model for LineUnit {
+impl<'a> Model for LineUnit<'a> {
     ghost use Rattle.dna_model.specs.WireLayers.{WireLayersUnit};
-    ghost use Rattle.ddcmp_msg.specs.Reading.{reading};
-    ghost use Rattle.pair_judge.specs.Unit.{unit_of, tags_of, IsSoundReading};
+    ghost use Rattle.pair_judge.specs.Held.{sent_as};
 
     ghost Value = { WireLayersUnit };
 
-    ghost view = { λ u. unit_of u.bytes (tags_of u.tag) };
-
-    ghost invariant = { λ u. IsSoundReading (reading u.bytes) };
+    ghost view = { λ u. sent_as u.unit.now u.tag.now };
 }
 
-impl LineUnit {
-    ghost use Rattle.pair_judge.specs.Unit.{unit_of, tags_of, IsSoundReading};
+impl<'a> LineUnit<'a> {
+    ghost use Rattle.pair_judge.specs.Held.{sent_as};
+    ghost use Rattle.pair_judge.specs.Unit.{unit_of, IsSoundReading};
 
-    /// These bytes with this tag.
-    pub fn new(bytes: Bytes, tag: UnitTag) -> LineUnit
-        requires { IsSoundReading (reading bytes) }
-        ensures { result ≡ unit_of bytes (tags_of tag) }
+    /// This unit, sent with this tag of its station.
+    #[inline(always)]
+    pub fn new(unit: &'a HeldUnit, tag: &'a Tag) -> LineUnit<'a>
+        ensures { result ≡ sent_as unit.now tag.now }
     {
-        LineUnit { bytes, tag }
+        LineUnit { unit, tag }
     }
 
     /// Its bytes.
+    #[inline(always)]
     pub fn bytes(&self) -> &[u8]
         ensures bytes { result.now ≡ self.now.bytes }
         ensures sound { IsSoundReading (reading self.now.bytes) }
         ensures message { self.now ≡ unit_of self.now.bytes self.now.known }
     {
-        self.bytes.as_slice()
+        self.unit.bytes()
     }
 
-    /// The tag that it was sent with.
-    pub fn tag(&self) -> UnitTag
-        ensures { tags_of result ≡ self.now.known }
+    /// The tag of its station that it was sent with.
+    #[inline(always)]
+    pub fn station(&self) -> Tag
+        ensures { result ≡ self.now.known.station }
     {
-        self.tag
+        *self.tag
     }
 
-    /// Its bytes, in the memory that they have. Takes no memory.
-    pub fn into_bytes(self) -> Bytes {
-        let LineUnit { bytes, tag: _ } = self;
-        bytes
+    /// The tag of its packet, if it has one.
+    #[inline(always)]
+    pub fn link(&self) -> Option<LinkTag>
+        ensures { result ≡ self.now.known.link }
+    {
+        self.unit.link()
     }
 }

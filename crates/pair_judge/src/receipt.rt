@@ -58,11 +58,11 @@ pub fn receive(
     }
     match line.unit(hint) {
         None => Ok(Receipt::Waits),
-        Some(unit) => match coming(unit, bytes) {
+        Some(unit) => match coming(&unit, bytes) {
             None => Ok(Receipt::Fails(StepRefusal::Undetected)),
             Some(arrival) => {
                 let damaged = is_damaged(&arrival);
-                match layers.arrived(arrival, unit.tag().link, kept) {
+                match layers.arrived(arrival, unit.link(), kept) {
                     Ok(()) => {
                         line.release(hint);
                         Ok(Receipt::Done { damaged })
@@ -78,13 +78,13 @@ pub fn receive(
 // What comes with these bytes for this unit: its message, or damage; or nothing that can come of it. The unit's own bytes are
 // known to be sound, and no check of them is computed again.
 #[inline(always)]
-fn coming<'a>(unit: &LineUnit, bytes: &'a [u8]) -> Option<Arrival<'a>>
+fn coming<'a>(unit: &LineUnit<'_>, bytes: &'a [u8]) -> Option<Arrival<'a>>
     ensures coming { option_map (λ arrival. with_link unit.now.known.link (arrival_view arrival)) result ≡ line.coming unit.now bytes.now }
     ensures damage { IfSome result (λ arrival. is_damage (arrival_view arrival) ≡ shows_damage (reading bytes.now)) }
 {
     let own = unit.bytes();
     if bytes == own {
-        return Some(Arrival::Sound(read_sound(bytes), unit.tag().station));
+        return Some(Arrival::Sound(read_sound(bytes), unit.station()));
     }
     match read_unit(bytes) {
         Reading::Sound(_) => None,

@@ -12,7 +12,6 @@ ghost use Rattle.pair_judge.specs.Wire.{judge_sent_step};
 
 use crate::layers::Layers;
 use crate::line::Line;
-use crate::line_unit::LineUnit;
 use crate::step_fault::StepFault;
 use crate::unit_tag::UnitTag;
 use ddcmp_msg::{Reading, read_unit};
@@ -40,10 +39,7 @@ pub fn send(
         Ok(tag) => tag,
         Err(fault) => return Err(fault),
     };
-    let Ok(own) = line.copied(alloc, bytes) else {
-        return Err(StepFault::OutOfMemory);
-    };
-    line.push(LineUnit::new(own, tag))
+    line.push(alloc, bytes, &tag)
         .map_err(|_| StepFault::OutOfMemory)
 }
 

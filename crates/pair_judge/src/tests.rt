@@ -1,5 +1,6 @@
 //! The judge on small pairs of texts, with answers told beforehand.
 
+mod held;
 mod reasons;
 mod refusals;
 

@@ -1,17 +1,20 @@
 use Rattle.std.proofs.Common.{◌≡◌, ℕ, ◌+◌, ◌-◌, Option, Some, None, Ok, Err, sym, ap, subst, ◌∙◌, arith}
 use Rattle.std.specs.List.{slice_get}
-use Rattle.std.specs.Option.{option_copied, option_map}
+use Rattle.std.specs.Option.{option_map}
 use Rattle.std.proofs.lemmas.Option.{slice_get_within}
 use Rattle.ddcmp_station.specs.Arrival.{arrival_view}
 use Rattle.dna_model.specs.declared.head.Head.{Head}
-use Rattle.dna_model.specs.WireLayers.{LayersTag, WireLayersNode}
+use Rattle.dna_model.specs.WireLayers.{WireLayersNode}
 use Rattle.dna_model.specs.declared.link_tag.LinkTag.{LinkTag}
 use Rattle.pair_judge.specs.Wire.{judge_machine}
 use Rattle.pair_judge.specs.Steps.{with_link}
 use Rattle.dna_model.specs.Line.{coming}
 use Rattle.ddcmp_msg.specs.Reading.{reading}
 use Rattle.pair_judge.specs.Counting.{shows_damage}
+use Rattle.pair_judge.specs.Lines.{held}
 use Rattle.pair_judge.specs.Receipts.{node_of}
+use Rattle.pair_judge.specs.Runs.{tag_of}
+use Rattle.pair_judge.proofs.Runs.{length-units_from}
 use Rattle.pair_judge.proofs.Sent.{held_at, item_within, released}
 use Rattle.pair_judge.proofs.Comes.{receives_back, receives_at, comes_met, comes_refused}
 use Rattle.pair_judge.proofs.receipt.receive.Goals as goal
@@ -24,25 +27,25 @@ returns-then-hint-line-clause-receipt c = λ sent shows.
 
 pub returns-in-None-clause-receipt : goal.returns-in-None-clause-receipt
 returns-in-None-clause-receipt c = λ sent shows.
-    sym (ap option_copied (sym c.in-None.is) ∙ c.unit.ensures ∙ held_at c.args.line.now sent c.args.hint shows c.if-hint-line.false)
+    sym (sym c.in-None.is ∙ c.unit.ensures ∙ held_at c.args.line.now sent c.args.hint shows c.if-hint-line.false)
 
 pub returns-in-None-coming-clause-receipt : goal.returns-in-None-coming-clause-receipt
 returns-in-None-coming-clause-receipt c = λ sent shows.
-    let unit = c.in-Some.unit.now in
-    (unit, sym (ap option_copied (sym c.in-Some.is) ∙ c.unit.ensures ∙ held_at c.args.line.now sent c.args.hint shows c.if-hint-line.false), λ head. receives_at (node_of head c.args.layers.now c.args.line.now) c.args.hint c.args.kept c.args.bytes.now unit None c.if-hint-line.false (ap (option_map (λ arrival. with_link unit.known.link (arrival_view arrival))) (sym c.in-None-coming.is) ∙ c.coming.ensures.coming))
+    let unit = c.in-Some.unit in
+    (unit, sym (sym c.in-Some.is ∙ c.unit.ensures ∙ held_at c.args.line.now sent c.args.hint shows c.if-hint-line.false), λ head. receives_at (node_of head c.args.layers.now c.args.line.now) c.args.hint c.args.kept c.args.bytes.now unit None c.if-hint-line.false (ap (option_map (λ arrival. with_link unit.known.link (arrival_view arrival))) (sym c.in-None-coming.is) ∙ c.coming.ensures.coming))
 
 pub release-requires-clause-sent : goal.release-requires-clause-sent
 release-requires-clause-sent c =
-    let held : slice_get c.args.line.now.units.items (c.args.hint - c.args.line.now.gone) ≡ Some c.in-Some.unit.now = sym (ap option_copied (sym c.in-Some.is) ∙ c.unit.ensures) in
-    omega (arith, slice_get_within c.args.line.now.units.items (c.args.hint - c.args.line.now.gone) c.in-Some.unit.now held)
+    let there : slice_get (held c.args.line.now) (c.args.hint - c.args.line.now.gone) ≡ Some c.in-Some.unit = sym (sym c.in-Some.is ∙ c.unit.ensures) in
+    omega (arith, slice_get_within (held c.args.line.now) (c.args.hint - c.args.line.now.gone) c.in-Some.unit there, length-units_from (tag_of c.args.line.now.tags) c.args.line.now.gone c.args.line.now.units.items)
 
 pub returns-in-Ok-clause-receipt : goal.returns-in-Ok-clause-receipt
 returns-in-Ok-clause-receipt c = λ sent shows.
-    let unit = c.in-Some.unit.now in
+    let unit = c.in-Some.unit in
     let n : Head → WireLayersNode = λ head. node_of head c.args.layers.now c.args.line.now in
     let arrival = with_link unit.known.link (arrival_view c.in-Some-coming.arrival) in
-    let at_link : (P : Option LinkTag → Type 0) → P c.tag.result.link → P unit.known.link = λ P. subst P (ap (λ (tag : LayersTag). tag.link) c.tag.ensures) in
-    let was_sent : slice_get sent c.args.hint ≡ Some unit = sym (ap option_copied (sym c.in-Some.is) ∙ c.unit.ensures ∙ held_at c.args.line.now sent c.args.hint shows c.if-hint-line.false) in
+    let at_link : (P : Option LinkTag → Type 0) → P c.link.result → P unit.known.link = λ P. subst P c.link.ensures in
+    let was_sent : slice_get sent c.args.hint ≡ Some unit = sym (sym c.in-Some.is ∙ c.unit.ensures ∙ held_at c.args.line.now sent c.args.hint shows c.if-hint-line.false) in
     let comes : Some arrival ≡ coming unit c.args.bytes.now = ap (option_map (λ arrival. with_link unit.known.link (arrival_view arrival))) (sym c.in-Some-coming.is) ∙ c.coming.ensures.coming in
     let after : Head → WireLayersNode = λ head. node_of head c.arrived.new.self c.release.new.self in
     let stepped : (head : Head) → record { head = head; station = c.arrived.new.self; front = c.args.hint + 1 } ≡ after head = λ head. ap (λ (front : ℕ). record { head = head; station = c.arrived.new.self; front = front }) (sym c.release.ensures.gone) in
@@ -58,10 +61,10 @@ returns-in-Ok-clause-receipt c = λ sent shows.
 
 pub returns-in-Err-Refused-clause-receipt : goal.returns-in-Err-Refused-clause-receipt
 returns-in-Err-Refused-clause-receipt c = λ sent shows.
-    let unit = c.in-Some.unit.now in
+    let unit = c.in-Some.unit in
     let n : Head → WireLayersNode = λ head. node_of head c.args.layers.now c.args.line.now in
     let arrival = with_link unit.known.link (arrival_view c.in-Some-coming.arrival) in
-    let at_link : (P : Option LinkTag → Type 0) → P c.tag.result.link → P unit.known.link = λ P. subst P (ap (λ (tag : LayersTag). tag.link) c.tag.ensures) in
-    let was_sent : slice_get sent c.args.hint ≡ Some unit = sym (ap option_copied (sym c.in-Some.is) ∙ c.unit.ensures ∙ held_at c.args.line.now sent c.args.hint shows c.if-hint-line.false) in
+    let at_link : (P : Option LinkTag → Type 0) → P c.link.result → P unit.known.link = λ P. subst P c.link.ensures in
+    let was_sent : slice_get sent c.args.hint ≡ Some unit = sym (sym c.in-Some.is ∙ c.unit.ensures ∙ held_at c.args.line.now sent c.args.hint shows c.if-hint-line.false) in
     let comes : Some arrival ≡ coming unit c.args.bytes.now = ap (option_map (λ arrival. with_link unit.known.link (arrival_view arrival))) (sym c.in-Some-coming.is) ∙ c.coming.ensures.coming in
     (unit, was_sent, λ head. receives_at (n head) c.args.hint c.args.kept c.args.bytes.now unit (Some arrival) c.if-hint-line.false comes ∙ comes_refused (n head) c.args.hint c.args.kept arrival c.in-Err-Refused.refusal (at_link (λ link. judge_machine.arrives c.args.layers.now (with_link link (arrival_view c.in-Some-coming.arrival)) c.args.kept ≡ Err c.in-Err-Refused.refusal) (rw c.in-Err-Refused.field-0-is at c.in-Err-Refused.ensures.refused)))
