@@ -3,12 +3,13 @@
 ghost use Rattle.std.specs.Prelude.{◌≡◌, None, Some};
 
 use std::marker::Model;
+use wire_base::Copied;
 
-/// A packet that a station has given a number and that is not acknowledged: its bytes, in memory of its own, and the label
+/// A packet that a station has given a number and that is not acknowledged: a copy of its bytes, and the label
 /// that the node put beside it, if it did. A contract sees it as the record of the two.
 #[derive(Drop)]
 pub struct HeldPacket<T: Copy> {
-    body: Vec<u8>,
+    body: Copied,
     label: Option<T>,
 }
 
@@ -17,13 +18,13 @@ impl<T: Copy> Model for HeldPacket<T> {
 
     ghost Value = { HeldPacket T };
 
-    ghost view = { λ h. record { body = h.body.items; label = h.label } };
+    ghost view = { λ h. record { body = h.body; label = h.label } };
 }
 
 impl<T: Copy> HeldPacket<T> {
-    /// A packet of these bytes, in the memory that they have, with no label yet. Takes no memory.
-    pub(crate) fn new(body: Vec<u8>) -> HeldPacket<T>
-        ensures { result ≡ record { body = body.items; label = None } }
+    /// A packet of these bytes, with no label yet. Takes no memory.
+    pub(crate) fn new(body: Copied) -> HeldPacket<T>
+        ensures { result ≡ record { body = body; label = None } }
     {
         HeldPacket { body, label: None }
     }

@@ -130,6 +130,6 @@ impl<T: Copy, W: Window<HeldPacket<T>, 256>> Station<T, W> {
         requires { 0 < length self.old.variables.held }
         ensures { self.new ≡ wire_after_label self.old label }
     {
-        self.variables.label(self.alloc, label);
+        self.variables.label(label);
     }
 }

@@ -7,14 +7,15 @@ ghost use Rattle.dna_model.specs.Pieces.{piece_of, same_piece};
 use dna_packet::Segment;
 use std::alloc::{AllocError, Global};
 use std::marker::Model;
+use wire_base::Copied;
 
 /// A piece of a message, as a segment carries it: whether it begins a message and whether it ends one (bits 5 and 6 of the flag byte),
-/// and its data, in memory of its own. A contract sees it as the record of the three.
-#[derive(Debug, Drop)]
+/// and a copy of its data. A contract sees it as the record of the three.
+#[derive(Drop)]
 pub struct Piece {
     begins: bool,
     ends: bool,
-    body: Vec<u8>,
+    body: Copied,
 }
 
 impl Model for Piece {
@@ -22,7 +23,7 @@ impl Model for Piece {
 
     ghost Value = { Piece };
 
-    ghost view = { λ p. record { begins = p.begins; ends = p.ends; body = p.body.items } };
+    ghost view = { λ p. record { begins = p.begins; ends = p.ends; body = p.body } };
 }
 
 impl Piece {
@@ -30,8 +31,7 @@ impl Piece {
     pub(crate) fn of(alloc: Global, segment: &Segment) -> Result<Piece, AllocError>
         ensures { IfOk result (λ piece. piece ≡ piece_of (segment_view segment.now)) }
     {
-        let mut body = Vec::new(alloc);
-        body.extend_from_slice(segment.body)?;
+        let body = Copied::of(alloc, segment.body)?;
         Ok(Piece {
             begins: segment.begins,
             ends: segment.ends,

@@ -1,6 +1,6 @@
 //! What was handed in and is in no segment yet.
 
-ghost use Rattle.std.specs.Prelude.{◌≡◌, ◌≤◌, true, length, OnOk, OnErr, IfOk};
+ghost use Rattle.std.specs.Prelude.{◌≡◌, ◌≤◌, true, length, OnOk, OnErr};
 ghost use Rattle.dna_packet.specs.Nsp.{segment_view};
 ghost use Rattle.dna_model.specs.Pieces as spec;
 ghost use Rattle.dna_model.specs.Pieces.{piece_of, none_unsent, with_message, is_next_piece, without_piece};
@@ -9,37 +9,7 @@ use dna_packet::Segment;
 use std::alloc::{AllocError, Global};
 use std::collections::VecDeque;
 use std::marker::Model;
-
-/// A message that was handed in, in memory of its own. A contract sees its bytes.
-#[derive(Drop)]
-struct Message {
-    bytes: Vec<u8>,
-}
-
-impl Model for Message {
-    ghost use Rattle.std.specs.Prelude.{List, ℕ};
-
-    ghost Value = { List ℕ };
-
-    ghost view = { λ m. m.bytes.items };
-}
-
-impl Message {
-    // A copy of these bytes.
-    fn copy_of(alloc: Global, bytes: &[u8]) -> Result<Message, AllocError>
-        ensures { IfOk result (λ message. message ≡ bytes.now) }
-    {
-        let mut copy = Vec::new(alloc);
-        copy.extend_from_slice(bytes)?;
-        Ok(Message { bytes: copy })
-    }
-
-    fn bytes(&self) -> &[u8]
-        ensures { result.now ≡ self.now }
-    {
-        self.bytes.as_slice()
-    }
-}
+use wire_base::Copied;
 
 /// What was handed in and is in no segment yet. A contract sees the rest of the current message and the messages behind it, and
 /// whether a segment has begun the current one.
@@ -50,7 +20,7 @@ pub struct Unsent {
     // how many bytes of the current message are in segments
     given: usize,
     // the messages, whole
-    messages: VecDeque<Message>,
+    messages: VecDeque<Copied>,
 }
 
 impl Model for Unsent {
@@ -81,7 +51,7 @@ impl Unsent {
         ensures ok { OnOk result (self.new ≡ with_message message.now self.old) }
         ensures err { OnErr result (self.new ≡ self.old) }
     {
-        let copy = Message::copy_of(alloc, message)?;
+        let copy = Copied::of(alloc, message)?;
         match self.messages.push_back(copy) {
             Ok(()) => Ok(()),
             Err(_) => Err(AllocError),
@@ -96,7 +66,7 @@ impl Unsent {
         let Some(message) = self.messages.front() else {
             return false;
         };
-        let rest = &message.bytes()[self.given..];
+        let rest = &message.as_slice()[self.given..];
         is_piece_of(segment, self.begun, rest)
     }
 
@@ -114,7 +84,7 @@ impl Unsent {
             let Some(message) = self.messages.front() else {
                 unreachable!();
             };
-            let left = message.bytes().len() - self.given;
+            let left = message.as_slice().len() - self.given;
             prove!(segment.body.len() <= left);
             self.begun = true;
             self.given += segment.body.len();

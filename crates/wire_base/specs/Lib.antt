@@ -1,4 +1,5 @@
 pub mod BlockCheck
+pub mod Copied
 pub mod PlainWindow
 pub mod RingWindow
 pub mod Seq

@@ -16,7 +16,7 @@ use crate::{HeldPacket, SentAs, StationFault};
 use ddcmp_msg::{Message, NakReason};
 use dna_model::{State, StationRefusal, Tag};
 use std::alloc::AllocError;
-use wire_base::Window;
+use wire_base::{Copied, Window};
 
 impl<T: Copy, W: Window<HeldPacket<T>, 256>> Station<T, W> {
     /// Its node sent this message (DDCMP 4.1, startup state table, data transfer). The answer has the tag that the unit goes
@@ -112,7 +112,7 @@ impl<T: Copy, W: Window<HeldPacket<T>, 256>> Station<T, W> {
         ensures ok { OnOk result (self.new ≡ record self.old { variables = sends_packet self.old.variables body.now }) }
         ensures err { OnErr result (self.new ≡ self.old) }
     {
-        let copy = Vec::from_slice(self.alloc, body)?;
+        let copy = Copied::of(self.alloc, body)?;
         self.variables.send_new(HeldPacket::new(copy))?;
         Ok(())
     }
