@@ -83,6 +83,7 @@ impl<W: Window<Piece, 4096> + Drop> Links<W> {
     }
 
     // The number of the first link that passes a test which only a live link passes.
+    #[inline(always)]
     fn find(&self, test: LinkTest) -> Option<usize>
         requires { is_of_live test ≡ true }
         ensures number { result ≡ number_of test self.now }
@@ -116,6 +117,7 @@ fn holder_of(holders: &BTreeMap<u16, usize>, own: u16) -> Option<usize>
 
 // The first of these numbers whose link passes.
 #[tactic(auto, using(crate::proofs::Index::searches))]
+#[inline(always)]
 fn first_of<W: Window<Piece, 4096> + Drop>(
     links: &Vec<Link<W>>,
     numbers: &[usize],
@@ -132,6 +134,7 @@ fn first_of<W: Window<Piece, 4096> + Drop>(
 }
 
 // Whether the link with this number passes.
+#[inline(always)]
 fn passes_at<W: Window<Piece, 4096> + Drop>(
     links: &Vec<Link<W>>,
     test: LinkTest,

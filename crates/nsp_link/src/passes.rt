@@ -7,6 +7,7 @@ ghost use Rattle.nsp_link.specs.Phases as phases;
 use dna_model::{LinkTest, Phase, Port};
 
 /// Whether a link is the one that is looked for.
+#[inline(always)]
 pub fn passes(test: LinkTest, port: Port) -> bool
     ensures { result ≡ tests.passes test port }
 {

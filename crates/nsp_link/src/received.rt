@@ -104,7 +104,7 @@ impl Received {
         requires { count ≤ in_order self.old }
         ensures { self.new ≡ drop count self.old }
     {
-        self.pieces.drain(..count);
+        drop_front(&mut self.pieces, count);
         self.whole -= count;
     }
 
@@ -123,6 +123,19 @@ impl Received {
         ensures { result ≡ (length self.now == 0) }
     {
         self.pieces.is_empty()
+    }
+}
+
+// Drops so many pieces at the front: one, as most messages come in one, without moving any other.
+#[inline(always)]
+fn drop_front(pieces: &mut VecDeque<Option<Piece>>, count: usize)
+    requires { count ≤ length pieces.old.items }
+    ensures { pieces.new.items ≡ drop count pieces.old.items }
+{
+    if count == 1 {
+        pieces.pop_front();
+    } else {
+        pieces.drain(..count);
     }
 }
 
