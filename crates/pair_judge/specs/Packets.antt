@@ -1,12 +1,15 @@
--- What a packet carries, without where it lies in memory.
-use Rattle.std.specs.Prelude.{Option, Some, None}
-use Rattle.dna_packet.specs.Nsp as nsp
+-- What a packet carries, by what was found of it without reading its message.
+use Rattle.std.specs.Prelude.{Option, Some, None, Result, Ok}
+use Rattle.dna_packet.specs.ReadingNsp.{nsp_at}
+use Rattle.dna_model.specs.declared.refusal.StepRefusal.{StepRefusal}
+use Rattle.dna_model.specs.Content.{message_in}
 use Rattle.dna_model.specs.Links.{Carried}
 use Rattle.pair_judge.specs.declared.packet.Carried.{Carried as Lent}
 
-abbrev pub one_view : Lent → Carried
-one_view carried = record { dst = carried.dst; src = carried.src; message = nsp.view carried.message }
+-- what its bytes say
+abbrev pub lent_content : Lent → Result (Option Carried) StepRefusal
+lent_content lent = message_in lent.dst lent.src (nsp_at lent.message.now)
 
-abbrev pub carried_view : Option Lent → Option Carried
-carried_view None = None
-carried_view (Some carried) = Some (one_view carried)
+abbrev pub content_in : Option Lent → Result (Option Carried) StepRefusal
+content_in None = Ok None
+content_in (Some lent) = lent_content lent

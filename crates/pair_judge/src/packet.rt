@@ -1,34 +1,32 @@
 //! What a packet carries for the links.
 
-ghost use Rattle.dna_packet.specs.Fields.{Gives};
-ghost use Rattle.dna_packet.specs.Nsp as nsp;
-ghost use Rattle.std.specs.Prelude.{IfOk, IfSome};
-ghost use Rattle.dna_model.specs.Content.{message_in};
-ghost use Rattle.dna_packet.specs.ReadingNsp.{nsp_at};
+ghost use Rattle.std.specs.Prelude.{◌≡◌, IfOk, IfErr, Err};
 ghost use Rattle.dna_model.specs.Content as spec;
-ghost use Rattle.pair_judge.specs.Packets.{carried_view};
+ghost use Rattle.pair_judge.specs.Packets.{content_in};
 
 use dna_model::StepRefusal;
-use dna_packet::{Nsp, Packet, read_nsp, read_packet};
+use dna_packet::{Packet, read_packet};
 
-/// An NSP message with the node addresses of its packet. Its parts are slices of the packet.
-#[derive(Debug, Drop)]
+/// The bytes of an NSP message with the node addresses of its packet, of which they are a slice. They are read where the message is
+/// used: it is larger than they are, and is moved nowhere.
+#[derive(Clone, Copy, Debug, PartialEq, Eq)]
 pub struct Carried<'a> {
     /// The node that the packet is for.
     pub dst: u16,
     /// The node that it is from.
     pub src: u16,
-    /// The message in it.
-    pub message: Nsp<'a>,
+    /// The bytes of the message in it.
+    pub message: &'a [u8],
 }
 
-/// Reads a packet, and the message in it; `None` where it has none for the links, as a routing control packet and a packet on its
-/// way back to its source (Routing Layer 2.0, packet formats). Takes no memory.
+/// What a packet carries for the links, which is not read yet; `None` where it has no message of them, as a routing control packet
+/// and a packet on its way back to its source (Routing Layer 2.0, packet formats). Takes no memory.
 ///
-/// `BadPacket`: the packet can't be read. `BadNsp`: the message in it can't be.
+/// `BadPacket`: the packet can't be read.
+#[inline(always)]
 pub fn content(packet: &[u8]) -> Result<Option<Carried<'_>>, StepRefusal>
-    ensures read { Gives carried_view result (spec.content packet.now) }
-    ensures in_range { IfOk result (λ carried. IfSome carried (λ it. nsp.IsInRange (nsp.view it.message))) }
+    ensures carried { IfOk result (λ carried. spec.content packet.now ≡ content_in carried) }
+    ensures bad { IfErr result (λ refusal. spec.content packet.now ≡ Err refusal) }
 {
     let Ok(read) = read_packet(packet) else {
         return Err(StepRefusal::BadPacket);
@@ -37,18 +35,13 @@ pub fn content(packet: &[u8]) -> Result<Option<Carried<'_>>, StepRefusal>
         return Ok(None);
     }
     match read {
-        Packet::Data { dst, src, nsp, .. } => message_from(dst, src, nsp),
+        Packet::Data { dst, src, nsp, .. } => {
+            Ok(Some(Carried {
+                dst,
+                src,
+                message: nsp,
+            }))
+        }
         Packet::Control(_) => Ok(None),
-    }
-}
-
-// The message of these bytes, from the one node to the other.
-fn message_from(dst: u16, src: u16, bytes: &[u8]) -> Result<Option<Carried<'_>>, StepRefusal>
-    ensures read { Gives carried_view result (message_in dst src (nsp_at bytes.now)) }
-    ensures in_range { IfOk result (λ carried. IfSome carried (λ it. nsp.IsInRange (nsp.view it.message))) }
-{
-    match read_nsp(bytes) {
-        Ok(message) => Ok(Some(Carried { dst, src, message })),
-        Err(_) => Err(StepRefusal::BadNsp),
     }
 }

@@ -11,7 +11,7 @@ ghost use Rattle.dna_model.specs.WireStation.{load};
 ghost use Rattle.dna_model.specs.WireLinks.{wire_links_arrived};
 ghost use Rattle.dna_model.specs.WireLayers.{tag_or_none, wire_keeps_packet};
 ghost use Rattle.ddcmp_station.specs.Arrival.{arrival_view};
-ghost use Rattle.pair_judge.specs.Packets.{one_view};
+ghost use Rattle.pair_judge.specs.Packets.{lent_content};
 ghost use Rattle.pair_judge.specs.Steps.{IfRefused, with_link};
 ghost use Rattle.pair_judge.specs.Wire.{judge_machine};
 
@@ -20,6 +20,7 @@ use crate::packet::{Carried, content};
 use crate::step_fault::StepFault;
 use ddcmp_station::{Arrival, StationFault};
 use dna_model::{LinkTag, StepRefusal};
+use dna_packet::read_nsp;
 use nsp_link::LinkFault;
 
 impl Layers {
@@ -28,6 +29,7 @@ impl Layers {
     ///
     /// `Refused`, in this order: as the station refuses; as the links refuse. `OutOfMemory`: memory for a link or for the piece of a
     /// message was refused.
+    #[inline(always)]
     pub fn arrived(
         &mut self,
         arrival: Arrival,
@@ -51,30 +53,31 @@ impl Layers {
     }
 
     // This packet is kept, with this tag: it goes to the links.
+    #[inline(never)]
     fn keep(&mut self, packet: &[u8], tag: LinkTag) -> Result<(), StepFault>
         ensures ok { OnOk result (wire_keeps_packet judged self.old tag (spec.content packet.now) ≡ Ok self.new) }
         ensures refused { IfErr result (IfRefused (λ refusal. wire_keeps_packet judged self.old tag (spec.content packet.now) ≡ Err refusal)) }
         ensures station { self.new.station ≡ self.old.station }
     {
         match content(packet) {
-            Ok(Some(carried)) => self.take(&carried, tag),
+            Ok(Some(carried)) => self.take(carried, tag),
             Ok(None) => Ok(()),
             Err(refusal) => Err(StepFault::Refused(refusal)),
         }
     }
 
-    // The links take this message, with this tag.
-    fn take(&mut self, carried: &Carried, tag: LinkTag) -> Result<(), StepFault>
-        requires { nsp.IsInRange (nsp.view carried.now.message) }
-        ensures ok { OnOk result (wire_links_arrived of_partner self.old.links (one_view carried.now) tag ≡ Ok self.new.links) }
-        ensures refused { IfErr result (IfRefused (λ refusal. (why : LinkRefusal)
-            × (wire_links_arrived of_partner self.old.links (one_view carried.now) tag ≡ Err why) × (refusal ≡ StepRefusal.Links why))) }
+    // The message that a packet carries is read, and the links take it, with this tag.
+    #[inline(always)]
+    fn take(&mut self, carried: Carried, tag: LinkTag) -> Result<(), StepFault>
+        ensures ok { OnOk result (wire_keeps_packet judged self.old tag (lent_content carried.entry) ≡ Ok self.new) }
+        ensures refused { IfErr result (IfRefused (λ refusal. wire_keeps_packet judged self.old tag (lent_content carried.entry) ≡ Err refusal)) }
         ensures station { self.new.station ≡ self.old.station }
     {
-        match self
-            .links
-            .arrived(carried.dst, carried.src, &carried.message, tag)
-        {
+        let read = read_nsp(carried.message);
+        let Ok(message) = &read else {
+            return Err(StepFault::Refused(StepRefusal::BadNsp));
+        };
+        match self.links.arrived(carried.dst, carried.src, message, tag) {
             Ok(()) => Ok(()),
             Err(LinkFault::Refused(refusal)) => Err(StepFault::Refused(StepRefusal::Links(
                 refusal,

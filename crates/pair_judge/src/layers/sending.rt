@@ -8,10 +8,10 @@ ghost use Rattle.dna_model.specs.declared.refusal.StepRefusal.TheVariants as Ste
 ghost use Rattle.dna_model.specs.declared.tag.Tag.{Tag};
 ghost use Rattle.dna_model.specs.Book.{body_of};
 ghost use Rattle.dna_model.specs.Content as spec;
-ghost use Rattle.dna_model.specs.WireStation.{load};
+ghost use Rattle.dna_model.specs.WireStation.{WireStation, load};
 ghost use Rattle.dna_model.specs.WireLinks.{wire_links_sent};
-ghost use Rattle.dna_model.specs.WireLayers.{WireLayers, wire_sends_first};
-ghost use Rattle.pair_judge.specs.Packets.{one_view};
+ghost use Rattle.dna_model.specs.WireLayers.{WireLayers, first_tagged, wire_sends_first};
+ghost use Rattle.pair_judge.specs.Packets.{lent_content};
 ghost use Rattle.pair_judge.specs.Steps.{IfRefused};
 ghost use Rattle.pair_judge.specs.Unit.{tags_of};
 ghost use Rattle.pair_judge.specs.Wire.{judge_machine};
@@ -23,6 +23,7 @@ use crate::unit_tag::UnitTag;
 use ddcmp_msg::Message;
 use ddcmp_station::StationFault;
 use dna_model::{LinkTag, StepRefusal};
+use dna_packet::read_nsp;
 use nsp_link::LinkFault;
 
 impl Layers {
@@ -31,6 +32,7 @@ impl Layers {
     ///
     /// `Refused`, in this order: as the station refuses; `BadPacket`, `BadNsp`; as the links refuse. `OutOfMemory`: memory for the packet,
     /// or for the piece of a message, was refused.
+    #[inline(always)]
     pub fn sent(&mut self, message: &Message) -> Result<UnitTag, StepFault>
         ensures ok { IfOk result (λ tag. judge_machine.sends self.old (view message.now) ≡ Ok (self.new, tags_of tag)) }
         ensures refused { IfErr result (IfRefused (λ refusal. judge_machine.sends self.old (view message.now) ≡ Err refusal)) }
@@ -60,6 +62,7 @@ impl Layers {
     }
 
     // This packet was given the newest number: it goes to the links, and gets its tag as label.
+    #[inline(never)]
     fn label_first(&mut self, packet: &[u8]) -> Result<LinkTag, StepFault>
         requires { 0 < length self.old.station.variables.held }
         ensures ok { IfOk result (λ link. (before : WireLayers) (tag : Tag) → before.links ≡ self.old.links →
@@ -69,7 +72,7 @@ impl Layers {
         ensures load { load self.new.station ≡ load self.old.station }
     {
         let link = match content(packet) {
-            Ok(Some(carried)) => match self.send(&carried) {
+            Ok(Some(carried)) => match self.send(carried) {
                 Ok(link) => link,
                 Err(fault) => return Err(fault),
             },
@@ -80,15 +83,20 @@ impl Layers {
         Ok(link)
     }
 
-    // The links send this message.
-    fn send(&mut self, carried: &Carried) -> Result<LinkTag, StepFault>
-        requires { nsp.IsInRange (nsp.view carried.now.message) }
-        ensures ok { IfOk result (λ link. wire_links_sent self.old.links (one_view carried.now)
-            ≡ Ok (record { links = self.new.links; truth = record { tag = link; known = tt } })) }
-        ensures refused { IfErr result (IfRefused (λ refusal. (why : LinkRefusal) × (wire_links_sent self.old.links (one_view carried.now) ≡ Err why) × (refusal ≡ StepRefusal.Links why))) }
+    // The message that a packet carries is read, and the links send it.
+    #[inline(always)]
+    fn send(&mut self, carried: Carried) -> Result<LinkTag, StepFault>
+        ensures ok { IfOk result (λ link. (before : WireLayers) (after : WireStation LinkTag × Tag) → before.links ≡ self.old.links →
+            wire_sends_first before after (lent_content carried.entry) ≡ Ok (first_tagged after self.new.links link)) }
+        ensures refused { IfErr result (IfRefused (λ refusal. (before : WireLayers) (after : WireStation LinkTag × Tag) →
+            before.links ≡ self.old.links → wire_sends_first before after (lent_content carried.entry) ≡ Err refusal)) }
         ensures station { self.new.station ≡ self.old.station }
     {
-        match self.links.sent(carried.dst, carried.src, &carried.message) {
+        let read = read_nsp(carried.message);
+        let Ok(message) = &read else {
+            return Err(StepFault::Refused(StepRefusal::BadNsp));
+        };
+        match self.links.sent(carried.dst, carried.src, message) {
             Ok(tag) => Ok(tag),
             Err(LinkFault::Refused(refusal)) => Err(StepFault::Refused(StepRefusal::Links(
                 refusal,
