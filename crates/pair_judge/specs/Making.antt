@@ -3,6 +3,8 @@ use Rattle.std.specs.Prelude.{◌≡◌, ◌+◌, ◌≤◌}
 use Rattle.two_nodes.specs.Nodes.{Outcome, advance}
 use Rattle.two_nodes.specs.Nodes as any
 use Rattle.capture.specs.declared.record.Record.{Record}
+use Rattle.capture.specs.declared.entry.Entry.{Entry}
+use Rattle.capture.specs.declared.entry.Entry.TheVariants.{Sent, Received}
 use Rattle.dna_model.specs.WireStation.{load}
 use Rattle.pair_judge.specs.declared.line.Line.{Line}
 use Rattle.pair_judge.specs.declared.end.End.{End}
@@ -11,6 +13,12 @@ use Rattle.pair_judge.specs.declared.making.Made.TheVariants.{Done, Waits, Fails
 use Rattle.pair_judge.specs.Lines.{Shows}
 use Rattle.pair_judge.specs.Summary.{counted}
 use Rattle.pair_judge.specs.Wire.{JudgeHalf, judge_step}
+
+-- an entry of the user, and not of a unit
+abbrev pub IsEvent : Entry → Type 0
+IsEvent Sent = ⊥
+IsEvent (Received kept hint) = ⊥
+IsEvent entry = Unit {0}
 
 -- this end of the judge, with the line from the other side, stands for that half of the run
 pub record StandsFor (own : End) (incoming : Line) (half : JudgeHalf) : Type 0 where

@@ -11,7 +11,7 @@ ghost use Rattle.pair_judge.specs.Events.{event_of_station, event_of_links};
 ghost use Rattle.pair_judge.specs.Lines.{Shows};
 ghost use Rattle.pair_judge.specs.Summary.{HasRoom};
 ghost use Rattle.pair_judge.specs.declared.line.Line.{Line};
-ghost use Rattle.pair_judge.specs.Making.{IfFails, LeavesWaiting, MadeIs, NeverWaits, StandsFor, move};
+ghost use Rattle.pair_judge.specs.Making.{IfFails, IsEvent, LeavesWaiting, MadeIs, NeverWaits, StandsFor, move};
 ghost use Rattle.pair_judge.specs.Wire.{JudgeHalf};
 
 use crate::end::End;
@@ -58,6 +58,30 @@ pub fn make(
     match entry {
         Entry::Sent => make_sent(alloc, own, bytes),
         Entry::Received { kept, hint } => make_received(own, incoming, hint, kept, bytes),
+        Entry::Start
+        | Entry::Halt
+        | Entry::Open { .. }
+        | Entry::Accept { .. }
+        | Entry::Reject { .. }
+        | Entry::In { .. }
+        | Entry::Up { .. }
+        | Entry::Close { .. } => make_event(own, entry, bytes),
+    }
+}
+
+// An event of the user. What the events need has no place on the way of a unit.
+#[inline(never)]
+fn make_event(own: &mut End, entry: Entry, bytes: &[u8]) -> Result<Made, AllocError>
+    requires room { HasRoom own.old }
+    requires event { IsEvent entry }
+    ensures made { IfOk result (λ made. (incoming : Line) (mine theirs : JudgeHalf) →
+        StandsFor own.old incoming mine → Shows incoming theirs.sent →
+        MadeIs made (move own.old own.new incoming incoming) (record_with entry bytes.now) mine theirs) }
+    ensures waits { IfOk result NeverWaits }
+    ensures counts { IfOk result (λ made. IfFails made (own.new.counts ≡ own.old.counts)) }
+    ensures head { own.new.head ≡ own.old.head }
+{
+    match entry {
         Entry::Start => Ok(make_station_event(own, StationEvent::Start)),
         Entry::Halt => Ok(make_station_event(own, StationEvent::Halt)),
         Entry::Open { link } => make_link_event(own, LinkEvent::Open { link }),
@@ -78,6 +102,7 @@ pub fn make(
             make_link_event(own, LinkEvent::Up { link, message })
         }
         Entry::Close { link } => make_link_event(own, LinkEvent::Close { link }),
+        Entry::Sent | Entry::Received { .. } => unreachable!(),
     }
 }
 

@@ -33,10 +33,10 @@ impl Spare {
     pub fn copied(&mut self, alloc: Global, bytes: &[u8]) -> Result<Bytes, AllocError>
         ensures { IfOk result (λ copy. copy ≡ bytes.now) }
     {
-        let mut own = match self.newest_with_room(bytes.len()) {
-            Some(place) => self.rooms.swap_remove(place),
-            None => self.short_of_room(alloc, bytes.len())?,
+        let Some(place) = self.newest_with_room(bytes.len()) else {
+            return self.short_of_room(alloc, bytes);
         };
+        let mut own = self.rooms.swap_remove(place);
         if own.len() == bytes.len() {
             own.copy_from_slice(bytes);
             return Ok(Bytes::new(own));
@@ -69,9 +69,14 @@ impl Spare {
         None
     }
 
-    // None that is kept has room: one of them goes, so that the others do not stay too short for ever.
-    fn short_of_room(&mut self, alloc: Global, len: usize) -> Result<Vec<u8>, AllocError> {
+    // None that is kept has room: memory is taken, and one of them goes, so that the others do not stay too short for ever.
+    #[inline(never)]
+    fn short_of_room(&mut self, alloc: Global, bytes: &[u8]) -> Result<Bytes, AllocError>
+        ensures { IfOk result (λ copy. copy ≡ bytes.now) }
+    {
         let _ = self.rooms.pop();
-        Vec::with_capacity(alloc, len.max(LEAST))
+        let mut own = Vec::with_capacity(alloc, bytes.len().max(LEAST))?;
+        own.extend_from_slice(bytes)?;
+        Ok(Bytes::new(own))
     }
 }
