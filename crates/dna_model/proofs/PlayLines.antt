@@ -1,13 +1,13 @@
 -- The test whether a record has a line tells just that.
-use Rattle.std.proofs.Common.{◌≡◌, ℕ, zero, suc, ◌<◌, ◌≤◌, Bool, true, ◌&&◌, List, [], ◌∷◌, length, refl, arith, lt-ltb, le-leb, ltb-true, leb-true}
-use Rattle.std.specs.Prelude.{slice_index, nat_lt, nat_le}
+use Rattle.std.proofs.Common.{◌≡◌, ℕ, zero, suc, ◌<◌, Bool, true, ◌&&◌, List, [], ◌∷◌, length, refl, arith, lt-ltb, le-leb, ltb-true, leb-true}
+use Rattle.std.specs.Prelude.{slice_index}
 use Rattle.std.proofs.lemmas.Bool.{and_parts}
 use Rattle.capture.specs.declared.limit.TheConstants.{MAX_HINT, MAX_LINK}
 use Rattle.capture.specs.declared.event.Event.{Event}
 use Rattle.capture.specs.declared.event.Event.TheVariants.{Start, Halt, Open, Accept, Reject, In, Up, Close}
 use Rattle.capture.specs.declared.record.Record.{Record}
 use Rattle.capture.specs.declared.record.Record.TheVariants.{Sent, Received, User}
-use Rattle.capture.specs.Range.{IsLink, EventNumbersFit, NumbersFit, HasSpelling, IsRecord, record_bytes, most_bytes}
+use Rattle.capture.specs.Range.{IsLink, EventNumbersFit, NumbersFit, IsRecord, record_bytes, most_bytes}
 use Rattle.dna_model.specs.HasLine.{is_link, event_numbers_fit, numbers_fit, are_bytes, has_line}
 
 -- ---- from the test

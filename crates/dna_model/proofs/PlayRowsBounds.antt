@@ -1,9 +1,9 @@
 -- Worked rows of the player: full windows, numbers across their wrap, pieces, the last address, and what no script can show.
-use Rattle.std.proofs.Common.{◌≡◌, ℕ, Bool, true, false, Option, Some, None, List, [], ◌∷◌, ◌++◌, Result, Ok, Err, refl, replicate}
+use Rattle.std.proofs.Common.{◌≡◌, ℕ, Bool, true, false, Some, None, List, [], ◌∷◌, Result, Ok, Err, refl, replicate}
 use Rattle.std.specs.Prelude.{codes}
 use Rattle.two_nodes.specs.Nodes.{Half}
 use Rattle.wire_base.specs.BlockCheck.{is_good, check_of, after_byte, shift}
-use Rattle.ddcmp_msg.specs.Message.{MessageValue, Data, Rep}
+use Rattle.ddcmp_msg.specs.Message.{Data, Rep}
 use Rattle.ddcmp_msg.specs.Reading.{reading, HeaderBad, DataBad}
 use Rattle.ddcmp_msg.specs.Spelling.{spelling}
 use Rattle.dna_packet.specs.Nsp.{nsp_bytes}
@@ -15,8 +15,7 @@ use Rattle.dna_model.specs.declared.state.State.TheVariants as states
 use Rattle.dna_model.specs.Layers.{LayersNode, LayersUnit}
 use Rattle.dna_model.specs.Pieces.{Piece, Unsent}
 use Rattle.dna_model.specs.WireStation.{HeldPacket, StationVariables}
-use Rattle.dna_model.specs.WireFlow.{LinkVariables}
-use Rattle.dna_model.specs.Script.{ScriptStep, StepValue, Start, Send, Deliver, Open, Accept}
+use Rattle.dna_model.specs.Script.{Start, Send, Deliver, Open, Accept}
 use Rattle.dna_model.specs.Owed.{Owed, arrival_debt}
 use Rattle.dna_model.specs.Owed as owing
 use Rattle.dna_model.specs.LinkOwed.{LinkOwed, DataAckTurn, SegmentTurn}
@@ -28,7 +27,7 @@ use Rattle.dna_model.specs.Stepped.{Stop, BadStep, Full, Stepped}
 use Rattle.dna_model.specs.Play.{plays}
 use Rattle.dna_model.specs.Played.{Played, Stopped, plays_step, play}
 use Rattle.dna_model.proofs.RowUnits.{head_1, head_2}
-use Rattle.dna_model.proofs.PlayRowSteps.{a, b, hex, script, running, called}
+use Rattle.dna_model.proofs.PlayRowSteps.{a, b, hex, script, called}
 
 -- ---- the station
 

@@ -1,7 +1,7 @@
 -- What a script plays is a run of nodes that ask no rule on tags, and each record has a line.
-use Rattle.std.proofs.Common.{◌≡◌, ℕ, ◌+◌, Bool, true, false, Option, Some, None, List, [], ◌∷◌, ◌++◌, Result, Ok, Err, refl, cond, subst, sym, append_assoc, append-nil}
+use Rattle.std.proofs.Common.{◌≡◌, ℕ, ◌+◌, Bool, true, false, Some, None, List, [], ◌∷◌, ◌++◌, Result, Ok, Err, refl, cond, subst, sym, append_assoc, append-nil}
 use Rattle.std.specs.List.{AllByRecursion}
-use Rattle.two_nodes.specs.Nodes.{Half, World, Run, Done, Outcome, Made, Waits, Refused, advance}
+use Rattle.two_nodes.specs.Nodes.{World, Run, Done, Outcome, Made, Waits, Refused, advance}
 use Rattle.two_nodes.proofs.Order.{one_more_of_a, one_more_of_b}
 use Rattle.wire_base.specs.declared.side.Side.{Side}
 use Rattle.wire_base.specs.declared.side.Side.TheVariants.{A, B}
@@ -12,11 +12,11 @@ use Rattle.dna_model.specs.Layers.{LayersNode, LayersUnit}
 use Rattle.dna_model.specs.LayersPair.{layers_start}
 use Rattle.dna_model.specs.Script.{StepValue, ScriptStep, Script}
 use Rattle.dna_model.specs.HasLine.{has_line}
-use Rattle.dna_model.specs.Player.{End, end_step, made_half, makes}
+use Rattle.dna_model.specs.Player.{end_step, made_half, makes}
 use Rattle.dna_model.specs.Stepped.{Stop, Stepped}
 use Rattle.dna_model.specs.Play.{plays}
 use Rattle.dna_model.specs.Played.{Played, Stopped, head_a, head_b, not_begun, with_a, with_b, plays_at, plays_step, if_made, plays_all, play}
-use Rattle.dna_model.specs.PlayRun.{player_pair, world_of, ArePlayed}
+use Rattle.dna_model.specs.PlayRun.{player_pair, ArePlayed}
 use Rattle.dna_model.proofs.PlayLines.{line_told}
 use Rattle.dna_model.proofs.PlayedSteps.{PlayHalf, MakesAll, Nothing, First, Good, plays_good}
 

@@ -1,7 +1,7 @@
 -- What a step of a script makes: its records, one after another, are made by the end's node beside the other end.
 use Rattle.std.proofs.Common.{◌≡◌, ℕ, ◌+◌, Bool, true, false, Option, Some, None, List, [], ◌∷◌, ◌++◌, length, Result, Ok, Err, refl, sym, subst, cond}
 use Rattle.std.specs.Prelude.{nat_lt, slice_get}
-use Rattle.two_nodes.specs.Nodes.{Half, Outcome, Made, Waits, Refused, advance}
+use Rattle.two_nodes.specs.Nodes.{Half}
 use Rattle.ddcmp_msg.specs.Message.{MessageValue}
 use Rattle.ddcmp_msg.specs.Reading.{ReadingValue, reading}
 use Rattle.ddcmp_msg.specs.Spelling.{spelling}
@@ -21,11 +21,10 @@ use Rattle.dna_model.specs.Owed.{Debt, OwesStrt, timer_debt}
 use Rattle.dna_model.specs.LinkOwed.{LinkOwed, LinkDebt, Owes, InitiateTurn, ConfirmTurn, DisconnectTurn, retried}
 use Rattle.dna_model.specs.NextSent.{Choice, SendStrt, SendStack, SendNak, SendRep, SendAgain, SendNew, SendAck, link_choice, choice}
 use Rattle.dna_model.specs.Compose.{message_of}
-use Rattle.dna_model.specs.HasLine.{has_line}
-use Rattle.dna_model.specs.Player.{End, end_step, made_half, makes, variables_of, links_of, link_ends_of, after_record}
+use Rattle.dna_model.specs.Player.{End, makes, variables_of, links_of, link_ends_of, after_record}
 use Rattle.dna_model.specs.Stepped.{Stop, BadStep, Full, Stepped, made, silent, owing_more, links_owing_more}
-use Rattle.dna_model.specs.Receipt.{with_half, gets_all, carried, delivered_now, after_receipt, then_gets, receives, can_keep, comes, on_unit, with_unit, is_damage, damaged}
-use Rattle.dna_model.specs.Play.{by_user, giving, answering, timed, retrying, after_sending, sends_message, sends_choice, sends, no_more, plays}
+use Rattle.dna_model.specs.Receipt.{with_half, gets_all, carried, delivered_now, after_receipt, then_gets, receives, can_keep, comes, on_unit, is_damage, damaged}
+use Rattle.dna_model.specs.Play.{by_user, giving, timed, retrying, after_sending, sends_message, sends_choice, sends, no_more, plays}
 
 abbrev pub PlayHalf : Type 0
 PlayHalf = Half LayersNode LayersUnit

@@ -1,5 +1,5 @@
 -- How an end of the player puts together what it has chosen to send (DDCMP 4.1, Routing Layer 2.0, NSP 4.0, message formats).
-use Rattle.std.specs.Prelude.{ℕ, ◌+◌, Bool, true, false, not, nat_le, if◌then◌else◌, Option, Some, None, List, [], ◌∷◌, length, take, slice_get}
+use Rattle.std.specs.Prelude.{ℕ, ◌+◌, Bool, false, not, nat_le, Option, Some, None, List, [], ◌∷◌, length, take, slice_get}
 use Rattle.ddcmp_msg.specs.declared.flags.Flags.{Flags}
 use Rattle.ddcmp_msg.specs.Message.{MessageValue, Data, Ack, Nak, Rep, Strt, Stack, flags_of}
 use Rattle.dna_packet.specs.declared.ack_word.AckQualifier.TheVariants as qualifiers
@@ -12,7 +12,7 @@ use Rattle.dna_model.specs.Station.{wire}
 use Rattle.dna_model.specs.WireStation.{HeldPacket, StationVariables}
 use Rattle.dna_model.specs.Flow as flows
 use Rattle.dna_model.specs.Pieces.{Piece, Unsent}
-use Rattle.dna_model.specs.LinkOwed.{EndConfirm, Turn, ConnectAckTurn, InitiateTurn, ConfirmTurn, DisconnectTurn, DataAckTurn, SegmentTurn}
+use Rattle.dna_model.specs.LinkOwed.{Turn, ConnectAckTurn, InitiateTurn, ConfirmTurn, DisconnectTurn, DataAckTurn, SegmentTurn}
 use Rattle.dna_model.specs.NextSent.{LinkEnd, LinkChoice, Confirms, OfLink, Choice, SendStrt, SendStack, SendNak, SendRep, SendAgain, SendNew, SendAck}
 
 -- ---- a message of the links

@@ -1,7 +1,7 @@
 -- What an end of the player owes as a station (DDCMP 4.1, startup and data transfer): what it comes to owe and what it owes no more. It goes by
 -- the station variables and by bytes as they came. A thing is owed once, however often it arose.
-use Rattle.std.specs.Prelude.{ℕ, Bool, true, false, ◌&&◌, not, ◌==◌, if◌then◌else◌, Option, Some, None, length}
-use Rattle.ddcmp_msg.specs.Message.{MessageValue, Data, Ack, Nak, Rep, Strt, Stack}
+use Rattle.std.specs.Prelude.{Bool, true, false, ◌&&◌, not, ◌==◌, if◌then◌else◌, Option, Some, None, length}
+use Rattle.ddcmp_msg.specs.Message.{MessageValue, Data, Rep, Strt, Stack}
 use Rattle.ddcmp_msg.specs.Reading.{ReadingValue, Sound, HeaderBad, DataBad, Malformed}
 use Rattle.ddcmp_msg.specs.declared.nak_reason.NakReason.{NakReason}
 use Rattle.ddcmp_msg.specs.declared.nak_reason.NakReason.TheVariants.{HeaderCheck, DataCheck, RepResponse, NoBuffer}

@@ -4,7 +4,7 @@ use Rattle.std.specs.Prelude.{◌≡◌, ℕ, ◌+◌, ◌≤◌, List, ◌++◌
 use Rattle.capture.specs.declared.fault.Departure.{Departure}
 use Rattle.capture.specs.Text as captures
 use Rattle.dna_model.specs.Script.{ScriptStep, Script}
-use Rattle.dna_model.specs.ScriptText.{IsScriptText, BeginsWithScript, StepDeparts, ScriptHeadDeparts, IsStep, script_line, MAX_STEPS}
+use Rattle.dna_model.specs.ScriptText.{IsScriptText, BeginsWithScript, StepDeparts, IsStep, script_line, MAX_STEPS}
 use Rattle.dna_model.specs.Stepped.{Stop}
 use Rattle.dna_model.specs.Played.{Played, plays_step, play}
 

@@ -2,7 +2,7 @@
 use Rattle.std.specs.Prelude.{ℕ, ◌+◌, Bool, true, false, ◌&&◌, nat_lt, nat_le, bit_xor, if◌then◌else◌, Option, Some, None, List, [], ◌∷◌, ◌++◌}
 use Rattle.std.specs.Prelude.{length, map, slice_get, slice_index, slice_set, Result, Ok, Err}
 use Rattle.two_nodes.specs.Nodes.{Half}
-use Rattle.ddcmp_msg.specs.Reading.{ReadingValue, reading, Sound, HeaderBad, DataBad, Malformed}
+use Rattle.ddcmp_msg.specs.Reading.{ReadingValue, reading, Sound}
 use Rattle.dna_packet.specs.Nsp.{NspValue, DataSegment}
 use Rattle.capture.specs.declared.event.Event.{Event}
 use Rattle.capture.specs.declared.event.Event.TheVariants as events
