@@ -97,6 +97,15 @@ mod LinkRunBounds
 mod PlayLines
 mod PlayedSteps
 mod PlayedRuns
+mod OrderlyRecords
+mod OneStart
+mod OneStartMeets
+mod LinkAddresses
+mod LinkMessages
+mod LinkAddressRuns
+mod PlayerChecked
+mod PlayedOrder
+mod PlayedChecked
 mod PlayRowSteps
 mod PlayRows
 mod PlayRowsStation
