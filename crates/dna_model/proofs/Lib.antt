@@ -106,6 +106,8 @@ mod LinkAddressRuns
 mod PlayerChecked
 mod PlayedOrder
 mod PlayedChecked
+mod StationPays
+mod StationOwes
 mod PlayRowSteps
 mod PlayRows
 mod PlayRowsStation
