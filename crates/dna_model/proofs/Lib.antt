@@ -108,6 +108,7 @@ mod PlayedOrder
 mod PlayedChecked
 mod StationPays
 mod StationOwes
+mod FlowPays
 mod PlayRowSteps
 mod PlayRows
 mod PlayRowsStation
