@@ -109,6 +109,8 @@ mod PlayedChecked
 mod StationPays
 mod StationOwes
 mod FlowPays
+mod LinkPays
+mod LinkChoices
 mod PlayRowSteps
 mod PlayRows
 mod PlayRowsStation
