@@ -111,6 +111,8 @@ mod StationOwes
 mod FlowPays
 mod LinkPays
 mod LinkChoices
+mod LinkNodes
+mod ReceiptMakes
 mod PlayRowSteps
 mod PlayRows
 mod PlayRowsStation

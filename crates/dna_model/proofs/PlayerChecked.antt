@@ -91,7 +91,7 @@ module _ (own other : Half LayersNode LayersUnit) where
     pub other_addressed : IsAddressedSide (side_of other of_other) (side_of own front) most_of_other
 
   module _ (h : IsReady) (hint : ℕ) (unit : LayersUnit) (there : slice_get other.sent hint ≡ Some unit) where
-    meets_it : meets (row station.state unit.message).needs (tag_of station) unit.known.station.tag ≡ true
+    pub meets_it : meets (row station.state unit.message).needs (tag_of station) unit.known.station.tag ≡ true
     meets_it = meets_always station other.state.station.station.period (unit_of_station unit) h.few h.others
         (h.theirs.units hint (unit_of_station unit) (slice_get-map unit_of_station other.sent hint ∙ ap (option_map unit_of_station) there)) h.begun.started h.begun.partner
 

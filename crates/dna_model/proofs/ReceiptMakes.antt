@@ -1,0 +1,133 @@
+-- What comes to a node of the player it takes: a unit as it was sent, with its packet where that can be taken, and a damaged one.
+use Rattle.std.proofs.Common.{◌≡◌, ℕ, ◌+◌, ◌≤◌, Bool, true, false, ◌&&◌, cond, eqb, nat_lt, Option, Some, None, option_map, List, [], map, Result, Ok, Err, refl, sym, ap, ap₂, ◌∙◌, subst, le-ltb, eq-eqb, ◌⊎◌, inl, inr}
+use Rattle.std.specs.Prelude.{slice_get, bytes_eq}
+use Rattle.std.proofs.lemmas.Option.{slice_get-map}
+use Rattle.std.proofs.lemmas.Slice.Eq.{bytes_eq-Decides}
+use Rattle.two_nodes.specs.Nodes.{Half, Outcome, Made, concluded, read, advance}
+use Rattle.two_nodes.specs.Cutting.{cut_half}
+use Rattle.ddcmp_msg.specs.Reading.{ReadingValue, reading}
+use Rattle.ddcmp_msg.specs.Reading as read_as
+use Rattle.dna_packet.specs.Nsp.{NspValue, DataSegment, LinkService, DataAck, OtherDataAck, ConnectAck, NoOperation, ConnectInitiate, ConnectConfirm, DisconnectInitiate, DisconnectConfirm}
+use Rattle.capture.specs.declared.record.Record.{Record}
+use Rattle.capture.specs.declared.record.Record.TheVariants.{Received}
+use Rattle.dna_model.specs.declared.port.LinkTest.{LinkTest}
+use Rattle.dna_model.specs.declared.port.LinkTest.TheVariants.{LiveTo, CallingAt, ActedOn}
+use Rattle.dna_model.specs.declared.link_refusal.LinkRefusal.{LinkRefusal}
+use Rattle.dna_model.specs.declared.link_refusal.LinkRefusal.TheVariants.{WrongNode}
+use Rattle.dna_model.specs.declared.refusal.StationRefusal.{StationRefusal}
+use Rattle.dna_model.specs.declared.refusal.StepRefusal.{StepRefusal}
+use Rattle.dna_model.specs.declared.refusal.StepRefusal.TheVariants.{HintOrder}
+use Rattle.dna_model.specs.Book.{Sound, keep_refusal}
+use Rattle.dna_model.specs.StationBook.{meets_needs, arrival_refusal, after_arrival}
+use Rattle.dna_model.specs.Rules.{judged}
+use Rattle.dna_model.specs.Bounds.{IsBounded, IsWithin}
+use Rattle.dna_model.specs.WireNode.{unlabelled}
+use Rattle.dna_model.specs.Line.{damage, coming_by}
+use Rattle.dna_model.specs.Machine.{met, comes, receives, unless_refused}
+use Rattle.dna_model.specs.Links.{LinkOf, LinkTruth, check, on_link, at_number, number_of, with_link}
+use Rattle.dna_model.specs.LinkArriving.{of_anyone, message_arrived}
+use Rattle.dna_model.specs.TrueFlow.{TrueFlow, Numbers, true_flows}
+use Rattle.dna_model.specs.TrueLinks.{Links, links_arrived}
+use Rattle.dna_model.specs.LinkRuns.{SentMessage}
+use Rattle.dna_model.specs.Layers.{Layers, LayersTruth, LayersNode, LayersUnit, with_links, keeps, meets_on, layers_machine, stations, unit_of_station}
+use Rattle.dna_model.specs.Owed.{can_take}
+use Rattle.dna_model.specs.Player.{by_bytes, end_step, variables_of}
+use Rattle.dna_model.proofs.CutArriving.{arrival_refusal_same}
+use Rattle.dna_model.proofs.PlayedSteps.{PlayHalf}
+use Rattle.dna_model.proofs.PlayerChecked.{IsReady, meets_it}
+
+-- ---- the links
+
+abbrev pub Takes : Result Links LinkRefusal → Type 0
+Takes r = (left : Links) × (r ≡ Ok left)
+
+-- a look-up that refuses nothing
+found_takes : (test : LinkTest) (s otherwise : Links) (next : ℕ → LinkOf TrueFlow → Links) → Takes (with_link test s (Ok otherwise) (λ number link. Ok (next number link)))
+found_takes test s otherwise next = go (number_of test s)
+  where
+    at_link : (number : ℕ) (o : Option (LinkOf TrueFlow)) → Takes (on_link number o (Ok otherwise) (λ number link. Ok (next number link)))
+    at_link number None = (otherwise, refl)
+    at_link number (Some link) = (next number link, refl)
+
+    go : (o : Option ℕ) → Takes (at_number s.links o (Ok otherwise) (λ number link. Ok (next number link)))
+    go None = (otherwise, refl)
+    go (Some number) = at_link number (slice_get s.links number)
+
+message_takes : (s : Links) (m : NspValue) (truth : LinkTruth Numbers) → Takes (message_arrived true_flows of_anyone s m truth)
+message_takes s (ConnectInitiate retransmitted src services info segsize user_data) truth = found_takes (LiveTo src) s _ _
+message_takes s (ConnectAck dst) truth = (s, refl)
+message_takes s (NoOperation rest) truth = (s, refl)
+message_takes s (ConnectConfirm dst src services info segsize user_data) truth = found_takes (CallingAt dst) s _ _
+message_takes s (DisconnectInitiate dst src reason user_data) truth = (_, refl)
+message_takes s (DisconnectConfirm dst src reason) truth = (_, refl)
+message_takes s (DataSegment segment) truth = found_takes (ActedOn segment.dstaddr segment.srcaddr) s _ _
+message_takes s (DataAck dst src acks) truth = found_takes (ActedOn dst src) s _ _
+message_takes s (LinkService interrupt dst src rest) truth = found_takes (ActedOn dst src) s _ _
+message_takes s (OtherDataAck dst src rest) truth = found_takes (ActedOn dst src) s _ _
+
+links_take : (s : Links) (u : SentMessage) → u.packet.src ≡ s.peer → u.packet.dst ≡ s.node → Takes (links_arrived of_anyone s u.packet u.truth)
+links_take s u from to =
+    let m = message_takes s u.packet.message u.truth in
+    (m.0, ap₂ (λ (b c : Bool). check (b && c) WrongNode (message_arrived true_flows of_anyone s u.packet.message u.truth)) (eq-eqb _ _ from) (eq-eqb _ _ to) ∙ m.1)
+
+-- ---- the node
+
+abbrev pub IsMade : (own other : PlayHalf) → Record → Type 0
+IsMade own other r = (half : PlayHalf) × (advance end_step own other r ≡ Made half)
+
+module _ (own other : PlayHalf) (hint : ℕ) (unit : LayersUnit) (there : slice_get other.sent hint ≡ Some unit) (ahead : own.state.front ≤ hint) where
+  abbrev s : Layers
+  s = own.state.station
+
+  -- what comes for the unit is met
+  abbrev Meets : Bool → List ℕ → Type 0
+  Meets kept bytes = (left : LayersNode) × (comes (layers_machine by_bytes) own.state (hint + 1) kept (coming_by (bytes_eq bytes unit.bytes) unit (reading bytes)) ≡ Ok left)
+
+  is_made : (kept : Bool) (bytes : List ℕ) → Meets kept bytes → IsMade own other (Received hint kept bytes)
+  unfolding end_step
+  is_made kept bytes m =
+      (_, ap (read own (receives (layers_machine by_bytes) own.state hint kept bytes)) there
+      ∙ ap (λ (b : Bool). concluded own (cond b (Err HintOrder) (comes (layers_machine by_bytes) own.state (hint + 1) kept (coming_by (bytes_eq bytes unit.bytes) unit (reading bytes))))) (le-ltb hint own.state.front ahead)
+      ∙ ap (λ (r : Result LayersNode StepRefusal). concluded own r) m.1)
+
+  -- a damaged one
+  pub damage_made : (bytes : List ℕ) → bytes_eq bytes unit.bytes ≡ false → (reading bytes ≡ read_as.HeaderBad) ⊎ (reading bytes ≡ read_as.DataBad) → IsMade own other (Received hint false bytes)
+  damage_made bytes differs shows = is_made false bytes (go shows)
+    where
+      go : (reading bytes ≡ read_as.HeaderBad) ⊎ (reading bytes ≡ read_as.DataBad) → Meets false bytes
+      go (inl e) = (_, ap₂ (λ (r : ReadingValue) (b : Bool). comes (layers_machine by_bytes) own.state (hint + 1) false (coming_by b unit r)) e differs)
+      go (inr e) = (_, ap₂ (λ (r : ReadingValue) (b : Bool). comes (layers_machine by_bytes) own.state (hint + 1) false (coming_by b unit r)) e differs)
+
+  module _ (h : IsReady own other) (bounded : IsBounded (cut_half stations own) (cut_half stations other)) (from : (u : SentMessage) → unit.known.carried ≡ Some u → (u.packet.src ≡ s.links.peer) × (u.packet.dst ≡ s.links.node)) where
+    within : IsWithin s.station unit.message unit.known.station
+    within = bounded.within hint (unit_of_station unit) (slice_get-map unit_of_station other.sent hint ∙ ap (option_map unit_of_station) there) ahead (meets_it own other h hint unit there)
+
+    allowed : (kept : Bool) → (kept ≡ true → can_take (variables_of own) unit.message ≡ true) → arrival_refusal by_bytes s.station (Sound unit.message unit.known.station) kept ≡ None
+    allowed kept can = arrival_refusal_same (unlabelled {L = Unit {0}} s.station.packets) by_bytes s.station unit.message unit.known.station kept (λ e. within) ∙ go kept can
+      where
+        go : (kept : Bool) → (kept ≡ true → can_take (variables_of own) unit.message ≡ true) → keep_refusal (can_take (variables_of own) unit.message) kept ≡ None
+        go false can = refl
+        go true can = ap (λ (b : Bool). keep_refusal b true) (can refl)
+
+    kept_takes : (left : Layers) → left.links ≡ s.links → (o : Option SentMessage) → unit.known.carried ≡ o → (met : Layers) × (keeps by_bytes left o ≡ Ok met)
+    kept_takes left same None is = (left, refl)
+    kept_takes left same (Some u) is =
+        let f = from u is in
+        let l = links_take left.links u (f.0 ∙ sym (ap (λ (x : Links). x.peer) same)) (f.1 ∙ sym (ap (λ (x : Links). x.node) same)) in
+        (_, ap (with_links left) l.1)
+
+    arrives : (kept : Bool) → (kept ≡ true → can_take (variables_of own) unit.message ≡ true) → (met : Layers) × ((layers_machine by_bytes).arrives s (Sound unit.message unit.known) kept ≡ Ok met)
+    arrives kept can =
+        let station = after_arrival s.station (Sound unit.message unit.known.station) kept in
+        let k = on kept (record s { station = station }) (kept_takes (record s { station = station }) refl unit.known.carried refl) in
+        (k.0, ap (λ (o : Option StationRefusal). meets_on by_bytes s (Sound unit.message unit.known) kept (unless_refused o station)) (allowed kept can) ∙ k.1)
+      where
+        on : (kept : Bool) (left : Layers) → (met : Layers) × (keeps by_bytes left unit.known.carried ≡ Ok met) → (met : Layers) × (cond kept (keeps by_bytes left unit.known.carried) (Ok left) ≡ Ok met)
+        on true left m = m
+        on false left m = (left, refl)
+
+    -- as it was sent, kept only where its packet can be taken
+    pub unit_made : (kept : Bool) → (kept ≡ true → can_take (variables_of own) unit.message ≡ true) → IsMade own other (Received hint kept unit.bytes)
+    unit_made kept can =
+        let a = arrives kept can in
+        is_made kept unit.bytes (_, ap (λ (b : Bool). comes (layers_machine by_bytes) own.state (hint + 1) kept (coming_by b unit (reading unit.bytes))) ((bytes_eq-Decides unit.bytes unit.bytes).1 refl) ∙ ap (met own.state (hint + 1)) a.1)
