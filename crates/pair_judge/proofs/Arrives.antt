@@ -1,7 +1,6 @@
 -- What both layers make of an arrival, by what the station made of it.
-use Rattle.std.proofs.Common.{◌≡◌, Bool, true, false, ◌&&◌, cond, Option, Some, None, List, ℕ, Result, Ok, Err, refl, sym, ap, subst, ◌∙◌}
+use Rattle.std.proofs.Common.{◌≡◌, Bool, true, false, ◌&&◌, cond, Option, Some, None, List, ℕ, Result, Ok, Err, refl, sym, ap, ◌∙◌}
 use Rattle.std.specs.Prelude.{OnOk, IfErr}
-use Rattle.ddcmp_msg.specs.Message.{MessageValue}
 use Rattle.dna_model.specs.declared.tag.Tag.{Tag}
 use Rattle.dna_model.specs.declared.link_tag.LinkTag.{LinkTag}
 use Rattle.dna_model.specs.declared.refusal.StationRefusal.{StationRefusal}

@@ -1,6 +1,5 @@
 -- From what was found of two texts to the clauses of an answer.
-use Rattle.std.proofs.Common.{◌≡◌, ◌≢◌, ℕ, ◌<◌, ◌≤◌, List, [], ◌∷◌, ◌++◌, length, Option, Some, None, Ok, Err, inl, inr, refl, sym, ap, ap₂, subst, ◌∙◌, append-nil}
-use Rattle.std.specs.Prelude.{IfSome}
+use Rattle.std.proofs.Common.{◌≡◌, ◌≢◌, ℕ, ◌<◌, List, [], length, Option, Some, None, Ok, Err, inl, inr, refl, sym, ap₂, subst, append-nil}
 use Rattle.std.proofs.lemmas.Option.{slice_get_within}
 use Rattle.wire_base.specs.Side.{other_side}
 use Rattle.wire_base.specs.declared.side.Side.{Side}
@@ -15,7 +14,6 @@ use Rattle.dna_model.specs.declared.finding.Cause.TheVariants.{Step, NoSuchUnit,
 use Rattle.dna_model.specs.declared.finding.Finding.{Finding}
 use Rattle.dna_model.specs.declared.finding.Finding.TheVariants as findings
 use Rattle.dna_model.specs.declared.head.Head.{Head}
-use Rattle.dna_model.specs.declared.refusal.StationRefusal.{StationRefusal}
 use Rattle.dna_model.specs.Layers.{LayersNode, LayersUnit}
 use Rattle.dna_model.specs.LayersPair.{IsLayersRun, layers_pair, layers_start}
 use Rattle.dna_model.specs.Verdict.{IsVerdict, IsWrong, IsWrongOfB}
@@ -29,7 +27,7 @@ use Rattle.pair_judge.specs.declared.reason.Reason.TheVariants as reasons
 use Rattle.pair_judge.specs.Answer.{answer_of, verdict_of}
 use Rattle.pair_judge.specs.Heads.{head_of}
 use Rattle.pair_judge.specs.Finding.{EndsFor, EndsWhere, IsCounted, IsFoundIn, IsVerdictBehind, of_side}
-use Rattle.pair_judge.specs.Faulty.{IsFaultyText, IsFaultyBehind, IsJudgeFault}
+use Rattle.pair_judge.specs.Faulty.{IsFaultyText, IsJudgeFault}
 use Rattle.pair_judge.specs.Reason.{reason_of}
 use Rattle.pair_judge.specs.Refusal.{AreRefused, IsRefusal, OffendsFor, WholeCapture}
 use Rattle.pair_judge.specs.Judged.{AcceptsOrFails, AreARun, HasDelivered, IfTold, IsAcceptance, IsExact, IsFaultyWhere, IsRefusalWhere}

@@ -1,8 +1,8 @@
 -- How the judge ends: its finding is a verdict on all captures that go on behind what was read.
-use Rattle.std.proofs.Common.{◌≡◌, ℕ, List, [], ◌∷◌, ◌++◌, length, Option, refl, sym, ap, subst, ◌∙◌, append-nil, append_assoc}
+use Rattle.std.proofs.Common.{◌≡◌, ℕ, List, [], ◌∷◌, ◌++◌, length, Option, sym, ap, subst, ◌∙◌, append-nil, append_assoc}
 use Rattle.capture.specs.declared.record.Record.{Record}
 use Rattle.capture.specs.Entries.{record_with}
-use Rattle.capture.specs.SoFar.{Behind, TheEnd, GoesOn, GoesOnBy}
+use Rattle.capture.specs.SoFar.{TheEnd, GoesOn, GoesOnBy}
 use Rattle.wire_base.specs.declared.side.Side.TheVariants.{A, B}
 use Rattle.wire_base.specs.declared.side.Side.{Side}
 use Rattle.dna_model.specs.declared.head.Head.{Head}
@@ -14,9 +14,7 @@ use Rattle.dna_model.specs.declared.finding.Finding.TheVariants.{Accepted, Refus
 use Rattle.dna_model.specs.Verdict.{IsVerdict}
 use Rattle.pair_judge.specs.declared.course.Ahead.{Ahead}
 use Rattle.pair_judge.specs.declared.course.Ahead.TheVariants.{Unread, Waits, Ended}
-use Rattle.pair_judge.specs.declared.course.Course.{Course}
 use Rattle.pair_judge.specs.Course.{IsRead, Track, behind, having_made, read_of, waiting, IsWaiting}
-use Rattle.pair_judge.specs.Finding.{EndsWhere}
 use Rattle.dna_model.specs.Layers.{LayersNode}
 use Rattle.dna_model.specs.WireLayers.{WireLayers}
 use Rattle.pair_judge.specs.declared.end.End.{End}

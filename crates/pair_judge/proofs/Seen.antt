@@ -1,5 +1,5 @@
 -- What becomes of a record on true numbers, from what is seen of it; and how many links are seen.
-use Rattle.std.proofs.Common.{◌≡◌, List, length, refl, sym, ap, ◌∙◌}
+use Rattle.std.proofs.Common.{◌≡◌, List, length, refl, ap, ◌∙◌}
 use Rattle.std.proofs.lemmas.List.{length-map}
 use Rattle.two_nodes.specs.Nodes.{Outcome}
 use Rattle.two_nodes.specs.Nodes.Outcome.{Made, Waits, Refused}

@@ -1,5 +1,5 @@
 -- Two sides whose heads have been read, and what holds of the two between turns.
-use Rattle.std.proofs.Common.{◌≡◌, ℕ, ◌+◌, ◌≤◌, List, [], ◌++◌, length, drop, Option, refl, sym, ap, ap₂, subst, ◌∙◌, arith, append-nil, length-append}
+use Rattle.std.proofs.Common.{◌≡◌, ℕ, ◌+◌, ◌≤◌, List, [], ◌++◌, length, drop, Option, refl, sym, ap₂, subst, ◌∙◌, arith, append-nil, length-append}
 use Rattle.std.proofs.lemmas.List.Sums.{count_by-le-length}
 use Rattle.capture.specs.declared.limit.TheConstants.{MAX_RECORDS}
 use Rattle.capture.specs.SoFar.{TheEnd}

@@ -13,7 +13,6 @@ use Rattle.dna_model.specs.WireLayers.{WireLayers, wire_layers_pair, wire_layers
 use Rattle.pair_judge.specs.Counting.{is_received, is_damaged, is_kept, is_start, is_delivery, more_if}
 use Rattle.pair_judge.specs.Summary.{counts_of, counted}
 use Rattle.pair_judge.specs.Making.{IsMade, Move, StandsFor, move}
-use Rattle.pair_judge.specs.Lines.{Shows}
 use Rattle.pair_judge.specs.declared.course.Course.{Course}
 use Rattle.pair_judge.specs.Course.{IsBlocked, IsRead, MayRead, Track, WaitsAt, along}
 use Rattle.pair_judge.specs.Reached.{HasReached, IsHeldUp}

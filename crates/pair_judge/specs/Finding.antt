@@ -2,7 +2,6 @@
 use Rattle.std.specs.Prelude.{◌≡◌, ℕ, List, Option}
 use Rattle.wire_base.specs.declared.side.Side.{Side}
 use Rattle.wire_base.specs.declared.side.Side.TheVariants.{A, B}
-use Rattle.wire_base.specs.Side.{other_side}
 use Rattle.capture.specs.declared.record.Record.{Record}
 use Rattle.capture.specs.SoFar.{Behind, TheEnd, ReadSoFar, IsReadSoFar, GoesOn}
 use Rattle.dna_model.specs.declared.finding.Cause.{Cause}

@@ -1,5 +1,5 @@
 -- Both sides of the judge beside the world that the records made so far led to, and what a turn leads to.
-use Rattle.std.specs.Prelude.{◌≡◌, ℕ, ◌+◌, ◌≤◌, Bool, true, false, List, length, Option, Some, None}
+use Rattle.std.specs.Prelude.{◌≡◌, ◌+◌, ◌≤◌, Bool, true, false, List, length, Option, Some, None}
 use Rattle.two_nodes.specs.Nodes.{Run}
 use Rattle.capture.specs.declared.record.Record.{Record}
 use Rattle.capture.specs.SoFar.{GoesOn}

@@ -8,7 +8,6 @@ use Rattle.dna_model.specs.WireLayers.{WireLayers, WireLayersNode, WireLayersUni
 use Rattle.pair_judge.specs.declared.line.Line.{Line}
 use Rattle.pair_judge.specs.declared.receipt.Receipt.{Receipt}
 use Rattle.pair_judge.specs.declared.receipt.Receipt.TheVariants.{Done, Waits, Fails}
-use Rattle.dna_model.specs.declared.refusal.StepRefusal.{StepRefusal}
 use Rattle.pair_judge.specs.Lines.{Shows}
 use Rattle.pair_judge.specs.Counting.{shows_damage}
 use Rattle.pair_judge.specs.Wire.{judge_receives}

@@ -1,5 +1,5 @@
 -- What the summary of one side counts, over the records of its capture and the links of its node.
-use Rattle.std.specs.Prelude.{ℕ, ◌+◌, ◌<◌, ◌≤◌, ◌^◌, List, length, count_by}
+use Rattle.std.specs.Prelude.{ℕ, ◌+◌, ◌<◌, ◌^◌, List, length, count_by}
 use Rattle.capture.specs.declared.record.Record.{Record}
 use Rattle.dna_model.specs.Machine.{is_sent}
 use Rattle.dna_model.specs.Layers.{LayersNode}

@@ -1,6 +1,6 @@
 use Rattle.std.proofs.Common.{refl, ◌∙◌, arith}
 use Rattle.wire_base.specs.Tally.{tally_lent}
-use Rattle.pair_judge.proofs.Starts.{few_made, found_in, has_room, started}
+use Rattle.pair_judge.proofs.Starts.{found_in, started}
 use Rattle.pair_judge.proofs.judging.find.Goals as goal
 
 pub loop-init : goal.loop-init

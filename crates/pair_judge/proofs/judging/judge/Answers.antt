@@ -1,4 +1,4 @@
-use Rattle.std.proofs.Common.{sym, subst, ap, Ok}
+use Rattle.std.proofs.Common.{sym, subst, Ok}
 use Rattle.wire_base.specs.Tally.{tally_lent}
 use Rattle.pair_judge.specs.declared.verdict.Verdict.{Verdict}
 use Rattle.pair_judge.specs.Judged.{IfTold, IsAcceptance, IsExact, IsRefusalWhere}

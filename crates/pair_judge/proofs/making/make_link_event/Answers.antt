@@ -1,4 +1,4 @@
-use Rattle.std.proofs.Common.{◌≡◌, ◌+◌, Bool, refl, ap, ◌∙◌, arith}
+use Rattle.std.proofs.Common.{◌+◌, Bool, refl, ap, ◌∙◌, arith}
 use Rattle.dna_model.specs.LinkUser.{view}
 use Rattle.dna_model.specs.WireStation.{WireStation, load}
 use Rattle.dna_model.specs.declared.link_tag.LinkTag.{LinkTag}

@@ -1,4 +1,4 @@
-use Rattle.std.proofs.Common.{◌≡◌, Ok, refl, sym, ap, subst, ◌∙◌}
+use Rattle.std.proofs.Common.{Ok, refl, sym, ap, subst, ◌∙◌}
 use Rattle.dna_packet.specs.Packet.{IsReturned, view}
 use Rattle.dna_packet.specs.declared.packet.Packet.{Packet}
 use Rattle.dna_model.specs.Content.{content_of}

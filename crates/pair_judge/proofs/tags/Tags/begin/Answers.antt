@@ -1,4 +1,4 @@
-use Rattle.std.proofs.Common.{◌≡◌, ◌≤◌, List, [], ◌∷◌, ◌++◌, sym, ap, subst, ◌∙◌, arith, rules}
+use Rattle.std.proofs.Common.{◌≡◌, ◌≤◌, List, [], ◌∷◌, ◌++◌, sym, ap, subst, ◌∙◌, arith}
 use Rattle.pair_judge.specs.Runs.{behind, tag_at}
 use Rattle.pair_judge.specs.declared.tags.TagRun.{TagRun}
 use Rattle.pair_judge.proofs.Runs.{before_end, behind_all, behind-append}
