@@ -8,7 +8,7 @@ use Rattle.capture.specs.declared.fault.CaptureFault.TheVariants.{Departs, Read,
 use Rattle.capture.specs.declared.fault.Departure.{Departure}
 use Rattle.capture.specs.declared.record.Record.{Record}
 use Rattle.capture.specs.Faulty.{CountsReads, is_read_fault}
-use Rattle.capture.specs.SoFar.{ReadSoFar, ToCome, TheEnd, so_far, IsReadSoFar, DepartsBehind, HeadDepartsAt}
+use Rattle.capture.specs.SoFar.{ToCome, TheEnd, so_far, IsReadSoFar, DepartsBehind, HeadDepartsAt}
 use Rattle.pair_judge.specs.declared.fault.JudgeFault.TheVariants as judge
 use Rattle.pair_judge.specs.declared.fault.TextFault.TheVariants as of_text
 use Rattle.ddcap.specs.declared.show.Ending.{Ending}

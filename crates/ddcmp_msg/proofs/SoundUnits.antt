@@ -1,5 +1,5 @@
 -- A unit that is known to be sound: what its fields alone tell.
-use Rattle.std.proofs.Common.{◌≡◌, ◌≢◌, ℕ, ◌+◌, ◌-◌, ◌≤◌, List, length, take, refl, sym, subst, arith}
+use Rattle.std.proofs.Common.{◌≡◌, ◌≢◌, ℕ, ◌+◌, ◌≤◌, List, length, take, refl, sym, subst, arith}
 use Rattle.std.specs.Prelude.{slice_index, slice_range, nat_eq, nat_lt}
 use Rattle.std.proofs.lemmas.Bool.{cond_both, ltb-false, eqb-true}
 use Rattle.wire_base.specs.BlockCheck.{is_good}

@@ -1,4 +1,4 @@
-use Rattle.std.proofs.Common.{◌≡◌, ℕ, [], refl, sym, subst, ◌∙◌, arith}
+use Rattle.std.proofs.Common.{ℕ, [], subst, ◌∙◌, arith}
 use Rattle.wire_base.specs.Tally.{tally_faults}
 use Rattle.capture.specs.Entries.{record_with}
 use Rattle.capture.specs.Faulty.{CountsReads, is_read_fault}
