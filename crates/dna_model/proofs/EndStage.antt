@@ -31,13 +31,13 @@ use Rattle.dna_model.specs.Stepped.{owing_more}
 use Rattle.dna_model.proofs.OrderlyRecords.{IsHigher, higher}
 use Rattle.dna_model.proofs.PlayedSteps.{PlayHalf}
 use Rattle.dna_model.proofs.PlayerChecked.{IsReady}
-use Rattle.dna_model.proofs.StationOwes.{timer_pays, none_owed}
+use Rattle.dna_model.proofs.OwedPays.{timer_pays, none_owed}
 use Rattle.dna_model.proofs.LinkTables.{user_did}
 use Rattle.dna_model.proofs.LinkAddresses.{LinkList, AreAddressed}
 use Rattle.dna_model.proofs.LinkPays.{OwedFits}
 use Rattle.dna_model.proofs.LinkFits.{EventFits, IsPlain}
 use Rattle.dna_model.proofs.LinkOwing.{turn_fits}
-use Rattle.dna_model.proofs.LinkDebts.{done_over}
+use Rattle.dna_model.proofs.LinkConfirms.{done_over}
 use Rattle.dna_model.proofs.SendMakes.{PacketsFit}
 use Rattle.dna_model.proofs.EndSends.{IsSound}
 use Rattle.dna_model.proofs.StationStage.{StationPays, unchanged_stage, start_stage, halt_stage, event_packets}

@@ -107,6 +107,7 @@ mod PlayerChecked
 mod PlayedOrder
 mod PlayedChecked
 pub mod StationPays
+pub mod OwedPays
 pub mod StationOwes
 pub mod FlowPays
 pub mod LinkPays
@@ -117,6 +118,7 @@ mod FlowDid
 mod LinkFits
 mod LinkOwing
 mod LinkDebts
+mod LinkConfirms
 pub mod UnitLines
 pub mod SendMakes
 pub mod EndSends
@@ -131,6 +133,7 @@ pub mod EndReceives
 pub mod ReceiptStage
 pub mod PlayedKnown
 pub mod EndUser
+mod UserDebts
 mod PlayRowSteps
 mod PlayRows
 mod PlayRowsStation

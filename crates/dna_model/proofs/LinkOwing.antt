@@ -48,7 +48,8 @@ same_is Ended Ended e = refl
 same_is p q e = absurd cc
 
 nothing_fits : (l : LinkOf TrueFlow) → OwedFits l nothing
-nothing_fits l = record { connect_ack = λ e. absurd cc; initiate = λ e. absurd cc; confirm = λ e. absurd cc; disconnect = λ e. absurd cc; data_ack = λ e. absurd cc; ahead = omega arith }
+nothing_fits l =
+    record { connect_ack = λ e. absurd cc; initiate = λ e. absurd cc; confirm = λ e. absurd cc; disconnect = λ e. absurd cc; data_ack = λ e. absurd cc; ahead = omega arith }
 
 still_fits : (l k : LinkOf TrueFlow) (o : LinkOwed) → IsOrdered l.flow → FlowMoves l.flow k.flow → OwedFits l o → OwedFits k (still_owed l k o)
 still_fits l k o ordered moves fits = go (same_phase l.port.phase k.port.phase) refl
@@ -57,13 +58,15 @@ still_fits l k o ordered moves fits = go (same_phase l.port.phase k.port.phase) 
     lowered_by = distance (variables_of l).acknowledged (variables_of k).acknowledged
 
     left : distance (variables_of l).acknowledged (variables_of k).acknowledged ≡ k.flow.acknowledged - l.flow.acknowledged
-    left = let few = ordered.few in let least = moves.least in let most = moves.most in distance_ahead l.flow.acknowledged k.flow.acknowledged least (omega arith)
+    left = let few = ordered.few in let least = moves.least in let most = moves.most in
+        distance_ahead l.flow.acknowledged k.flow.acknowledged least (omega arith)
 
     go : (b : Bool) → same_phase l.port.phase k.port.phase ≡ b →
         OwedFits k (owing.lowered (distance (variables_of l).acknowledged (variables_of k).acknowledged) (unless_left b o))
     go true same =
         let is = sym (same_is l.port.phase k.port.phase same) in
-        let d = left in let ahead = fits.ahead in let before = length-drop l.flow.acknowledged l.flow.given in let after = length-drop k.flow.acknowledged k.flow.given in
+        let d = left in let ahead = fits.ahead in let before = length-drop l.flow.acknowledged l.flow.given in
+        let after = length-drop k.flow.acknowledged k.flow.given in
         let least = moves.least in let given = moves.given in
         record {
           connect_ack = λ e. is ∙ fits.connect_ack e;
@@ -73,7 +76,8 @@ still_fits l k o ordered moves fits = go (same_phase l.port.phase k.port.phase) 
           data_ack = λ e. is ∙ fits.data_ack e;
           ahead = omega arith;
         }
-    go false same = record { connect_ack = λ e. absurd cc; initiate = λ e. absurd cc; confirm = λ e. absurd cc; disconnect = λ e. absurd cc; data_ack = λ e. absurd cc; ahead = omega arith }
+    go false same =
+        record { connect_ack = λ e. absurd cc; initiate = λ e. absurd cc; confirm = λ e. absurd cc; disconnect = λ e. absurd cc; data_ack = λ e. absurd cc; ahead = omega arith }
 
 -- the phase that each turn belongs to
 abbrev pub phase_of : Turn → Phase
@@ -85,22 +89,33 @@ phase_of DataAckTurn = Running
 phase_of SegmentTurn = Running
 
 pub turn_fits : (l : LinkOf TrueFlow) (o : LinkOwed) (turn : Turn) → l.port.phase ≡ phase_of turn → OwedFits l o → OwedFits l (with_turn turn true o)
-turn_fits l o ConnectAckTurn is f = record { connect_ack = λ e. is; initiate = f.initiate; confirm = f.confirm; disconnect = f.disconnect; data_ack = f.data_ack; ahead = f.ahead }
-turn_fits l o InitiateTurn is f = record { connect_ack = f.connect_ack; initiate = λ e. is; confirm = f.confirm; disconnect = f.disconnect; data_ack = f.data_ack; ahead = f.ahead }
-turn_fits l o ConfirmTurn is f = record { connect_ack = f.connect_ack; initiate = f.initiate; confirm = λ e. is; disconnect = f.disconnect; data_ack = f.data_ack; ahead = f.ahead }
-turn_fits l o DisconnectTurn is f = record { connect_ack = f.connect_ack; initiate = f.initiate; confirm = f.confirm; disconnect = λ e. is; data_ack = f.data_ack; ahead = f.ahead }
-turn_fits l o DataAckTurn is f = record { connect_ack = f.connect_ack; initiate = f.initiate; confirm = f.confirm; disconnect = f.disconnect; data_ack = λ e. is; ahead = f.ahead }
+turn_fits l o ConnectAckTurn is f =
+    record { connect_ack = λ e. is; initiate = f.initiate; confirm = f.confirm; disconnect = f.disconnect; data_ack = f.data_ack; ahead = f.ahead }
+turn_fits l o InitiateTurn is f =
+    record { connect_ack = f.connect_ack; initiate = λ e. is; confirm = f.confirm; disconnect = f.disconnect; data_ack = f.data_ack; ahead = f.ahead }
+turn_fits l o ConfirmTurn is f =
+    record { connect_ack = f.connect_ack; initiate = f.initiate; confirm = λ e. is; disconnect = f.disconnect; data_ack = f.data_ack; ahead = f.ahead }
+turn_fits l o DisconnectTurn is f =
+    record { connect_ack = f.connect_ack; initiate = f.initiate; confirm = f.confirm; disconnect = λ e. is; data_ack = f.data_ack; ahead = f.ahead }
+turn_fits l o DataAckTurn is f =
+    record { connect_ack = f.connect_ack; initiate = f.initiate; confirm = f.confirm; disconnect = f.disconnect; data_ack = λ e. is; ahead = f.ahead }
 turn_fits l o SegmentTurn is f = f
 
 -- what is sent is owed no more
 pub sent_turn_fits : (l : LinkOf TrueFlow) (o : LinkOwed) (turn : Turn) → (turn ≡ SegmentTurn → o.ahead + 1 ≤ length (variables_of l).outstanding) →
     OwedFits l o → OwedFits l (without_turn turn o)
-sent_turn_fits l o ConnectAckTurn more f = record { connect_ack = λ e. absurd cc; initiate = f.initiate; confirm = f.confirm; disconnect = f.disconnect; data_ack = f.data_ack; ahead = f.ahead }
-sent_turn_fits l o InitiateTurn more f = record { connect_ack = f.connect_ack; initiate = λ e. absurd cc; confirm = f.confirm; disconnect = f.disconnect; data_ack = f.data_ack; ahead = f.ahead }
-sent_turn_fits l o ConfirmTurn more f = record { connect_ack = f.connect_ack; initiate = f.initiate; confirm = λ e. absurd cc; disconnect = f.disconnect; data_ack = f.data_ack; ahead = f.ahead }
-sent_turn_fits l o DisconnectTurn more f = record { connect_ack = f.connect_ack; initiate = f.initiate; confirm = f.confirm; disconnect = λ e. absurd cc; data_ack = f.data_ack; ahead = f.ahead }
-sent_turn_fits l o DataAckTurn more f = record { connect_ack = f.connect_ack; initiate = f.initiate; confirm = f.confirm; disconnect = f.disconnect; data_ack = λ e. absurd cc; ahead = f.ahead }
-sent_turn_fits l o SegmentTurn more f = record { connect_ack = f.connect_ack; initiate = f.initiate; confirm = f.confirm; disconnect = f.disconnect; data_ack = f.data_ack; ahead = more refl }
+sent_turn_fits l o ConnectAckTurn more f =
+    record { connect_ack = λ e. absurd cc; initiate = f.initiate; confirm = f.confirm; disconnect = f.disconnect; data_ack = f.data_ack; ahead = f.ahead }
+sent_turn_fits l o InitiateTurn more f =
+    record { connect_ack = f.connect_ack; initiate = λ e. absurd cc; confirm = f.confirm; disconnect = f.disconnect; data_ack = f.data_ack; ahead = f.ahead }
+sent_turn_fits l o ConfirmTurn more f =
+    record { connect_ack = f.connect_ack; initiate = f.initiate; confirm = λ e. absurd cc; disconnect = f.disconnect; data_ack = f.data_ack; ahead = f.ahead }
+sent_turn_fits l o DisconnectTurn more f =
+    record { connect_ack = f.connect_ack; initiate = f.initiate; confirm = f.confirm; disconnect = λ e. absurd cc; data_ack = f.data_ack; ahead = f.ahead }
+sent_turn_fits l o DataAckTurn more f =
+    record { connect_ack = f.connect_ack; initiate = f.initiate; confirm = f.confirm; disconnect = f.disconnect; data_ack = λ e. absurd cc; ahead = f.ahead }
+sent_turn_fits l o SegmentTurn more f =
+    record { connect_ack = f.connect_ack; initiate = f.initiate; confirm = f.confirm; disconnect = f.disconnect; data_ack = f.data_ack; ahead = more refl }
 
 -- ---- all links
 
@@ -109,13 +124,15 @@ AllOwed links owed = (i : ℕ) (l : LinkOf TrueFlow) (o : LinkOwed) → slice_ge
 
 -- what became of each link that was there
 abbrev pub AllMove : LinkList → LinkList → Type 0
-AllMove links left = (i : ℕ) (l k : LinkOf TrueFlow) → slice_get links i ≡ Some l → slice_get left i ≡ Some k → IsOrdered l.flow × FlowMoves l.flow k.flow
+AllMove links left = (i : ℕ) (l k : LinkOf TrueFlow) → slice_get links i ≡ Some l → slice_get left i ≡ Some k →
+    IsOrdered l.flow × FlowMoves l.flow k.flow
 
 pub all_still : (before after : LinkList) (owed : List LinkOwed) → AllOwed before owed → AllMove before after →
     AllOwed after (all_still_owed before after owed)
 all_still before [] owed all move i k o at owes = absurd cc
 all_still [] (link ∷ later) owed all move zero k o at owes = subst (OwedFits k) (same_Some nothing o owes) (nothing_fits k)
-all_still [] (link ∷ later) owed all move (suc i) k o at owes = all_still [] later [] (λ i l o at owes. absurd cc) (λ i l k at then_at. absurd cc) i k o at owes
+all_still [] (link ∷ later) owed all move (suc i) k o at owes =
+    all_still [] later [] (λ i l o at owes. absurd cc) (λ i l k at then_at. absurd cc) i k o at owes
 all_still (was ∷ before) (link ∷ later) [] all move zero k o at owes = subst (OwedFits k) (same_Some nothing o owes) (nothing_fits k)
 all_still (was ∷ before) (link ∷ later) [] all move (suc i) k o at owes =
     all_still before later [] (λ i l o at owes. absurd cc) (λ i l k at then_at. move (suc i) l k at then_at) i k o at owes
@@ -156,7 +173,8 @@ stays f o = let g = o.given in record { given = omega arith; least = omega arith
 acknowledged_moves : (numbers : List ℕ) (f g : TrueFlow) → highest_given g ≡ highest_given f → FlowMoves f g →
     FlowMoves f (fold acknowledged_through g numbers)
 acknowledged_moves [] f g same m = m
-acknowledged_moves (n ∷ numbers) f g same m = go (λ h same m. acknowledged_moves numbers f h same m) (nat_lt g.acknowledged n && nat_le n (highest_given g)) refl
+acknowledged_moves (n ∷ numbers) f g same m =
+    go (λ h same m. acknowledged_moves numbers f h same m) (nat_lt g.acknowledged n && nat_le n (highest_given g)) refl
   where
     go : ((h : TrueFlow) → highest_given h ≡ highest_given f → FlowMoves f h → FlowMoves f (fold acknowledged_through h numbers)) → (b : Bool) →
         (nat_lt g.acknowledged n && nat_le n (highest_given g)) ≡ b →
@@ -168,7 +186,8 @@ acknowledged_moves (n ∷ numbers) f g same m = go (λ h same m. acknowledged_mo
     go later false e = later g same m
 
 segment_moves : (f : TrueFlow) (s : SegmentValue) (g : TrueFlow) → IsOrdered f → SegmentDid f s g → FlowMoves f g
-segment_moves f s g o (GivesIt last) = let e = length-append f.given (piece_of s ∷ []) in let m = o.given in record { given = omega arith; least = omega arith; most = m }
+segment_moves f s g o (GivesIt last) =
+    let e = length-append f.given (piece_of s ∷ []) in let m = o.given in record { given = omega arith; least = omega arith; most = m }
 segment_moves f s g o (GivesAgain last old) = let m = o.given in record { given = omega arith; least = omega arith; most = m }
 
 module _ (s : Links) (ordered : (i : ℕ) (l : LinkOf TrueFlow) → slice_get s.links i ≡ Some l → IsOrdered l.flow) where
@@ -176,15 +195,19 @@ module _ (s : Links) (ordered : (i : ℕ) (l : LinkOf TrueFlow) → slice_get s.
   Moves left = AllMove s.links left.links
 
   pub same_move : Moves s
-  same_move i l k at then_at = let o = ordered i l at in (o, subst (λ (x : LinkOf TrueFlow). FlowMoves l.flow x.flow) (same_Some l k (sym at ∙ then_at)) (stays l.flow o))
+  same_move i l k at then_at = let o = ordered i l at in
+      (o, subst (λ (x : LinkOf TrueFlow). FlowMoves l.flow x.flow) (same_Some l k (sym at ∙ then_at)) (stays l.flow o))
 
   set_move : (n : ℕ) (l k : LinkOf TrueFlow) → slice_get s.links n ≡ Some l → FlowMoves l.flow k.flow → Moves (changed n k s)
   set_move n l k there m i x y at then_at = go (at_set s.links n i k y then_at)
     where
       go : ((i ≡ n) × (k ≡ y)) ⊎ ((i ≡ n → ⊥) × (slice_get s.links i ≡ Some y)) → IsOrdered x.flow × FlowMoves x.flow y.flow
       go (inl e) =
-          let was : l ≡ x = same_Some l x (sym there ∙ ap (slice_get s.links) (sym e.0) ∙ at) in
-          (ordered i x at, subst (λ (z : LinkOf TrueFlow). FlowMoves z.flow y.flow) was (subst (λ (z : LinkOf TrueFlow). FlowMoves l.flow z.flow) e.1 m))
+          let was : l ≡ x = same_Some l x (sym there ∙ ap (slice_get s.links) (sym e.0) ∙ at) in (
+            ordered i x at,
+            subst (λ (z : LinkOf TrueFlow). FlowMoves z.flow y.flow) was
+                (subst (λ (z : LinkOf TrueFlow). FlowMoves l.flow z.flow) e.1 m),
+          )
       go (inr e) = same_move i x y at e.1
 
   push_move : (k : LinkOf TrueFlow) → Moves (begun k s)
@@ -196,13 +219,24 @@ module _ (s : Links) (ordered : (i : ℕ) (l : LinkOf TrueFlow) → slice_get s.
 
   pub user_moves : (others : LinkList) (most : ℕ) → AreAddressed s.links others most → (event : LinkEventValue) (left : Links) →
       IsHigher most (given_address event) → UserDid true_flows s event left → Moves left
-  user_moves others most addressed event left less (Opens address free) = subst (λ (x : Links). Moves (begun (opened true_flows address) x)) (sym (freed_same s others most addressed address less)) (push_move (opened true_flows address))
-  user_moves others most addressed event left less (Accepts far address number link found free) = let k = answered true_flows Confirming address link in subst (λ (x : Links). Moves (changed number k x)) (sym (freed_same s others most addressed address less)) (keeps_move number link k found.there refl)
-  user_moves others most addressed event left less (Rejects far address number link found free) = let k = answered true_flows Disconnecting address link in subst (λ (x : Links). Moves (changed number k x)) (sym (freed_same s others most addressed address less)) (keeps_move number link k found.there refl)
-  user_moves others most addressed event left less (HandsIn address message number link found may) = let m = stays link.flow (ordered number link found.there) in set_move number link _ found.there (record { given = m.given; least = m.least; most = m.most })
+  user_moves others most addressed event left less (Opens address free) =
+      subst (λ (x : Links). Moves (begun (opened true_flows address) x)) (sym (freed_same s others most addressed address less))
+      (push_move (opened true_flows address))
+  user_moves others most addressed event left less (Accepts far address number link found free) =
+      let k = answered true_flows Confirming address link in
+      subst (λ (x : Links). Moves (changed number k x)) (sym (freed_same s others most addressed address less))
+      (keeps_move number link k found.there refl)
+  user_moves others most addressed event left less (Rejects far address number link found free) =
+      let k = answered true_flows Disconnecting address link in
+      subst (λ (x : Links). Moves (changed number k x)) (sym (freed_same s others most addressed address less))
+      (keeps_move number link k found.there refl)
+  user_moves others most addressed event left less (HandsIn address message number link found may) =
+      let m = stays link.flow (ordered number link found.there) in
+      set_move number link _ found.there (record { given = m.given; least = m.least; most = m.most })
   user_moves others most addressed event left less (Delivers address message number link flow found is) =
       let m = stays link.flow (ordered number link found.there) in
-      set_move number link _ found.there (subst (FlowMoves link.flow) (sym (delivered_is message link.flow flow is).is) (record { given = m.given; least = m.least; most = m.most }))
+      set_move number link _ found.there (subst (FlowMoves link.flow) (sym (delivered_is message link.flow flow is).is)
+      (record { given = m.given; least = m.least; most = m.most }))
   user_moves others most addressed event left less (Closes address number link found connected) = keeps_move number link _ found.there refl
 
   pub sent_moves : (m : NspValue) (made : Sent TrueFlow Numbers) → SentDid true_flows s m made → Moves made.links
@@ -210,7 +244,8 @@ module _ (s : Links) (ordered : (i : ℕ) (l : LinkOf TrueFlow) → slice_get s.
   sent_moves m made (Stays number link none there) = same_move
   sent_moves m made (EndsCalled far number link none found) = keeps_move number link _ found.there refl
   sent_moves m made (Segment segment number link sent is found run does) =
-      set_move number link _ found.there (segment_moves link.flow segment sent.flow (ordered number link found.there) (segment_did link.flow link.segsize segment sent does))
+      set_move number link _ found.there (segment_moves link.flow segment sent.flow (ordered number link found.there)
+      (segment_did link.flow link.segsize segment sent does))
   sent_moves m made (Acks dst src acks number link sent is found run does) =
       let d = acks_did link.flow acks sent does in let m = stays link.flow (ordered number link found.there) in
       set_move number link _ found.there (subst (FlowMoves link.flow) (sym d.1) (record { given = m.given; least = m.least; most = m.most }))
@@ -225,5 +260,6 @@ module _ (s : Links) (ordered : (i : ℕ) (l : LinkOf TrueFlow) → slice_get s.
       let k = acknowledged_moves truth.known.acknowledgements link.flow link.flow refl (stays link.flow (ordered number link found.there)) in
       set_move number link _ found.there (record { given = k.given; least = k.least; most = k.most })
   came_moves rule m truth left (TakesAcks own far dst src acks number link is found may) =
-      set_move number link _ found.there (acknowledged_moves truth.known.acknowledgements link.flow link.flow refl (stays link.flow (ordered number link found.there)))
+      set_move number link _ found.there (acknowledged_moves truth.known.acknowledgements link.flow link.flow refl
+      (stays link.flow (ordered number link found.there)))
   came_moves rule m truth left (TakesOther own far number link found may) = keeps_move number link _ found.there refl

@@ -20,7 +20,8 @@ use Rattle.dna_model.proofs.LinkAddresses.{LinkList, AreAddressed}
 use Rattle.dna_model.proofs.LinkPays.{OwedFits}
 use Rattle.dna_model.proofs.LinkFits.{AllFit, EventFits, IsPlain, user_fits, sent_fits, came_fits}
 use Rattle.dna_model.proofs.LinkOwing.{AllOwed, Moves, turn_fits, all_still, one_changed, same_move, user_moves, sent_moves, came_moves}
-use Rattle.dna_model.proofs.LinkDebts.{DebtFits, IsDone, user_done, sent_done, came_done}
+use Rattle.dna_model.proofs.LinkConfirms.{IsDone, user_done, sent_done, came_done}
+use Rattle.dna_model.proofs.LinkDebts.{DebtFits}
 use Rattle.dna_model.proofs.EndSends.{IsSmall}
 
 -- a DC that is owed

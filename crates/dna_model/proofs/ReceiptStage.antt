@@ -30,7 +30,8 @@ use Rattle.dna_model.proofs.OnTop.{IsMet, NotKept, KeptNone, KeptOne}
 use Rattle.dna_model.proofs.LinkTables.{looked, checked, arrived_did}
 use Rattle.dna_model.proofs.LinkMessages.{IsAddressed}
 use Rattle.dna_model.proofs.LinkFits.{IsPlain}
-use Rattle.dna_model.proofs.LinkDebts.{end_done, came_debt}
+use Rattle.dna_model.proofs.LinkConfirms.{end_done}
+use Rattle.dna_model.proofs.LinkDebts.{came_debt}
 use Rattle.dna_model.proofs.ReceiptMakes.{came_left}
 use Rattle.dna_model.proofs.StationStage.{sound_stage, header_stage, data_bad_stage, arrived_packets}
 use Rattle.dna_model.proofs.LinkStage.{ConfirmHolds, LinkHolds, left_links, same_holds, came_holds, debt_holds}

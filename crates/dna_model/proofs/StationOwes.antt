@@ -1,5 +1,5 @@
 -- What a station of the player owes stays payable, whatever its user does, whatever it sends of what is owed, and whatever comes.
-use Rattle.std.proofs.Common.{◌≡◌, ℕ, ◌+◌, Bool, true, false, ◌&&◌, not, cond, eqb, nat_lt, nat_le, Option, Some, None, List, [], ◌∷◌, length, fold, refl, sym, ap, ap₂, ◌∙◌, subst, arith, lt-ltb}
+use Rattle.std.proofs.Common.{◌≡◌, ℕ, ◌+◌, Bool, true, false, ◌&&◌, not, cond, eqb, nat_lt, nat_le, Option, Some, None, List, [], ◌∷◌, length, fold, refl, sym, ap, ap₂, ◌∙◌, subst}
 use Rattle.std.specs.Prelude.{slice_get}
 use Rattle.std.proofs.lemmas.Bool.{and_parts}
 use Rattle.ddcmp_msg.specs.Message.{MessageValue, Data, Nak, Rep, Strt}
@@ -12,136 +12,20 @@ use Rattle.dna_model.specs.declared.state.State.{State}
 use Rattle.dna_model.specs.declared.state.State.TheVariants.{Halted, Istrt, Astrt, Running}
 use Rattle.dna_model.specs.declared.state.StationEvent.TheVariants as events
 use Rattle.dna_model.specs.declared.tag.Tag.{Tag}
-use Rattle.dna_model.specs.Causes.{Causes, with_cause, has_cause, without_cause}
+use Rattle.dna_model.specs.Causes.{with_cause, has_cause}
 use Rattle.dna_model.specs.Table.{Effect, Respond, TakePacket, AnswerRep, row, counts_damage}
 use Rattle.dna_model.specs.Book.{Sound, HeaderBad, DataBad, num_of, resp_of, has_packet, damaged_by}
 use Rattle.dna_model.specs.Station.{wire}
 use Rattle.dna_model.specs.WireStation.{HeldPacket, StationVariables, WireStation, wire_after_event}
 use Rattle.dna_model.specs.WireBook.{acknowledges, wire_acknowledged_by, wire_responded, wire_is_next, wire_does, wire_book, wire_after_sending, wire_after_arrival}
-use Rattle.dna_model.specs.Owed.{Owed, nothing, Debt, OwesStrt, OwesStack, OwesAck, OwesRep, OwesNak, with_nak, with_debt, data_debt, rep_debt, damage_debt, same_state, unless_left, all_acknowledged, timer_debt, can_take, message_debt, still_owed}
+use Rattle.dna_model.specs.Owed.{Owed, nothing, Debt, OwesRep, OwesNak, with_debt, data_debt, rep_debt, damage_debt, same_state, can_take, message_debt, still_owed}
 use Rattle.dna_model.specs.NextSent.{LinkEnd, Choice, SendStrt, SendStack, SendNak, SendRep, SendAgain, SendNew, SendAck, after_choice}
 use Rattle.dna_model.specs.Compose.{no_flags, data_with, packet_again, new_data, packet_with, link_message, message_of}
 use Rattle.dna_model.proofs.Effects.{kept_by_all}
-use Rattle.dna_model.proofs.StationPays.{owes_nak, IsPayable}
-
--- ---- causes
-
--- each that was open is open
-abbrev pub StayOpen : Causes → Causes → Type 0
-StayOpen c d = (reason : NakReason) → has_cause reason c ≡ true → has_cause reason d ≡ true
-
-one_more : (added : NakReason) (c : Causes) → StayOpen c (with_cause added c)
-one_more HeaderCheck c HeaderCheck e = lt-ltb 0 (c.header_check + 1) (omega arith)
-one_more DataCheck c DataCheck e = lt-ltb 0 (c.data_check + 1) (omega arith)
-one_more RepResponse c RepResponse e = lt-ltb 0 (c.rep_response + 1) (omega arith)
-one_more NoBuffer c NoBuffer e = lt-ltb 0 (c.no_buffer + 1) (omega arith)
-one_more added c reason e = e
-
-now_open : (reason : NakReason) (c : Causes) → has_cause reason (with_cause reason c) ≡ true
-now_open HeaderCheck c = lt-ltb 0 (c.header_check + 1) (omega arith)
-now_open DataCheck c = lt-ltb 0 (c.data_check + 1) (omega arith)
-now_open RepResponse c = lt-ltb 0 (c.rep_response + 1) (omega arith)
-now_open NoBuffer c = lt-ltb 0 (c.no_buffer + 1) (omega arith)
-now_open reason c = refl
-
--- ---- NAKs among what is owed
-
--- the rest is aside
-aside : (reason : NakReason) (owed : Owed) (strt stack ack rep : Bool) →
-    owes_nak reason (record owed { strt = strt; stack = stack; ack = ack; rep = rep }) ≡ owes_nak reason owed
-aside HeaderCheck owed strt stack ack rep = refl
-aside reason owed strt stack ack rep = refl
-
-pub none_owed : (reason : NakReason) → owes_nak reason nothing ≡ false
-none_owed HeaderCheck = refl
-none_owed reason = refl
-
-nak_left : (reason : NakReason) (b : Bool) (owed : Owed) → owes_nak reason (unless_left b owed) ≡ true → owes_nak reason owed ≡ true
-nak_left reason true owed e = e
-nak_left reason false owed e = let f = none_owed reason in absurd cc
-
--- one that is sent uses up a cause of its own reason alone
-used_up : (used reason : NakReason) (c : Causes) (owed : Owed) → (owes_nak reason owed ≡ true → has_cause reason c ≡ true) →
-    owes_nak reason (with_nak used false owed) ≡ true → has_cause reason (without_cause used c) ≡ true
-used_up HeaderCheck HeaderCheck c owed p e = absurd cc
-used_up DataCheck DataCheck c owed p e = absurd cc
-used_up RepResponse RepResponse c owed p e = absurd cc
-used_up NoBuffer NoBuffer c owed p e = absurd cc
-used_up used reason c owed p e = p e
-
--- one more
-nak_added : (added reason : NakReason) (c : Causes) (owed : Owed) → has_cause added c ≡ true →
-    (owes_nak reason owed ≡ true → has_cause reason c ≡ true) → owes_nak reason (with_nak added true owed) ≡ true → has_cause reason c ≡ true
-nak_added HeaderCheck HeaderCheck c owed has p e = has
-nak_added DataCheck DataCheck c owed has p e = has
-nak_added RepResponse RepResponse c owed has p e = has
-nak_added NoBuffer NoBuffer c owed has p e = has
-nak_added added reason c owed has p e = p e
-
-rep_aside : (reason : NakReason) (b : Bool) (owed : Owed) → (with_nak reason b owed).rep ≡ owed.rep
-rep_aside HeaderCheck b owed = refl
-rep_aside reason b owed = refl
-
-not_true : (b : Bool) → not b ≡ true → b ≡ false
-not_true true e = absurd cc
-not_true false e = refl
+use Rattle.dna_model.proofs.StationPays.{IsPayable}
+use Rattle.dna_model.proofs.OwedPays.{StayOpen, one_more, now_open, used_up, rep_aside, still, lessened, debt_pays}
 
 module _ {L : Type 0} where
-  -- ---- after every record
-
-  still : (k v : StationVariables L) (c d : Causes) (owed : Owed) → (same_state k.state v.state ≡ true → StayOpen c d) → IsPayable k c owed →
-      IsPayable v d (still_owed k v owed)
-  still k v c d owed has p = record { nak = λ reason e. go (same_state k.state v.state) refl reason (sym (naks reason) ∙ e); rep = λ e. not_true _ (and_parts _ _ e).1 }
-    where
-      left : Owed
-      left = unless_left (same_state k.state v.state) owed
-
-      naks : (reason : NakReason) → owes_nak reason (still_owed k v owed) ≡ owes_nak reason (unless_left (same_state k.state v.state) owed)
-      naks reason = let left = unless_left (same_state k.state v.state) owed in aside reason left left.strt left.stack left.ack (left.rep && not (all_acknowledged v))
-
-      go : (b : Bool) → same_state k.state v.state ≡ b → (reason : NakReason) → owes_nak reason (unless_left b owed) ≡ true →
-          has_cause reason d ≡ true
-      go true same reason e = has same reason (p.nak reason e)
-      go false same reason e = let f = none_owed reason in absurd cc
-
-  -- with less of the rest
-  lessened : (v : StationVariables L) (d : Causes) (owed : Owed) (strt stack ack rep : Bool) → (rep ≡ true → owed.rep ≡ true) → IsPayable v d owed →
-      IsPayable v d (record owed { strt = strt; stack = stack; ack = ack; rep = rep })
-  lessened v d owed strt stack ack rep less p = record { nak = λ reason e. p.nak reason (sym (aside reason owed strt stack ack rep) ∙ e); rep = λ e. p.rep (less e) }
-
-  -- with one thing more
-  pub debt_pays : (v : StationVariables L) (d : Causes) (owed : Owed) (debt : Option Debt) →
-      ((reason : NakReason) → debt ≡ Some (OwesNak reason) → has_cause reason d ≡ true) → (debt ≡ Some OwesRep → all_acknowledged v ≡ false) →
-      IsPayable v d owed → IsPayable v d (with_debt debt owed)
-  debt_pays v d owed None has rep p = p
-  debt_pays v d owed (Some OwesStrt) has rep p = lessened v d owed true owed.stack owed.ack owed.rep (λ e. e) p
-  debt_pays v d owed (Some OwesStack) has rep p = lessened v d owed owed.strt true owed.ack owed.rep (λ e. e) p
-  debt_pays v d owed (Some OwesAck) has rep p = lessened v d owed owed.strt owed.stack true owed.rep (λ e. e) p
-  debt_pays v d owed (Some OwesRep) has rep p = record { nak = λ reason e. p.nak reason (sym (aside reason owed owed.strt owed.stack owed.ack true) ∙ e); rep = λ e. rep refl }
-  debt_pays v d owed (Some (OwesNak reason)) has rep p = record { nak = λ other e. nak_added reason other d owed (has reason refl) (p.nak other) e; rep = λ e. p.rep (sym (rep_aside reason true owed) ∙ e) }
-
-  -- ---- the timer runs out
-
-  pub timer_pays : (k : StationVariables L) (c : Causes) (owed : Owed) (state : State) → IsPayable k c owed →
-      IsPayable k c (with_debt (timer_debt state k) owed)
-  timer_pays k c owed state p = debt_pays k c owed (timer_debt state k) (λ reason e. never_nak state reason e) (λ e. outstanding state e) p
-    where
-      no_nak : (b : Bool) (reason : NakReason) → ◌≡◌ {A = Option Debt} (Some (cond b OwesAck OwesRep)) (Some (OwesNak reason)) → ⊥
-      no_nak true reason e = cc
-      no_nak false reason e = cc
-
-      never_nak : (state : State) (reason : NakReason) → timer_debt state k ≡ Some (OwesNak reason) → has_cause reason c ≡ true
-      never_nak Running reason e = absurd (no_nak (all_acknowledged k) reason e)
-      never_nak state reason e = absurd cc
-
-      is_rep : (b : Bool) → ◌≡◌ {A = Option Debt} (Some (cond b OwesAck OwesRep)) (Some OwesRep) → b ≡ false
-      is_rep true e = absurd cc
-      is_rep false e = refl
-
-      outstanding : (state : State) → timer_debt state k ≡ Some OwesRep → all_acknowledged k ≡ false
-      outstanding Running e = is_rep (all_acknowledged k) e
-      outstanding state e = absurd cc
-
   -- ---- the user
 
   module _ (w : WireStation L) (owed : Owed) (p : IsPayable w.variables w.causes owed) where
@@ -152,7 +36,8 @@ module _ {L : Type 0} where
     Pays v o = IsPayable v.variables v.causes o
 
     pub start_pays : k.state ≡ Halted → Pays (wire_after_event w events.Start) (still_owed k (wire_after_event w events.Start).variables owed)
-    start_pays is = still k (wire_after_event w events.Start).variables w.causes _ owed (λ e. let f = ap (λ (s : State). same_state s Istrt) is in absurd cc) p
+    start_pays is = still k (wire_after_event w events.Start).variables w.causes _ owed
+        (λ e. let f = ap (λ (s : State). same_state s Istrt) is in absurd cc) p
 
     pub halt_pays : Pays (wire_after_event w events.Halt) (still_owed k (wire_after_event w events.Halt).variables owed)
     halt_pays = still k (wire_after_event w events.Halt).variables w.causes w.causes owed (λ same reason e. e) p
@@ -168,7 +53,11 @@ module _ {L : Type 0} where
     nak_pays reason flags resp =
         let o = still_owed k k owed in
         let q = lessened k w.causes o o.strt o.stack false o.rep (λ e. e) same_pays in
-        record { nak = λ other e. used_up reason other w.causes (record o { ack = false }) (q.nak other) e; rep = λ e. q.rep (sym (rep_aside reason false (record o { ack = false })) ∙ e) }
+        record {
+          nak = λ other e. used_up reason other w.causes (record o { ack = false }) (q.nak other) e;
+          rep = λ e. q.rep
+              (sym (rep_aside reason false (record o { ack = false })) ∙ e);
+        }
 
     data_pays : (flags : Flags) (resp num : ℕ) (body : List ℕ) →
         let v = wire_after_sending w (Data flags resp num body) in Pays v (record (still_owed k v.variables owed) { ack = false })
@@ -196,13 +85,20 @@ module _ {L : Type 0} where
       new_pays head m all (Some message) e = pays_same (data_with k (packet_with head message)) m (all (packet_with head message)) e
 
     pub choice_pays : (c : Choice) (head : Head) (links : List LinkEnd) (m : MessageValue) → message_of c head k links ≡ Some m → PaysAfter c m
-    choice_pays SendStrt head links m e = let o = still_owed k k owed in pays_same SendStrt _ m (lessened k w.causes o false o.stack o.ack o.rep (λ r. r) same_pays) e
-    choice_pays SendStack head links m e = let o = still_owed k k owed in pays_same SendStack _ m (lessened k w.causes o o.strt false o.ack o.rep (λ r. r) same_pays) e
+    choice_pays SendStrt head links m e =
+        let o = still_owed k k owed in pays_same SendStrt _ m (lessened k w.causes o false o.stack o.ack o.rep (λ r. r) same_pays) e
+    choice_pays SendStack head links m e =
+        let o = still_owed k k owed in pays_same SendStack _ m (lessened k w.causes o o.strt false o.ack o.rep (λ r. r) same_pays) e
     choice_pays (SendNak reason) head links m e = pays_same (SendNak reason) _ m (nak_pays reason no_flags k.received) e
-    choice_pays SendRep head links m e = let o = still_owed k k owed in pays_same SendRep _ m (lessened k w.causes o o.strt o.stack o.ack false (λ r. absurd cc) same_pays) e
-    choice_pays SendAgain head links m e = again_pays SendAgain m (λ body. data_pays no_flags k.received (wire (k.acknowledged + 1 + k.ahead)) body) (slice_get k.held k.ahead) e
-    choice_pays (SendNew message) head links m e = new_pays (SendNew message) head m (λ body. data_pays no_flags k.received (wire (k.acknowledged + 1 + k.ahead)) body) (link_message message links) e
-    choice_pays SendAck head links m e = let o = still_owed k k owed in pays_same SendAck _ m (lessened k w.causes o o.strt o.stack false o.rep (λ r. r) same_pays) e
+    choice_pays SendRep head links m e = let o = still_owed k k owed in
+        pays_same SendRep _ m (lessened k w.causes o o.strt o.stack o.ack false (λ r. absurd cc) same_pays) e
+    choice_pays SendAgain head links m e =
+        again_pays SendAgain m (λ body. data_pays no_flags k.received (wire (k.acknowledged + 1 + k.ahead)) body) (slice_get k.held k.ahead) e
+    choice_pays (SendNew message) head links m e =
+        new_pays (SendNew message) head m (λ body. data_pays no_flags k.received (wire (k.acknowledged + 1 + k.ahead)) body)
+        (link_message message links) e
+    choice_pays SendAck head links m e = let o = still_owed k k owed in
+        pays_same SendAck _ m (lessened k w.causes o o.strt o.stack false o.rep (λ r. r) same_pays) e
 
     -- ---- something comes
 
@@ -226,11 +122,13 @@ module _ {L : Type 0} where
       effect_opens v effect reason e = e
 
       all_open : (effects : List Effect) (v : WireStation L) → StayOpen v.causes (fold comes v effects).causes
-      all_open effects v reason e = kept_by_all (λ (x : WireStation L). has_cause reason x.causes ≡ true) comes (λ x effect f. effect_opens x effect reason f) effects v e
+      all_open effects v reason e = kept_by_all (λ (x : WireStation L). has_cause reason x.causes ≡ true) comes
+          (λ x effect f. effect_opens x effect reason f) effects v e
 
       -- a packet that is the next and is not kept opens one
       response_same : (v : WireStation L) → (wire_responded v.variables (resp_of m)).received ≡ v.variables.received
-      response_same v = go (nat_lt 0 (acknowledges v.variables (resp_of m)) && nat_le (acknowledges v.variables (resp_of m)) (length v.variables.held))
+      response_same v = go (nat_lt 0 (acknowledges v.variables (resp_of m)) && nat_le (acknowledges v.variables (resp_of m))
+          (length v.variables.held))
         where
           go : (b : Bool) → (wire_acknowledged_by b v.variables (resp_of m)).received ≡ v.variables.received
           go true = refl
@@ -241,7 +139,8 @@ module _ {L : Type 0} where
       not_kept_opens none [] v has next = absurd cc
       not_kept_opens none (TakePacket ∷ later) v has next =
           all_open later (comes v TakePacket) NoBuffer
-          (ap (λ (b : Bool). has_cause NoBuffer (cond b (with_cause NoBuffer v.causes) v.causes)) (ap₂ (λ (x y : Bool). x && not y) next none) ∙ now_open NoBuffer v.causes)
+          (ap (λ (b : Bool). has_cause NoBuffer (cond b (with_cause NoBuffer v.causes) v.causes)) (ap₂ (λ (x y : Bool). x && not y) next none)
+          ∙ now_open NoBuffer v.causes)
       not_kept_opens none (Respond ∷ later) v has next =
           not_kept_opens none later (comes v Respond) has (ap (λ (n : ℕ). eqb (num_of m) (wire (n + 1))) (response_same v) ∙ next)
       not_kept_opens none (effect ∷ later) v has next = not_kept_opens none later (comes v effect) has next
@@ -268,8 +167,10 @@ module _ {L : Type 0} where
     message_opens : (state : State) → k.state ≡ state → (m : MessageValue) (tag : Tag) (kept : Bool) (reason : NakReason) →
         message_debt state k m kept ≡ Some (OwesNak reason) → Open m tag kept reason
     message_opens Istrt is (Strt flags) tag kept reason e = absurd cc
-    message_opens Astrt is (Data flags resp num body) tag kept reason e = let m = Data flags resp num body in data_opens m tag kept (can_take k m) kept reason (taken_opens m tag kept) e
-    message_opens Running is (Data flags resp num body) tag kept reason e = let m = Data flags resp num body in data_opens m tag kept (can_take k m) kept reason (taken_opens m tag kept) e
+    message_opens Astrt is (Data flags resp num body) tag kept reason e =
+        let m = Data flags resp num body in data_opens m tag kept (can_take k m) kept reason (taken_opens m tag kept) e
+    message_opens Running is (Data flags resp num body) tag kept reason e =
+        let m = Data flags resp num body in data_opens m tag kept (can_take k m) kept reason (taken_opens m tag kept) e
     message_opens Running is (Rep flags num) tag kept reason e = rep_opens (Rep flags num) tag kept (eqb num k.received) reason
         (λ other. ap (λ (s : State). has_cause RepResponse (fold (comes (Rep flags num) tag kept) w (row s (Rep flags num)).effects).causes) is
         ∙ ap (λ (b : Bool). has_cause RepResponse (cond b w.causes (with_cause RepResponse w.causes))) other ∙ now_open RepResponse w.causes) e
@@ -299,7 +200,8 @@ module _ {L : Type 0} where
         let v = wire_after_arrival w (Sound m tag) kept in Pays v (with_debt (message_debt k.state k m kept) (still_owed k v.variables owed))
     sound_pays m tag kept =
         let v = wire_after_arrival w (Sound m tag) kept in
-        debt_pays v.variables v.causes (still_owed k v.variables owed) (message_debt k.state k m kept) (λ reason e. message_opens k.state refl m tag kept reason e) (λ e. absurd (message_no_rep k.state m kept e))
+        debt_pays v.variables v.causes (still_owed k v.variables owed) (message_debt k.state k m kept)
+        (λ reason e. message_opens k.state refl m tag kept reason e) (λ e. absurd (message_no_rep k.state m kept e))
         (still k v.variables w.causes v.causes owed (λ same reason e. all_open m tag kept (row k.state m).effects w reason e) p)
 
     -- damage
@@ -309,14 +211,18 @@ module _ {L : Type 0} where
       where
         go : (state : State) (b : Bool) → b ≡ counts_damage state →
             let v = cond b (wire_book.counts reason w) w in Pays v (with_debt (damage_debt state reason) (still_owed k v.variables owed))
-        go Running true e = debt_pays k (with_cause reason w.causes) (still_owed k k owed) (Some (OwesNak reason)) (λ other f. let same : reason ≡ other = cc in subst (λ (r : NakReason). has_cause r (with_cause reason w.causes) ≡ true) same (now_open reason w.causes)) (λ f. absurd cc)
+        go Running true e = debt_pays k (with_cause reason w.causes) (still_owed k k owed) (Some (OwesNak reason))
+            (λ other f. let same : reason ≡ other = cc in
+            subst (λ (r : NakReason). has_cause r (with_cause reason w.causes) ≡ true) same (now_open reason w.causes)) (λ f. absurd cc)
             (still k k w.causes (with_cause reason w.causes) owed (λ same other f. one_more reason w.causes other f) p)
         go Running false e = absurd cc
         go state true e = absurd cc
         go state false e = same_pays
 
-    pub header_pays : let v = wire_after_arrival w HeaderBad false in Pays v (with_debt (damage_debt k.state HeaderCheck) (still_owed k v.variables owed))
+    pub header_pays : let v = wire_after_arrival w HeaderBad false in
+        Pays v (with_debt (damage_debt k.state HeaderCheck) (still_owed k v.variables owed))
     header_pays = damaged_pays HeaderCheck k.state refl
 
-    pub data_bad_pays : let v = wire_after_arrival w DataBad false in Pays v (with_debt (damage_debt k.state DataCheck) (still_owed k v.variables owed))
+    pub data_bad_pays : let v = wire_after_arrival w DataBad false in
+        Pays v (with_debt (damage_debt k.state DataCheck) (still_owed k v.variables owed))
     data_bad_pays = damaged_pays DataCheck k.state refl
