@@ -134,6 +134,9 @@ pub mod ReceiptStage
 pub mod PlayedKnown
 pub mod EndUser
 mod UserDebts
+mod UserStages
+mod UnitFacts
+mod HandedLined
 mod PlayRowSteps
 mod PlayRows
 mod PlayRowsStation

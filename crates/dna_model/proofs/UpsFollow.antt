@@ -75,7 +75,7 @@ pub record DeliversNext (f : TrueFlow) (message : List ℕ) (rest : List (List �
   pub does : delivers message f ≡ Some flow
   pub left : complete [] (drop flow.passed flow.received) ≡ rest
 
-delivers_next : (f : TrueFlow) (message : List ℕ) (rest : List (List ℕ)) → complete [] (drop f.passed f.received) ≡ message ∷ rest →
+pub delivers_next : (f : TrueFlow) (message : List ℕ) (rest : List (List ℕ)) → complete [] (drop f.passed f.received) ≡ message ∷ rest →
     DeliversNext f message rest
 delivers_next f message rest e =
     let n = next_whole [] (drop f.passed f.received) message rest e in
