@@ -50,6 +50,8 @@ pub record Stage (e : End) : Type 0 where
   -- of all messages that its links ever sent
   pub plain : (k : ℕ) (u : SentMessage) → slice_get e.half.state.station.messages k ≡ Some (Some u) → IsPlain u.packet.message
   pub few : e.addresses ≤ MAX_LINK
+  -- what came lies before the next unit on the line
+  pub ahead : e.half.state.front ≤ e.passed
 
 -- before any step
 pub new_stage : (head : Head) → Stage (new_end head)
@@ -59,6 +61,7 @@ new_stage head = record {
   links = record { fit = λ i l at. absurd cc; owes = λ i l o at owes. absurd cc; confirms = λ i confirm at. absurd cc };
   plain = λ k u at. absurd cc;
   few = omega arith;
+  ahead = omega arith;
 }
 
 abbrev pub HasNumbers : LinkList → Type 0
@@ -126,6 +129,7 @@ module _ (e : End) (h : Stage e) (numbers : HasNumbers (links_of e.half).links) 
     links = user_holds (links_of e.half) e.addresses e.links_owed h.links ordered others addressed event left fits less (user_did true_flows (links_of e.half) left event does_it);
     plain = h.plain;
     few = few;
+    ahead = h.ahead;
   }
 
   -- ---- the user of the station
@@ -140,6 +144,7 @@ module _ (e : End) (h : Stage e) (numbers : HasNumbers (links_of e.half).links) 
     links = same_holds (links_of e.half) e.addresses e.links_owed h.links ordered;
     plain = h.plain;
     few = h.few;
+    ahead = h.ahead;
   }
 
   pub halt_event_stage : Stage (after_record e (with_station events.Halt))
@@ -149,6 +154,7 @@ module _ (e : End) (h : Stage e) (numbers : HasNumbers (links_of e.half).links) 
     links = same_holds (links_of e.half) e.addresses e.links_owed h.links ordered;
     plain = h.plain;
     few = h.few;
+    ahead = h.ahead;
   }
 
 -- ---- timers
@@ -162,6 +168,7 @@ module _ (e : End) (h : Stage e) where
     links = h.links;
     plain = h.plain;
     few = h.few;
+    ahead = h.ahead;
   })
 
   retried_fits : (l : LinkOf TrueFlow) (o : LinkOwed) (phase : Phase) → l.port.phase ≡ phase → (change : LinkOwed → LinkOwed) →
@@ -182,4 +189,5 @@ module _ (e : End) (h : Stage e) where
         (λ l o at owes. let same = same_Some link l (sym there ∙ at) in retried_fits l o link.port.phase (ap (λ (x : LinkOf TrueFlow). x.port.phase) (sym same)) change is (h.links.owes number l o at owes));
     plain = h.plain;
     few = h.few;
+    ahead = h.ahead;
   }

@@ -137,6 +137,7 @@ mod UserDebts
 mod UserStages
 mod UnitFacts
 mod HandedLined
+mod SidesLined
 mod PlayRowSteps
 mod PlayRows
 mod PlayRowsStation

@@ -129,36 +129,39 @@ module _ (own other : End) (h : Stage own) (theirs : Stage other) (known : Known
 
     -- ---- the end after a unit as it was sent
 
-    pub unit_stage : (hint : ℕ) (kept : Bool) (links : Links) (there : slice_get other.half.sent hint ≡ Some unit) (ahead : own.half.state.front ≤ hint) →
+    pub unit_stage : (kept : Bool) (links : Links) (there : slice_get other.half.sent own.passed ≡ Some unit) (ahead : own.half.state.front ≤ own.passed) →
         reading unit.bytes ≡ read_as.Sound unit.message → IsWithin (station_of own.half) unit.message unit.known.station →
         (kept ≡ true → content (body_of unit.message) ≡ Ok (packet_in unit.known.carried)) → IsMet by_bytes s unit.known.carried kept links →
-        Stage (after_receipt own (reading unit.bytes) kept (after_record own (came_left own.half other.half hint unit there ahead (Sound unit.message unit.known) kept links)))
-    unit_stage hint kept links there ahead told within is_read met_as =
-        subst (λ (r : ReadingValue). Stage (after_receipt own r kept (after_record own (came_left own.half other.half hint unit there ahead (Sound unit.message unit.known) kept links)))) (sym told) (record {
+        Stage (after_receipt own (reading unit.bytes) kept (after_record own (came_left own.half other.half own.passed unit there ahead (Sound unit.message unit.known) kept links)))
+    unit_stage kept links there ahead told within is_read met_as =
+        subst (λ (r : ReadingValue). Stage (after_receipt own r kept (after_record own (came_left own.half other.half own.passed unit there ahead (Sound unit.message unit.known) kept links)))) (sym told) (record {
           pays = sound_stage (station_of own.half) own.owed h.pays known.bounded.ordered unit.message unit.known.station kept within;
           packets = arrived_packets (station_of own.half) (after_arrival (station_of own.half) (Sound unit.message unit.known.station) kept) (arrival_packets (station_of own.half) (Sound unit.message unit.known.station) kept) h.packets;
           links = links_stage kept links is_read met_as;
           plain = h.plain;
           few = h.few;
+          ahead = omega arith;
         })
 
   -- ---- the end after a damaged one
 
-  module _ (unit : LayersUnit) (hint : ℕ) (there : slice_get other.half.sent hint ≡ Some unit) (ahead : own.half.state.front ≤ hint) where
-    pub header_bad_stage : Stage (after_receipt own read_as.HeaderBad false (after_record own (came_left own.half other.half hint unit there ahead HeaderBad false s)))
+  module _ (unit : LayersUnit) (there : slice_get other.half.sent own.passed ≡ Some unit) (ahead : own.half.state.front ≤ own.passed) where
+    pub header_bad_stage : Stage (after_receipt own read_as.HeaderBad false (after_record own (came_left own.half other.half own.passed unit there ahead HeaderBad false s)))
     header_bad_stage = record {
       pays = header_stage (station_of own.half) own.owed h.pays;
       packets = arrived_packets (station_of own.half) (after_arrival (station_of own.half) HeaderBad false) (arrival_packets (station_of own.half) HeaderBad false) h.packets;
       links = same_holds s own.addresses own.links_owed h.links ordered;
       plain = h.plain;
       few = h.few;
+      ahead = omega arith;
     }
 
-    pub data_bad_after : Stage (after_receipt own read_as.DataBad false (after_record own (came_left own.half other.half hint unit there ahead DataBad false s)))
+    pub data_bad_after : Stage (after_receipt own read_as.DataBad false (after_record own (came_left own.half other.half own.passed unit there ahead DataBad false s)))
     data_bad_after = record {
       pays = data_bad_stage (station_of own.half) own.owed h.pays;
       packets = arrived_packets (station_of own.half) (after_arrival (station_of own.half) DataBad false) (arrival_packets (station_of own.half) DataBad false) h.packets;
       links = same_holds s own.addresses own.links_owed h.links ordered;
       plain = h.plain;
       few = h.few;
+      ahead = omega arith;
     }

@@ -53,12 +53,12 @@ module _ (e : End) (other : PlayHalf) (sound : IsSound e) (h : Stage e) (numbers
       message_of c e.half.state.head (player.variables_of e.half) ends ≡ Some m → IsOfBytes m →
       Stage (after_sending c (after_record e (sent_left e.half other m (again_after e.half other m))))
   stage_again (SendNew one) never m put b = absurd (never one refl)
-  stage_again SendStrt never m put b = record { pays = sent_stage (station_of e.half) e.owed h.pays sound.ordered SendStrt e.half.state.head ends m put; packets = sent_packets (station_of e.half) m b h.packets; links = same_holds s e.addresses e.links_owed h.links ordered; plain = h.plain; few = h.few }
-  stage_again SendStack never m put b = record { pays = sent_stage (station_of e.half) e.owed h.pays sound.ordered SendStack e.half.state.head ends m put; packets = sent_packets (station_of e.half) m b h.packets; links = same_holds s e.addresses e.links_owed h.links ordered; plain = h.plain; few = h.few }
-  stage_again (SendNak reason) never m put b = record { pays = sent_stage (station_of e.half) e.owed h.pays sound.ordered (SendNak reason) e.half.state.head ends m put; packets = sent_packets (station_of e.half) m b h.packets; links = same_holds s e.addresses e.links_owed h.links ordered; plain = h.plain; few = h.few }
-  stage_again SendRep never m put b = record { pays = sent_stage (station_of e.half) e.owed h.pays sound.ordered SendRep e.half.state.head ends m put; packets = sent_packets (station_of e.half) m b h.packets; links = same_holds s e.addresses e.links_owed h.links ordered; plain = h.plain; few = h.few }
-  stage_again SendAgain never m put b = record { pays = sent_stage (station_of e.half) e.owed h.pays sound.ordered SendAgain e.half.state.head ends m put; packets = sent_packets (station_of e.half) m b h.packets; links = same_holds s e.addresses e.links_owed h.links ordered; plain = h.plain; few = h.few }
-  stage_again SendAck never m put b = record { pays = sent_stage (station_of e.half) e.owed h.pays sound.ordered SendAck e.half.state.head ends m put; packets = sent_packets (station_of e.half) m b h.packets; links = same_holds s e.addresses e.links_owed h.links ordered; plain = h.plain; few = h.few }
+  stage_again SendStrt never m put b = record { pays = sent_stage (station_of e.half) e.owed h.pays sound.ordered SendStrt e.half.state.head ends m put; packets = sent_packets (station_of e.half) m b h.packets; links = same_holds s e.addresses e.links_owed h.links ordered; plain = h.plain; few = h.few; ahead = h.ahead }
+  stage_again SendStack never m put b = record { pays = sent_stage (station_of e.half) e.owed h.pays sound.ordered SendStack e.half.state.head ends m put; packets = sent_packets (station_of e.half) m b h.packets; links = same_holds s e.addresses e.links_owed h.links ordered; plain = h.plain; few = h.few; ahead = h.ahead }
+  stage_again (SendNak reason) never m put b = record { pays = sent_stage (station_of e.half) e.owed h.pays sound.ordered (SendNak reason) e.half.state.head ends m put; packets = sent_packets (station_of e.half) m b h.packets; links = same_holds s e.addresses e.links_owed h.links ordered; plain = h.plain; few = h.few; ahead = h.ahead }
+  stage_again SendRep never m put b = record { pays = sent_stage (station_of e.half) e.owed h.pays sound.ordered SendRep e.half.state.head ends m put; packets = sent_packets (station_of e.half) m b h.packets; links = same_holds s e.addresses e.links_owed h.links ordered; plain = h.plain; few = h.few; ahead = h.ahead }
+  stage_again SendAgain never m put b = record { pays = sent_stage (station_of e.half) e.owed h.pays sound.ordered SendAgain e.half.state.head ends m put; packets = sent_packets (station_of e.half) m b h.packets; links = same_holds s e.addresses e.links_owed h.links ordered; plain = h.plain; few = h.few; ahead = h.ahead }
+  stage_again SendAck never m put b = record { pays = sent_stage (station_of e.half) e.owed h.pays sound.ordered SendAck e.half.state.head ends m put; packets = sent_packets (station_of e.half) m b h.packets; links = same_holds s e.addresses e.links_owed h.links ordered; plain = h.plain; few = h.few; ahead = h.ahead }
 
   -- ---- a new packet
 
@@ -126,6 +126,7 @@ module _ (e : End) (other : PlayHalf) (sound : IsSound e) (h : Stage e) (numbers
       links = choice_holds made.links.links e.addresses (left_links s.links made.links.links e.links_owed) holds one here;
       plain = λ k u at. go k u (at_pushed e.half.state.station.messages (Some (record { packet = packet; truth = made.truth })) (Some u) k at);
       few = h.few;
+      ahead = h.ahead;
     }
       where
         go : (k : ℕ) (u : SentMessage) →

@@ -68,6 +68,7 @@ module _ (e : End) (h : Stage e) where
     links = debt_holds (links_of e.half).links e.addresses e.links_owed h.links debt fits (λ confirm is. absurd (never confirm is));
     plain = h.plain;
     few = h.few;
+    ahead = h.ahead;
   }
 
   strt_stage : Stage (owing_more (Some OwesStrt) e)
@@ -77,6 +78,7 @@ module _ (e : End) (h : Stage e) where
     links = h.links;
     plain = h.plain;
     few = h.few;
+    ahead = h.ahead;
   }
 
 module _ (own other : End) (h : Stage own) (theirs : Stage other) (known : Known own other) where
