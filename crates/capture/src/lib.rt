@@ -28,9 +28,10 @@ mod writer;
 
 pub use address::{address_of, is_node};
 pub use bytes::Bytes;
-pub use digits::bytes_of;
+pub use digits::{bytes_into, bytes_of};
 pub use entry::Entry;
 pub use event::Event;
+pub use event_words::{link_of, message_of};
 pub use fault::{CaptureFault, Departure, LineFault, PartFault, WriteFault};
 pub use hint::HintForm;
 pub use laws::{
