@@ -1,12 +1,37 @@
 use super::rows::{HEAD, joined};
 use super::stepped::Stepped;
 use crate::{ScriptReader, ScriptStep, Step};
+use std::alloc::Global;
+use std::process::Abort;
 use std::test::Fail;
 use wire_base::{Side, Tally};
 
+// Each of these lines is read as its step, and is the last.
+fn expect_steps(
+    rt: &impl Abort,
+    alloc: Global,
+    rows: &[(&[u8], Side, Step<'_>)],
+) -> Result<(), Fail> {
+    for (line, side, step) in rows {
+        let text = joined(alloc, &[HEAD, line])?;
+        let step = ScriptStep {
+            side: *side,
+            step: *step,
+        };
+        for at_once in [1, usize::MAX] {
+            let mut reader = Tally::new(Stepped::new(text.as_slice(), at_once));
+            let mut script = ScriptReader::open(alloc, &mut reader)?;
+            assert!(rt; script.advance(&mut reader)?, "{line:?} is a step");
+            assert!(rt; script.step() == Some(step), "{line:?}");
+            assert!(rt; !script.advance(&mut reader)?, "{line:?} is the last");
+        }
+    }
+    Ok(())
+}
+
 #[test]
-fn each_line_is_read_as_its_step(rt: HostRuntime) -> Result<(), Fail> {
-    let rows: [(&[u8], Side, Step<'_>); 18] = [
+fn lines_of_a_word_are_read_as_their_steps(rt: HostRuntime) -> Result<(), Fail> {
+    let rows: [(&[u8], Side, Step<'_>); 8] = [
         (b"a start\n", Side::A, Step::Start),
         (b"b halt\n", Side::B, Step::Halt),
         (b"a timer\n", Side::A, Step::Timer),
@@ -14,6 +39,14 @@ fn each_line_is_read_as_its_step(rt: HostRuntime) -> Result<(), Fail> {
         (b"a deliver\n", Side::A, Step::Deliver),
         (b"b refuse\n", Side::B, Step::Refuse),
         (b"a lose\n", Side::A, Step::Lose),
+        (b"a open\n", Side::A, Step::Open),
+    ];
+    expect_steps(&rt, rt.alloc(), rows.as_slice())
+}
+
+#[test]
+fn lines_with_numbers_are_read_as_their_steps(rt: HostRuntime) -> Result<(), Fail> {
+    let rows: [(&[u8], Side, Step<'_>); 6] = [
         (
             b"b damage 0 132\n",
             Side::B,
@@ -27,60 +60,32 @@ fn each_line_is_read_as_its_step(rt: HostRuntime) -> Result<(), Fail> {
             Side::A,
             Step::Damage { place: 7, value: 0 },
         ),
-        (b"a open\n", Side::A, Step::Open),
         (b"b accept 9\n", Side::B, Step::Accept { partner: 9 }),
         (
             b"a reject 65535\n",
             Side::A,
             Step::Reject { partner: 65_535 },
         ),
-        (
-            b"b in 1 -\n",
-            Side::B,
-            Step::In {
-                link: 1,
-                message: &[],
-            },
-        ),
-        (
-            b"a in 7 00\n",
-            Side::A,
-            Step::In {
-                link: 7,
-                message: &[0],
-            },
-        ),
-        (
-            b"b in 10 00ff10\n",
-            Side::B,
-            Step::In {
-                link: 10,
-                message: &[0, 255, 16],
-            },
-        ),
-        (
-            b"a in 65535 6869\n",
-            Side::A,
-            Step::In {
-                link: 65_535,
-                message: b"hi",
-            },
-        ),
         (b"b close 1\n", Side::B, Step::Close { link: 1 }),
         (b"a retry 2\n", Side::A, Step::Retry { link: 2 }),
     ];
-    for (line, side, step) in rows {
-        let text = joined(rt.alloc(), &[HEAD, line])?;
-        for at_once in [1, usize::MAX] {
-            let mut reader = Tally::new(Stepped::new(text.as_slice(), at_once));
-            let mut script = ScriptReader::open(rt.alloc(), &mut reader)?;
-            assert!(rt; script.advance(&mut reader)?, "{line:?} is a step");
-            assert!(rt;
-                script.step() == Some(ScriptStep { side, step }),
-                "{line:?}"
-            );
-            assert!(rt; !script.advance(&mut reader)?, "{line:?} is the last");
-        }
+    expect_steps(&rt, rt.alloc(), rows.as_slice())
+}
+
+#[test]
+fn lines_with_a_message_are_read_as_their_steps(rt: HostRuntime) -> Result<(), Fail> {
+    let rows: [(&[u8], u16, &[u8]); 4] = [
+        (b"b in 1 -\n", 1, &[]),
+        (b"b in 7 00\n", 7, &[0]),
+        (b"b in 10 00ff10\n", 10, &[0, 255, 16]),
+        (b"b in 65535 6869\n", 65_535, b"hi"),
+    ];
+    for (line, link, message) in rows {
+        expect_steps(
+            &rt,
+            rt.alloc(),
+            &[(line, Side::B, Step::In { link, message })],
+        )?;
     }
     Ok(())
 }
