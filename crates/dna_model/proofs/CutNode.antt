@@ -44,7 +44,7 @@ not_crossed s m u kept = go (meets_needs judged s m u)
 pub arrival_packets : (s : Station) (arrival : ArrivalValue Truth) (kept : Bool) → (after_arrival s arrival kept).packets ≡ s.packets
 arrival_packets s arrival kept = (arrival_stays s arrival kept).packets
 
-unlabelled_bodies : (L : Type 0) (packets : List (List ℕ)) → map (body_at {L = L}) (unlabelled packets) ≡ packets
+pub unlabelled_bodies : (L : Type 0) (packets : List (List ℕ)) → map (body_at {L = L}) (unlabelled packets) ≡ packets
 unlabelled_bodies L [] = refl
 unlabelled_bodies L (p ∷ ps) = ap (λ (qs : List (List ℕ)). p ∷ qs) (unlabelled_bodies L ps)
 
@@ -53,7 +53,7 @@ module _ {L : Type 0} where
   new_unlabelled true packets body = sym (map-append (λ (b : List ℕ). record { body = b; label = None }) packets (body ∷ []))
   new_unlabelled false packets body = refl
 
-  sending_unlabelled : (s : Station) (m : MessageValue) (change : Change) → all_with {L = L} change (unlabelled s.packets) s (body_of m) ≡ unlabelled (sends s m change).packets
+  pub sending_unlabelled : (s : Station) (m : MessageValue) (change : Change) → all_with {L = L} change (unlabelled s.packets) s (body_of m) ≡ unlabelled (sends s m change).packets
   sending_unlabelled s m SendPacket = new_unlabelled (is_new s) s.packets (body_of m)
   sending_unlabelled s m change = refl
 

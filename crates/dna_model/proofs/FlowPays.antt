@@ -127,10 +127,12 @@ module _ (f : TrueFlow) (ordered : IsOrdered f) (answered : IsAnswered f) where
         let first : slice_get f.given (highest_given f - (highest_given f - place) - 1) ≡ Some p = ap (slice_get f.given) back ∙ sym (slice_get-drop f.acknowledged owed.ahead f.given) ∙ there in
         let repeat : is_repeat (highest_given f - (highest_given f - place)) p f ≡ true =
         ap₂ (λ (b c : Bool). b || c) (lt-leb (highest_given f - (highest_given f - place)) f.acknowledged (omega arith)) (ap (λ (o : Option Piece). is_given o p) first ∙ same_self p) in
-        let sent = sending (highest_given f - (highest_given f - place)) none_named f (record f { last = f.last }) in
-        (sent, ap (λ (b : Bool). cond b (sends_new segsize p none_named f) (sends_again (distance s.number (wire (highest_given f))) p none_named f)) old
-        ∙ ap (λ (n : ℕ). sends_again n p none_named f) below
-        ∙ ap₂ (λ (b c : Bool). check b WrongSegment (check c WrongSegment (Ok sent))) near repeat)
+        let sent = sending (highest_given f - (highest_given f - place)) none_named f (record f { last = f.last }) in (
+          sent,
+          ap (λ (b : Bool). cond b (sends_new segsize p none_named f) (sends_again (distance s.number (wire (highest_given f))) p none_named f)) old
+              ∙ ap (λ (n : ℕ). sends_again n p none_named f) below
+              ∙ ap₂ (λ (b c : Bool). check b WrongSegment (check c WrongSegment (Ok sent))) near repeat,
+        )
 
     pub new_may : (segsize : ℕ) → SEGSIZE ≤ segsize → length l.variables.outstanding < REACH → owed.ahead ≡ length l.variables.outstanding → has_more f.unsent.messages ≡ true →
         MaySend (sends_segment segsize (segment_with l (next_piece f.unsent)) f)
@@ -142,7 +144,9 @@ module _ (f : TrueFlow) (ordered : IsOrdered f) (answered : IsAnswered f) where
         let new : is_new s f ≡ true = eq-eqb _ _ (omega arith) in
         let room : nat_lt (highest_given f - f.acknowledged) REACH ≡ true = lt-ltb _ _ (omega arith) in
         let fits : nat_le (length p.body) segsize ≡ true = let e = short f.unsent in le-leb _ _ (omega arith) in
-        let sent = sending (highest_given f + 1) none_named f (record f { last = f.last; given = f.given ++ p ∷ []; unsent = without_piece p f.unsent }) in
-        (sent, ap (λ (b : Bool). cond b (sends_new segsize p none_named f) (sends_again (distance s.number (wire (highest_given f))) p none_named f)) new
-        ∙ ap (λ (b : Bool). check b LinkWindowFull (check (nat_le (length p.body) segsize) SegmentTooLong (check (is_next_piece p f.unsent) WrongSegment (Ok sent)))) room
-        ∙ ap₂ (λ (b c : Bool). check b SegmentTooLong (check c WrongSegment (Ok sent))) fits (is_next f.unsent more))
+        let sent = sending (highest_given f + 1) none_named f (record f { last = f.last; given = f.given ++ p ∷ []; unsent = without_piece p f.unsent }) in (
+          sent,
+          ap (λ (b : Bool). cond b (sends_new segsize p none_named f) (sends_again (distance s.number (wire (highest_given f))) p none_named f)) new
+              ∙ ap (λ (b : Bool). check b LinkWindowFull (check (nat_le (length p.body) segsize) SegmentTooLong (check (is_next_piece p f.unsent) WrongSegment (Ok sent)))) room
+              ∙ ap₂ (λ (b c : Bool). check b SegmentTooLong (check c WrongSegment (Ok sent))) fits (is_next f.unsent more),
+        )

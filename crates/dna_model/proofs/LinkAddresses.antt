@@ -204,7 +204,7 @@ pub record LeavesAddressed (old others left : LinkList) (most : ℕ) : Type 0 wh
 
 module _ (s : Links) (others : LinkList) (most : ℕ) (h : AreAddressed s.links others most) where
   -- nobody has it
-  freed_same : (address : ℕ) → most < address → freed true_flows address s ≡ s
+  pub freed_same : (address : ℕ) → most < address → freed true_flows address s ≡ s
   freed_same address less = looked (HasAddress address) s s (λ number link. changed number (forgotten true_flows link) s) (freed true_flows address s) refl (λ none e. sym e)
       (λ number link found e. let l = h.highest number address (record { link = link; there = found.there; owns = at_is link.port.own address found.passed }) in absurd (omega arith))
 

@@ -85,10 +85,12 @@ module _ (own other : PlayHalf) (hint : ℕ) (unit : LayersUnit) (there : slice_
 
   is_made : (kept : Bool) (bytes : List ℕ) → Meets kept bytes → IsMade own other (Received hint kept bytes)
   unfolding end_step
-  is_made kept bytes m =
-      (_, ap (read own (receives (layers_machine by_bytes) own.state hint kept bytes)) there
-      ∙ ap (λ (b : Bool). concluded own (cond b (Err HintOrder) (comes (layers_machine by_bytes) own.state (hint + 1) kept (coming_by (bytes_eq bytes unit.bytes) unit (reading bytes))))) (le-ltb hint own.state.front ahead)
-      ∙ ap (λ (r : Result LayersNode StepRefusal). concluded own r) m.1)
+  is_made kept bytes m = (
+    _,
+    ap (read own (receives (layers_machine by_bytes) own.state hint kept bytes)) there
+        ∙ ap (λ (b : Bool). concluded own (cond b (Err HintOrder) (comes (layers_machine by_bytes) own.state (hint + 1) kept (coming_by (bytes_eq bytes unit.bytes) unit (reading bytes))))) (le-ltb hint own.state.front ahead)
+        ∙ ap (λ (r : Result LayersNode StepRefusal). concluded own r) m.1,
+  )
 
   -- a damaged one
   pub damage_made : (bytes : List ℕ) → bytes_eq bytes unit.bytes ≡ false → (reading bytes ≡ read_as.HeaderBad) ⊎ (reading bytes ≡ read_as.DataBad) → IsMade own other (Received hint false bytes)

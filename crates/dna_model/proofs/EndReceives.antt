@@ -1,0 +1,102 @@
+-- What comes to an end of the player it takes, and its user gets what is whole then: where what is said of the end holds, `deliver`, `refuse` and
+-- `damage` are no bad steps while a unit is on the line.
+use Rattle.std.proofs.Common.{◌≡◌, ℕ, ◌+◌, ◌≤◌, Bool, true, false, ◌&&◌, cond, Option, Some, None, List, [], ◌∷◌, map, length, Result, Ok, Err, refl, sym, ap, ◌∙◌, subst, ◌⊎◌, inl, inr}
+use Rattle.std.specs.Prelude.{slice_get, bytes_eq}
+use Rattle.two_nodes.specs.Nodes.{Half, Made, advance}
+use Rattle.ddcmp_msg.specs.Message.{MessageValue}
+use Rattle.ddcmp_msg.specs.Reading.{ReadingValue, reading, HeaderBad, DataBad, Sound}
+use Rattle.dna_packet.specs.Nsp.{NspValue, DataSegment, LinkService, DataAck, OtherDataAck, ConnectAck, NoOperation, ConnectInitiate, ConnectConfirm, DisconnectInitiate, DisconnectConfirm}
+use Rattle.capture.specs.declared.event.Event.{Event}
+use Rattle.capture.specs.declared.event.Event.TheVariants as events
+use Rattle.capture.specs.declared.record.Record.TheVariants.{Received}
+use Rattle.dna_model.specs.declared.port.LinkTest.TheVariants.{ActedOn}
+use Rattle.dna_model.specs.LinkTests.{is_at, is_connected, has_both}
+use Rattle.dna_model.specs.Links.{LinkOf, with_link}
+use Rattle.dna_model.specs.TrueFlow.{TrueFlow}
+use Rattle.dna_model.specs.TrueLinks.{Links}
+use Rattle.dna_model.specs.Layers.{LayersNode, LayersUnit}
+use Rattle.dna_model.specs.HasLine.{has_line}
+use Rattle.dna_model.specs.Owed.{can_take}
+use Rattle.dna_model.specs.LinkOwed as owing
+use Rattle.dna_model.specs.Player.{End, made_half, makes, end_step, links_of, after_record}
+use Rattle.dna_model.specs.Stepped.{Stop, Stepped, made}
+use Rattle.dna_model.specs.Receipt.{complete, delivered_by, delivered_now, carried, after_receipt, gets_all, then_gets, receives, can_keep, comes}
+use Rattle.std.proofs.lemmas.Bool.{and_parts}
+use Rattle.dna_model.proofs.LinkTables.{IsFound, looked}
+use Rattle.dna_model.proofs.LinkReads.{at_is}
+use Rattle.dna_model.proofs.LinkAddresses.{LinkList, OwnsIn}
+use Rattle.dna_model.proofs.PlayedSteps.{PlayHalf}
+use Rattle.dna_model.proofs.ReceiptMakes.{IsMade}
+use Rattle.dna_model.proofs.UpsFollow.{AllLined, IsWholeAt, gets_whole}
+
+-- ---- what is whole
+
+-- no two links have the same own address
+abbrev pub AreDistinct : LinkList → Type 0
+AreDistinct links = (i j a : ℕ) → OwnsIn links i a → OwnsIn links j a → i ≡ j
+
+-- what is whole of the link that a segment is for has lines
+abbrev pub IsLined : Links → NspValue → Type 0
+IsLined s (DataSegment segment) = (number : ℕ) (link : LinkOf TrueFlow) → IsFound (ActedOn segment.dstaddr segment.srcaddr) s number link → AllLined segment.dstaddr (complete [] (owing.variables_of link).pieces)
+IsLined s m = Unit {0}
+
+abbrev pub IsLinedNow : Links → Option NspValue → Type 0
+IsLinedNow s None = Unit {0}
+IsLinedNow s (Some m) = IsLined s m
+
+module _ (other : PlayHalf) (so_far : Stepped) (distinct : AreDistinct (links_of so_far.end.half).links) where
+  abbrev s : Links
+  s = links_of so_far.end.half
+
+  -- all of these are got
+  abbrev Gets : List Event → Type 0
+  Gets list = (got : Stepped) × (gets_all list other so_far ≡ Ok got)
+
+  of_segment : (own far : ℕ) → ((number : ℕ) (link : LinkOf TrueFlow) → IsFound (ActedOn own far) s number link → AllLined own (complete [] (owing.variables_of link).pieces)) →
+      Gets (with_link (ActedOn own far) s [] (λ number link. map (λ (message : List ℕ). events.Up own message) (complete [] (owing.variables_of link).pieces)))
+  of_segment own far lined = looked (ActedOn own far) s [] (λ number link. map (λ (message : List ℕ). events.Up own message) (complete [] (owing.variables_of link).pieces)) _ refl
+      (λ none e. subst Gets e (so_far, refl))
+      (λ number link found e.
+      let at = (and_parts (is_at link.port.own own) (is_at link.port.far far) (and_parts (is_connected link.port.phase) (has_both link.port own far) found.passed).1).0 in
+      subst Gets e (gets_whole other own number (complete [] (owing.variables_of link).pieces) so_far (lined number link found) (record {
+        link = link;
+        there = found.there;
+        owns = at;
+        only = λ j m there f. distinct j number own (record { link = m; there = there; owns = at_is m.port.own own f }) (record { link = link; there = found.there; owns = at_is link.port.own own at });
+        whole = refl;
+      })))
+
+  of_message : (m : NspValue) → IsLined s m → Gets (delivered_by s m)
+  of_message (DataSegment segment) lined = of_segment segment.dstaddr segment.srcaddr lined
+  of_message (ConnectInitiate retransmitted src services info segsize user_data) lined = (so_far, refl)
+  of_message (ConnectAck dst) lined = (so_far, refl)
+  of_message (NoOperation rest) lined = (so_far, refl)
+  of_message (ConnectConfirm dst src services info segsize user_data) lined = (so_far, refl)
+  of_message (DisconnectInitiate dst src reason user_data) lined = (so_far, refl)
+  of_message (DisconnectConfirm dst src reason) lined = (so_far, refl)
+  of_message (DataAck dst src acks) lined = (so_far, refl)
+  of_message (LinkService interrupt dst src rest) lined = (so_far, refl)
+  of_message (OtherDataAck dst src rest) lined = (so_far, refl)
+
+  pub gets_now : (o : Option NspValue) → IsLinedNow s o → Gets (delivered_now s o)
+  gets_now None lined = (so_far, refl)
+  gets_now (Some m) lined = of_message m lined
+
+-- ---- a receipt
+
+module _ (own : End) (other : PlayHalf) where
+  -- after a receipt that leaves this half, own addresses are distinct and what is whole has lines
+  pub record IsClear (half : PlayHalf) (o : Option NspValue) : Type 0 where
+    pub distinct : AreDistinct (links_of half).links
+    pub lined : IsLinedNow (links_of half) o
+
+  -- what comes with a line, and the node makes, is received
+  pub received : (bytes : List ℕ) (read : ReadingValue) (kept : Bool) → has_line (Received own.passed kept bytes) ≡ true → (m : IsMade own.half other (Received own.passed kept bytes)) → IsClear m.0 (carried kept read) →
+      (stepped : Stepped) × (receives own other bytes read kept ≡ Ok stepped)
+  unfolding end_step
+  received bytes read kept lined m clear =
+      let is : makes own.half other (Received own.passed kept bytes) ≡ Some m.0 =
+      ap (λ (b : Bool). cond b (made_half (advance end_step own.half other (Received own.passed kept bytes))) None) lined ∙ ap made_half m.1 in
+      let so_far : Stepped = record { end = after_receipt own read kept (after_record own m.0); records = Received own.passed kept bytes ∷ [] } in
+      let g = gets_now other so_far clear.distinct (carried kept read) clear.lined in
+      (g.0, ap (λ (o : Option PlayHalf). then_gets other (carried kept read) (made own (Received own.passed kept bytes) (after_receipt own read kept) o)) is ∙ g.1)
