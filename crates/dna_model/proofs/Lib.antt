@@ -125,6 +125,7 @@ mod StationStage
 mod LinkStage
 mod SegmentSent
 mod EndStage
+mod SendStage
 mod DamagedUnits
 mod EndReceives
 mod PlayRowSteps
