@@ -26,7 +26,6 @@ use Rattle.dna_model.proofs.LinkTables.{IsFound, looked}
 use Rattle.dna_model.proofs.LinkReads.{at_is}
 use Rattle.dna_model.proofs.LinkAddresses.{LinkList, OwnsIn}
 use Rattle.dna_model.proofs.PlayedSteps.{PlayHalf}
-use Rattle.dna_model.proofs.ReceiptMakes.{IsMade}
 use Rattle.dna_model.proofs.UpsFollow.{AllLined, IsWholeAt, gets_whole}
 
 -- ---- what is whole
@@ -91,12 +90,12 @@ module _ (own : End) (other : PlayHalf) where
     pub lined : IsLinedNow (links_of half) o
 
   -- what comes with a line, and the node makes, is received
-  pub received : (bytes : List ℕ) (read : ReadingValue) (kept : Bool) → has_line (Received own.passed kept bytes) ≡ true → (m : IsMade own.half other (Received own.passed kept bytes)) → IsClear m.0 (carried kept read) →
+  pub received : (bytes : List ℕ) (read : ReadingValue) (kept : Bool) → has_line (Received own.passed kept bytes) ≡ true → (half : PlayHalf) → advance end_step own.half other (Received own.passed kept bytes) ≡ Made half → IsClear half (carried kept read) →
       (stepped : Stepped) × (receives own other bytes read kept ≡ Ok stepped)
   unfolding end_step
-  received bytes read kept lined m clear =
-      let is : makes own.half other (Received own.passed kept bytes) ≡ Some m.0 =
-      ap (λ (b : Bool). cond b (made_half (advance end_step own.half other (Received own.passed kept bytes))) None) lined ∙ ap made_half m.1 in
-      let so_far : Stepped = record { end = after_receipt own read kept (after_record own m.0); records = Received own.passed kept bytes ∷ [] } in
+  received bytes read kept lined half made_it clear =
+      let is : makes own.half other (Received own.passed kept bytes) ≡ Some half =
+      ap (λ (b : Bool). cond b (made_half (advance end_step own.half other (Received own.passed kept bytes))) None) lined ∙ ap made_half made_it in
+      let so_far : Stepped = record { end = after_receipt own read kept (after_record own half); records = Received own.passed kept bytes ∷ [] } in
       let g = gets_now other so_far clear.distinct (carried kept read) clear.lined in
       (g.0, ap (λ (o : Option PlayHalf). then_gets other (carried kept read) (made own (Received own.passed kept bytes) (after_receipt own read kept) o)) is ∙ g.1)

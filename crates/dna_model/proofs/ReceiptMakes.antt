@@ -3,7 +3,7 @@ use Rattle.std.proofs.Common.{◌≡◌, ℕ, ◌+◌, ◌≤◌, Bool, true, fa
 use Rattle.std.specs.Prelude.{slice_get, bytes_eq}
 use Rattle.std.proofs.lemmas.Option.{slice_get-map}
 use Rattle.std.proofs.lemmas.Slice.Eq.{bytes_eq-Decides}
-use Rattle.two_nodes.specs.Nodes.{Half, Outcome, Made, concluded, read, advance}
+use Rattle.two_nodes.specs.Nodes.{Half, Outcome, Made, stepped, concluded, read, advance}
 use Rattle.two_nodes.specs.Cutting.{cut_half}
 use Rattle.ddcmp_msg.specs.Reading.{ReadingValue, reading}
 use Rattle.ddcmp_msg.specs.Reading as read_as
@@ -17,7 +17,7 @@ use Rattle.dna_model.specs.declared.link_refusal.LinkRefusal.TheVariants.{WrongN
 use Rattle.dna_model.specs.declared.refusal.StationRefusal.{StationRefusal}
 use Rattle.dna_model.specs.declared.refusal.StepRefusal.{StepRefusal}
 use Rattle.dna_model.specs.declared.refusal.StepRefusal.TheVariants.{HintOrder}
-use Rattle.dna_model.specs.Book.{Sound, keep_refusal}
+use Rattle.dna_model.specs.Book.{ArrivalValue, Sound, HeaderBad, DataBad, keep_refusal}
 use Rattle.dna_model.specs.StationBook.{meets_needs, arrival_refusal, after_arrival}
 use Rattle.dna_model.specs.Rules.{judged}
 use Rattle.dna_model.specs.Bounds.{IsBounded, IsWithin}
@@ -29,10 +29,11 @@ use Rattle.dna_model.specs.LinkArriving.{of_anyone, message_arrived}
 use Rattle.dna_model.specs.TrueFlow.{TrueFlow, Numbers, true_flows}
 use Rattle.dna_model.specs.TrueLinks.{Links, links_arrived}
 use Rattle.dna_model.specs.LinkRuns.{SentMessage}
-use Rattle.dna_model.specs.Layers.{Layers, LayersTruth, LayersNode, LayersUnit, with_links, keeps, meets_on, layers_machine, stations, unit_of_station}
+use Rattle.dna_model.specs.Layers.{Layers, LayersTruth, LayersNode, LayersUnit, with_links, to_station, keeps, meets_on, layers_machine, stations, unit_of_station}
 use Rattle.dna_model.specs.Owed.{can_take}
 use Rattle.dna_model.specs.Player.{by_bytes, end_step, variables_of}
 use Rattle.dna_model.proofs.CutArriving.{arrival_refusal_same}
+use Rattle.dna_model.proofs.OnTop.{IsMet, NotKept, KeptNone, KeptOne}
 use Rattle.dna_model.proofs.PlayedSteps.{PlayHalf}
 use Rattle.dna_model.proofs.PlayerChecked.{IsReady, meets_it}
 
@@ -80,28 +81,29 @@ module _ (own other : PlayHalf) (hint : ℕ) (unit : LayersUnit) (there : slice_
   s = own.state.station
 
   -- what comes for the unit is met
-  abbrev Meets : Bool → List ℕ → Type 0
-  Meets kept bytes = (left : LayersNode) × (comes (layers_machine by_bytes) own.state (hint + 1) kept (coming_by (bytes_eq bytes unit.bytes) unit (reading bytes)) ≡ Ok left)
+  abbrev met_by : Bool → List ℕ → Result LayersNode StepRefusal
+  met_by kept bytes = comes (layers_machine by_bytes) own.state (hint + 1) kept (coming_by (bytes_eq bytes unit.bytes) unit (reading bytes))
 
-  is_made : (kept : Bool) (bytes : List ℕ) → Meets kept bytes → IsMade own other (Received hint kept bytes)
+  is_made : (kept : Bool) (bytes : List ℕ) (left : LayersNode) → met_by kept bytes ≡ Ok left → advance end_step own other (Received hint kept bytes) ≡ Made (stepped own left)
   unfolding end_step
-  is_made kept bytes m = (
-    _,
-    ap (read own (receives (layers_machine by_bytes) own.state hint kept bytes)) there
-        ∙ ap (λ (b : Bool). concluded own (cond b (Err HintOrder) (comes (layers_machine by_bytes) own.state (hint + 1) kept (coming_by (bytes_eq bytes unit.bytes) unit (reading bytes))))) (le-ltb hint own.state.front ahead)
-        ∙ ap (λ (r : Result LayersNode StepRefusal). concluded own r) m.1,
-  )
+  is_made kept bytes left met_it =
+      ap (read own (receives (layers_machine by_bytes) own.state hint kept bytes)) there
+      ∙ ap (λ (b : Bool). concluded own (cond b (Err HintOrder) (met_by kept bytes))) (le-ltb hint own.state.front ahead)
+      ∙ ap (λ (r : Result LayersNode StepRefusal). concluded own r) met_it
+
+  -- the half that what comes leaves, with these links
+  abbrev pub came_left : ArrivalValue LayersTruth → Bool → Links → PlayHalf
+  came_left arrival kept links = stepped own (record own.state { station = record own.state.station { station = after_arrival s.station (to_station arrival) kept; links = links }; front = hint + 1 })
 
   -- a damaged one
-  pub damage_made : (bytes : List ℕ) → bytes_eq bytes unit.bytes ≡ false → (reading bytes ≡ read_as.HeaderBad) ⊎ (reading bytes ≡ read_as.DataBad) → IsMade own other (Received hint false bytes)
-  damage_made bytes differs shows = is_made false bytes (go shows)
-    where
-      go : (reading bytes ≡ read_as.HeaderBad) ⊎ (reading bytes ≡ read_as.DataBad) → Meets false bytes
-      go (inl e) = (_, ap₂ (λ (r : ReadingValue) (b : Bool). comes (layers_machine by_bytes) own.state (hint + 1) false (coming_by b unit r)) e differs)
-      go (inr e) = (_, ap₂ (λ (r : ReadingValue) (b : Bool). comes (layers_machine by_bytes) own.state (hint + 1) false (coming_by b unit r)) e differs)
+  pub header_made : (bytes : List ℕ) → bytes_eq bytes unit.bytes ≡ false → reading bytes ≡ read_as.HeaderBad → advance end_step own other (Received hint false bytes) ≡ Made (came_left HeaderBad false s.links)
+  header_made bytes differs shows = is_made false bytes _ (ap₂ (λ (r : ReadingValue) (b : Bool). comes (layers_machine by_bytes) own.state (hint + 1) false (coming_by b unit r)) shows differs)
+
+  pub data_made : (bytes : List ℕ) → bytes_eq bytes unit.bytes ≡ false → reading bytes ≡ read_as.DataBad → advance end_step own other (Received hint false bytes) ≡ Made (came_left DataBad false s.links)
+  data_made bytes differs shows = is_made false bytes _ (ap₂ (λ (r : ReadingValue) (b : Bool). comes (layers_machine by_bytes) own.state (hint + 1) false (coming_by b unit r)) shows differs)
 
   module _ (h : IsReady own other) (bounded : IsBounded (cut_half stations own) (cut_half stations other)) (from : (u : SentMessage) → unit.known.carried ≡ Some u → (u.packet.src ≡ s.links.peer) × (u.packet.dst ≡ s.links.node)) where
-    within : IsWithin s.station unit.message unit.known.station
+    pub within : IsWithin s.station unit.message unit.known.station
     within = bounded.within hint (unit_of_station unit) (slice_get-map unit_of_station other.sent hint ∙ ap (option_map unit_of_station) there) ahead (meets_it own other h hint unit there)
 
     allowed : (kept : Bool) → (kept ≡ true → can_take (variables_of own) unit.message ≡ true) → arrival_refusal by_bytes s.station (Sound unit.message unit.known.station) kept ≡ None
@@ -111,25 +113,34 @@ module _ (own other : PlayHalf) (hint : ℕ) (unit : LayersUnit) (there : slice_
         go false can = refl
         go true can = ap (λ (b : Bool). keep_refusal b true) (can refl)
 
-    kept_takes : (left : Layers) → left.links ≡ s.links → (o : Option SentMessage) → unit.known.carried ≡ o → (met : Layers) × (keeps by_bytes left o ≡ Ok met)
-    kept_takes left same None is = (left, refl)
-    kept_takes left same (Some u) is =
-        let f = from u is in
-        let l = links_take left.links u (f.0 ∙ sym (ap (λ (x : Links). x.peer) same)) (f.1 ∙ sym (ap (λ (x : Links). x.node) same)) in
-        (_, ap (with_links left) l.1)
+    -- what becomes of it, with the links after it
+    pub record UnitMade (kept : Bool) : Type 0 where
+      pub links : Links
+      pub met_as : IsMet by_bytes s.links unit.known.carried kept links
+      pub makes_it : advance end_step own other (Received hint kept unit.bytes) ≡ Made (came_left (Sound unit.message unit.known) kept links)
 
-    arrives : (kept : Bool) → (kept ≡ true → can_take (variables_of own) unit.message ≡ true) → (met : Layers) × ((layers_machine by_bytes).arrives s (Sound unit.message unit.known) kept ≡ Ok met)
-    arrives kept can =
-        let station = after_arrival s.station (Sound unit.message unit.known.station) kept in
-        let k = on kept (record s { station = station }) (kept_takes (record s { station = station }) refl unit.known.carried refl) in
-        (k.0, ap (λ (o : Option StationRefusal). meets_on by_bytes s (Sound unit.message unit.known) kept (unless_refused o station)) (allowed kept can) ∙ k.1)
-      where
-        on : (kept : Bool) (left : Layers) → (met : Layers) × (keeps by_bytes left unit.known.carried ≡ Ok met) → (met : Layers) × (cond kept (keeps by_bytes left unit.known.carried) (Ok left) ≡ Ok met)
-        on true left m = m
-        on false left m = (left, refl)
+    abbrev after : Bool → Layers
+    after kept = record s { station = after_arrival s.station (Sound unit.message unit.known.station) kept }
+
+    made_with : (kept : Bool) → (kept ≡ true → can_take (variables_of own) unit.message ≡ true) → (links : Links) → IsMet by_bytes s.links unit.known.carried kept links →
+        cond kept (keeps by_bytes (after kept) unit.known.carried) (Ok (after kept)) ≡ Ok (record (after kept) { links = links }) → UnitMade kept
+    made_with kept can links met_it kept_it = record {
+      links = links;
+      met_as = met_it;
+      makes_it = is_made kept unit.bytes _
+          (ap (λ (b : Bool). comes (layers_machine by_bytes) own.state (hint + 1) kept (coming_by b unit (reading unit.bytes))) ((bytes_eq-Decides unit.bytes unit.bytes).1 refl)
+          ∙ ap (λ (o : Option StationRefusal). met own.state (hint + 1) (meets_on by_bytes s (Sound unit.message unit.known) kept (unless_refused o (after_arrival s.station (Sound unit.message unit.known.station) kept)))) (allowed kept can)
+          ∙ ap (met own.state (hint + 1)) kept_it);
+    }
+
+    by_carried : (kept : Bool) → (kept ≡ true → can_take (variables_of own) unit.message ≡ true) → (o : Option SentMessage) → unit.known.carried ≡ o → UnitMade kept
+    by_carried false can o is = made_with false can s.links NotKept refl
+    by_carried true can None is = made_with true can s.links (KeptNone is) (ap (keeps by_bytes (after true)) is)
+    by_carried true can (Some u) is =
+        let f = from u is in
+        let l = links_take s.links u f.0 f.1 in
+        made_with true can l.0 (KeptOne u l.0 is l.1) (ap (keeps by_bytes (after true)) is ∙ ap (with_links (after true)) l.1)
 
     -- as it was sent, kept only where its packet can be taken
-    pub unit_made : (kept : Bool) → (kept ≡ true → can_take (variables_of own) unit.message ≡ true) → IsMade own other (Received hint kept unit.bytes)
-    unit_made kept can =
-        let a = arrives kept can in
-        is_made kept unit.bytes (_, ap (λ (b : Bool). comes (layers_machine by_bytes) own.state (hint + 1) kept (coming_by b unit (reading unit.bytes))) ((bytes_eq-Decides unit.bytes unit.bytes).1 refl) ∙ ap (met own.state (hint + 1)) a.1)
+    pub unit_made : (kept : Bool) → (kept ≡ true → can_take (variables_of own) unit.message ≡ true) → UnitMade kept
+    unit_made kept can = by_carried kept can unit.known.carried refl
