@@ -13,7 +13,7 @@ use Rattle.ddcmp_msg.proofs.Rule.{reading_follows}
 use Rattle.ddcmp_msg.specs.ReadingRule.{IsReading}
 use Rattle.dna_model.specs.HasLine.{are_bytes}
 use Rattle.dna_model.specs.Receipt.{is_damage, damaged}
-use Rattle.dna_model.proofs.UnitLines.{bytes_told}
+use Rattle.dna_model.proofs.PlayLines.{bytes_told}
 
 -- a list about one of its places
 record SplitAt (bytes : List ℕ) (place : ℕ) : Type 0 where

@@ -14,18 +14,25 @@ use Rattle.dna_model.specs.LinkTests.{is_at, is_connected, has_both}
 use Rattle.dna_model.specs.Links.{LinkOf, with_link}
 use Rattle.dna_model.specs.TrueFlow.{TrueFlow}
 use Rattle.dna_model.specs.TrueLinks.{Links}
-use Rattle.dna_model.specs.Layers.{LayersNode, LayersUnit}
-use Rattle.dna_model.specs.HasLine.{has_line}
+use Rattle.dna_model.specs.Layers.{LayersNode, LayersUnit, stations}
+use Rattle.dna_model.specs.HasLine.{are_bytes, has_line}
+use Rattle.dna_model.specs.Book as book
+use Rattle.dna_model.specs.Bounds.{IsBounded}
+use Rattle.dna_model.specs.LinkRuns.{SentMessage}
+use Rattle.two_nodes.specs.Cutting.{cut_half}
 use Rattle.dna_model.specs.Owed.{can_take}
 use Rattle.dna_model.specs.LinkOwed as owing
 use Rattle.dna_model.specs.Player.{End, made_half, makes, end_step, links_of, after_record}
 use Rattle.dna_model.specs.Stepped.{Stop, Stepped, made}
-use Rattle.dna_model.specs.Receipt.{complete, delivered_by, delivered_now, carried, after_receipt, gets_all, then_gets, receives, can_keep, comes}
+use Rattle.dna_model.specs.Receipt.{complete, delivered_by, delivered_now, carried, after_receipt, gets_all, then_gets, receives, can_keep, comes, is_damage, damaged}
 use Rattle.std.proofs.lemmas.Bool.{and_parts}
 use Rattle.dna_model.proofs.LinkTables.{IsFound, looked}
 use Rattle.dna_model.proofs.LinkReads.{at_is}
 use Rattle.dna_model.proofs.LinkAddresses.{LinkList, OwnsIn}
 use Rattle.dna_model.proofs.PlayedSteps.{PlayHalf}
+use Rattle.dna_model.proofs.PlayerChecked.{IsReady}
+use Rattle.dna_model.proofs.ReceiptMakes.{came_left, header_made, data_made, unit_made}
+use Rattle.dna_model.proofs.DamagedUnits.{Damaged, damage_is_seen}
 use Rattle.dna_model.proofs.UpsFollow.{AllLined, IsWholeAt, gets_whole}
 
 -- ---- what is whole
@@ -99,3 +106,33 @@ module _ (own : End) (other : PlayHalf) where
       let so_far : Stepped = record { end = after_receipt own read kept (after_record own half); records = Received own.passed kept bytes ∷ [] } in
       let g = gets_now other so_far clear.distinct (carried kept read) clear.lined in
       (g.0, ap (λ (o : Option PlayHalf). then_gets other (carried kept read) (made own (Received own.passed kept bytes) (after_receipt own read kept) o)) is ∙ g.1)
+
+  -- ---- a unit that is on the line
+
+  module _ (unit : LayersUnit) (there : slice_get other.sent own.passed ≡ Some unit) (ahead : own.half.state.front ≤ own.passed) (told : reading unit.bytes ≡ Sound unit.message) where
+    -- it comes as it was sent, with a buffer or without one
+    pub unit_comes : (ready : IsReady own.half other) (in_bounds : IsBounded (cut_half stations own.half) (cut_half stations other))
+        (from : (u : SentMessage) → unit.known.carried ≡ Some u → (u.packet.src ≡ (links_of own.half).peer) × (u.packet.dst ≡ (links_of own.half).node)) (buffer : Bool) →
+        has_line (Received own.passed (buffer && can_keep own (reading unit.bytes)) unit.bytes) ≡ true →
+        ((half : PlayHalf) → advance end_step own.half other (Received own.passed (buffer && can_keep own (reading unit.bytes)) unit.bytes) ≡ Made half → IsClear half (carried (buffer && can_keep own (reading unit.bytes)) (reading unit.bytes))) →
+        (stepped : Stepped) × (comes own other buffer unit.bytes ≡ Ok stepped)
+    unit_comes ready in_bounds from buffer lined clear =
+        let kept = buffer && can_keep own (reading unit.bytes) in
+        let u = unit_made own.half other own.passed unit there ahead ready in_bounds from kept (λ e. sym (ap (can_keep own) told) ∙ (and_parts buffer (can_keep own (reading unit.bytes)) e).1) in
+        received unit.bytes (reading unit.bytes) kept lined (came_left own.half other own.passed unit there ahead (book.Sound unit.message unit.known) kept u.links) u.makes_it
+        (clear (came_left own.half other own.passed unit there ahead (book.Sound unit.message unit.known) kept u.links) u.makes_it)
+
+    -- it comes damaged
+    pub damage_comes : (place value : ℕ) → are_bytes unit.bytes ≡ true → is_damage place value unit.bytes ≡ true → AreDistinct (links_of own.half).links →
+        has_line (Received own.passed false (damaged place value unit.bytes)) ≡ true → (stepped : Stepped) × (comes own other true (damaged place value unit.bytes) ≡ Ok stepped)
+    damage_comes place value are is distinct lined = go (damage_is_seen unit.message unit.bytes place value are told is)
+      where
+        as_read : (r : ReadingValue) → reading (damaged place value unit.bytes) ≡ r → (stepped : Stepped) × (receives own other (damaged place value unit.bytes) r (true && can_keep own r) ≡ Ok stepped) → (stepped : Stepped) × (comes own other true (damaged place value unit.bytes) ≡ Ok stepped)
+        as_read r e m = subst (λ (x : ReadingValue). (stepped : Stepped) × (receives own other (damaged place value unit.bytes) x (true && can_keep own x) ≡ Ok stepped)) (sym e) m
+
+        go : Damaged place value unit.bytes → (stepped : Stepped) × (comes own other true (damaged place value unit.bytes) ≡ Ok stepped)
+        go d = by_reading d.shows
+          where
+            by_reading : (reading (damaged place value unit.bytes) ≡ HeaderBad) ⊎ (reading (damaged place value unit.bytes) ≡ DataBad) → (stepped : Stepped) × (comes own other true (damaged place value unit.bytes) ≡ Ok stepped)
+            by_reading (inl e) = as_read HeaderBad e (received (damaged place value unit.bytes) HeaderBad false lined _ (header_made own.half other own.passed unit there ahead (damaged place value unit.bytes) d.differs e) (record { distinct = distinct; lined = tt }))
+            by_reading (inr e) = as_read DataBad e (received (damaged place value unit.bytes) DataBad false lined _ (data_made own.half other own.passed unit there ahead (damaged place value unit.bytes) d.differs e) (record { distinct = distinct; lined = tt }))

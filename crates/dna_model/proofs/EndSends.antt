@@ -33,6 +33,7 @@ use Rattle.dna_model.proofs.CutSending.{all_length, sending_refusal_same, first_
 use Rattle.dna_model.proofs.CutNode.{unlabelled_bodies}
 use Rattle.dna_model.proofs.PlayedSteps.{PlayHalf}
 use Rattle.dna_model.proofs.StationPays.{IsPayable, IsChosen, ByStrt, ByStack, ByNak, ByRep, ByAgain, ByNew, ByAck, chosen, chosen_may}
+use Rattle.dna_model.proofs.LinkOwners.{there_is}
 use Rattle.dna_model.proofs.LinkAddresses.{LinkList, AreAddressed}
 use Rattle.dna_model.proofs.LinkPays.{Fits, MaySendIt}
 use Rattle.dna_model.proofs.LinkChoices.{EndAt, end_at, LinksPay, Composed, composed, first_chosen}
@@ -119,11 +120,6 @@ module _ (e : End) (other : PlayHalf) (h : IsSound e) where
           same_confirm e' = cc
 
   -- ---- what is chosen is there
-
-  there_is : (xs : List (HeldPacket (Unit {0}))) (i : ℕ) → i < length xs → (x : HeldPacket (Unit {0})) × (slice_get xs i ≡ Some x)
-  there_is [] i l = absurd (omega arith)
-  there_is (x ∷ xs) zero l = (x, refl)
-  there_is (x ∷ xs) (suc i) l = there_is xs i (omega arith)
 
   again_there : wire_is_new k ≡ false → (packet : HeldPacket (Unit {0})) × (slice_get k.held k.ahead ≡ Some packet)
   again_there old =

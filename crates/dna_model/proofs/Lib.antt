@@ -128,6 +128,8 @@ mod EndStage
 mod SendStage
 mod DamagedUnits
 mod EndReceives
+mod ReceiptStage
+mod PlayedKnown
 mod PlayRowSteps
 mod PlayRows
 mod PlayRowsStation

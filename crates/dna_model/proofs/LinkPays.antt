@@ -70,6 +70,15 @@ module _ (l : LinkEnd) (turn : Turn) where
       (one_due l.owed.data_ack DataAckTurn _ (λ is. DueDataAck is)
       (one_due (has_segment l) SegmentTurn None (λ is. let p = and_parts (is_running l.port.phase) (has_repeat l || has_new l) is in DueSegment p.0 p.1) (λ none. absurd cc)))))) e
 
+-- an address that is known, and RUN
+pub known_at : (o : Option ℕ) → is_some o ≡ true → o ≡ Some (address o)
+known_at None e = absurd cc
+known_at (Some number) e = refl
+
+pub running_is : (phase : Phase) → is_running phase ≡ true → phase ≡ Running
+running_is Running e = refl
+running_is phase e = absurd cc
+
 -- ---- look-ups
 
 module _ (s : Links) where
@@ -120,10 +129,6 @@ module _ (s : Links) where
 
     abbrev far : ℕ
     far = address l.port.far
-
-    known_at : (o : Option ℕ) → is_some o ≡ true → o ≡ Some (address o)
-    known_at None e = absurd cc
-    known_at (Some number) e = refl
 
     at_it : (o : Option ℕ) → is_some o ≡ true → is_at o (address o) ≡ true
     at_it None e = absurd cc
@@ -210,7 +215,3 @@ module _ (s : Links) where
         let m = data_ack_may l.flow ordered answered in
         (_, run_may own far n l (λ link. true_flows.sends_acks (ack_of it.variables.received ∷ []) link.flow) (both Running phase refl p.0 p.1) (ap is_running phase) m.0 m.1)
     due_may SegmentTurn (DueSegment running due) = segment_may (running_is l.port.phase running) due
-      where
-        running_is : (phase : Phase) → is_running phase ≡ true → phase ≡ Running
-        running_is Running e = refl
-        running_is phase e = absurd cc

@@ -12,7 +12,7 @@ use Rattle.dna_model.specs.HasLine.{is_link, event_numbers_fit, numbers_fit, are
 
 -- ---- from the test
 
-bytes_told : (bytes : List ℕ) → are_bytes bytes ≡ true → (i : ℕ) → slice_index bytes i < 256
+pub bytes_told : (bytes : List ℕ) → are_bytes bytes ≡ true → (i : ℕ) → slice_index bytes i < 256
 bytes_told [] e i = omega arith
 bytes_told (b ∷ bytes) e zero = ltb-true b 256 (and_parts _ _ e).0
 bytes_told (b ∷ bytes) e (suc i) = bytes_told bytes (and_parts _ _ e).1 i

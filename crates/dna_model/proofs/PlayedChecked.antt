@@ -93,7 +93,7 @@ all_in_order steps so_far count_a count_b (step ∷ later) h =
 
 -- ---- the captures
 
-orderly : {count most : ℕ} (records : List Record) → InOrder 0 count records most → count ≤ 1 → IsOrderly records
+pub orderly : {count most : ℕ} (records : List Record) → InOrder 0 count records most → count ≤ 1 → IsOrderly records
 orderly records i few = let e = i.counted in record { few = omega arith; rise = i.rise }
 
 module _ (script : Script) where

@@ -158,7 +158,7 @@ module _ (own other : Half LayersNode LayersUnit) where
 
 -- ---- a run
 
-record HoldsAt (head_a head_b : Head) (w : World LayersNode LayersUnit) (made_a made_b : List Record) : Type 0 where
+pub record HoldsAt (head_a head_b : Head) (w : World LayersNode LayersUnit) (made_a made_b : List Record) : Type 0 where
   pub joined : LayersJoined head_a head_b w made_a made_b
   pub begun : BothBegun (cut_world stations w) made_a made_b
 
@@ -171,14 +171,14 @@ module _ (head_a head_b : Head) where
     count_b = refl;
   }
 
-  holds_at : (w : World LayersNode LayersUnit) (made_a made_b : List Record) → Run layers_pair (layers_start head_a head_b) made_a made_b w → HoldsAt head_a head_b w made_a made_b
+  pub holds_at : (w : World LayersNode LayersUnit) (made_a made_b : List Record) → Run layers_pair (layers_start head_a head_b) made_a made_b w → HoldsAt head_a head_b w made_a made_b
   holds_at w made_a made_b run = record {
     joined = lasts layers_pair (LayersJoined head_a head_b) (joined_kept head_a head_b) [] [] (start_joined head_a head_b) run;
     begun = lasts layers_pair (of_stations BothBegun) (lifted BothBegun begun_kept) [] [] start_begun run;
   }
 
   module _ (w : World LayersNode LayersUnit) (made_a made_b : List Record) (run : Run layers_pair (layers_start head_a head_b) made_a made_b w) (orderly_a : IsOrderly made_a) (orderly_b : IsOrderly made_b) where
-    ready_a : IsReady w.a w.b
+    pub ready_a : IsReady w.a w.b
     ready_a =
         let h = holds_at w made_a made_b run in
         let a = reached_addressed head_a.own head_a.peer head_b.own head_b.peer h.joined.joined.reached orderly_a.rise orderly_b.rise in
@@ -197,7 +197,7 @@ module _ (head_a head_b : Head) where
           other_addressed = a.of_b;
         }
 
-    ready_b : IsReady w.b w.a
+    pub ready_b : IsReady w.b w.a
     ready_b =
         let h = holds_at w made_a made_b run in
         let a = reached_addressed head_a.own head_a.peer head_b.own head_b.peer h.joined.joined.reached orderly_a.rise orderly_b.rise in

@@ -73,9 +73,6 @@ links_take s u from to =
 
 -- ---- the node
 
-abbrev pub IsMade : (own other : PlayHalf) → Record → Type 0
-IsMade own other r = (half : PlayHalf) × (advance end_step own other r ≡ Made half)
-
 module _ (own other : PlayHalf) (hint : ℕ) (unit : LayersUnit) (there : slice_get other.sent hint ≡ Some unit) (ahead : own.state.front ≤ hint) where
   abbrev s : Layers
   s = own.state.station

@@ -28,7 +28,7 @@ use Rattle.dna_model.proofs.NumberedSteps.{at_pushed}
 use Rattle.dna_model.proofs.PlayedSteps.{PlayHalf}
 use Rattle.dna_model.proofs.LinkTables.{sent_did}
 use Rattle.dna_model.proofs.LinkAddresses.{LinkList, AreAddressed}
-use Rattle.dna_model.proofs.LinkPays.{OwedFits, IsDue, DueSegment, turn_due, fits_in}
+use Rattle.dna_model.proofs.LinkPays.{OwedFits, IsDue, DueSegment, turn_due, known_at, running_is, fits_in}
 use Rattle.dna_model.proofs.LinkChoices.{TurnAt, end_at, first_chosen}
 use Rattle.dna_model.proofs.LinkFits.{IsPlain, turn_plain}
 use Rattle.dna_model.proofs.LinkOwing.{sent_turn_fits}
@@ -79,14 +79,6 @@ module _ (e : End) (other : PlayHalf) (sound : IsSound e) (h : Stage e) (numbers
   of_first : (number : ℕ) (turn : Turn) (confirms : List EndConfirm) (list : List LinkEnd) → link_choice confirms list ≡ Some (OfLink number turn) → first_turn 0 list ≡ Some (OfLink number turn)
   of_first number turn [] list e' = e'
   of_first number turn (confirm ∷ later) list e' = absurd cc
-
-  running_is : (phase : Phase) → is_running phase ≡ true → phase ≡ Running
-  running_is Running e' = refl
-  running_is phase e' = absurd cc
-
-  known_at : (o : Option ℕ) → is_some o ≡ true → o ≡ Some (address o)
-  known_at None e' = absurd cc
-  known_at (Some number) e' = refl
 
   is_of_run : (it : LinkEnd) → IsDue it SegmentTurn → is_running it.port.phase ≡ true
   is_of_run it (DueSegment running due) = running

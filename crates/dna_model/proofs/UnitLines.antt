@@ -28,6 +28,7 @@ use Rattle.dna_model.specs.HasLine.{are_bytes, has_line}
 use Rattle.dna_model.specs.LinkOwed.{LinkOwed, Turn, ConnectAckTurn, InitiateTurn, ConfirmTurn, DisconnectTurn, DataAckTurn, SegmentTurn, variables_of}
 use Rattle.dna_model.specs.NextSent.{LinkEnd}
 use Rattle.dna_model.specs.Compose.{SERVICES, INFO, SEGSIZE, USER_DATA, address, packet_with, piece_to_send, segment_with, ack_of, turn_message}
+use Rattle.dna_model.proofs.PlayLines.{bytes_told}
 use Rattle.dna_model.proofs.LinkFits.{PieceFits, IsPlain}
 
 -- ---- bytes
@@ -38,11 +39,6 @@ is_byte n l = lt-ltb n 256 l
 pub joined_bytes : (xs ys : List ℕ) → are_bytes xs ≡ true → are_bytes ys ≡ true → are_bytes (xs ++ ys) ≡ true
 joined_bytes [] ys e f = f
 joined_bytes (x ∷ xs) ys e f = let p = and_parts (nat_lt x 256) (are_bytes xs) e in ap₂ (λ (b c : Bool). b && c) p.0 (joined_bytes xs ys p.1 f)
-
-pub bytes_told : (bytes : List ℕ) → are_bytes bytes ≡ true → AreBytes bytes
-bytes_told [] e i = omega arith
-bytes_told (b ∷ bytes) e zero = ltb-true b 256 (and_parts (nat_lt b 256) (are_bytes bytes) e).0
-bytes_told (b ∷ bytes) e (suc i) = bytes_told bytes (and_parts (nat_lt b 256) (are_bytes bytes) e).1 i
 
 -- one more in front
 front : (n : ℕ) (bytes : List ℕ) → n < 256 → are_bytes bytes ≡ true → are_bytes (n ∷ bytes) ≡ true
