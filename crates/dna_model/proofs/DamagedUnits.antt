@@ -1,5 +1,5 @@
 -- A unit that is damaged by a step of a script shows it, and its bytes are no longer those that were sent.
-use Rattle.std.proofs.Common.{◌≡◌, ◌≢◌, ℕ, zero, suc, ◌+◌, ◌<◌, ◌≤◌, ◌^◌, Bool, true, false, ◌&&◌, List, [], ◌∷◌, ◌++◌, length, refl, sym, ap, ◌∙◌, subst, arith, ltb-true, leb-true, ◌⊎◌, inl, inr}
+use Rattle.std.proofs.Common.{◌≡◌, ◌≢◌, ℕ, zero, suc, ◌<◌, ◌≤◌, ◌^◌, Bool, true, false, ◌&&◌, List, [], ◌∷◌, ◌++◌, length, refl, sym, ap, ◌∙◌, subst, arith, ltb-true, leb-true, ◌⊎◌}
 use Rattle.std.specs.Prelude.{slice_index, slice_set, bytes_eq, bit_xor, nat_lt, nat_le}
 use Rattle.std.specs.Int.Bits.{xor_self, xor_zero_l, xor_assoc}
 use Rattle.std.proofs.lemmas.Bool.{and_parts}
@@ -52,7 +52,8 @@ pub record Damaged (place value : ℕ) (bytes : List ℕ) : Type 0 where
   pub shows : (reading (damaged place value bytes) ≡ HeaderBad) ⊎ (reading (damaged place value bytes) ≡ DataBad)
   pub differs : bytes_eq (damaged place value bytes) bytes ≡ false
 
-pub damage_is_seen : (m : MessageValue) (bytes : List ℕ) (place value : ℕ) → are_bytes bytes ≡ true → reading bytes ≡ Sound m → is_damage place value bytes ≡ true → Damaged place value bytes
+pub damage_is_seen : (m : MessageValue) (bytes : List ℕ) (place value : ℕ) → are_bytes bytes ≡ true → reading bytes ≡ Sound m →
+    is_damage place value bytes ≡ true → Damaged place value bytes
 damage_is_seen m bytes place value are e d =
     let p = and_parts (nat_lt place (length bytes)) (nat_le 1 value && nat_le value 255) d in let q = and_parts (nat_le 1 value) (nat_le value 255) p.1 in
     let s = split_at bytes place (ltb-true place (length bytes) p.0) in
@@ -67,6 +68,7 @@ damage_is_seen m bytes place value are e d =
       differs = not_same (bytes_eq (damaged place value bytes) bytes) refl (λ f. other (same_byte s.before s.after y s.byte (sym is ∙ f ∙ s.whole)));
     }
   where
-    not_same : (b : Bool) → bytes_eq (damaged place value bytes) bytes ≡ b → (damaged place value bytes ≡ bytes → ⊥) → bytes_eq (damaged place value bytes) bytes ≡ false
+    not_same : (b : Bool) → bytes_eq (damaged place value bytes) bytes ≡ b → (damaged place value bytes ≡ bytes → ⊥) →
+        bytes_eq (damaged place value bytes) bytes ≡ false
     not_same true e never = absurd (never ((bytes_eq-Decides (damaged place value bytes) bytes).0 e))
     not_same false e never = e

@@ -1,9 +1,8 @@
 -- What comes to an end of the player it takes, and its user gets what is whole then: where what is said of the end holds, `deliver`, `refuse` and
 -- `damage` are no bad steps while a unit is on the line.
-use Rattle.std.proofs.Common.{◌≡◌, ℕ, ◌+◌, ◌≤◌, Bool, true, false, ◌&&◌, cond, Option, Some, None, List, [], ◌∷◌, map, length, Result, Ok, Err, refl, sym, ap, ◌∙◌, subst, ◌⊎◌, inl, inr}
-use Rattle.std.specs.Prelude.{slice_get, bytes_eq}
-use Rattle.two_nodes.specs.Nodes.{Half, Made, advance}
-use Rattle.ddcmp_msg.specs.Message.{MessageValue}
+use Rattle.std.proofs.Common.{◌≡◌, ℕ, ◌≤◌, Bool, true, false, ◌&&◌, cond, Option, Some, None, List, [], ◌∷◌, map, Ok, refl, sym, ap, ◌∙◌, subst, ◌⊎◌, inl, inr}
+use Rattle.std.specs.Prelude.{slice_get}
+use Rattle.two_nodes.specs.Nodes.{Made, advance}
 use Rattle.ddcmp_msg.specs.Reading.{ReadingValue, reading, HeaderBad, DataBad, Sound}
 use Rattle.dna_packet.specs.Nsp.{NspValue, DataSegment, LinkService, DataAck, OtherDataAck, ConnectAck, NoOperation, ConnectInitiate, ConnectConfirm, DisconnectInitiate, DisconnectConfirm}
 use Rattle.capture.specs.declared.event.Event.{Event}
@@ -14,16 +13,15 @@ use Rattle.dna_model.specs.LinkTests.{is_at, is_connected, has_both}
 use Rattle.dna_model.specs.Links.{LinkOf, with_link}
 use Rattle.dna_model.specs.TrueFlow.{TrueFlow}
 use Rattle.dna_model.specs.TrueLinks.{Links}
-use Rattle.dna_model.specs.Layers.{LayersNode, LayersUnit, stations}
+use Rattle.dna_model.specs.Layers.{LayersUnit, stations}
 use Rattle.dna_model.specs.HasLine.{are_bytes, has_line}
 use Rattle.dna_model.specs.Book as book
 use Rattle.dna_model.specs.Bounds.{IsBounded}
 use Rattle.dna_model.specs.LinkRuns.{SentMessage}
 use Rattle.two_nodes.specs.Cutting.{cut_half}
-use Rattle.dna_model.specs.Owed.{can_take}
 use Rattle.dna_model.specs.LinkOwed as owing
 use Rattle.dna_model.specs.Player.{End, made_half, makes, end_step, links_of, after_record}
-use Rattle.dna_model.specs.Stepped.{Stop, Stepped, made}
+use Rattle.dna_model.specs.Stepped.{Stepped, made}
 use Rattle.dna_model.specs.Receipt.{complete, delivered_by, delivered_now, carried, after_receipt, gets_all, then_gets, receives, can_keep, comes, is_damage, damaged}
 use Rattle.std.proofs.lemmas.Bool.{and_parts}
 use Rattle.dna_model.proofs.LinkTables.{IsFound, looked}
@@ -33,7 +31,7 @@ use Rattle.dna_model.proofs.PlayedSteps.{PlayHalf}
 use Rattle.dna_model.proofs.PlayerChecked.{IsReady}
 use Rattle.dna_model.proofs.ReceiptMakes.{came_left, header_made, data_made, unit_made}
 use Rattle.dna_model.proofs.DamagedUnits.{Damaged, damage_is_seen}
-use Rattle.dna_model.proofs.UpsFollow.{AllLined, IsWholeAt, gets_whole}
+use Rattle.dna_model.proofs.UpsFollow.{AllLined, gets_whole}
 
 -- ---- what is whole
 
@@ -58,7 +56,8 @@ module _ (other : PlayHalf) (so_far : Stepped) (distinct : AreDistinct (links_of
   abbrev Gets : List Event → Type 0
   Gets list = (got : Stepped) × (gets_all list other so_far ≡ Ok got)
 
-  of_segment : (own far : ℕ) → ((number : ℕ) (link : LinkOf TrueFlow) → IsFound (ActedOn own far) s number link → AllLined own (complete [] (owing.variables_of link).pieces)) →
+  of_segment : (own far : ℕ) →
+      ((number : ℕ) (link : LinkOf TrueFlow) → IsFound (ActedOn own far) s number link → AllLined own (complete [] (owing.variables_of link).pieces)) →
       Gets (with_link (ActedOn own far) s [] (λ number link. map (λ (message : List ℕ). events.Up own message) (complete [] (owing.variables_of link).pieces)))
   of_segment own far lined = looked (ActedOn own far) s [] (λ number link. map (λ (message : List ℕ). events.Up own message) (complete [] (owing.variables_of link).pieces)) _ refl
       (λ none e. subst Gets e (so_far, refl))
@@ -97,7 +96,8 @@ module _ (own : End) (other : PlayHalf) where
     pub lined : IsLinedNow (links_of half) o
 
   -- what comes with a line, and the node makes, is received
-  pub received : (bytes : List ℕ) (read : ReadingValue) (kept : Bool) → has_line (Received own.passed kept bytes) ≡ true → (half : PlayHalf) → advance end_step own.half other (Received own.passed kept bytes) ≡ Made half → IsClear half (carried kept read) →
+  pub received : (bytes : List ℕ) (read : ReadingValue) (kept : Bool) → has_line (Received own.passed kept bytes) ≡ true → (half : PlayHalf) →
+      advance end_step own.half other (Received own.passed kept bytes) ≡ Made half → IsClear half (carried kept read) →
       (stepped : Stepped) × (receives own other bytes read kept ≡ Ok stepped)
   unfolding end_step
   received bytes read kept lined half made_it clear =
@@ -123,16 +123,20 @@ module _ (own : End) (other : PlayHalf) where
         (clear (came_left own.half other own.passed unit there ahead (book.Sound unit.message unit.known) kept u.links) u.makes_it)
 
     -- it comes damaged
-    pub damage_comes : (place value : ℕ) → are_bytes unit.bytes ≡ true → is_damage place value unit.bytes ≡ true → AreDistinct (links_of own.half).links →
+    pub damage_comes : (place value : ℕ) → are_bytes unit.bytes ≡ true → is_damage place value unit.bytes ≡ true →
+        AreDistinct (links_of own.half).links →
         has_line (Received own.passed false (damaged place value unit.bytes)) ≡ true → (stepped : Stepped) × (comes own other true (damaged place value unit.bytes) ≡ Ok stepped)
     damage_comes place value are is distinct lined = go (damage_is_seen unit.message unit.bytes place value are told is)
       where
-        as_read : (r : ReadingValue) → reading (damaged place value unit.bytes) ≡ r → (stepped : Stepped) × (receives own other (damaged place value unit.bytes) r (true && can_keep own r) ≡ Ok stepped) → (stepped : Stepped) × (comes own other true (damaged place value unit.bytes) ≡ Ok stepped)
+        as_read : (r : ReadingValue) → reading (damaged place value unit.bytes) ≡ r →
+            (stepped : Stepped) × (receives own other (damaged place value unit.bytes) r (true && can_keep own r) ≡ Ok stepped) →
+            (stepped : Stepped) × (comes own other true (damaged place value unit.bytes) ≡ Ok stepped)
         as_read r e m = subst (λ (x : ReadingValue). (stepped : Stepped) × (receives own other (damaged place value unit.bytes) x (true && can_keep own x) ≡ Ok stepped)) (sym e) m
 
         go : Damaged place value unit.bytes → (stepped : Stepped) × (comes own other true (damaged place value unit.bytes) ≡ Ok stepped)
         go d = by_reading d.shows
           where
-            by_reading : (reading (damaged place value unit.bytes) ≡ HeaderBad) ⊎ (reading (damaged place value unit.bytes) ≡ DataBad) → (stepped : Stepped) × (comes own other true (damaged place value unit.bytes) ≡ Ok stepped)
+            by_reading : (reading (damaged place value unit.bytes) ≡ HeaderBad) ⊎ (reading (damaged place value unit.bytes) ≡ DataBad) →
+                (stepped : Stepped) × (comes own other true (damaged place value unit.bytes) ≡ Ok stepped)
             by_reading (inl e) = as_read HeaderBad e (received (damaged place value unit.bytes) HeaderBad false lined _ (header_made own.half other own.passed unit there ahead (damaged place value unit.bytes) d.differs e) (record { distinct = distinct; lined = tt }))
             by_reading (inr e) = as_read DataBad e (received (damaged place value unit.bytes) DataBad false lined _ (data_made own.half other own.passed unit there ahead (damaged place value unit.bytes) d.differs e) (record { distinct = distinct; lined = tt }))

@@ -1,33 +1,32 @@
 -- An end of the player that has a unit to send sends it: where what is said of the end holds, `send` is no bad step.
-use Rattle.std.proofs.Common.{◌≡◌, ℕ, zero, suc, ◌+◌, ◌-◌, ◌<◌, ◌≤◌, ◌^◌, Bool, true, false, eqb, cond, Option, Some, None, option_map, List, [], ◌∷◌, map, length, drop, Result, Ok, Err, refl, sym, ap, ap₂, ◌∙◌, subst, arith, eqb-true, length-drop}
-use Rattle.std.specs.Prelude.{slice_get, is_some}
+use Rattle.std.proofs.Common.{◌≡◌, ℕ, ◌+◌, ◌<◌, ◌^◌, Bool, true, false, Option, Some, None, List, [], ◌∷◌, length, Ok, refl, sym, ap, ◌∙◌, subst, arith, length-drop}
+use Rattle.std.specs.Prelude.{slice_get}
 use Rattle.std.proofs.lemmas.Option.{same_Some}
 use Rattle.std.proofs.lemmas.Bool.{eqb-false}
-use Rattle.ddcmp_msg.specs.Message.{MessageValue, Data, Ack, Nak, Rep, Strt, Stack}
+use Rattle.ddcmp_msg.specs.Message.{MessageValue, Ack, Nak, Rep, Strt, Stack}
 use Rattle.ddcmp_msg.specs.Spelling.{spelling}
 use Rattle.dna_packet.specs.Nsp.{NspValue, DisconnectConfirm}
 use Rattle.capture.specs.declared.record.Record.TheVariants.{Sent}
 use Rattle.dna_model.specs.declared.head.Head.{Head}
 use Rattle.dna_model.specs.declared.state.State.{State}
 use Rattle.dna_model.specs.Bounds.{IsOrdered}
-use Rattle.dna_model.specs.Station.{Station, given, wire}
+use Rattle.dna_model.specs.Station.{Station, wire}
 use Rattle.dna_model.specs.StationBook.{sending_refusal, gives_number}
-use Rattle.dna_model.specs.Book.{body_of}
 use Rattle.dna_model.specs.Cut.{AreLabelled, cut}
-use Rattle.dna_model.specs.WireStation.{HeldPacket, StationVariables, WireStation}
+use Rattle.dna_model.specs.WireStation.{HeldPacket, StationVariables}
 use Rattle.dna_model.specs.WireBook.{wire_is_new}
 use Rattle.dna_model.specs.WireNode.{unlabelled}
 use Rattle.dna_model.specs.Links.{LinkOf, Carried}
 use Rattle.dna_model.specs.LinkSending as links_sending
 use Rattle.dna_model.specs.TrueFlow.{TrueFlow, Numbers}
-use Rattle.dna_model.specs.TrueLinks.{Links, links_sent}
+use Rattle.dna_model.specs.TrueLinks.{links_sent}
 use Rattle.dna_model.specs.CutFlow as flows
-use Rattle.dna_model.specs.LinkOwed.{EndConfirm, LinkOwed, Turn}
-use Rattle.dna_model.specs.NextSent.{LinkEnd, link_ends, LinkChoice, Confirms, OfLink, Choice, SendStrt, SendStack, SendNak, SendRep, SendAgain, SendNew, SendAck, first_turn, link_choice, choice}
+use Rattle.dna_model.specs.LinkOwed.{EndConfirm, Turn}
+use Rattle.dna_model.specs.NextSent.{LinkEnd, LinkChoice, Confirms, OfLink, Choice, SendStrt, SendStack, SendNak, SendRep, SendAgain, SendNew, SendAck, first_turn, link_choice, choice}
 use Rattle.dna_model.specs.Compose.{no_flags, start_flags, address, packet_again, new_data, packet_with, turn_message, message_at, link_message, message_of, data_with}
 use Rattle.dna_model.specs.Player.{End, makes, station_of, links_of, link_ends_of}
 use Rattle.dna_model.specs.Player as player
-use Rattle.dna_model.specs.Stepped.{Stop, BadStep, Stepped, made}
+use Rattle.dna_model.specs.Stepped.{Stepped, made}
 use Rattle.dna_model.specs.Play.{after_sending, sends_message, sends_choice, sends}
 use Rattle.dna_model.proofs.CutSending.{all_length, sending_refusal_same, first_same}
 use Rattle.dna_model.proofs.CutNode.{unlabelled_bodies}
@@ -35,8 +34,7 @@ use Rattle.dna_model.proofs.PlayedSteps.{PlayHalf}
 use Rattle.dna_model.proofs.StationPays.{IsPayable, IsChosen, ByStrt, ByStack, ByNak, ByRep, ByAgain, ByNew, ByAck, chosen, chosen_may}
 use Rattle.dna_model.proofs.LinkOwners.{there_is}
 use Rattle.dna_model.proofs.LinkAddresses.{LinkList, AreAddressed}
-use Rattle.dna_model.proofs.LinkPays.{Fits, MaySendIt}
-use Rattle.dna_model.proofs.LinkChoices.{EndAt, end_at, LinksPay, Composed, composed, first_chosen}
+use Rattle.dna_model.proofs.LinkChoices.{end_at, LinksPay, composed, first_chosen}
 use Rattle.dna_model.proofs.LinkFits.{AllFit, turn_plain}
 use Rattle.dna_model.proofs.UnitLines.{IsOfBytes, PacketFits, packet_fits, MessageFits, confirm_fits, turn_message_fits}
 use Rattle.dna_model.proofs.SendMakes.{sent_left, is_made, again_after, sends_old, first_after, packet_of, packet_sent, sends_new, PacketsFit, message_of_bytes}
@@ -90,7 +88,8 @@ module _ (e : End) (other : PlayHalf) (h : IsSound e) where
 
   -- ---- a message of the links
 
-  turn_fits : (number : ℕ) (turn : Turn) (message : NspValue) → message_at (slice_get (link_ends_of e) number) turn ≡ Some message → MessageFits message
+  turn_fits : (number : ℕ) (turn : Turn) (message : NspValue) → message_at (slice_get (link_ends_of e) number) turn ≡ Some message →
+      MessageFits message
   turn_fits number turn message is = go (slice_get (link_ends_of e) number) refl is
     where
       go : (o : Option LinkEnd) → slice_get (link_ends_of e) number ≡ o → message_at o turn ≡ Some message → MessageFits message
@@ -109,7 +108,8 @@ module _ (e : End) (other : PlayHalf) (h : IsSound e) where
       no_confirm : (from : ℕ) (list : List LinkEnd) → first_turn from list ≡ Some (Confirms confirm) → ⊥
       no_confirm from list e' = first_chosen from list (Confirms confirm) e'
 
-      go : (confirms : List EndConfirm) → e.links_owed.confirms ≡ confirms → link_choice confirms (link_ends_of e) ≡ Some (Confirms confirm) → MessageFits (DisconnectConfirm confirm.dst confirm.src confirm.reason)
+      go : (confirms : List EndConfirm) → e.links_owed.confirms ≡ confirms → link_choice confirms (link_ends_of e) ≡ Some (Confirms confirm) →
+          MessageFits (DisconnectConfirm confirm.dst confirm.src confirm.reason)
       go [] are e' = absurd (no_confirm 0 (link_ends_of e) e')
       go (first ∷ later) are e' =
           let small = h.confirms_small 0 first (ap (λ (l : List EndConfirm). slice_get l 0) are) in
@@ -135,14 +135,16 @@ module _ (e : End) (other : PlayHalf) (h : IsSound e) where
   pub data Goes (c : Choice) : Type 0 where
     GoesOld : (m : MessageValue) → message_of c head k ends ≡ Some m → IsOfBytes m → ((one : LinkChoice) → c ≡ SendNew one → ⊥) →
         makes e.half other (Sent (spelling m)) ≡ Some (sent_left e.half other m (again_after e.half other m)) → Goes c
-    GoesNew : (one : LinkChoice) → c ≡ SendNew one → asked ≡ Some one → (message : NspValue) → link_message one ends ≡ Some message → (m : MessageValue) → message_of c head k ends ≡ Some m → IsOfBytes m →
+    GoesNew : (one : LinkChoice) → c ≡ SendNew one → asked ≡ Some one → (message : NspValue) → link_message one ends ≡ Some message →
+        (m : MessageValue) → message_of c head k ends ≡ Some m → IsOfBytes m →
         (packet : Carried) (made : links_sending.Sent TrueFlow Numbers) → packet.message ≡ message → links_sent (links_of e.half) packet ≡ Ok made →
         makes e.half other (Sent (spelling m)) ≡ Some (sent_left e.half other m (first_after e.half other m packet made)) → Goes c
 
   allowed : (c : Choice) (m : MessageValue) → choice k e.owed asked ≡ Some c → message_of c head k ends ≡ Some m → sending_refusal station m ≡ None
   allowed c m is put = sending_refusal_same (unlabelled station.packets) station labelled h.ordered m ∙ chosen_may (cut (unlabelled station.packets) station) e.owed asked h.pays head ends c m is put
 
-  goes_old : (c : Choice) (m : MessageValue) → choice k e.owed asked ≡ Some c → message_of c head k ends ≡ Some m → ((one : LinkChoice) → c ≡ SendNew one → ⊥) → gives_number station m ≡ false → Goes c
+  goes_old : (c : Choice) (m : MessageValue) → choice k e.owed asked ≡ Some c → message_of c head k ends ≡ Some m →
+      ((one : LinkChoice) → c ≡ SendNew one → ⊥) → gives_number station m ≡ false → Goes c
   goes_old c m is put never old =
       let b = message_of_bytes station h.packets c head ends m (λ one e'. absurd (never one e')) put in
       GoesOld m put b never (is_made e.half other m b (again_after e.half other m) (sends_old e.half other m (allowed c m is put) old))
@@ -180,7 +182,8 @@ module _ (e : End) (other : PlayHalf) (h : IsSound e) where
   goes c is = goes_chosen k.state c is (chosen k e.owed asked c k.state is)
 
   -- an end that has a unit to send sends it
-  sent_step : (c : Choice) (m : MessageValue) (half : PlayHalf) → choice k e.owed asked ≡ Some c → message_of c head k ends ≡ Some m → makes e.half other (Sent (spelling m)) ≡ Some half → (stepped : Stepped) × (sends e other ≡ Ok stepped)
+  sent_step : (c : Choice) (m : MessageValue) (half : PlayHalf) → choice k e.owed asked ≡ Some c → message_of c head k ends ≡ Some m →
+      makes e.half other (Sent (spelling m)) ≡ Some half → (stepped : Stepped) × (sends e other ≡ Ok stepped)
   sent_step c m half is put made_it = (_, ap (sends_choice e other) is ∙ ap (sends_message e other c) put ∙ ap (made e (Sent (spelling m)) (after_sending c)) made_it)
 
   pub send_goes : (c : Choice) → choice k e.owed asked ≡ Some c → (stepped : Stepped) × (sends e other ≡ Ok stepped)

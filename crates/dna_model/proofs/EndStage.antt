@@ -1,20 +1,18 @@
 -- What holds of an end of the player at any time of a script, with what is known of both in a run that is checked: all that it chooses it may send; and
 -- that it is kept by what its user does and by its timers.
-use Rattle.std.proofs.Common.{◌≡◌, ℕ, ◌+◌, ◌<◌, ◌≤◌, ◌^◌, Bool, true, false, cond, Option, Some, None, List, [], ◌∷◌, length, Result, Ok, Err, refl, sym, ap, ◌∙◌, subst, arith}
+use Rattle.std.proofs.Common.{◌≡◌, ℕ, ◌<◌, ◌≤◌, ◌^◌, Option, Some, None, Ok, refl, sym, ap, ◌∙◌, subst, arith}
 use Rattle.std.specs.Prelude.{slice_get}
 use Rattle.std.proofs.lemmas.Option.{same_Some}
-use Rattle.two_nodes.specs.Nodes.{Half, answered, stepped}
+use Rattle.two_nodes.specs.Nodes.{stepped}
 use Rattle.two_nodes.specs.Cutting.{cut_half}
 use Rattle.capture.specs.declared.limit.TheConstants.{MAX_LINK}
-use Rattle.dna_model.specs.declared.state.State.{State}
 use Rattle.dna_model.specs.declared.state.State.TheVariants.{Halted}
 use Rattle.dna_model.specs.declared.state.StationEvent.{StationEvent}
 use Rattle.dna_model.specs.declared.state.StationEvent.TheVariants as events
-use Rattle.dna_model.specs.declared.link_refusal.LinkRefusal.{LinkRefusal}
 use Rattle.dna_model.specs.declared.port.Phase.{Phase}
-use Rattle.dna_model.specs.declared.port.Phase.TheVariants.{Calling, Called, Confirming, Running, Disconnecting, Ended}
+use Rattle.dna_model.specs.declared.port.Phase.TheVariants.{Calling, Confirming, Running, Disconnecting}
 use Rattle.dna_model.specs.Bounds as bounds
-use Rattle.dna_model.specs.Station.{Station, after_event}
+use Rattle.dna_model.specs.Station.{after_event}
 use Rattle.dna_model.specs.Links.{LinkOf}
 use Rattle.dna_model.specs.LinkUser.{LinkEventValue}
 use Rattle.dna_model.specs.TrueFlow.{TrueFlow, true_flows}
@@ -22,8 +20,7 @@ use Rattle.dna_model.specs.TrueLinks.{Links, links_user}
 use Rattle.dna_model.specs.CutFlow.{IsOrdered, IsAnswered}
 use Rattle.dna_model.specs.LinkCaptures.{given_address}
 use Rattle.dna_model.specs.LinkRuns.{SentMessage}
-use Rattle.dna_model.specs.Machine.{does}
-use Rattle.dna_model.specs.Layers.{LayersNode, LayersUnit, with_links, stations}
+use Rattle.dna_model.specs.Layers.{stations}
 use Rattle.dna_model.specs.Owed.{Debt, timer_debt}
 use Rattle.dna_model.specs.LinkOwed.{LinkOwed, InitiateTurn, ConfirmTurn, DisconnectTurn, retried, changed}
 use Rattle.dna_model.specs.Compose.{address}
@@ -35,13 +32,13 @@ use Rattle.dna_model.proofs.PlayedSteps.{PlayHalf}
 use Rattle.dna_model.proofs.PlayerChecked.{IsReady}
 use Rattle.dna_model.proofs.StationOwes.{timer_pays}
 use Rattle.dna_model.proofs.LinkTables.{user_did}
-use Rattle.dna_model.proofs.LinkAddresses.{LinkList, Owner, AreAddressed}
+use Rattle.dna_model.proofs.LinkAddresses.{LinkList, AreAddressed}
 use Rattle.dna_model.proofs.LinkPays.{OwedFits}
 use Rattle.dna_model.proofs.LinkFits.{EventFits, IsPlain}
 use Rattle.dna_model.proofs.LinkOwing.{turn_fits}
 use Rattle.dna_model.proofs.LinkDebts.{done_over}
 use Rattle.dna_model.proofs.SendMakes.{PacketsFit}
-use Rattle.dna_model.proofs.EndSends.{HasSmall, IsSound}
+use Rattle.dna_model.proofs.EndSends.{IsSound}
 use Rattle.dna_model.proofs.StationStage.{StationPays, unchanged_stage, start_stage, halt_stage, event_packets}
 use Rattle.dna_model.proofs.LinkStage.{LinkHolds, same_holds, user_holds, change_holds}
 
@@ -109,7 +106,8 @@ module _ (e : End) (h : Stage e) (numbers : HasNumbers (links_of e.half).links) 
   ordered : (i : ℕ) (l : LinkOf TrueFlow) → slice_get (links_of e.half).links i ≡ Some l → IsOrdered l.flow
   ordered i l at = (numbers i l at).0
 
-  pub link_event_stage : (others : LinkList) → AreAddressed (links_of e.half).links others e.addresses → (event : LinkEventValue) (left : Links) → EventFits (links_of e.half) h.links.fit event → IsHigher e.addresses (given_address event) →
+  pub link_event_stage : (others : LinkList) → AreAddressed (links_of e.half).links others e.addresses → (event : LinkEventValue) (left : Links) →
+      EventFits (links_of e.half) h.links.fit event → IsHigher e.addresses (given_address event) →
       higher e.addresses (given_address event) ≤ MAX_LINK → links_user (links_of e.half) event ≡ Ok left → Stage (record (after_record e (with_left e.half left)) { addresses = higher e.addresses (given_address event) })
   link_event_stage others addressed event left fits less few does_it = record {
     pays = unchanged_stage (station_of e.half) e.owed h.pays;
@@ -145,7 +143,8 @@ module _ (e : End) (h : Stage e) (numbers : HasNumbers (links_of e.half).links) 
 -- ---- timers
 
 module _ (e : End) (h : Stage e) where
-  pub timer_stage : (debt : Debt) → timer_debt (player.variables_of e.half).state (player.variables_of e.half) ≡ Some debt → Stage (owing_more (Some debt) e)
+  pub timer_stage : (debt : Debt) → timer_debt (player.variables_of e.half).state (player.variables_of e.half) ≡ Some debt →
+      Stage (owing_more (Some debt) e)
   timer_stage debt is = subst (λ (o : Option Debt). Stage (owing_more o e)) is (record {
     pays = timer_pays (player.variables_of e.half) (station_of e.half).causes e.owed (player.variables_of e.half).state h.pays;
     packets = h.packets;
@@ -154,7 +153,8 @@ module _ (e : End) (h : Stage e) where
     few = h.few;
   })
 
-  retried_fits : (l : LinkOf TrueFlow) (o : LinkOwed) (phase : Phase) → l.port.phase ≡ phase → (change : LinkOwed → LinkOwed) → retried phase ≡ Some change → OwedFits l o → OwedFits l (change o)
+  retried_fits : (l : LinkOf TrueFlow) (o : LinkOwed) (phase : Phase) → l.port.phase ≡ phase → (change : LinkOwed → LinkOwed) →
+      retried phase ≡ Some change → OwedFits l o → OwedFits l (change o)
   retried_fits l o Calling is change e' f = subst (λ (c : LinkOwed → LinkOwed). OwedFits l (c o)) (same_Some _ change e') (turn_fits l o InitiateTurn is f)
   retried_fits l o Confirming is change e' f = subst (λ (c : LinkOwed → LinkOwed). OwedFits l (c o)) (same_Some _ change e') (turn_fits l o ConfirmTurn is f)
   retried_fits l o Disconnecting is change e' f = subst (λ (c : LinkOwed → LinkOwed). OwedFits l (c o)) (same_Some _ change e') (turn_fits l o DisconnectTurn is f)
@@ -162,7 +162,8 @@ module _ (e : End) (h : Stage e) where
       (record { connect_ack = f.connect_ack; initiate = f.initiate; confirm = f.confirm; disconnect = f.disconnect; data_ack = f.data_ack; ahead = omega arith })
   retried_fits l o phase is change e' f = absurd cc
 
-  pub retry_stage : (number : ℕ) (link : LinkOf TrueFlow) (change : LinkOwed → LinkOwed) → slice_get (links_of e.half).links number ≡ Some link → retried link.port.phase ≡ Some change → Stage (record e { links_owed = changed number change e.links_owed })
+  pub retry_stage : (number : ℕ) (link : LinkOf TrueFlow) (change : LinkOwed → LinkOwed) → slice_get (links_of e.half).links number ≡ Some link →
+      retried link.port.phase ≡ Some change → Stage (record e { links_owed = changed number change e.links_owed })
   retry_stage number link change there is = record {
     pays = h.pays;
     packets = h.packets;

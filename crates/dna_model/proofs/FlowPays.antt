@@ -1,9 +1,9 @@
 -- What a link of the player in RUN puts together its flow may send: a data ack, a segment once more, a new segment.
-use Rattle.std.proofs.Common.{◌≡◌, ℕ, ◌+◌, ◌-◌, ◌<◌, ◌≤◌, max, min, Bool, true, false, ◌&&◌, ◌||◌, not, eqb, nat_lt, nat_le, cond, Option, Some, None, List, [], ◌∷◌, ◌++◌, length, take, drop, Result, Ok, refl, sym, ap, ap₂, ◌∙◌, subst, arith, eq-eqb, lt-ltb, le-leb, length-drop, ◌⊎◌, inl, inr}
+use Rattle.std.proofs.Common.{◌≡◌, ℕ, ◌+◌, ◌-◌, ◌<◌, ◌≤◌, max, min, Bool, true, false, ◌&&◌, ◌||◌, not, eqb, nat_lt, nat_le, cond, Option, Some, List, [], ◌∷◌, ◌++◌, length, take, Result, Ok, refl, sym, ap, ap₂, ◌∙◌, arith, eq-eqb, lt-ltb, le-leb, length-drop, ◌⊎◌, inl, inr}
 use Rattle.std.specs.Prelude.{slice_get}
 use Rattle.std.specs.Str.{bytes_eq}
 use Rattle.std.proofs.lemmas.Bool.{cases_lt, ne_eqb, lt-leb}
-use Rattle.std.proofs.lemmas.List.{length-take, take_all, take_min}
+use Rattle.std.proofs.lemmas.List.{length-take, take_min}
 use Rattle.std.proofs.lemmas.Option.{slice_get_within}
 use Rattle.std.proofs.lemmas.Slice.Eq.{bytes_eq-Decides}
 use Rattle.dna_model.specs.declared.link_refusal.LinkRefusal.{LinkRefusal}
@@ -72,7 +72,8 @@ is_piece begun rest = go (cases_lt SEGSIZE (length rest))
 is_next : (u : Unsent) → has_more u.messages ≡ true → is_next_piece (next_piece u) u ≡ true
 is_next u more = go u.messages more
   where
-    go : (messages : List (List ℕ)) → has_more messages ≡ true → is_next_piece (next_piece_of u.begun messages) (record u { messages = messages }) ≡ true
+    go : (messages : List (List ℕ)) → has_more messages ≡ true →
+        is_next_piece (next_piece_of u.begun messages) (record u { messages = messages }) ≡ true
     go [] more = absurd cc
     go (rest ∷ later) more = is_piece u.begun rest
 
@@ -112,7 +113,8 @@ module _ (f : TrueFlow) (ordered : IsOrdered f) (answered : IsAnswered f) where
     abbrev none_named : Named
     none_named = record { numbers = []; last = f.last }
 
-    pub again_may : (segsize : ℕ) (p : Piece) → slice_get l.variables.outstanding owed.ahead ≡ Some p → MaySend (sends_segment segsize (segment_with l p) f)
+    pub again_may : (segsize : ℕ) (p : Piece) → slice_get l.variables.outstanding owed.ahead ≡ Some p →
+        MaySend (sends_segment segsize (segment_with l p) f)
     again_may segsize p there =
         let s = segment_with l p in
         let within = slice_get_within l.variables.outstanding owed.ahead p there in
@@ -134,7 +136,8 @@ module _ (f : TrueFlow) (ordered : IsOrdered f) (answered : IsAnswered f) where
               ∙ ap₂ (λ (b c : Bool). check b WrongSegment (check c WrongSegment (Ok sent))) near repeat,
         )
 
-    pub new_may : (segsize : ℕ) → SEGSIZE ≤ segsize → length l.variables.outstanding < REACH → owed.ahead ≡ length l.variables.outstanding → has_more f.unsent.messages ≡ true →
+    pub new_may : (segsize : ℕ) → SEGSIZE ≤ segsize → length l.variables.outstanding < REACH → owed.ahead ≡ length l.variables.outstanding →
+        has_more f.unsent.messages ≡ true →
         MaySend (sends_segment segsize (segment_with l (next_piece f.unsent)) f)
     new_may segsize wide few ahead more =
         let p = next_piece f.unsent in

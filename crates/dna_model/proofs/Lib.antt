@@ -130,6 +130,7 @@ mod DamagedUnits
 mod EndReceives
 mod ReceiptStage
 mod PlayedKnown
+mod EndUser
 mod PlayRowSteps
 mod PlayRows
 mod PlayRowsStation

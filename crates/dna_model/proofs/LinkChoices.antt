@@ -23,7 +23,8 @@ pub record EndAt (links : LinkList) (owed : List LinkOwed) (number : ℕ) (e : L
   pub owed_there : slice_get owed number ≡ Some owes
   pub is : record { port = link.port; variables = variables_of link; owed = owes } ≡ e
 
-pub end_at : (links : LinkList) (owed : List LinkOwed) (number : ℕ) (e : LinkEnd) → slice_get (link_ends links owed) number ≡ Some e → EndAt links owed number e
+pub end_at : (links : LinkList) (owed : List LinkOwed) (number : ℕ) (e : LinkEnd) → slice_get (link_ends links owed) number ≡ Some e →
+    EndAt links owed number e
 end_at [] owed number e at = absurd cc
 end_at (link ∷ links) [] number e at = absurd cc
 end_at (link ∷ links) (first ∷ owed) zero e at = record { link = link; owes = first; there = refl; owed_there = refl; is = same_Some _ e at }
@@ -51,7 +52,8 @@ first_chosen from (first ∷ ends) c e = go (first_chosen (from + 1) ends c) (tu
     one_later (Confirms confirm) x = x
     one_later (OfLink number turn) x = let is = x.is in record { place = suc x.place; is = omega arith; e = x.e; there = x.there; has = x.has }
 
-    go : (first_turn (from + 1) ends ≡ Some c → IsChosen ends (from + 1) c) → (o : Option Turn) → turn_of first ≡ o → turn_or_next from o (first_turn (from + 1) ends) ≡ Some c → IsChosen (first ∷ ends) from c
+    go : (first_turn (from + 1) ends ≡ Some c → IsChosen ends (from + 1) c) → (o : Option Turn) → turn_of first ≡ o →
+        turn_or_next from o (first_turn (from + 1) ends) ≡ Some c → IsChosen (first ∷ ends) from c
     go later None is e = one_later c (later e)
     go later (Some turn) is e = subst (IsChosen (first ∷ ends) from) (same_Some (OfLink from turn) c e) (record { place = 0; is = omega arith; e = first; there = refl; has = is })
 

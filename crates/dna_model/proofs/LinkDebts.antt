@@ -1,5 +1,5 @@
 -- What a message that comes makes the links owe belongs to the phase that it leaves their link in; and a DC names a link that is over and stays so.
-use Rattle.std.proofs.Common.{◌≡◌, ℕ, ◌+◌, ◌<◌, ◌≤◌, Bool, true, false, ◌&&◌, ◌||◌, cond, Option, Some, None, List, [], ◌∷◌, ◌++◌, length, Result, Ok, Err, refl, sym, ap, ap₂, ◌∙◌, subst, arith, eq-eqb, ◌⊎◌, inl, inr}
+use Rattle.std.proofs.Common.{◌≡◌, ℕ, ◌<◌, ◌≤◌, Bool, true, false, ◌&&◌, ◌||◌, cond, Option, Some, None, length, Result, Ok, refl, sym, ap, ap₂, ◌∙◌, subst, arith, eq-eqb, ◌⊎◌, inl, inr}
 use Rattle.std.specs.Prelude.{slice_get}
 use Rattle.std.proofs.lemmas.Bool.{and_parts}
 use Rattle.std.proofs.lemmas.Option.{same_Some, slice_get_within}
@@ -7,25 +7,25 @@ use Rattle.dna_packet.specs.Nsp.{NspValue, DataSegment, LinkService, DataAck, Ot
 use Rattle.dna_model.specs.declared.link_refusal.LinkRefusal.{LinkRefusal}
 use Rattle.dna_model.specs.declared.link_refusal.LinkRefusal.TheVariants.{CrossedLink}
 use Rattle.dna_model.specs.declared.port.Phase.{Phase}
-use Rattle.dna_model.specs.declared.port.Phase.TheVariants.{Calling, Called, Confirming, Running, Disconnecting, Ended}
+use Rattle.dna_model.specs.declared.port.Phase.TheVariants.{Calling, Called, Confirming, Running, Disconnecting}
 use Rattle.dna_model.specs.declared.port.Port.{Port}
 use Rattle.dna_model.specs.declared.port.LinkTest.{LinkTest}
 use Rattle.dna_model.specs.declared.port.LinkTest.TheVariants.{TheLink, LiveTo, CallingAt, ActedOn}
 use Rattle.dna_model.specs.LinkTests.{is_live, is_calling, is_connected, is_running, is_at, has_both, passes}
-use Rattle.dna_model.specs.Links.{LinkOf, LinkTruth, check, number_of, at_number, with_link, begun, changed, in_phase, ended, freed}
+use Rattle.dna_model.specs.Links.{LinkOf, LinkTruth, check, number_of, at_number, with_link, begun, changed, in_phase, ended}
 use Rattle.dna_model.specs.LinkUser.{LinkEventValue, opened, answered}
 use Rattle.dna_model.specs.LinkSending.{Sent}
 use Rattle.dna_model.specs.LinkArriving.{PartnerRule, is_for, is_of_pair, called, confirmed, ends_link, running, message_arrived}
 use Rattle.dna_model.specs.TrueFlow.{TrueFlow, Numbers, true_flows}
 use Rattle.dna_model.specs.TrueLinks.{Links}
 use Rattle.dna_model.specs.LinkCaptures.{given_address}
-use Rattle.dna_model.specs.LinkOwed.{LinkDebt, NoDebt, Owes, OwesConfirm, EndConfirm, Turn, ConnectAckTurn, ConfirmTurn, DataAckTurn, repeated_call_debt, confirm_debt, message_debt}
+use Rattle.dna_model.specs.LinkOwed.{LinkDebt, NoDebt, Owes, OwesConfirm, EndConfirm, ConnectAckTurn, DataAckTurn, repeated_call_debt, confirm_debt, message_debt}
 use Rattle.dna_model.proofs.OrderlyRecords.{IsHigher, higher}
-use Rattle.dna_model.proofs.LinkTables.{IsFound, looked, checked, position_none, UserDid, Opens, Accepts, Rejects, HandsIn, Delivers, Closes, SentDid, OfNone, Stays, EndsCalled, Segment, Acks, ArrivedDid, Ignores, Begins, Confirms, Ends, TakesSegment, TakesAcks, TakesOther}
+use Rattle.dna_model.proofs.LinkTables.{looked, checked, position_none, UserDid, Opens, Accepts, Rejects, HandsIn, Delivers, Closes, SentDid, OfNone, Stays, EndsCalled, Segment, Acks, ArrivedDid, Ignores, Begins, Confirms, Ends, TakesSegment, TakesAcks, TakesOther}
 use Rattle.dna_model.proofs.LinkReads.{at_is}
 use Rattle.dna_model.proofs.LinkSides.{at_set, set_same, all_set, all_pushed}
 use Rattle.dna_model.proofs.NumberedSteps.{at_pushed}
-use Rattle.dna_model.proofs.LinkAddresses.{LinkList, OwnsIn, AreAddressed, freed_same}
+use Rattle.dna_model.proofs.LinkAddresses.{LinkList, AreAddressed, freed_same}
 use Rattle.dna_model.proofs.LinkChoices.{IsOver}
 use Rattle.dna_model.proofs.LinkPays.{with_found}
 use Rattle.dna_model.proofs.LinkOwing.{phase_of}
@@ -45,7 +45,8 @@ module _ (s : Links) (rule : PartnerRule) (truth : LinkTruth Numbers) (left : Li
   left_as : (P : LinkList → Type 0) (next : Links) → P next.links → ◌≡◌ {A = Result Links LinkRefusal} (Ok next) (Ok left) → P left.links
   left_as P next p e = let same : next ≡ left = cc in subst (λ (x : Links). P x.links) same p
 
-  no_link : (test : LinkTest) (otherwise : LinkDebt) (next : ℕ → LinkOf TrueFlow → LinkDebt) → number_of test s ≡ None → with_link test s otherwise next ≡ otherwise
+  no_link : (test : LinkTest) (otherwise : LinkDebt) (next : ℕ → LinkOf TrueFlow → LinkDebt) → number_of test s ≡ None →
+      with_link test s otherwise next ≡ otherwise
   no_link test otherwise next none = ap (λ (o : Option ℕ). at_number s.links o otherwise next) none
 
   -- the link with this number is in this phase
@@ -55,7 +56,8 @@ module _ (s : Links) (rule : PartnerRule) (truth : LinkTruth Numbers) (left : Li
   as_it_is : (number : ℕ) (link : LinkOf TrueFlow) → slice_get s.links number ≡ Some link → InPhase number link.port.phase s.links
   as_it_is number link there k at = ap (λ (x : LinkOf TrueFlow). x.port.phase) (same_Some k link (sym at ∙ there))
 
-  when_set : (number : ℕ) (link next : LinkOf TrueFlow) → slice_get s.links number ≡ Some link → InPhase number next.port.phase (changed number next s).links
+  when_set : (number : ℕ) (link next : LinkOf TrueFlow) → slice_get s.links number ≡ Some link →
+      InPhase number next.port.phase (changed number next s).links
   when_set number link next there k at = ap (λ (x : LinkOf TrueFlow). x.port.phase) (same_Some k next (sym at ∙ set_same s.links number link next there))
 
   when_pushed : (next : LinkOf TrueFlow) → InPhase (length s.links) next.port.phase (begun next s).links
@@ -70,7 +72,8 @@ module _ (s : Links) (rule : PartnerRule) (truth : LinkTruth Numbers) (left : Li
   repeated_fits number Confirming here = here
   repeated_fits number phase here = tt
 
-  again_fits : (number : ℕ) (phase : Phase) → InPhase number phase left.links → (b : Bool) → is_running phase ≡ b → Leaves (cond b (Owes number DataAckTurn) NoDebt)
+  again_fits : (number : ℕ) (phase : Phase) → InPhase number phase left.links → (b : Bool) → is_running phase ≡ b →
+      Leaves (cond b (Owes number DataAckTurn) NoDebt)
   again_fits number Running here true e = here
   again_fits number phase here true e = absurd cc
   again_fits number phase here false e = tt
@@ -139,7 +142,8 @@ done_over s most confirm d j m at passed =
     let t = ap₂ (λ (b c : Bool). b && c) p.0 (or_last (is_calling m.port.phase) (is_at m.port.far confirm.dst) q.1) in
     cc
 
-connected_past : (phase : Phase) (far : ℕ) (known : Option ℕ) → is_connected phase ≡ true → (is_live phase && (is_calling phase || is_at known far)) ≡ false → is_at known far ≡ false
+connected_past : (phase : Phase) (far : ℕ) (known : Option ℕ) → is_connected phase ≡ true →
+    (is_live phase && (is_calling phase || is_at known far)) ≡ false → is_at known far ≡ false
 connected_past Confirming far known c e = e
 connected_past Running far known c e = e
 connected_past phase far known c e = absurd cc
@@ -155,14 +159,17 @@ module _ (s : Links) (most : ℕ) (confirm : EndConfirm) (d : IsDone s.links mos
   push_done k top less past = let g = d.given in record { given = omega arith; over = all_pushed Past s.links k past d.over }
 
   -- an address that is higher than all before is not the one
-  fresh_past : (address : ℕ) (m : LinkOf TrueFlow) → most < address → m.port.own ≡ Some address → m.port.own ≡ Some confirm.src → may_be confirm.dst m.port ≡ false
+  fresh_past : (address : ℕ) (m : LinkOf TrueFlow) → most < address → m.port.own ≡ Some address → m.port.own ≡ Some confirm.src →
+      may_be confirm.dst m.port ≡ false
   fresh_past address m less is e = let g = d.given in let same = same_Some address confirm.src (sym is ∙ e) in absurd (omega arith)
 
   -- one that goes on in RUN, or is closed
-  goes_past : (n : ℕ) (l : LinkOf TrueFlow) → slice_get s.links n ≡ Some l → is_connected l.port.phase ≡ true → l.port.own ≡ Some confirm.src → is_at l.port.far confirm.dst ≡ false
+  goes_past : (n : ℕ) (l : LinkOf TrueFlow) → slice_get s.links n ≡ Some l → is_connected l.port.phase ≡ true → l.port.own ≡ Some confirm.src →
+      is_at l.port.far confirm.dst ≡ false
   goes_past n l there connected e = connected_past l.port.phase confirm.dst l.port.far connected (d.over n l there e)
 
-  pub user_done : (others : LinkList) → AreAddressed s.links others most → (event : LinkEventValue) (left : Links) → IsHigher most (given_address event) → UserDid true_flows s event left → IsDone left.links (higher most (given_address event)) confirm
+  pub user_done : (others : LinkList) → AreAddressed s.links others most → (event : LinkEventValue) (left : Links) →
+      IsHigher most (given_address event) → UserDid true_flows s event left → IsDone left.links (higher most (given_address event)) confirm
   user_done others addressed event left less (Opens address free) =
       subst (λ (x : Links). IsDone (begun (opened true_flows address) x).links address confirm) (sym (freed_same s others most addressed address less)) (push_done (opened true_flows address) address (omega arith) (fresh_past address (opened true_flows address) less refl))
   user_done others addressed event left less (Accepts far address number link found free) =
@@ -182,7 +189,8 @@ module _ (s : Links) (most : ℕ) (confirm : EndConfirm) (d : IsDone s.links mos
   sent_done m made (Segment segment number link sent is found run does) = set_done number _ most (omega arith) (d.over number link found.there)
   sent_done m made (Acks dst src acks number link sent is found run does) = set_done number _ most (omega arith) (d.over number link found.there)
 
-  pub came_done : (rule : PartnerRule) (m : NspValue) (truth : LinkTruth Numbers) (left : Links) → ArrivedDid true_flows rule s m truth left → IsDone left.links most confirm
+  pub came_done : (rule : PartnerRule) (m : NspValue) (truth : LinkTruth Numbers) (left : Links) → ArrivedDid true_flows rule s m truth left →
+      IsDone left.links most confirm
   came_done rule m truth left Ignores = d
   came_done rule m truth left (Begins far segsize none) = push_done _ most (omega arith) (λ e. absurd cc)
   came_done rule m truth left (Confirms own far segsize number link found may) =
@@ -202,10 +210,12 @@ module _ (s : Links) (others : LinkList) (most : ℕ) (addressed : AreAddressed 
   confirm = record { dst = far; src = own; reason = reason }
 
   -- the link with its address is ended
-  ended_is_done : (number : ℕ) (link : LinkOf TrueFlow) → slice_get s.links number ≡ Some link → is_at link.port.own own ≡ true → IsDone (changed number (ended true_flows link) s).links most confirm
+  ended_is_done : (number : ℕ) (link : LinkOf TrueFlow) → slice_get s.links number ≡ Some link → is_at link.port.own own ≡ true →
+      IsDone (changed number (ended true_flows link) s).links most confirm
   ended_is_done number link there at = record { given = given; over = λ j m found e. go j m e (at_set s.links number j (ended true_flows link) m found) }
     where
-      go : (j : ℕ) (m : LinkOf TrueFlow) → m.port.own ≡ Some own → ((j ≡ number) × (ended true_flows link ≡ m)) ⊎ ((j ≡ number → ⊥) × (slice_get s.links j ≡ Some m)) → may_be far m.port ≡ false
+      go : (j : ℕ) (m : LinkOf TrueFlow) → m.port.own ≡ Some own →
+          ((j ≡ number) × (ended true_flows link ≡ m)) ⊎ ((j ≡ number → ⊥) × (slice_get s.links j ≡ Some m)) → may_be far m.port ≡ false
       go j m e (inl is) = ap (λ (x : LinkOf TrueFlow). may_be far x.port) (sym is.1)
       go j m e (inr is) = absurd (is.0 (addressed.distinct j number own (record { link = m; there = is.1; owns = e }) (record { link = link; there = there; owns = at_is link.port.own own at })))
 
@@ -217,7 +227,8 @@ module _ (s : Links) (others : LinkList) (most : ℕ) (addressed : AreAddressed 
         (position_none (λ (k : LinkOf TrueFlow). passes (TheLink own far) k.port) s.links j m no_link at) (position_none (λ (k : LinkOf TrueFlow). passes (CallingAt own) k.port) s.links j m not_calling at);
   }
     where
-      past : (live calling at_own at_far : Bool) → at_own ≡ true → (live && (at_own && at_far)) ≡ false → (calling && at_own) ≡ false → (live && (calling || at_far)) ≡ false
+      past : (live calling at_own at_far : Bool) → at_own ≡ true → (live && (at_own && at_far)) ≡ false → (calling && at_own) ≡ false →
+          (live && (calling || at_far)) ≡ false
       past false calling at_own at_far a b c = refl
       past true false true at_far a b c = b
       past true true true at_far a b c = c

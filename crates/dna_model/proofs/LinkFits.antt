@@ -1,35 +1,31 @@
 -- What a link of the player is stays so, whatever its user does, whatever the player sends and whatever comes of what the other end sends: what its
 -- phase asks of its addresses and its SEGSIZE, and pieces of bytes that are no longer than a segment may be.
-use Rattle.std.proofs.Common.{◌≡◌, ℕ, zero, suc, ◌+◌, ◌≤◌, Bool, true, false, ◌&&◌, not, eqb, nat_lt, nat_le, cond, Option, Some, None, List, [], ◌∷◌, ◌++◌, length, take, drop, fold, Result, Ok, Err, refl, sym, ap, ap₂, ◌∙◌, subst, arith, eq-eqb, ◌⊎◌, inl, inr}
+use Rattle.std.proofs.Common.{◌≡◌, ℕ, zero, suc, ◌+◌, ◌≤◌, Bool, true, false, ◌&&◌, not, eqb, nat_lt, nat_le, cond, Option, Some, None, List, [], ◌∷◌, ◌++◌, length, take, drop, fold, Result, Ok, refl, sym, ap, ap₂, ◌∙◌, subst, arith, eq-eqb, ◌⊎◌, inl, inr}
 use Rattle.std.specs.Prelude.{slice_get, is_some}
 use Rattle.std.proofs.lemmas.Bool.{and_parts}
 use Rattle.std.proofs.lemmas.List.{length-take}
-use Rattle.std.proofs.lemmas.Option.{same_Some}
-use Rattle.dna_packet.specs.declared.ack_word.AckWord.{AckWord}
 use Rattle.dna_packet.specs.Nsp.{NspValue, SegmentValue, DataSegment, LinkService, DataAck, OtherDataAck, ConnectAck, NoOperation, ConnectInitiate, ConnectConfirm, DisconnectInitiate, DisconnectConfirm}
 use Rattle.dna_model.specs.declared.link_refusal.LinkRefusal.{LinkRefusal}
 use Rattle.dna_model.specs.declared.link_refusal.LinkRefusal.TheVariants.{CrossedLink}
 use Rattle.dna_model.specs.declared.port.Phase.{Phase}
-use Rattle.dna_model.specs.declared.port.Phase.TheVariants.{Calling, Called, Confirming, Running, Disconnecting, Ended}
+use Rattle.dna_model.specs.declared.port.Phase.TheVariants.{Calling, Called, Confirming, Running, Disconnecting}
 use Rattle.dna_model.specs.declared.port.LinkTest.TheVariants.{TheLink, LiveTo, CallingAt, ActedOn}
 use Rattle.dna_model.specs.LinkTests.{is_at, is_called, is_calling, is_connected, has_both}
 use Rattle.dna_model.specs.Pieces.{Piece, piece_of, Unsent, left_of, without_piece}
-use Rattle.dna_model.specs.Flow.{Sending}
 use Rattle.dna_model.specs.Links.{LinkOf, LinkTruth, check, with_link, begun, changed, in_phase, with_flow, ended, freed}
-use Rattle.dna_model.specs.LinkUser.{LinkEventValue, Open, Accept, Reject, In, Up, Close, opened, answered}
+use Rattle.dna_model.specs.LinkUser.{LinkEventValue, In, opened, answered}
 use Rattle.dna_model.specs.LinkSending.{Sent}
 use Rattle.dna_model.specs.LinkArriving.{PartnerRule, is_for, is_of_pair, called, confirmed, ends_link, running, acted_on, message_arrived}
-use Rattle.dna_model.specs.TrueFlow.{TrueFlow, Numbers, Named, true_flows, all_named, acks_named, segment_named, sends_new, sends_again, sends_segment, sends_acks, highest_given, highest_received, is_new, acknowledged_through}
+use Rattle.dna_model.specs.TrueFlow.{TrueFlow, Numbers, true_flows, highest_given, acknowledged_through}
 use Rattle.dna_model.specs.TrueLinks.{Links}
 use Rattle.dna_model.specs.LinkCaptures.{given_address}
 use Rattle.dna_model.specs.HasLine.{are_bytes}
 use Rattle.dna_model.specs.LinkOwed.{LinkOwed, Turn, ConnectAckTurn, InitiateTurn, ConfirmTurn, DisconnectTurn, DataAckTurn, SegmentTurn, variables_of}
-use Rattle.dna_model.specs.NextSent.{LinkEnd}
 use Rattle.dna_model.specs.Compose.{SEGSIZE, piece_with, next_piece_of, next_piece, piece_to_send, turn_message}
 use Rattle.dna_model.proofs.CutSending.{slice_get-drop}
 use Rattle.dna_model.proofs.NumberedSteps.{at_pushed}
 use Rattle.dna_model.proofs.OrderlyRecords.{IsHigher}
-use Rattle.dna_model.proofs.LinkTables.{IsFound, looked, checked, UserDid, Opens, Accepts, Rejects, HandsIn, Delivers, Closes, SentDid, OfNone, Stays, EndsCalled, Segment, Acks}
+use Rattle.dna_model.proofs.LinkTables.{looked, checked, UserDid, Opens, Accepts, Rejects, HandsIn, Delivers, Closes, SentDid, OfNone, Stays, EndsCalled, Segment, Acks}
 use Rattle.dna_model.proofs.LinkSides.{all_set, all_pushed}
 use Rattle.dna_model.proofs.LinkPieces.{delivered_is}
 use Rattle.dna_model.proofs.LinkAddresses.{LinkList, AreAddressed, freed_same}
@@ -64,7 +60,8 @@ left_fits : (p : Piece) (messages : List (List ℕ)) → AllBytes messages → A
 left_fits p [] all = tt
 left_fits p (rest ∷ later) all = go p.ends
   where
-    go : (b : Bool) → AllBytes (cond {A = Unsent} b (record { begun = false; messages = later }) (record { begun = true; messages = drop (length p.body) rest ∷ later })).messages
+    go : (b : Bool) →
+        AllBytes (cond {A = Unsent} b (record { begun = false; messages = later }) (record { begun = true; messages = drop (length p.body) rest ∷ later })).messages
     go true = all.1
     go false = (dropped_bytes (length p.body) rest all.0, all.1)
 
@@ -125,7 +122,8 @@ IsPlain (ConnectInitiate retransmitted src services info segsize user_data) = se
 IsPlain (ConnectConfirm dst src services info segsize user_data) = segsize ≡ SEGSIZE
 IsPlain m = Unit {0}
 
-pub turn_plain : (l : LinkOf TrueFlow) (owed : LinkOwed) (turn : Turn) → FlowFits l.flow → IsPlain (turn_message turn (record { port = l.port; variables = variables_of l; owed = owed }))
+pub turn_plain : (l : LinkOf TrueFlow) (owed : LinkOwed) (turn : Turn) → FlowFits l.flow →
+    IsPlain (turn_message turn (record { port = l.port; variables = variables_of l; owed = owed }))
 turn_plain l owed ConnectAckTurn h = tt
 turn_plain l owed InitiateTurn h = refl
 turn_plain l owed ConfirmTurn h = refl
@@ -141,12 +139,14 @@ abbrev pub AllFit : LinkList → Type 0
 AllFit links = (i : ℕ) (l : LinkOf TrueFlow) → slice_get links i ≡ Some l → LinkFits l
 
 -- a link in Confirming or RUN knows both addresses
-connected_fits : (phase : Phase) (l : LinkOf TrueFlow) → is_connected phase ≡ true → fits_in phase l ≡ true → (is_some l.port.own && (is_some l.port.far && eqb l.segsize SEGSIZE)) ≡ true
+connected_fits : (phase : Phase) (l : LinkOf TrueFlow) → is_connected phase ≡ true → fits_in phase l ≡ true →
+    (is_some l.port.own && (is_some l.port.far && eqb l.segsize SEGSIZE)) ≡ true
 connected_fits Confirming l c f = f
 connected_fits Running l c f = f
 connected_fits phase l c f = absurd cc
 
-called_fits : (phase : Phase) (l : LinkOf TrueFlow) → is_called phase ≡ true → fits_in phase l ≡ true → (is_some l.port.far && eqb l.segsize SEGSIZE) ≡ true
+called_fits : (phase : Phase) (l : LinkOf TrueFlow) → is_called phase ≡ true → fits_in phase l ≡ true →
+    (is_some l.port.far && eqb l.segsize SEGSIZE) ≡ true
 called_fits Called l c f = (and_parts (not l.port.opened) _ f).1
 called_fits phase l c f = absurd cc
 
@@ -179,13 +179,15 @@ module _ (s : Links) (all : AllFit s.links) where
   EventFits event = Unit {0}
 
   module _ (others : LinkList) (most : ℕ) (addressed : AreAddressed s.links others most) where
-    answered_set : (phase : Phase) (far address number : ℕ) (link : LinkOf TrueFlow) → fits_in phase (answered true_flows phase address link) ≡ (is_some link.port.far && eqb link.segsize SEGSIZE) →
+    answered_set : (phase : Phase) (far address number : ℕ) (link : LinkOf TrueFlow) →
+        fits_in phase (answered true_flows phase address link) ≡ (is_some link.port.far && eqb link.segsize SEGSIZE) →
         slice_get s.links number ≡ Some link → (is_called link.port.phase && is_at link.port.far far) ≡ true → most ≤ address → freed true_flows address s ≡ s → AllFit (changed number (answered true_flows phase address link) (freed true_flows address s)).links
     answered_set phase far address number link same there passed less free =
         subst (λ (x : Links). AllFit (changed number (answered true_flows phase address link) x).links) (sym free)
         (one_set number (answered true_flows phase address link) (record { shape = same ∙ called_fits link.port.phase link (and_parts (is_called link.port.phase) _ passed).0 (all number link there).shape; flow = (all number link there).flow }))
 
-    pub user_fits : (event : LinkEventValue) (left : Links) → EventFits event → IsHigher most (given_address event) → UserDid true_flows s event left → AllFit left.links
+    pub user_fits : (event : LinkEventValue) (left : Links) → EventFits event → IsHigher most (given_address event) →
+        UserDid true_flows s event left → AllFit left.links
     user_fits event left fits less (Opens address free) =
         subst (λ (x : Links). AllFit (begun (opened true_flows address) x).links) (sym (freed_same s others most addressed address less)) (one_pushed (opened true_flows address) (record { shape = refl; flow = empty_fits }))
     user_fits event left fits less (Accepts far address number link found free) = answered_set Confirming far address number link refl found.there found.passed (omega arith) (freed_same s others most addressed address less)
@@ -222,7 +224,8 @@ module _ (s : Links) (all : AllFit s.links) where
     link_ended own far = looked (TheLink own far) s (with_link (CallingAt own) s s (λ number link. changed number (ended true_flows link) s)) (λ number link. changed number (ended true_flows link) s) _ refl
         (λ none e. subst (λ (x : Links). AllFit x.links) e (calling_ended own)) (λ number link found e. subst (λ (x : Links). AllFit x.links) e (ended_set number link found.there))
 
-    acted_fits : (own far : ℕ) (takes : LinkOf TrueFlow → TrueFlow) → ((l : LinkOf TrueFlow) → FlowFits l.flow → FlowFits (takes l)) → acted_on true_flows rule own far truth.tag takes s ≡ Ok left → AllFit left.links
+    acted_fits : (own far : ℕ) (takes : LinkOf TrueFlow → TrueFlow) → ((l : LinkOf TrueFlow) → FlowFits l.flow → FlowFits (takes l)) →
+        acted_on true_flows rule own far truth.tag takes s ≡ Ok left → AllFit left.links
     acted_fits own far takes kept e =
         looked (ActedOn own far) s (Ok s) (λ number link. check (rule (is_of_pair number link.partner truth.tag)) CrossedLink (Ok (changed number (running true_flows rule takes link) s))) (Ok left) e (λ none e. came_as s all e)
         (λ number link found e.

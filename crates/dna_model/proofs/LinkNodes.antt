@@ -1,10 +1,10 @@
 -- In every run of the links each message goes from its sender's node to the other one.
-use Rattle.std.proofs.Common.{◌≡◌, ℕ, ◌⊎◌, inl, inr, ◌&&◌, eqb, Option, Some, None, List, [], ◌∷◌, ◌++◌, length, refl, sym, ap, ◌∙◌, subst, eqb-true}
+use Rattle.std.proofs.Common.{◌≡◌, ℕ, ◌⊎◌, inl, inr, eqb, Some, None, List, length, refl, ◌∙◌, subst, eqb-true}
 use Rattle.std.specs.Prelude.{slice_get}
 use Rattle.std.proofs.lemmas.Bool.{and_parts}
 use Rattle.std.proofs.lemmas.Option.{same_Some}
 use Rattle.dna_model.specs.declared.port.LinkTest.TheVariants.{HasAddress}
-use Rattle.dna_model.specs.Links.{LinkOf, changed, forgotten, freed}
+use Rattle.dna_model.specs.Links.{changed, forgotten, freed}
 use Rattle.dna_model.specs.LinkUser.{LinkEventValue}
 use Rattle.dna_model.specs.LinkSending.{Sent}
 use Rattle.dna_model.specs.LinkArriving.{PartnerRule}
@@ -65,14 +65,17 @@ pub record IsFrom (side : LinkSide) (node peer : ℕ) : Type 0 where
 moved : (s left : Links) (node peer : ℕ) → AtNodes s node peer → AtNodes left s.node s.peer → AtNodes left node peer
 moved s left node peer h l = record { node_is = l.node_is ∙ h.node_is; peer_is = l.peer_is ∙ h.peer_is }
 
-step_from : (own other left : LinkSide) (events : List LinkEventValue) (node peer : ℕ) → LinkStep own other events left → IsFrom own node peer → IsFrom left node peer
+step_from : (own other left : LinkSide) (events : List LinkEventValue) (node peer : ℕ) → LinkStep own other events left → IsFrom own node peer →
+    IsFrom left node peer
 step_from own other left events node peer (ByUser event links does) h = record { links = moved own.links links node peer h.links (user_at own.links event links (user_did true_flows own.links links event does)); from = h.from }
 step_from own other left events node peer (Sends packet made does) h = record {
   links = moved own.links made.links node peer h.links (sent_at own.links packet.message made (sent_did true_flows own.links made packet does));
   from = λ k u at. go k u (at_pushed own.sent (Some (record { packet = packet; truth = made.truth })) (Some u) k at);
 }
   where
-    go : (k : ℕ) (u : SentMessage) → (slice_get own.sent k ≡ Some (Some u)) ⊎ ((k ≡ length own.sent) × (Some (record { packet = packet; truth = made.truth }) ≡ Some u)) → (u.packet.src ≡ node) × (u.packet.dst ≡ peer)
+    go : (k : ℕ) (u : SentMessage) →
+        (slice_get own.sent k ≡ Some (Some u)) ⊎ ((k ≡ length own.sent) × (Some (record { packet = packet; truth = made.truth }) ≡ Some u)) →
+        (u.packet.src ≡ node) × (u.packet.dst ≡ peer)
     go k u (inl at) = h.from k u at
     go k u (inr e) =
         let p = and_parts (eqb packet.src own.links.node) (eqb packet.dst own.links.peer) (checked _ _ _ made does).0 in
@@ -80,7 +83,8 @@ step_from own other left events node peer (Sends packet made does) h = record {
         subst (λ (x : SentMessage). (x.packet.src ≡ node) × (x.packet.dst ≡ peer)) is (eqb-true packet.src own.links.node p.0 ∙ h.links.node_is, eqb-true packet.dst own.links.peer p.1 ∙ h.links.peer_is)
 step_from own other left events node peer SendsNone h = record { links = h.links; from = λ k u at. go k u (at_pushed own.sent None (Some u) k at) }
   where
-    go : (k : ℕ) (u : SentMessage) → (slice_get own.sent k ≡ Some (Some u)) ⊎ ((k ≡ length own.sent) × (None ≡ Some u)) → (u.packet.src ≡ node) × (u.packet.dst ≡ peer)
+    go : (k : ℕ) (u : SentMessage) → (slice_get own.sent k ≡ Some (Some u)) ⊎ ((k ≡ length own.sent) × (None ≡ Some u)) →
+        (u.packet.src ≡ node) × (u.packet.dst ≡ peer)
     go k u (inl at) = h.from k u at
     go k u (inr e) = let bad = e.1 in absurd cc
 step_from own other left events node peer (Keeps place unit links ahead there does) h =
@@ -91,7 +95,8 @@ pub record BothFrom (node_a peer_a node_b peer_b : ℕ) (w : LinkWorld) : Type 0
   pub of_a : IsFrom w.a node_a peer_a
   pub of_b : IsFrom w.b node_b peer_b
 
-pub reached_from : (node_a peer_a node_b peer_b : ℕ) {w : LinkWorld} {of_a of_b : List LinkEventValue} → Reached (new_world node_a peer_a node_b peer_b) w of_a of_b → BothFrom node_a peer_a node_b peer_b w
+pub reached_from : (node_a peer_a node_b peer_b : ℕ) {w : LinkWorld} {of_a of_b : List LinkEventValue} →
+    Reached (new_world node_a peer_a node_b peer_b) w of_a of_b → BothFrom node_a peer_a node_b peer_b w
 reached_from node_a peer_a node_b peer_b Start = record {
   of_a = record { links = record { node_is = refl; peer_is = refl }; from = λ k u at. absurd cc };
   of_b = record { links = record { node_is = refl; peer_is = refl }; from = λ k u at. absurd cc };

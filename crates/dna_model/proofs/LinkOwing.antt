@@ -1,19 +1,19 @@
 -- What the links of the player owe goes with their phases, and no more segments are sent in a go than are outstanding, after every record.
-use Rattle.std.proofs.Common.{◌≡◌, ℕ, zero, suc, ◌+◌, ◌-◌, ◌≤◌, Bool, true, false, ◌&&◌, cond, nat_lt, nat_le, ltb-true, leb-true, Option, Some, None, List, [], ◌∷◌, ◌++◌, length, fold, Result, Ok, Err, refl, sym, ap, ◌∙◌, subst, arith, length-append, length-drop, ◌⊎◌, inl, inr}
-use Rattle.std.specs.Prelude.{slice_get, slice_set}
+use Rattle.std.proofs.Common.{◌≡◌, ℕ, zero, suc, ◌+◌, ◌-◌, ◌≤◌, Bool, true, false, ◌&&◌, cond, nat_lt, nat_le, ltb-true, leb-true, Option, Some, None, List, [], ◌∷◌, length, fold, refl, sym, ap, ◌∙◌, subst, arith, length-append, length-drop, ◌⊎◌, inl, inr}
+use Rattle.std.specs.Prelude.{slice_get}
 use Rattle.std.proofs.lemmas.Bool.{and_parts}
 use Rattle.std.proofs.lemmas.Option.{same_Some}
 use Rattle.two_nodes.proofs.Order.{slice_get-append}
 use Rattle.dna_packet.specs.Nsp.{NspValue}
 use Rattle.dna_model.specs.declared.port.Phase.{Phase}
 use Rattle.dna_model.specs.declared.port.Phase.TheVariants.{Calling, Called, Confirming, Running, Disconnecting, Ended}
-use Rattle.dna_model.specs.Links.{LinkOf, LinkTruth, begun, changed, freed}
+use Rattle.dna_model.specs.Links.{LinkOf, LinkTruth, begun, changed}
 use Rattle.dna_model.specs.LinkUser.{LinkEventValue, opened, answered}
 use Rattle.dna_model.specs.LinkSending.{Sent}
 use Rattle.dna_model.specs.LinkArriving.{PartnerRule}
 use Rattle.dna_model.specs.Pieces.{piece_of}
 use Rattle.dna_packet.specs.Nsp.{SegmentValue}
-use Rattle.dna_model.specs.Flow.{REACH, wire, distance}
+use Rattle.dna_model.specs.Flow.{distance}
 use Rattle.dna_model.specs.TrueFlow.{TrueFlow, Numbers, true_flows, highest_given, acknowledged_through}
 use Rattle.dna_model.specs.TrueLinks.{Links}
 use Rattle.dna_model.specs.LinkCaptures.{given_address}
@@ -22,10 +22,9 @@ use Rattle.dna_model.specs.LinkOwed.{LinkOwed, LinksOwed, nothing, Turn, Connect
 use Rattle.dna_model.specs.LinkOwed as owing
 use Rattle.dna_model.specs.NextSent.{without_turn}
 use Rattle.dna_model.proofs.SegmentNumbers.{distance_ahead}
-use Rattle.dna_model.proofs.NumberedSteps.{at_pushed}
 use Rattle.dna_model.proofs.OrderlyRecords.{IsHigher}
 use Rattle.dna_model.proofs.LinkTables.{UserDid, Opens, Accepts, Rejects, HandsIn, Delivers, Closes, SentDid, OfNone, Stays, EndsCalled, Segment, Acks, ArrivedDid, Ignores, Begins, Confirms, Ends, TakesSegment, TakesAcks, TakesOther}
-use Rattle.dna_model.proofs.LinkSides.{at_set, set_same}
+use Rattle.dna_model.proofs.LinkSides.{at_set}
 use Rattle.dna_model.proofs.LinkPieces.{delivered_is}
 use Rattle.dna_model.proofs.LinkAddresses.{LinkList, AreAddressed, freed_same}
 use Rattle.dna_model.proofs.FlowDid.{SegmentDid, GivesIt, GivesAgain, segment_did, acks_did}
@@ -60,7 +59,8 @@ still_fits l k o ordered moves fits = go (same_phase l.port.phase k.port.phase) 
     left : distance (variables_of l).acknowledged (variables_of k).acknowledged ≡ k.flow.acknowledged - l.flow.acknowledged
     left = let few = ordered.few in let least = moves.least in let most = moves.most in distance_ahead l.flow.acknowledged k.flow.acknowledged least (omega arith)
 
-    go : (b : Bool) → same_phase l.port.phase k.port.phase ≡ b → OwedFits k (owing.lowered (distance (variables_of l).acknowledged (variables_of k).acknowledged) (unless_left b o))
+    go : (b : Bool) → same_phase l.port.phase k.port.phase ≡ b →
+        OwedFits k (owing.lowered (distance (variables_of l).acknowledged (variables_of k).acknowledged) (unless_left b o))
     go true same =
         let is = sym (same_is l.port.phase k.port.phase same) in
         let d = left in let ahead = fits.ahead in let before = length-drop l.flow.acknowledged l.flow.given in let after = length-drop k.flow.acknowledged k.flow.given in
@@ -93,7 +93,8 @@ turn_fits l o DataAckTurn is f = record { connect_ack = f.connect_ack; initiate 
 turn_fits l o SegmentTurn is f = f
 
 -- what is sent is owed no more
-pub sent_turn_fits : (l : LinkOf TrueFlow) (o : LinkOwed) (turn : Turn) → (turn ≡ SegmentTurn → o.ahead + 1 ≤ length (variables_of l).outstanding) → OwedFits l o → OwedFits l (without_turn turn o)
+pub sent_turn_fits : (l : LinkOf TrueFlow) (o : LinkOwed) (turn : Turn) → (turn ≡ SegmentTurn → o.ahead + 1 ≤ length (variables_of l).outstanding) →
+    OwedFits l o → OwedFits l (without_turn turn o)
 sent_turn_fits l o ConnectAckTurn more f = record { connect_ack = λ e. absurd cc; initiate = f.initiate; confirm = f.confirm; disconnect = f.disconnect; data_ack = f.data_ack; ahead = f.ahead }
 sent_turn_fits l o InitiateTurn more f = record { connect_ack = f.connect_ack; initiate = λ e. absurd cc; confirm = f.confirm; disconnect = f.disconnect; data_ack = f.data_ack; ahead = f.ahead }
 sent_turn_fits l o ConfirmTurn more f = record { connect_ack = f.connect_ack; initiate = f.initiate; confirm = λ e. absurd cc; disconnect = f.disconnect; data_ack = f.data_ack; ahead = f.ahead }
@@ -110,7 +111,8 @@ AllOwed links owed = (i : ℕ) (l : LinkOf TrueFlow) (o : LinkOwed) → slice_ge
 abbrev pub AllMove : LinkList → LinkList → Type 0
 AllMove links left = (i : ℕ) (l k : LinkOf TrueFlow) → slice_get links i ≡ Some l → slice_get left i ≡ Some k → IsOrdered l.flow × FlowMoves l.flow k.flow
 
-pub all_still : (before after : LinkList) (owed : List LinkOwed) → AllOwed before owed → AllMove before after → AllOwed after (all_still_owed before after owed)
+pub all_still : (before after : LinkList) (owed : List LinkOwed) → AllOwed before owed → AllMove before after →
+    AllOwed after (all_still_owed before after owed)
 all_still before [] owed all move i k o at owes = absurd cc
 all_still [] (link ∷ later) owed all move zero k o at owes = subst (OwedFits k) (same_Some nothing o owes) (nothing_fits k)
 all_still [] (link ∷ later) owed all move (suc i) k o at owes = all_still [] later [] (λ i l o at owes. absurd cc) (λ i l k at then_at. absurd cc) i k o at owes
@@ -132,11 +134,13 @@ still_counted (was ∷ before) (link ∷ later) [] = let e = still_counted befor
 still_counted (was ∷ before) (link ∷ later) (first ∷ owed) = let e = still_counted before later owed in omega arith
 
 -- one of them changes
-pub one_changed : (links : LinkList) (number : ℕ) (change : LinkOwed → LinkOwed) (owed : LinksOwed) → ((l : LinkOf TrueFlow) (o : LinkOwed) → slice_get links number ≡ Some l → slice_get owed.links number ≡ Some o → OwedFits l (change o)) →
+pub one_changed : (links : LinkList) (number : ℕ) (change : LinkOwed → LinkOwed) (owed : LinksOwed) →
+    ((l : LinkOf TrueFlow) (o : LinkOwed) → slice_get links number ≡ Some l → slice_get owed.links number ≡ Some o → OwedFits l (change o)) →
     AllOwed links owed.links → AllOwed links (owing.changed number change owed).links
 one_changed links number change owed here all = go (slice_get owed.links number) refl
   where
-    go : (found : Option LinkOwed) → slice_get owed.links number ≡ found → (i : ℕ) (l : LinkOf TrueFlow) (o : LinkOwed) → slice_get links i ≡ Some l → slice_get (changed_at number change found owed.links) i ≡ Some o → OwedFits l o
+    go : (found : Option LinkOwed) → slice_get owed.links number ≡ found → (i : ℕ) (l : LinkOf TrueFlow) (o : LinkOwed) → slice_get links i ≡ Some l →
+        slice_get (changed_at number change found owed.links) i ≡ Some o → OwedFits l o
     go None none i l o at owes = all i l o at owes
     go (Some first) there i l o at owes = by_place (at_set owed.links number i (change first) o owes)
       where
@@ -149,11 +153,14 @@ one_changed links number change owed here all = go (slice_get owed.links number)
 stays : (f : TrueFlow) → IsOrdered f → FlowMoves f f
 stays f o = let g = o.given in record { given = omega arith; least = omega arith; most = g }
 
-acknowledged_moves : (numbers : List ℕ) (f g : TrueFlow) → highest_given g ≡ highest_given f → FlowMoves f g → FlowMoves f (fold acknowledged_through g numbers)
+acknowledged_moves : (numbers : List ℕ) (f g : TrueFlow) → highest_given g ≡ highest_given f → FlowMoves f g →
+    FlowMoves f (fold acknowledged_through g numbers)
 acknowledged_moves [] f g same m = m
 acknowledged_moves (n ∷ numbers) f g same m = go (λ h same m. acknowledged_moves numbers f h same m) (nat_lt g.acknowledged n && nat_le n (highest_given g)) refl
   where
-    go : ((h : TrueFlow) → highest_given h ≡ highest_given f → FlowMoves f h → FlowMoves f (fold acknowledged_through h numbers)) → (b : Bool) → (nat_lt g.acknowledged n && nat_le n (highest_given g)) ≡ b → FlowMoves f (fold acknowledged_through (cond b (record g { acknowledged = n }) g) numbers)
+    go : ((h : TrueFlow) → highest_given h ≡ highest_given f → FlowMoves f h → FlowMoves f (fold acknowledged_through h numbers)) → (b : Bool) →
+        (nat_lt g.acknowledged n && nat_le n (highest_given g)) ≡ b →
+        FlowMoves f (fold acknowledged_through (cond b (record g { acknowledged = n }) g) numbers)
     go later true e =
         let p = and_parts (nat_lt g.acknowledged n) (nat_le n (highest_given g)) e in
         let less = ltb-true g.acknowledged n p.0 in let most = leb-true n (highest_given g) p.1 in let least = m.least in let given = m.given in
@@ -187,7 +194,8 @@ module _ (s : Links) (ordered : (i : ℕ) (l : LinkOf TrueFlow) → slice_get s.
   keeps_move : (n : ℕ) (l k : LinkOf TrueFlow) → slice_get s.links n ≡ Some l → k.flow ≡ l.flow → Moves (changed n k s)
   keeps_move n l k there same = set_move n l k there (subst (FlowMoves l.flow) (sym same) (stays l.flow (ordered n l there)))
 
-  pub user_moves : (others : LinkList) (most : ℕ) → AreAddressed s.links others most → (event : LinkEventValue) (left : Links) → IsHigher most (given_address event) → UserDid true_flows s event left → Moves left
+  pub user_moves : (others : LinkList) (most : ℕ) → AreAddressed s.links others most → (event : LinkEventValue) (left : Links) →
+      IsHigher most (given_address event) → UserDid true_flows s event left → Moves left
   user_moves others most addressed event left less (Opens address free) = subst (λ (x : Links). Moves (begun (opened true_flows address) x)) (sym (freed_same s others most addressed address less)) (push_move (opened true_flows address))
   user_moves others most addressed event left less (Accepts far address number link found free) = let k = answered true_flows Confirming address link in subst (λ (x : Links). Moves (changed number k x)) (sym (freed_same s others most addressed address less)) (keeps_move number link k found.there refl)
   user_moves others most addressed event left less (Rejects far address number link found free) = let k = answered true_flows Disconnecting address link in subst (λ (x : Links). Moves (changed number k x)) (sym (freed_same s others most addressed address less)) (keeps_move number link k found.there refl)
@@ -207,7 +215,8 @@ module _ (s : Links) (ordered : (i : ℕ) (l : LinkOf TrueFlow) → slice_get s.
       let d = acks_did link.flow acks sent does in let m = stays link.flow (ordered number link found.there) in
       set_move number link _ found.there (subst (FlowMoves link.flow) (sym d.1) (record { given = m.given; least = m.least; most = m.most }))
 
-  pub came_moves : (rule : PartnerRule) (m : NspValue) (truth : LinkTruth Numbers) (left : Links) → ArrivedDid true_flows rule s m truth left → Moves left
+  pub came_moves : (rule : PartnerRule) (m : NspValue) (truth : LinkTruth Numbers) (left : Links) → ArrivedDid true_flows rule s m truth left →
+      Moves left
   came_moves rule m truth left Ignores = same_move
   came_moves rule m truth left (Begins far segsize none) = push_move _
   came_moves rule m truth left (Confirms own far segsize number link found may) = keeps_move number link _ found.there refl

@@ -1,30 +1,30 @@
 -- What the links of an end of the player choose next they may send.
-use Rattle.std.proofs.Common.{◌≡◌, ℕ, zero, suc, ◌+◌, ◌<◌, ◌≤◌, Bool, true, false, ◌&&◌, ◌||◌, not, eqb, nat_lt, cond, Option, Some, None, List, [], ◌∷◌, length, Result, Ok, Err, refl, sym, ap, ap₂, ◌∙◌, subst, arith, eq-eqb, le-ltb, ltb-true, eqb-true, ◌⊎◌, inl, inr}
+use Rattle.std.proofs.Common.{◌≡◌, ℕ, zero, suc, ◌≤◌, Bool, true, false, ◌&&◌, ◌||◌, not, eqb, nat_lt, cond, Option, Some, None, List, [], ◌∷◌, length, Result, Ok, Err, refl, ap, ap₂, ◌∙◌, subst, arith, eq-eqb, le-ltb, ltb-true, eqb-true}
 use Rattle.std.specs.Prelude.{slice_get, is_some}
-use Rattle.std.proofs.lemmas.Bool.{and_parts, cases_lt}
+use Rattle.std.proofs.lemmas.Bool.{and_parts}
 use Rattle.std.proofs.lemmas.Option.{same_Some}
 use Rattle.dna_packet.specs.Nsp.{NspValue, DataSegment, DisconnectConfirm}
 use Rattle.dna_model.specs.declared.link_refusal.LinkRefusal.{LinkRefusal}
-use Rattle.dna_model.specs.declared.link_refusal.LinkRefusal.TheVariants.{NoLink, LinkState, WrongNode}
+use Rattle.dna_model.specs.declared.link_refusal.LinkRefusal.TheVariants.{NoLink, LinkState}
 use Rattle.dna_model.specs.declared.port.Phase.{Phase}
 use Rattle.dna_model.specs.declared.port.Phase.TheVariants.{Calling, Called, Confirming, Running, Disconnecting, Ended}
 use Rattle.dna_model.specs.declared.port.LinkTest.{LinkTest}
 use Rattle.dna_model.specs.declared.port.LinkTest.TheVariants.{TheLink, OpenedAt, BegunBy}
 use Rattle.dna_model.specs.LinkTests.{is_live, is_calling, is_confirming, is_running, is_disconnecting, is_at, passes}
 use Rattle.dna_model.specs.Flow.{Sending, REACH}
-use Rattle.dna_model.specs.Links.{LinkOf, LinksOf, Carried, check, number_of, on_link, at_number, with_link, changed, with_flow}
+use Rattle.dna_model.specs.Links.{LinkOf, check, number_of, on_link, at_number, with_link, changed, with_flow}
 use Rattle.dna_model.specs.LinkSending.{Sent, unchanged, in_its_phase, carries, in_run, truth_of, segment_of, confirms_end, message_sent}
 use Rattle.dna_model.specs.TrueFlow.{TrueFlow, Numbers, true_flows, sends_segment}
-use Rattle.dna_model.specs.TrueLinks.{Links, links_sent}
+use Rattle.dna_model.specs.TrueLinks.{Links}
 use Rattle.dna_model.specs.CutFlow.{IsOrdered, IsAnswered}
-use Rattle.dna_model.specs.LinkOwed.{LinkOwed, EndConfirm, Turn, ConnectAckTurn, InitiateTurn, ConfirmTurn, DisconnectTurn, DataAckTurn, SegmentTurn, variables_of}
-use Rattle.dna_model.specs.NextSent.{LinkEnd, link_ends, LinkChoice, Confirms, OfLink, has_more, has_new, has_repeat, has_segment, turn_of, turn_or_next, first_turn, link_choice}
-use Rattle.dna_model.specs.Compose.{SEGSIZE, ack_of, address, piece_to_send, segment_with, turn_message, message_at, link_message}
+use Rattle.dna_model.specs.LinkOwed.{LinkOwed, Turn, ConnectAckTurn, InitiateTurn, ConfirmTurn, DisconnectTurn, DataAckTurn, SegmentTurn, variables_of}
+use Rattle.dna_model.specs.NextSent.{LinkEnd, has_more, has_new, has_repeat, has_segment, turn_of}
+use Rattle.dna_model.specs.Compose.{SEGSIZE, ack_of, address, piece_to_send, segment_with, turn_message}
 use Rattle.dna_model.specs.Pieces.{Piece}
 use Rattle.dna_model.proofs.LinkReads.{at_is}
 use Rattle.dna_model.proofs.LinkTables.{IsFound, looked, position_none}
-use Rattle.dna_model.proofs.LinkAddresses.{LinkList, OwnsIn, AreAddressed}
-use Rattle.dna_model.proofs.FlowPays.{end_with, data_ack_may, again_may, new_may}
+use Rattle.dna_model.proofs.LinkAddresses.{LinkList, AreAddressed}
+use Rattle.dna_model.proofs.FlowPays.{data_ack_may, again_may, new_may}
 
 -- ---- what a link of the player is, by its phase
 
@@ -57,7 +57,8 @@ pub data IsDue (l : LinkEnd) : Turn → Type 0 where
   DueSegment : is_running l.port.phase ≡ true → (has_repeat l || has_new l) ≡ true → IsDue l SegmentTurn
 
 module _ (l : LinkEnd) (turn : Turn) where
-  one_due : (b : Bool) (x : Turn) (rest : Option Turn) → (b ≡ true → IsDue l x) → (rest ≡ Some turn → IsDue l turn) → cond b (Some x) rest ≡ Some turn → IsDue l turn
+  one_due : (b : Bool) (x : Turn) (rest : Option Turn) → (b ≡ true → IsDue l x) → (rest ≡ Some turn → IsDue l turn) →
+      cond b (Some x) rest ≡ Some turn → IsDue l turn
   one_due true x rest due next e = subst (IsDue l) (same_Some x turn e) (due refl)
   one_due false x rest due next e = next e
 
@@ -91,15 +92,18 @@ module _ (s : Links) where
       (λ none e. let f = position_none (λ (k : LinkOf TrueFlow). passes test k.port) s.links n l none there in absurd cc)
       (λ number link found e. record { found = found.found ∙ ap Some (only number link found.there found.passed); there = there; passed = passed })
 
-  pub some_found : {P : Type 0} (test : LinkTest) (n : ℕ) (l : LinkOf TrueFlow) → slice_get s.links n ≡ Some l → passes test l.port ≡ true → ((number : ℕ) (link : LinkOf TrueFlow) → IsFound test s number link → P) → P
+  pub some_found : {P : Type 0} (test : LinkTest) (n : ℕ) (l : LinkOf TrueFlow) → slice_get s.links n ≡ Some l → passes test l.port ≡ true →
+      ((number : ℕ) (link : LinkOf TrueFlow) → IsFound test s number link → P) → P
   some_found test n l there passed go = looked test s 0 (λ number link. 0) (tried test) refl
       (λ none e. let f = position_none (λ (k : LinkOf TrueFlow). passes test k.port) s.links n l none there in absurd cc)
       (λ number link found e. go number link found)
 
-  pub none_found : (test : LinkTest) → ((j : ℕ) (m : LinkOf TrueFlow) → slice_get s.links j ≡ Some m → passes test m.port ≡ true → ⊥) → number_of test s ≡ None
+  pub none_found : (test : LinkTest) → ((j : ℕ) (m : LinkOf TrueFlow) → slice_get s.links j ≡ Some m → passes test m.port ≡ true → ⊥) →
+      number_of test s ≡ None
   none_found test never = looked test s 0 (λ number link. 0) (tried test) refl (λ none e. none) (λ number link found e. absurd (never number link found.there found.passed))
 
-  pub with_found : {R : Type 0} (test : LinkTest) (n : ℕ) (l : LinkOf TrueFlow) (otherwise : R) (next : ℕ → LinkOf TrueFlow → R) → IsFound test s n l → with_link test s otherwise next ≡ next n l
+  pub with_found : {R : Type 0} (test : LinkTest) (n : ℕ) (l : LinkOf TrueFlow) (otherwise : R) (next : ℕ → LinkOf TrueFlow → R) →
+      IsFound test s n l → with_link test s otherwise next ≡ next n l
   with_found test n l otherwise next found = ap (λ (o : Option ℕ). at_number s.links o otherwise next) found.found ∙ ap (λ (o : Option (LinkOf TrueFlow)). on_link n o otherwise next) found.there
 
   -- ---- it may be sent
@@ -107,19 +111,23 @@ module _ (s : Links) where
   abbrev pub MaySendIt : NspValue → Type 0
   MaySendIt m = (made : Sent TrueFlow Numbers) × (message_sent true_flows s m ≡ Ok made)
 
-  phase_may : (test : LinkTest) (is_right : Phase → Bool) (n : ℕ) (l : LinkOf TrueFlow) → IsFound test s n l → is_right l.port.phase ≡ true → in_its_phase true_flows test is_right s ≡ Ok (unchanged true_flows s n l)
+  phase_may : (test : LinkTest) (is_right : Phase → Bool) (n : ℕ) (l : LinkOf TrueFlow) → IsFound test s n l → is_right l.port.phase ≡ true →
+      in_its_phase true_flows test is_right s ≡ Ok (unchanged true_flows s n l)
   phase_may test is_right n l found right =
       with_found test n l (Err NoLink) (λ number link. check (is_right link.port.phase) LinkState (Ok (unchanged true_flows s number link))) found
       ∙ ap (λ (b : Bool). check b LinkState (Ok (unchanged true_flows s n l))) right
 
-  run_may : (src dst n : ℕ) (l : LinkOf TrueFlow) (sends : LinkOf TrueFlow → Result (Sending TrueFlow Numbers) LinkRefusal) → IsFound (TheLink src dst) s n l → is_running l.port.phase ≡ true →
+  run_may : (src dst n : ℕ) (l : LinkOf TrueFlow) (sends : LinkOf TrueFlow → Result (Sending TrueFlow Numbers) LinkRefusal) →
+      IsFound (TheLink src dst) s n l → is_running l.port.phase ≡ true →
       (sent : Sending TrueFlow Numbers) → sends l ≡ Ok sent → in_run true_flows src dst sends s ≡ Ok (record { links = changed n (with_flow sent.flow l) s; truth = truth_of true_flows n l sent.known })
   run_may src dst n l sends found running sent is =
       with_found (TheLink src dst) n l (Err NoLink) (λ number link. check (is_running link.port.phase) LinkState (carries true_flows s number link (sends link))) found
       ∙ ap (λ (b : Bool). check b LinkState (carries true_flows s n l (sends l))) running ∙ ap (carries true_flows s n l) is
 
   -- a DC where no live link has the two addresses
-  pub confirm_may : (dst src reason : ℕ) → ((j : ℕ) (m : LinkOf TrueFlow) → slice_get s.links j ≡ Some m → passes (TheLink src dst) m.port ≡ true → ⊥) → MaySendIt (DisconnectConfirm dst src reason)
+  pub confirm_may : (dst src reason : ℕ) →
+      ((j : ℕ) (m : LinkOf TrueFlow) → slice_get s.links j ≡ Some m → passes (TheLink src dst) m.port ≡ true → ⊥) →
+      MaySendIt (DisconnectConfirm dst src reason)
   confirm_may dst src reason never = (confirms_end true_flows s src dst, ap (λ (o : Option ℕ). at_number s.links o (Ok (confirms_end true_flows s src dst)) (λ number link. Err LinkState)) (none_found (TheLink src dst) never))
 
   module _ (others : LinkList) (most : ℕ) (addressed : AreAddressed s.links others most) (n : ℕ) (l : LinkOf TrueFlow) (there : slice_get s.links n ≡ Some l) (fits : Fits l) (owed : LinkOwed) (pays : OwedFits l owed)
@@ -153,7 +161,8 @@ module _ (s : Links) where
     in_it phase is = subst (λ (p : Phase). fits_in p l ≡ true) is fits
 
     -- a link that knows both addresses
-    both : (phase : Phase) → l.port.phase ≡ phase → is_live phase ≡ true → is_some l.port.own ≡ true → (is_some l.port.far && eqb l.segsize SEGSIZE) ≡ true → IsFound (TheLink own far) s n l
+    both : (phase : Phase) → l.port.phase ≡ phase → is_live phase ≡ true → is_some l.port.own ≡ true →
+        (is_some l.port.far && eqb l.segsize SEGSIZE) ≡ true → IsFound (TheLink own far) s n l
     both phase is live is_own rest = the_link (ap is_live is ∙ live) is_own (and_parts _ _ rest).0
 
     abbrev it : LinkEnd
@@ -166,7 +175,8 @@ module _ (s : Links) where
         let wide = eqb-true l.segsize SEGSIZE q.1 in
         go found (ap is_running is) (omega arith) (slice_get it.variables.outstanding owed.ahead) refl
       where
-        sent_may : (p : Piece) → IsFound (TheLink own far) s n l → is_running l.port.phase ≡ true → (sent : Sending TrueFlow Numbers) → sends_segment l.segsize (segment_with it p) l.flow ≡ Ok sent → MaySendIt (DataSegment (segment_with it p))
+        sent_may : (p : Piece) → IsFound (TheLink own far) s n l → is_running l.port.phase ≡ true → (sent : Sending TrueFlow Numbers) →
+            sends_segment l.segsize (segment_with it p) l.flow ≡ Ok sent → MaySendIt (DataSegment (segment_with it p))
         sent_may p found running sent e = (_, run_may own far n l (segment_of true_flows (segment_with it p)) found running sent e)
 
         no_repeat : slice_get it.variables.outstanding owed.ahead ≡ None → length it.variables.outstanding ≤ owed.ahead
@@ -181,7 +191,8 @@ module _ (s : Links) where
         is_new true c e f = absurd cc
         is_new false c e f = e
 
-        go : IsFound (TheLink own far) s n l → is_running l.port.phase ≡ true → SEGSIZE ≤ l.segsize → (o : Option Piece) → slice_get it.variables.outstanding owed.ahead ≡ o → MaySendIt (DataSegment (segment_with it (piece_to_send o it.variables.unsent)))
+        go : IsFound (TheLink own far) s n l → is_running l.port.phase ≡ true → SEGSIZE ≤ l.segsize → (o : Option Piece) →
+            slice_get it.variables.outstanding owed.ahead ≡ o → MaySendIt (DataSegment (segment_with it (piece_to_send o it.variables.unsent)))
         go found running wide (Some p) at = let m = again_may l.flow ordered answered l.port owed l.segsize p at in sent_may p found running m.0 m.1
         go found running wide None at =
             let beyond = no_repeat at in let within = pays.ahead in

@@ -1,8 +1,8 @@
 -- What holds of the links of an end of the player is kept by each thing that happens: they fit, what they owe goes with them, each DC names a link
 -- that is over, and what they sent is of the player.
-use Rattle.std.proofs.Common.{◌≡◌, ℕ, ◌+◌, ◌<◌, ◌≤◌, ◌^◌, Bool, true, false, Option, Some, None, List, [], ◌∷◌, ◌++◌, length, drop, suc, Result, Ok, Err, refl, sym, ap, ◌∙◌, subst, arith, ◌⊎◌, inl, inr}
+use Rattle.std.proofs.Common.{◌≡◌, ℕ, ◌+◌, true, Some, List, [], ◌∷◌, length, drop, suc, Ok, refl, ap, ◌∙◌, subst, arith, ◌⊎◌, inl, inr}
 use Rattle.std.specs.Prelude.{slice_get}
-use Rattle.dna_packet.specs.Nsp.{NspValue, DisconnectInitiate}
+use Rattle.dna_packet.specs.Nsp.{NspValue}
 use Rattle.dna_model.specs.Links.{LinkOf, LinkTruth}
 use Rattle.dna_model.specs.LinkUser.{LinkEventValue}
 use Rattle.dna_model.specs.LinkSending.{Sent}
@@ -19,7 +19,7 @@ use Rattle.dna_model.proofs.LinkTables.{UserDid, SentDid, ArrivedDid}
 use Rattle.dna_model.proofs.LinkAddresses.{LinkList, AreAddressed}
 use Rattle.dna_model.proofs.LinkPays.{OwedFits}
 use Rattle.dna_model.proofs.LinkFits.{AllFit, EventFits, IsPlain, user_fits, sent_fits, came_fits}
-use Rattle.dna_model.proofs.LinkOwing.{AllOwed, Moves, phase_of, turn_fits, sent_turn_fits, all_still, one_changed, same_move, user_moves, sent_moves, came_moves}
+use Rattle.dna_model.proofs.LinkOwing.{AllOwed, Moves, turn_fits, all_still, one_changed, same_move, user_moves, sent_moves, came_moves}
 use Rattle.dna_model.proofs.LinkDebts.{DebtFits, IsDone, user_done, sent_done, came_done}
 use Rattle.dna_model.proofs.EndSends.{IsSmall}
 
@@ -46,7 +46,8 @@ module _ (s : Links) (most : ℕ) (owed : LinksOwed) (h : LinkHolds s.links most
   abbrev pub Holds : Links → ℕ → Type 0
   Holds left top = LinkHolds left.links top (left_links s.links left.links owed)
 
-  left_holds : (left : Links) (top : ℕ) → AllFit left.links → Moves s ordered left → ((confirm : EndConfirm) → IsDone s.links most confirm → IsDone left.links top confirm) → Holds left top
+  left_holds : (left : Links) (top : ℕ) → AllFit left.links → Moves s ordered left →
+      ((confirm : EndConfirm) → IsDone s.links most confirm → IsDone left.links top confirm) → Holds left top
   left_holds left top fit moves done = record {
     fit = fit;
     owes = all_still s.links left.links owed.links h.owes moves;
@@ -56,20 +57,23 @@ module _ (s : Links) (most : ℕ) (owed : LinksOwed) (h : LinkHolds s.links most
   pub same_holds : Holds s most
   same_holds = left_holds s most h.fit (same_move s ordered) (λ confirm d. d)
 
-  pub user_holds : (others : LinkList) → AreAddressed s.links others most → (event : LinkEventValue) (left : Links) → EventFits s h.fit event → IsHigher most (given_address event) → UserDid true_flows s event left → Holds left (higher most (given_address event))
+  pub user_holds : (others : LinkList) → AreAddressed s.links others most → (event : LinkEventValue) (left : Links) → EventFits s h.fit event →
+      IsHigher most (given_address event) → UserDid true_flows s event left → Holds left (higher most (given_address event))
   user_holds others addressed event left fits less did = left_holds left (higher most (given_address event)) (user_fits s h.fit others most addressed event left fits less did) (user_moves s ordered others most addressed event left less did)
       (λ confirm d. user_done s most confirm d others addressed event left less did)
 
   pub sent_holds : (m : NspValue) (made : Sent TrueFlow Numbers) → IsPlain m → SentDid true_flows s m made → Holds made.links most
   sent_holds m made plain did = left_holds made.links most (sent_fits s h.fit m made plain did) (sent_moves s ordered m made did) (λ confirm d. sent_done s most confirm d m made did)
 
-  pub came_holds : (rule : PartnerRule) (m : NspValue) (truth : LinkTruth Numbers) (left : Links) → IsPlain m → message_arrived true_flows rule s m truth ≡ Ok left → ArrivedDid true_flows rule s m truth left → Holds left most
+  pub came_holds : (rule : PartnerRule) (m : NspValue) (truth : LinkTruth Numbers) (left : Links) → IsPlain m →
+      message_arrived true_flows rule s m truth ≡ Ok left → ArrivedDid true_flows rule s m truth left → Holds left most
   came_holds rule m truth left plain does did = left_holds left most (came_fits s h.fit rule truth left m plain does) (came_moves s ordered rule m truth left did) (λ confirm d. came_done s most confirm d rule m truth left did)
 
 -- ---- one thing more, and one thing less
 
 module _ (links : LinkList) (most : ℕ) (owed : LinksOwed) (h : LinkHolds links most owed) where
-  pub debt_holds : (debt : LinkDebt) → DebtFits links debt → ((confirm : EndConfirm) → debt ≡ OwesConfirm confirm → ConfirmHolds links most confirm) → LinkHolds links most (with_debt debt owed)
+  pub debt_holds : (debt : LinkDebt) → DebtFits links debt → ((confirm : EndConfirm) → debt ≡ OwesConfirm confirm → ConfirmHolds links most confirm) →
+      LinkHolds links most (with_debt debt owed)
   debt_holds NoDebt fits new = h
   debt_holds (Owes number turn) fits new = record {
     fit = h.fit;
@@ -83,10 +87,13 @@ module _ (links : LinkList) (most : ℕ) (owed : LinksOwed) (h : LinkHolds links
       go i c (inr e) = subst (ConfirmHolds links most) e.1 (new confirm refl)
 
   -- of a link, what is retried or sent
-  pub change_holds : (number : ℕ) (change : LinkOwed → LinkOwed) → ((l : LinkOf TrueFlow) (o : LinkOwed) → slice_get links number ≡ Some l → slice_get owed.links number ≡ Some o → OwedFits l (change o)) → LinkHolds links most (changed number change owed)
+  pub change_holds : (number : ℕ) (change : LinkOwed → LinkOwed) →
+      ((l : LinkOf TrueFlow) (o : LinkOwed) → slice_get links number ≡ Some l → slice_get owed.links number ≡ Some o → OwedFits l (change o)) →
+      LinkHolds links most (changed number change owed)
   change_holds number change here = record { fit = h.fit; owes = one_changed links number change owed here h.owes; confirms = h.confirms }
 
-  pub choice_holds : (c : LinkChoice) → ((number : ℕ) (turn : Turn) → c ≡ OfLink number turn → (l : LinkOf TrueFlow) (o : LinkOwed) → slice_get links number ≡ Some l → slice_get owed.links number ≡ Some o → OwedFits l (without_turn turn o)) →
+  pub choice_holds : (c : LinkChoice) →
+      ((number : ℕ) (turn : Turn) → c ≡ OfLink number turn → (l : LinkOf TrueFlow) (o : LinkOwed) → slice_get links number ≡ Some l → slice_get owed.links number ≡ Some o → OwedFits l (without_turn turn o)) →
       LinkHolds links most (after_link_choice c owed)
   choice_holds (Confirms confirm) here = record { fit = h.fit; owes = h.owes; confirms = λ i c at. h.confirms (i + 1) c (behind owed.confirms i c at) }
     where

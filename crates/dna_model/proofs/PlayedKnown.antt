@@ -1,13 +1,10 @@
 -- What is known of both ends of the player at any time of a script that starts each side at most once.
-use Rattle.std.proofs.Common.{◌≡◌, ℕ, ◌<◌, ◌≤◌, ◌^◌, List, Some, refl, sym, ap, ◌∙◌, subst}
-use Rattle.std.specs.Prelude.{slice_get}
+use Rattle.std.proofs.Common.{◌≡◌, ℕ, ◌<◌, ◌≤◌, ◌^◌, List, refl, sym, ap, ◌∙◌, subst}
 use Rattle.two_nodes.specs.Nodes.{Half, World, Run, Done, OfA, OfB}
 use Rattle.two_nodes.specs.Cutting.{cut_half}
 use Rattle.capture.specs.declared.record.Record.{Record}
 use Rattle.dna_model.specs.declared.head.Head.{Head}
 use Rattle.dna_model.specs.Rules.{Rules, judged}
-use Rattle.dna_model.specs.Links.{LinkOf}
-use Rattle.dna_model.specs.TrueFlow.{TrueFlow}
 use Rattle.dna_model.specs.LinkBounds.{AreLinksBounded}
 use Rattle.dna_model.specs.LinkRuns.{LinkSide, LinkWorld}
 use Rattle.dna_model.specs.Layers.{LayersNode, LayersUnit, stations}
@@ -35,7 +32,8 @@ head_stays rules own other h r (Again bytes m old) = refl
 head_stays rules own other h r (First bytes m new links carried made) = refl
 head_stays rules own other h r (Receipt hint kept bytes unit arrival there links met) = refl
 
-heads_stay : {w end : World LayersNode LayersUnit} {of_a of_b : List Record} → Run layers_pair w of_a of_b end → (end.a.state.head ≡ w.a.state.head) × (end.b.state.head ≡ w.b.state.head)
+heads_stay : {w end : World LayersNode LayersUnit} {of_a of_b : List Record} → Run layers_pair w of_a of_b end →
+    (end.a.state.head ≡ w.a.state.head) × (end.b.state.head ≡ w.b.state.head)
 heads_stay Done = (refl, refl)
 heads_stay {w} (OfA {h = h} {r = r} made rest) = let e = heads_stay rest in (e.0 ∙ head_stays judged w.a w.b h r (follows judged w.a w.b h r made).links, e.1)
 heads_stay {w} (OfB {h = h} {r = r} made rest) = let e = heads_stay rest in (e.0, e.1 ∙ head_stays judged w.b w.a h r (follows judged w.b w.a h r made).links)

@@ -1,14 +1,13 @@
 -- What comes to a node of the player it takes: a unit as it was sent, with its packet where that can be taken, and a damaged one.
-use Rattle.std.proofs.Common.{◌≡◌, ℕ, ◌+◌, ◌≤◌, Bool, true, false, ◌&&◌, cond, eqb, nat_lt, Option, Some, None, option_map, List, [], map, Result, Ok, Err, refl, sym, ap, ap₂, ◌∙◌, subst, le-ltb, eq-eqb, ◌⊎◌, inl, inr}
+use Rattle.std.proofs.Common.{◌≡◌, ℕ, ◌+◌, ◌≤◌, Bool, true, false, ◌&&◌, cond, Option, Some, None, option_map, List, Result, Ok, Err, refl, ap, ap₂, ◌∙◌, le-ltb, eq-eqb}
 use Rattle.std.specs.Prelude.{slice_get, bytes_eq}
 use Rattle.std.proofs.lemmas.Option.{slice_get-map}
 use Rattle.std.proofs.lemmas.Slice.Eq.{bytes_eq-Decides}
-use Rattle.two_nodes.specs.Nodes.{Half, Outcome, Made, stepped, concluded, read, advance}
+use Rattle.two_nodes.specs.Nodes.{Made, stepped, concluded, read, advance}
 use Rattle.two_nodes.specs.Cutting.{cut_half}
 use Rattle.ddcmp_msg.specs.Reading.{ReadingValue, reading}
 use Rattle.ddcmp_msg.specs.Reading as read_as
 use Rattle.dna_packet.specs.Nsp.{NspValue, DataSegment, LinkService, DataAck, OtherDataAck, ConnectAck, NoOperation, ConnectInitiate, ConnectConfirm, DisconnectInitiate, DisconnectConfirm}
-use Rattle.capture.specs.declared.record.Record.{Record}
 use Rattle.capture.specs.declared.record.Record.TheVariants.{Received}
 use Rattle.dna_model.specs.declared.port.LinkTest.{LinkTest}
 use Rattle.dna_model.specs.declared.port.LinkTest.TheVariants.{LiveTo, CallingAt, ActedOn}
@@ -18,11 +17,10 @@ use Rattle.dna_model.specs.declared.refusal.StationRefusal.{StationRefusal}
 use Rattle.dna_model.specs.declared.refusal.StepRefusal.{StepRefusal}
 use Rattle.dna_model.specs.declared.refusal.StepRefusal.TheVariants.{HintOrder}
 use Rattle.dna_model.specs.Book.{ArrivalValue, Sound, HeaderBad, DataBad, keep_refusal}
-use Rattle.dna_model.specs.StationBook.{meets_needs, arrival_refusal, after_arrival}
-use Rattle.dna_model.specs.Rules.{judged}
+use Rattle.dna_model.specs.StationBook.{arrival_refusal, after_arrival}
 use Rattle.dna_model.specs.Bounds.{IsBounded, IsWithin}
 use Rattle.dna_model.specs.WireNode.{unlabelled}
-use Rattle.dna_model.specs.Line.{damage, coming_by}
+use Rattle.dna_model.specs.Line.{coming_by}
 use Rattle.dna_model.specs.Machine.{met, comes, receives, unless_refused}
 use Rattle.dna_model.specs.Links.{LinkOf, LinkTruth, check, on_link, at_number, number_of, with_link}
 use Rattle.dna_model.specs.LinkArriving.{of_anyone, message_arrived}
@@ -43,7 +41,8 @@ abbrev pub Takes : Result Links LinkRefusal → Type 0
 Takes r = (left : Links) × (r ≡ Ok left)
 
 -- a look-up that refuses nothing
-found_takes : (test : LinkTest) (s otherwise : Links) (next : ℕ → LinkOf TrueFlow → Links) → Takes (with_link test s (Ok otherwise) (λ number link. Ok (next number link)))
+found_takes : (test : LinkTest) (s otherwise : Links) (next : ℕ → LinkOf TrueFlow → Links) →
+    Takes (with_link test s (Ok otherwise) (λ number link. Ok (next number link)))
 found_takes test s otherwise next = go (number_of test s)
   where
     at_link : (number : ℕ) (o : Option (LinkOf TrueFlow)) → Takes (on_link number o (Ok otherwise) (λ number link. Ok (next number link)))
@@ -81,7 +80,8 @@ module _ (own other : PlayHalf) (hint : ℕ) (unit : LayersUnit) (there : slice_
   abbrev met_by : Bool → List ℕ → Result LayersNode StepRefusal
   met_by kept bytes = comes (layers_machine by_bytes) own.state (hint + 1) kept (coming_by (bytes_eq bytes unit.bytes) unit (reading bytes))
 
-  is_made : (kept : Bool) (bytes : List ℕ) (left : LayersNode) → met_by kept bytes ≡ Ok left → advance end_step own other (Received hint kept bytes) ≡ Made (stepped own left)
+  is_made : (kept : Bool) (bytes : List ℕ) (left : LayersNode) → met_by kept bytes ≡ Ok left →
+      advance end_step own other (Received hint kept bytes) ≡ Made (stepped own left)
   unfolding end_step
   is_made kept bytes left met_it =
       ap (read own (receives (layers_machine by_bytes) own.state hint kept bytes)) there
@@ -93,20 +93,24 @@ module _ (own other : PlayHalf) (hint : ℕ) (unit : LayersUnit) (there : slice_
   came_left arrival kept links = stepped own (record own.state { station = record own.state.station { station = after_arrival s.station (to_station arrival) kept; links = links }; front = hint + 1 })
 
   -- a damaged one
-  pub header_made : (bytes : List ℕ) → bytes_eq bytes unit.bytes ≡ false → reading bytes ≡ read_as.HeaderBad → advance end_step own other (Received hint false bytes) ≡ Made (came_left HeaderBad false s.links)
+  pub header_made : (bytes : List ℕ) → bytes_eq bytes unit.bytes ≡ false → reading bytes ≡ read_as.HeaderBad →
+      advance end_step own other (Received hint false bytes) ≡ Made (came_left HeaderBad false s.links)
   header_made bytes differs shows = is_made false bytes _ (ap₂ (λ (r : ReadingValue) (b : Bool). comes (layers_machine by_bytes) own.state (hint + 1) false (coming_by b unit r)) shows differs)
 
-  pub data_made : (bytes : List ℕ) → bytes_eq bytes unit.bytes ≡ false → reading bytes ≡ read_as.DataBad → advance end_step own other (Received hint false bytes) ≡ Made (came_left DataBad false s.links)
+  pub data_made : (bytes : List ℕ) → bytes_eq bytes unit.bytes ≡ false → reading bytes ≡ read_as.DataBad →
+      advance end_step own other (Received hint false bytes) ≡ Made (came_left DataBad false s.links)
   data_made bytes differs shows = is_made false bytes _ (ap₂ (λ (r : ReadingValue) (b : Bool). comes (layers_machine by_bytes) own.state (hint + 1) false (coming_by b unit r)) shows differs)
 
   module _ (h : IsReady own other) (bounded : IsBounded (cut_half stations own) (cut_half stations other)) (from : (u : SentMessage) → unit.known.carried ≡ Some u → (u.packet.src ≡ s.links.peer) × (u.packet.dst ≡ s.links.node)) where
     pub within : IsWithin s.station unit.message unit.known.station
     within = bounded.within hint (unit_of_station unit) (slice_get-map unit_of_station other.sent hint ∙ ap (option_map unit_of_station) there) ahead (meets_it own other h hint unit there)
 
-    allowed : (kept : Bool) → (kept ≡ true → can_take (variables_of own) unit.message ≡ true) → arrival_refusal by_bytes s.station (Sound unit.message unit.known.station) kept ≡ None
+    allowed : (kept : Bool) → (kept ≡ true → can_take (variables_of own) unit.message ≡ true) →
+        arrival_refusal by_bytes s.station (Sound unit.message unit.known.station) kept ≡ None
     allowed kept can = arrival_refusal_same (unlabelled {L = Unit {0}} s.station.packets) by_bytes s.station unit.message unit.known.station kept (λ e. within) ∙ go kept can
       where
-        go : (kept : Bool) → (kept ≡ true → can_take (variables_of own) unit.message ≡ true) → keep_refusal (can_take (variables_of own) unit.message) kept ≡ None
+        go : (kept : Bool) → (kept ≡ true → can_take (variables_of own) unit.message ≡ true) →
+            keep_refusal (can_take (variables_of own) unit.message) kept ≡ None
         go false can = refl
         go true can = ap (λ (b : Bool). keep_refusal b true) (can refl)
 
@@ -119,7 +123,8 @@ module _ (own other : PlayHalf) (hint : ℕ) (unit : LayersUnit) (there : slice_
     abbrev after : Bool → Layers
     after kept = record s { station = after_arrival s.station (Sound unit.message unit.known.station) kept }
 
-    made_with : (kept : Bool) → (kept ≡ true → can_take (variables_of own) unit.message ≡ true) → (links : Links) → IsMet by_bytes s.links unit.known.carried kept links →
+    made_with : (kept : Bool) → (kept ≡ true → can_take (variables_of own) unit.message ≡ true) → (links : Links) →
+        IsMet by_bytes s.links unit.known.carried kept links →
         cond kept (keeps by_bytes (after kept) unit.known.carried) (Ok (after kept)) ≡ Ok (record (after kept) { links = links }) → UnitMade kept
     made_with kept can links met_it kept_it = record {
       links = links;
@@ -130,7 +135,8 @@ module _ (own other : PlayHalf) (hint : ℕ) (unit : LayersUnit) (there : slice_
           ∙ ap (met own.state (hint + 1)) kept_it);
     }
 
-    by_carried : (kept : Bool) → (kept ≡ true → can_take (variables_of own) unit.message ≡ true) → (o : Option SentMessage) → unit.known.carried ≡ o → UnitMade kept
+    by_carried : (kept : Bool) → (kept ≡ true → can_take (variables_of own) unit.message ≡ true) → (o : Option SentMessage) → unit.known.carried ≡ o →
+        UnitMade kept
     by_carried false can o is = made_with false can s.links NotKept refl
     by_carried true can None is = made_with true can s.links (KeptNone is) (ap (keeps by_bytes (after true)) is)
     by_carried true can (Some u) is =

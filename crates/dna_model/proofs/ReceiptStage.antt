@@ -1,7 +1,6 @@
 -- That an end of the player takes what comes keeps what holds of it.
-use Rattle.std.proofs.Common.{◌≡◌, ℕ, ◌+◌, ◌<◌, ◌≤◌, ◌^◌, Bool, true, false, cond, Option, Some, None, List, [], ◌∷◌, length, Result, Ok, Err, refl, sym, ap, ◌∙◌, subst, arith}
+use Rattle.std.proofs.Common.{◌≡◌, ℕ, ◌<◌, ◌≤◌, ◌^◌, Bool, true, false, cond, Option, Some, length, Result, Ok, refl, sym, ap, ◌∙◌, subst, arith}
 use Rattle.std.specs.Prelude.{slice_get}
-use Rattle.ddcmp_msg.specs.Message.{MessageValue}
 use Rattle.ddcmp_msg.specs.Reading.{ReadingValue, reading}
 use Rattle.ddcmp_msg.specs.Reading as read_as
 use Rattle.dna_packet.specs.Nsp.{NspValue, DataSegment, LinkService, DataAck, OtherDataAck, ConnectAck, NoOperation, ConnectInitiate, ConnectConfirm, DisconnectInitiate, DisconnectConfirm}
@@ -13,7 +12,6 @@ use Rattle.dna_model.specs.declared.port.LinkTest.TheVariants.{TheLink, LiveTo, 
 use Rattle.dna_model.specs.LinkTests.{is_running}
 use Rattle.dna_model.specs.Book.{Sound, HeaderBad, DataBad, body_of}
 use Rattle.dna_model.specs.Bounds.{IsWithin}
-use Rattle.dna_model.specs.Station.{Station}
 use Rattle.dna_model.specs.StationBook.{after_arrival}
 use Rattle.dna_model.specs.Links.{LinkOf, Carried, LinkTruth, with_link}
 use Rattle.dna_model.specs.LinkArriving.{of_anyone, ends_link, message_arrived}
@@ -23,14 +21,13 @@ use Rattle.dna_model.specs.CutFlow.{IsOrdered}
 use Rattle.dna_model.specs.LinkRuns.{SentMessage}
 use Rattle.dna_model.specs.Content.{content}
 use Rattle.dna_model.specs.Layers.{LayersUnit}
-use Rattle.dna_model.specs.LinkOwed.{LinkDebt, NoDebt, Owes, OwesConfirm, EndConfirm, DataAckTurn, ConnectAckTurn, repeated_call_debt, confirm_debt, message_debt, with_debt}
+use Rattle.dna_model.specs.LinkOwed.{NoDebt, Owes, OwesConfirm, EndConfirm, DataAckTurn, ConnectAckTurn, repeated_call_debt, confirm_debt, message_debt, with_debt}
 use Rattle.dna_model.specs.Player.{End, by_bytes, station_of, links_of, after_record}
 use Rattle.dna_model.specs.Receipt.{carried_in, carried, carried_debt, after_receipt}
 use Rattle.dna_model.proofs.CutNode.{arrival_packets}
 use Rattle.dna_model.proofs.LayersRead.{packet_in}
 use Rattle.dna_model.proofs.OnTop.{IsMet, NotKept, KeptNone, KeptOne}
 use Rattle.dna_model.proofs.LinkTables.{looked, checked, arrived_did}
-use Rattle.dna_model.proofs.LinkAddresses.{LinkList, AreAddressed}
 use Rattle.dna_model.proofs.LinkMessages.{IsAddressed}
 use Rattle.dna_model.proofs.LinkFits.{IsPlain}
 use Rattle.dna_model.proofs.LinkDebts.{end_done, came_debt}
@@ -61,7 +58,9 @@ module _ (own other : End) (h : Stage own) (theirs : Stage other) (known : Known
     again_never number true e = cc
     again_never number false e = cc
 
-    of_end : (dst src reason : ℕ) → reason < 2 ^ 16 → dst ≤ own.addresses → src < 2 ^ 16 → ◌≡◌ {A = Result Links LinkRefusal} (Ok (ends_link true_flows of_anyone dst src s)) (Ok left) → confirm_debt src dst reason ≡ OwesConfirm confirm → Confirmed
+    of_end : (dst src reason : ℕ) → reason < 2 ^ 16 → dst ≤ own.addresses → src < 2 ^ 16 →
+        ◌≡◌ {A = Result Links LinkRefusal} (Ok (ends_link true_flows of_anyone dst src s)) (Ok left) →
+        confirm_debt src dst reason ≡ OwesConfirm confirm → Confirmed
     of_end dst src reason small given src_small does e =
         let same : ends_link true_flows of_anyone dst src s ≡ left = cc in
         let is : record { dst = src; src = dst; reason = reason } ≡ confirm = same_confirm (record { dst = src; src = dst; reason = reason }) confirm e in
@@ -75,7 +74,8 @@ module _ (own other : End) (h : Stage own) (theirs : Stage other) (known : Known
         same_confirm : (x y : EndConfirm) → OwesConfirm x ≡ OwesConfirm y → x ≡ y
         same_confirm x y e = cc
 
-    confirmed : (m : NspValue) → IsAddressed (links_of other.half).links s.links m truth.tag → message_arrived true_flows of_anyone s m truth ≡ Ok left → message_debt s m ≡ OwesConfirm confirm → Confirmed
+    confirmed : (m : NspValue) → IsAddressed (links_of other.half).links s.links m truth.tag →
+        message_arrived true_flows of_anyone s m truth ≡ Ok left → message_debt s m ≡ OwesConfirm confirm → Confirmed
     confirmed (DisconnectInitiate dst src reason user_data) told does e =
         let to = told.to dst refl in let from = told.from src refl in
         let given = known.addressed.highest to.number dst to.owns in
@@ -102,7 +102,8 @@ module _ (own other : End) (h : Stage own) (theirs : Stage other) (known : Known
   -- ---- the links
 
   -- a message that comes, with what is newly owed for it
-  message_holds : (u : SentMessage) (left : Links) → IsPlain u.packet.message → IsAddressed (links_of other.half).links s.links u.packet.message u.truth.tag → links_arrived of_anyone s u.packet u.truth ≡ Ok left →
+  message_holds : (u : SentMessage) (left : Links) → IsPlain u.packet.message →
+      IsAddressed (links_of other.half).links s.links u.packet.message u.truth.tag → links_arrived of_anyone s u.packet u.truth ≡ Ok left →
       LinkHolds left.links own.addresses (with_debt (message_debt s u.packet.message) (left_links s.links left.links own.links_owed))
   message_holds u left plain told does =
       let m = u.packet.message in
@@ -112,7 +113,9 @@ module _ (own other : End) (h : Stage own) (theirs : Stage other) (known : Known
       (message_debt s m) (came_debt s of_anyone u.truth left m came) (λ confirm e. confirmed u.truth left confirm m told came e)
 
   module _ (unit : LayersUnit) (placed : (u : SentMessage) → unit.known.carried ≡ Some u → (k : ℕ) × (slice_get other.half.state.station.messages k ≡ Some (Some u))) where
-    links_stage : (kept : Bool) (links : Links) → (kept ≡ true → content (body_of unit.message) ≡ Ok (packet_in unit.known.carried)) → IsMet by_bytes s unit.known.carried kept links → LinkHolds links.links own.addresses (with_debt (carried_debt s (carried kept (read_as.Sound unit.message))) (left_links s.links links.links own.links_owed))
+    links_stage : (kept : Bool) (links : Links) → (kept ≡ true → content (body_of unit.message) ≡ Ok (packet_in unit.known.carried)) →
+        IsMet by_bytes s unit.known.carried kept links →
+        LinkHolds links.links own.addresses (with_debt (carried_debt s (carried kept (read_as.Sound unit.message))) (left_links s.links links.links own.links_owed))
     links_stage false links is_read NotKept = same_holds s own.addresses own.links_owed h.links ordered
     links_stage true links is_read (KeptNone is) =
         let e = is_read refl ∙ ap (λ (o : Option SentMessage). Ok (packet_in o)) is in
@@ -125,7 +128,9 @@ module _ (own other : End) (h : Stage own) (theirs : Stage other) (known : Known
 
     -- ---- the end after a unit as it was sent
 
-    pub unit_stage : (hint : ℕ) (kept : Bool) (links : Links) (there : slice_get other.half.sent hint ≡ Some unit) (ahead : own.half.state.front ≤ hint) → reading unit.bytes ≡ read_as.Sound unit.message → IsWithin (station_of own.half) unit.message unit.known.station → (kept ≡ true → content (body_of unit.message) ≡ Ok (packet_in unit.known.carried)) → IsMet by_bytes s unit.known.carried kept links →
+    pub unit_stage : (hint : ℕ) (kept : Bool) (links : Links) (there : slice_get other.half.sent hint ≡ Some unit) (ahead : own.half.state.front ≤ hint) →
+        reading unit.bytes ≡ read_as.Sound unit.message → IsWithin (station_of own.half) unit.message unit.known.station →
+        (kept ≡ true → content (body_of unit.message) ≡ Ok (packet_in unit.known.carried)) → IsMet by_bytes s unit.known.carried kept links →
         Stage (after_receipt own (reading unit.bytes) kept (after_record own (came_left own.half other.half hint unit there ahead (Sound unit.message unit.known) kept links)))
     unit_stage hint kept links there ahead told within is_read met_as =
         subst (λ (r : ReadingValue). Stage (after_receipt own r kept (after_record own (came_left own.half other.half hint unit there ahead (Sound unit.message unit.known) kept links)))) (sym told) (record {

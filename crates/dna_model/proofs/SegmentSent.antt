@@ -1,12 +1,11 @@
 -- When a segment has gone, no more segments are sent in the go than are outstanding.
-use Rattle.std.proofs.Common.{◌≡◌, ℕ, zero, suc, ◌+◌, ◌-◌, ◌≤◌, Bool, true, false, cond, eqb, Option, Some, None, List, [], ◌∷◌, ◌++◌, length, drop, Result, Ok, Err, refl, sym, ap, ◌∙◌, subst, arith, length-append, length-drop}
+use Rattle.std.proofs.Common.{◌≡◌, ℕ, zero, suc, ◌+◌, ◌≤◌, Bool, true, false, Option, Some, None, List, [], ◌∷◌, ◌++◌, length, drop, Ok, sym, ap, ◌∙◌, subst, arith, length-append, length-drop}
 use Rattle.std.specs.Prelude.{slice_get}
 use Rattle.std.proofs.lemmas.Bool.{and_parts, eqb-false}
 use Rattle.std.proofs.lemmas.Option.{same_Some}
 use Rattle.dna_packet.specs.Nsp.{NspValue, SegmentValue, DataSegment, DataAck}
 use Rattle.dna_model.specs.declared.port.Port.{Port}
-use Rattle.dna_model.specs.declared.port.LinkTest.TheVariants.{TheLink}
-use Rattle.dna_model.specs.LinkTests.{is_live, is_at, has_both}
+use Rattle.dna_model.specs.LinkTests.{is_live, is_at}
 use Rattle.dna_model.specs.Pieces.{Piece, piece_of}
 use Rattle.dna_model.specs.Flow.{Sending, wire, distance}
 use Rattle.dna_model.specs.Links.{LinkOf, with_flow, changed}
@@ -25,7 +24,8 @@ use Rattle.dna_model.proofs.FlowDid.{SegmentDid, GivesIt, GivesAgain, segment_di
 
 -- ---- the flow
 
-pub segment_ahead : (f : TrueFlow) → IsOrdered f → (port : Port) (owed : LinkOwed) (p : Piece) (segsize : ℕ) (x : Sending TrueFlow Numbers) → owed.ahead ≤ length (drop f.acknowledged f.given) →
+pub segment_ahead : (f : TrueFlow) → IsOrdered f → (port : Port) (owed : LinkOwed) (p : Piece) (segsize : ℕ) (x : Sending TrueFlow Numbers) →
+    owed.ahead ≤ length (drop f.acknowledged f.given) →
     sends_segment segsize (segment_with (end_with port f owed) p) f ≡ Ok x → owed.ahead + 1 ≤ length (drop x.flow.acknowledged x.flow.given)
 segment_ahead f ordered port owed p segsize x within e = go x.flow (segment_did f segsize (segment_with (end_with port f owed) p) x e)
   where
@@ -54,7 +54,8 @@ still_ahead l k o = go (same_phase l.port.phase k.port.phase)
     go false = omega arith
 
 -- no more of a link's segments are sent in the go than before
-pub ahead_less : (before after : LinkList) (owed : List LinkOwed) (i : ℕ) (o left : LinkOwed) → slice_get owed i ≡ Some o → slice_get (all_still_owed before after owed) i ≡ Some left → left.ahead ≤ o.ahead
+pub ahead_less : (before after : LinkList) (owed : List LinkOwed) (i : ℕ) (o left : LinkOwed) → slice_get owed i ≡ Some o →
+    slice_get (all_still_owed before after owed) i ≡ Some left → left.ahead ≤ o.ahead
 ahead_less before [] owed i o left there at = absurd cc
 ahead_less [] (link ∷ later) owed zero o left there at = let e = ap (λ (x : LinkOwed). x.ahead) (same_Some left nothing (sym at)) in omega arith
 ahead_less [] (link ∷ later) owed (suc i) o left there at = let e = none_ahead later i left at in omega arith
@@ -83,12 +84,14 @@ module _ (s : Links) (others : LinkList) (most : ℕ) (addressed : AreAddressed 
       same_segment : (x y : SegmentValue) → DataSegment x ≡ DataSegment y → x ≡ y
       same_segment x y e = cc
 
-      here : (link : LinkOf TrueFlow) (sent : Sending TrueFlow Numbers) → l ≡ link → sends_segment link.segsize segment link.flow ≡ Ok sent → IsAhead (changed n (with_flow sent.flow link) s)
+      here : (link : LinkOf TrueFlow) (sent : Sending TrueFlow Numbers) → l ≡ link → sends_segment link.segsize segment link.flow ≡ Ok sent →
+          IsAhead (changed n (with_flow sent.flow link) s)
       here link sent e does k at =
           let ahead = segment_ahead l.flow ordered l.port owed p l.segsize sent within (subst (λ (x : LinkOf TrueFlow). sends_segment x.segsize segment x.flow ≡ Ok sent) (sym e) does) in
           subst (λ (x : LinkOf TrueFlow). owed.ahead + 1 ≤ length (variables_of x).outstanding) (same_Some (with_flow sent.flow link) k (sym (set_same s.links n l (with_flow sent.flow link) there) ∙ at)) ahead
 
-      go : (number : ℕ) (link : LinkOf TrueFlow) (sent : Sending TrueFlow Numbers) → other ≡ segment → slice_get s.links number ≡ Some link → is_at link.port.own other.srcaddr ≡ true → sends_segment link.segsize other link.flow ≡ Ok sent →
+      go : (number : ℕ) (link : LinkOf TrueFlow) (sent : Sending TrueFlow Numbers) → other ≡ segment → slice_get s.links number ≡ Some link →
+          is_at link.port.own other.srcaddr ≡ true → sends_segment link.segsize other link.flow ≡ Ok sent →
           IsAhead (changed number (with_flow sent.flow link) s)
       go number link sent e at at_own does =
           let src : other.srcaddr ≡ own = ap (λ (x : SegmentValue). x.srcaddr) e ∙ known l.port.own owns in

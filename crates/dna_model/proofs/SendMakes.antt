@@ -1,25 +1,22 @@
 -- What an end of the player chooses to send its node makes: a unit that is put together is sent.
-use Rattle.std.proofs.Common.{◌≡◌, ℕ, zero, suc, ◌+◌, ◌<◌, ◌≤◌, ◌%◌, ◌^◌, Bool, true, false, ◌&&◌, cond, eqb, Option, Some, None, option_map, List, [], ◌∷◌, map, length, drop, Result, Ok, Err, refl, sym, ap, ap₂, ◌∙◌, subst, arith, eq-eqb}
+use Rattle.std.proofs.Common.{◌≡◌, ℕ, zero, suc, ◌+◌, ◌<◌, ◌^◌, Bool, true, false, ◌&&◌, cond, Option, Some, None, List, [], ◌∷◌, Result, Ok, refl, sym, ap, ap₂, ◌∙◌, subst, arith, eq-eqb}
 use Rattle.std.specs.Prelude.{slice_get}
-use Rattle.std.proofs.lemmas.Option.{same_Some, slice_get-map}
-use Rattle.two_nodes.specs.Nodes.{Half, Made, answered, advance}
-use Rattle.ddcmp_msg.specs.Message.{MessageValue, Data, Ack, Nak, Rep, Strt, Stack}
+use Rattle.std.proofs.lemmas.Option.{same_Some}
+use Rattle.two_nodes.specs.Nodes.{answered, advance}
+use Rattle.ddcmp_msg.specs.Message.{MessageValue}
 use Rattle.ddcmp_msg.specs.Spelling.{spelling}
-use Rattle.ddcmp_msg.specs.Reading.{ReadingValue, reading}
-use Rattle.ddcmp_msg.specs.Reading as read_as
+use Rattle.ddcmp_msg.specs.Reading.{ReadingValue}
 use Rattle.ddcmp_msg.proofs.ReadBack.{reading-spelling}
 use Rattle.dna_packet.specs.Nsp.{NspValue}
 use Rattle.capture.specs.declared.record.Record.TheVariants.{Sent}
 use Rattle.dna_model.specs.declared.head.Head.{Head}
 use Rattle.dna_model.specs.declared.refusal.StepRefusal.{StepRefusal}
 use Rattle.dna_model.specs.declared.refusal.StationRefusal.{StationRefusal}
-use Rattle.dna_model.specs.declared.link_refusal.LinkRefusal.{LinkRefusal}
 use Rattle.dna_model.specs.declared.link_refusal.LinkRefusal.TheVariants.{WrongNode}
-use Rattle.dna_model.specs.Book.{resp_of, num_of, body_of}
-use Rattle.dna_model.specs.Bounds.{IsOrdered}
-use Rattle.dna_model.specs.Station.{Station, wire}
+use Rattle.dna_model.specs.Book.{body_of}
+use Rattle.dna_model.specs.Station.{Station}
 use Rattle.dna_model.specs.StationBook.{sending_refusal, gives_number}
-use Rattle.dna_model.specs.Cut.{AreLabelled, cut}
+use Rattle.dna_model.specs.Cut.{cut}
 use Rattle.dna_model.specs.WireStation.{HeldPacket, StationVariables}
 use Rattle.dna_model.specs.WireNode.{unlabelled}
 use Rattle.dna_model.specs.Machine.{sends, sent_step, unless_refused}
@@ -27,19 +24,17 @@ use Rattle.dna_model.specs.Links.{Carried, check}
 use Rattle.dna_model.specs.LinkSending as links_sending
 use Rattle.dna_model.specs.LinkSending.{message_sent}
 use Rattle.dna_model.specs.TrueFlow.{TrueFlow, Numbers, true_flows}
-use Rattle.dna_model.specs.TrueLinks.{Links, links_sent}
+use Rattle.dna_model.specs.TrueLinks.{links_sent}
 use Rattle.dna_model.specs.Content.{content}
-use Rattle.dna_model.specs.Layers.{Layers, LayersTruth, LayersNode, LayersUnit, first_sent, with_message, sends_first, sends_again, sends_on, layers_machine}
-use Rattle.dna_model.specs.HasLine.{are_bytes, has_line}
+use Rattle.dna_model.specs.Layers.{Layers, LayersTruth, first_sent, with_message, sends_first, sends_again, sends_on, layers_machine}
 use Rattle.dna_model.specs.NextSent.{LinkEnd, LinkChoice, Choice, SendStrt, SendStack, SendNak, SendRep, SendAgain, SendNew, SendAck}
-use Rattle.dna_model.specs.Compose.{no_flags, data_with, packet_again, new_data, packet_with, link_message, message_of}
-use Rattle.dna_model.specs.Player.{by_bytes, end_step, made_half, makes, variables_of}
-use Rattle.dna_model.proofs.CutSending.{sending_refusal_same, slice_get-drop}
-use Rattle.dna_model.proofs.CutNode.{unlabelled_bodies}
+use Rattle.dna_model.specs.Compose.{data_with, packet_again, new_data, packet_with, link_message, message_of}
+use Rattle.dna_model.specs.Player.{by_bytes, end_step, made_half, makes}
+use Rattle.dna_model.proofs.CutSending.{slice_get-drop}
 use Rattle.dna_model.proofs.OnTop.{sent_by, sent_with}
 use Rattle.dna_model.proofs.PlayedSteps.{PlayHalf}
 use Rattle.dna_model.proofs.LinkPays.{MaySendIt}
-use Rattle.dna_model.proofs.UnitLines.{IsOfBytes, unit_line, composed_content, PacketFits, packet_fits, MessageFits}
+use Rattle.dna_model.proofs.UnitLines.{IsOfBytes, unit_line, composed_content, PacketFits, MessageFits}
 
 module _ (own other : PlayHalf) where
   abbrev s : Layers
@@ -49,7 +44,8 @@ module _ (own other : PlayHalf) where
   abbrev pub sent_left : MessageValue → Layers × LayersTruth → PlayHalf
   sent_left m after = sent_with own (spelling m) m after
 
-  pub is_made : (m : MessageValue) → IsOfBytes m → (after : Layers × LayersTruth) → (layers_machine by_bytes).sends s m ≡ Ok after → makes own other (Sent (spelling m)) ≡ Some (sent_left m after)
+  pub is_made : (m : MessageValue) → IsOfBytes m → (after : Layers × LayersTruth) → (layers_machine by_bytes).sends s m ≡ Ok after →
+      makes own other (Sent (spelling m)) ≡ Some (sent_left m after)
   unfolding end_step
   is_made m h after does_it =
       ap (λ (b : Bool). cond b (made_half (advance end_step own other (Sent (spelling m)))) None) (unit_line m h)
@@ -60,7 +56,8 @@ module _ (own other : PlayHalf) where
   abbrev pub again_after : MessageValue → Layers × LayersTruth
   again_after m = sends_again s m (sent_by own m)
 
-  pub sends_old : (m : MessageValue) → sending_refusal s.station m ≡ None → gives_number s.station m ≡ false → (layers_machine by_bytes).sends s m ≡ Ok (again_after m)
+  pub sends_old : (m : MessageValue) → sending_refusal s.station m ≡ None → gives_number s.station m ≡ false →
+      (layers_machine by_bytes).sends s m ≡ Ok (again_after m)
   sends_old m allowed old =
       ap (λ (o : Option StationRefusal). sends_on s m (unless_refused o (sent_by own m))) allowed
       ∙ ap (λ (b : Bool). cond b (sends_first s (sent_by own m) (content (body_of m))) (Ok (again_after m))) old
@@ -76,7 +73,8 @@ module _ (own other : PlayHalf) where
     pub packet_sent : (message : NspValue) (may : MaySendIt s.links message) → links_sent s.links (packet_of message) ≡ Ok may.0
     packet_sent message may = ap₂ (λ (b c : Bool). check (b && c) WrongNode (message_sent true_flows s.links message)) (eq-eqb _ _ (sym node)) (eq-eqb _ _ (sym peer)) ∙ may.1
 
-    pub sends_new : (m : MessageValue) → sending_refusal s.station m ≡ None → gives_number s.station m ≡ true → (message : NspValue) → MessageFits message → (may : MaySendIt s.links message) → body_of m ≡ packet_with head message →
+    pub sends_new : (m : MessageValue) → sending_refusal s.station m ≡ None → gives_number s.station m ≡ true → (message : NspValue) →
+        MessageFits message → (may : MaySendIt s.links message) → body_of m ≡ packet_with head message →
         (layers_machine by_bytes).sends s m ≡ Ok (first_after m (packet_of message) may.0)
     sends_new m allowed new message fits may is =
         ap (λ (o : Option StationRefusal). sends_on s m (unless_refused o (sent_by own m))) allowed
@@ -98,7 +96,8 @@ module _ (s : Station) where
   data_of_bytes : (body : List ℕ) → PacketFits body → IsOfBytes (data_with k body)
   data_of_bytes body f = record { in_range = (f.some, f.most); resp = omega arith; num = omega arith; body = f.bytes }
 
-  unlabelled_at : (packets : List (List ℕ)) (i : ℕ) (p : HeldPacket (Unit {0})) → slice_get (unlabelled packets) i ≡ Some p → slice_get packets i ≡ Some p.body
+  unlabelled_at : (packets : List (List ℕ)) (i : ℕ) (p : HeldPacket (Unit {0})) → slice_get (unlabelled packets) i ≡ Some p →
+      slice_get packets i ≡ Some p.body
   unlabelled_at [] i p e = absurd cc
   unlabelled_at (body ∷ packets) zero p e = ap (λ (x : HeldPacket (Unit {0})). Some x.body) (same_Some (record { body = body; label = None }) p e)
   unlabelled_at (body ∷ packets) (suc i) p e = unlabelled_at packets i p e
@@ -108,7 +107,8 @@ module _ (s : Station) where
       all (s.acknowledged + k.ahead) packet.body (unlabelled_at s.packets (s.acknowledged + k.ahead) packet (sym (slice_get-drop s.acknowledged k.ahead (unlabelled s.packets)) ∙ at))
 
   -- each message that is put together
-  pub message_of_bytes : PacketsFit s → (c : Choice) (head : Head) (links : List LinkEnd) (m : MessageValue) → ((choice : LinkChoice) → c ≡ SendNew choice → (message : NspValue) → link_message choice links ≡ Some message → PacketFits (packet_with head message)) →
+  pub message_of_bytes : PacketsFit s → (c : Choice) (head : Head) (links : List LinkEnd) (m : MessageValue) →
+      ((choice : LinkChoice) → c ≡ SendNew choice → (message : NspValue) → link_message choice links ≡ Some message → PacketFits (packet_with head message)) →
       message_of c head k links ≡ Some m → IsOfBytes m
   message_of_bytes all SendStrt head links m new e = subst IsOfBytes (same_Some _ m e) (record { in_range = tt; resp = omega arith; num = omega arith; body = refl })
   message_of_bytes all SendStack head links m new e = subst IsOfBytes (same_Some _ m e) (record { in_range = tt; resp = omega arith; num = omega arith; body = refl })

@@ -1,5 +1,5 @@
 -- That an end of the player sends what it has chosen keeps what holds of it.
-use Rattle.std.proofs.Common.{◌≡◌, ℕ, ◌+◌, ◌≤◌, Bool, true, false, ◌⊎◌, inl, inr, Option, Some, None, List, [], ◌∷◌, ◌++◌, length, Result, Ok, Err, refl, sym, ap, ◌∙◌, subst, arith}
+use Rattle.std.proofs.Common.{◌≡◌, ℕ, ◌+◌, ◌≤◌, true, ◌⊎◌, inl, inr, Option, Some, None, List, [], ◌∷◌, length, Ok, refl, sym, ap, ◌∙◌, subst, arith}
 use Rattle.std.specs.Prelude.{slice_get, is_some}
 use Rattle.std.proofs.lemmas.Bool.{and_parts}
 use Rattle.std.proofs.lemmas.Option.{same_Some}
@@ -8,18 +8,15 @@ use Rattle.ddcmp_msg.specs.Spelling.{spelling}
 use Rattle.dna_packet.specs.Nsp.{NspValue, DataSegment, DisconnectConfirm}
 use Rattle.capture.specs.declared.record.Record.TheVariants.{Sent}
 use Rattle.dna_model.specs.declared.port.Phase.{Phase}
-use Rattle.dna_model.specs.declared.port.Phase.TheVariants.{Running}
 use Rattle.dna_model.specs.LinkTests.{is_running}
-use Rattle.dna_model.specs.Station.{Station}
 use Rattle.dna_model.specs.Links.{LinkOf, Carried}
 use Rattle.dna_model.specs.LinkSending as links_sending
 use Rattle.dna_model.specs.TrueFlow.{TrueFlow, Numbers, true_flows}
 use Rattle.dna_model.specs.TrueLinks.{Links, links_sent}
 use Rattle.dna_model.specs.CutFlow.{IsOrdered}
 use Rattle.dna_model.specs.LinkRuns.{SentMessage}
-use Rattle.dna_model.specs.Layers.{Layers, LayersTruth}
 use Rattle.dna_model.specs.LinkOwed.{LinkOwed, EndConfirm, Turn, SegmentTurn, variables_of, all_still_owed}
-use Rattle.dna_model.specs.NextSent.{LinkEnd, LinkChoice, Confirms, OfLink, Choice, SendStrt, SendStack, SendNak, SendRep, SendAgain, SendNew, SendAck, first_turn, link_choice, choice, without_turn}
+use Rattle.dna_model.specs.NextSent.{LinkEnd, LinkChoice, Confirms, OfLink, Choice, SendStrt, SendStack, SendNak, SendRep, SendAgain, SendNew, SendAck, first_turn, link_choice, without_turn}
 use Rattle.dna_model.specs.Compose.{address, piece_to_send, segment_with, turn_message, message_at, link_message, message_of}
 use Rattle.dna_model.specs.Player.{End, station_of, links_of, link_ends_of, after_record}
 use Rattle.dna_model.specs.Player as player
@@ -52,7 +49,8 @@ module _ (e : End) (other : PlayHalf) (sound : IsSound e) (h : Stage e) (numbers
 
   -- ---- a unit without a new packet
 
-  stage_again : (c : Choice) → ((one : LinkChoice) → c ≡ SendNew one → ⊥) → (m : MessageValue) → message_of c e.half.state.head (player.variables_of e.half) ends ≡ Some m → IsOfBytes m →
+  stage_again : (c : Choice) → ((one : LinkChoice) → c ≡ SendNew one → ⊥) → (m : MessageValue) →
+      message_of c e.half.state.head (player.variables_of e.half) ends ≡ Some m → IsOfBytes m →
       Stage (after_sending c (after_record e (sent_left e.half other m (again_after e.half other m))))
   stage_again (SendNew one) never m put b = absurd (never one refl)
   stage_again SendStrt never m put b = record { pays = sent_stage (station_of e.half) e.owed h.pays sound.ordered SendStrt e.half.state.head ends m put; packets = sent_packets (station_of e.half) m b h.packets; links = same_holds s e.addresses e.links_owed h.links ordered; plain = h.plain; few = h.few }
@@ -76,7 +74,8 @@ module _ (e : End) (other : PlayHalf) (sound : IsSound e) (h : Stage e) (numbers
           subst IsPlain (same_Some (turn_message turn it) message is) (subst (λ (x : LinkEnd). IsPlain (turn_message turn x)) at.is (turn_plain at.link at.owes turn (h.links.fit number at.link at.there).flow))
 
   -- the links are asked only where no DC is owed
-  of_first : (number : ℕ) (turn : Turn) (confirms : List EndConfirm) (list : List LinkEnd) → link_choice confirms list ≡ Some (OfLink number turn) → first_turn 0 list ≡ Some (OfLink number turn)
+  of_first : (number : ℕ) (turn : Turn) (confirms : List EndConfirm) (list : List LinkEnd) → link_choice confirms list ≡ Some (OfLink number turn) →
+      first_turn 0 list ≡ Some (OfLink number turn)
   of_first number turn [] list e' = e'
   of_first number turn (confirm ∷ later) list e' = absurd cc
 
@@ -89,11 +88,13 @@ module _ (e : End) (other : PlayHalf) (sound : IsSound e) (h : Stage e) (numbers
     holds = sent_holds s e.addresses e.links_owed h.links ordered packet.message made (subst IsPlain (sym of_it) (message_plain one message put_it)) (sent_did true_flows s made packet does_it)
 
     -- a segment that has gone is among those sent in this go
-    segment_here : (number : ℕ) → one ≡ OfLink number SegmentTurn → (k : LinkOf TrueFlow) (o : LinkOwed) → slice_get made.links.links number ≡ Some k → slice_get (all_still_owed s.links made.links.links e.links_owed.links) number ≡ Some o →
+    segment_here : (number : ℕ) → one ≡ OfLink number SegmentTurn → (k : LinkOf TrueFlow) (o : LinkOwed) →
+        slice_get made.links.links number ≡ Some k → slice_get (all_still_owed s.links made.links.links e.links_owed.links) number ≡ Some o →
         o.ahead + 1 ≤ length (variables_of k).outstanding
     segment_here number same k o at owes = by_turn (first_chosen 0 (link_ends_of e) (OfLink number SegmentTurn) (of_first number SegmentTurn e.links_owed.confirms (link_ends_of e) (asked ∙ ap Some same)))
       where
-        by_end : (it : LinkEnd) → slice_get (link_ends_of e) number ≡ Some it → IsDue it SegmentTurn → o.ahead + 1 ≤ length (variables_of k).outstanding
+        by_end : (it : LinkEnd) → slice_get (link_ends_of e) number ≡ Some it → IsDue it SegmentTurn →
+            o.ahead + 1 ≤ length (variables_of k).outstanding
         by_end it there due =
             let x = end_at (links_of e.half).links e.links_owed.links number it there in
             let phase = running_is x.link.port.phase (ap (λ (y : LinkEnd). is_running y.port.phase) x.is ∙ is_of_run it due) in
@@ -113,10 +114,12 @@ module _ (e : End) (other : PlayHalf) (sound : IsSound e) (h : Stage e) (numbers
             let place : number ≡ t.place = let is = t.is in omega arith in
             by_end t.e (ap (slice_get (link_ends_of e)) place ∙ t.there) (turn_due t.e SegmentTurn t.has)
 
-    here : (number : ℕ) (turn : Turn) → one ≡ OfLink number turn → (k : LinkOf TrueFlow) (o : LinkOwed) → slice_get made.links.links number ≡ Some k → slice_get (all_still_owed s.links made.links.links e.links_owed.links) number ≡ Some o → OwedFits k (without_turn turn o)
+    here : (number : ℕ) (turn : Turn) → one ≡ OfLink number turn → (k : LinkOf TrueFlow) (o : LinkOwed) → slice_get made.links.links number ≡ Some k →
+        slice_get (all_still_owed s.links made.links.links e.links_owed.links) number ≡ Some o → OwedFits k (without_turn turn o)
     here number turn same k o at owes = sent_turn_fits k o turn (λ seg. segment_here number (same ∙ ap (OfLink number) seg) k o at owes) (holds.owes number k o at owes)
 
-    stage_first : (m : MessageValue) → message_of (SendNew one) e.half.state.head (player.variables_of e.half) ends ≡ Some m → IsOfBytes m → Stage (after_sending (SendNew one) (after_record e (sent_left e.half other m (first_after e.half other m packet made))))
+    stage_first : (m : MessageValue) → message_of (SendNew one) e.half.state.head (player.variables_of e.half) ends ≡ Some m → IsOfBytes m →
+        Stage (after_sending (SendNew one) (after_record e (sent_left e.half other m (first_after e.half other m packet made))))
     stage_first m put b = record {
       pays = sent_stage (station_of e.half) e.owed h.pays sound.ordered (SendNew one) e.half.state.head ends m put;
       packets = sent_packets (station_of e.half) m b h.packets;
@@ -125,7 +128,9 @@ module _ (e : End) (other : PlayHalf) (sound : IsSound e) (h : Stage e) (numbers
       few = h.few;
     }
       where
-        go : (k : ℕ) (u : SentMessage) → (slice_get e.half.state.station.messages k ≡ Some (Some u)) ⊎ ((k ≡ length e.half.state.station.messages) × (Some (record { packet = packet; truth = made.truth }) ≡ Some u)) → IsPlain u.packet.message
+        go : (k : ℕ) (u : SentMessage) →
+            (slice_get e.half.state.station.messages k ≡ Some (Some u)) ⊎ ((k ≡ length e.half.state.station.messages) × (Some (record { packet = packet; truth = made.truth }) ≡ Some u)) →
+            IsPlain u.packet.message
         go k u (inl at) = h.plain k u at
         go k u (inr is) = subst (λ (x : SentMessage). IsPlain x.packet.message) (same_Some (record { packet = packet; truth = made.truth }) u is.1) (subst IsPlain (sym of_it) (message_plain one message put_it))
 

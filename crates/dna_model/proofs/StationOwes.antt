@@ -2,7 +2,7 @@
 use Rattle.std.proofs.Common.{◌≡◌, ℕ, ◌+◌, Bool, true, false, ◌&&◌, not, cond, eqb, nat_lt, nat_le, Option, Some, None, List, [], ◌∷◌, length, fold, refl, sym, ap, ap₂, ◌∙◌, subst, arith, lt-ltb}
 use Rattle.std.specs.Prelude.{slice_get}
 use Rattle.std.proofs.lemmas.Bool.{and_parts}
-use Rattle.ddcmp_msg.specs.Message.{MessageValue, Data, Ack, Nak, Rep, Strt, Stack}
+use Rattle.ddcmp_msg.specs.Message.{MessageValue, Data, Nak, Rep, Strt}
 use Rattle.ddcmp_msg.specs.declared.flags.Flags.{Flags}
 use Rattle.ddcmp_msg.specs.declared.nak_reason.NakReason.{NakReason}
 use Rattle.ddcmp_msg.specs.declared.nak_reason.NakReason.TheVariants.{HeaderCheck, DataCheck, RepResponse, NoBuffer}
@@ -13,13 +13,13 @@ use Rattle.dna_model.specs.declared.state.State.TheVariants.{Halted, Istrt, Astr
 use Rattle.dna_model.specs.declared.state.StationEvent.TheVariants as events
 use Rattle.dna_model.specs.declared.tag.Tag.{Tag}
 use Rattle.dna_model.specs.Causes.{Causes, with_cause, has_cause, without_cause}
-use Rattle.dna_model.specs.Table.{Effect, GoTo, TakePartner, Respond, SetBack, TakePacket, AnswerRep, row, counts_damage}
+use Rattle.dna_model.specs.Table.{Effect, Respond, TakePacket, AnswerRep, row, counts_damage}
 use Rattle.dna_model.specs.Book.{Sound, HeaderBad, DataBad, num_of, resp_of, has_packet, damaged_by}
 use Rattle.dna_model.specs.Station.{wire}
 use Rattle.dna_model.specs.WireStation.{HeldPacket, StationVariables, WireStation, wire_after_event}
 use Rattle.dna_model.specs.WireBook.{acknowledges, wire_acknowledged_by, wire_responded, wire_is_next, wire_does, wire_book, wire_after_sending, wire_after_arrival}
 use Rattle.dna_model.specs.Owed.{Owed, nothing, Debt, OwesStrt, OwesStack, OwesAck, OwesRep, OwesNak, with_nak, with_debt, data_debt, rep_debt, damage_debt, same_state, unless_left, all_acknowledged, timer_debt, can_take, message_debt, still_owed}
-use Rattle.dna_model.specs.NextSent.{LinkEnd, LinkChoice, Choice, SendStrt, SendStack, SendNak, SendRep, SendAgain, SendNew, SendAck, after_choice}
+use Rattle.dna_model.specs.NextSent.{LinkEnd, Choice, SendStrt, SendStack, SendNak, SendRep, SendAgain, SendNew, SendAck, after_choice}
 use Rattle.dna_model.specs.Compose.{no_flags, data_with, packet_again, new_data, packet_with, link_message, message_of}
 use Rattle.dna_model.proofs.Effects.{kept_by_all}
 use Rattle.dna_model.proofs.StationPays.{owes_nak, IsPayable}
@@ -47,7 +47,8 @@ now_open reason c = refl
 -- ---- NAKs among what is owed
 
 -- the rest is aside
-aside : (reason : NakReason) (owed : Owed) (strt stack ack rep : Bool) → owes_nak reason (record owed { strt = strt; stack = stack; ack = ack; rep = rep }) ≡ owes_nak reason owed
+aside : (reason : NakReason) (owed : Owed) (strt stack ack rep : Bool) →
+    owes_nak reason (record owed { strt = strt; stack = stack; ack = ack; rep = rep }) ≡ owes_nak reason owed
 aside HeaderCheck owed strt stack ack rep = refl
 aside reason owed strt stack ack rep = refl
 
@@ -60,7 +61,8 @@ nak_left reason true owed e = e
 nak_left reason false owed e = let f = none_owed reason in absurd cc
 
 -- one that is sent uses up a cause of its own reason alone
-used_up : (used reason : NakReason) (c : Causes) (owed : Owed) → (owes_nak reason owed ≡ true → has_cause reason c ≡ true) → owes_nak reason (with_nak used false owed) ≡ true → has_cause reason (without_cause used c) ≡ true
+used_up : (used reason : NakReason) (c : Causes) (owed : Owed) → (owes_nak reason owed ≡ true → has_cause reason c ≡ true) →
+    owes_nak reason (with_nak used false owed) ≡ true → has_cause reason (without_cause used c) ≡ true
 used_up HeaderCheck HeaderCheck c owed p e = absurd cc
 used_up DataCheck DataCheck c owed p e = absurd cc
 used_up RepResponse RepResponse c owed p e = absurd cc
@@ -68,7 +70,8 @@ used_up NoBuffer NoBuffer c owed p e = absurd cc
 used_up used reason c owed p e = p e
 
 -- one more
-nak_added : (added reason : NakReason) (c : Causes) (owed : Owed) → has_cause added c ≡ true → (owes_nak reason owed ≡ true → has_cause reason c ≡ true) → owes_nak reason (with_nak added true owed) ≡ true → has_cause reason c ≡ true
+nak_added : (added reason : NakReason) (c : Causes) (owed : Owed) → has_cause added c ≡ true →
+    (owes_nak reason owed ≡ true → has_cause reason c ≡ true) → owes_nak reason (with_nak added true owed) ≡ true → has_cause reason c ≡ true
 nak_added HeaderCheck HeaderCheck c owed has p e = has
 nak_added DataCheck DataCheck c owed has p e = has
 nak_added RepResponse RepResponse c owed has p e = has
@@ -86,7 +89,8 @@ not_true false e = refl
 module _ {L : Type 0} where
   -- ---- after every record
 
-  still : (k v : StationVariables L) (c d : Causes) (owed : Owed) → (same_state k.state v.state ≡ true → StayOpen c d) → IsPayable k c owed → IsPayable v d (still_owed k v owed)
+  still : (k v : StationVariables L) (c d : Causes) (owed : Owed) → (same_state k.state v.state ≡ true → StayOpen c d) → IsPayable k c owed →
+      IsPayable v d (still_owed k v owed)
   still k v c d owed has p = record { nak = λ reason e. go (same_state k.state v.state) refl reason (sym (naks reason) ∙ e); rep = λ e. not_true _ (and_parts _ _ e).1 }
     where
       left : Owed
@@ -95,16 +99,19 @@ module _ {L : Type 0} where
       naks : (reason : NakReason) → owes_nak reason (still_owed k v owed) ≡ owes_nak reason (unless_left (same_state k.state v.state) owed)
       naks reason = let left = unless_left (same_state k.state v.state) owed in aside reason left left.strt left.stack left.ack (left.rep && not (all_acknowledged v))
 
-      go : (b : Bool) → same_state k.state v.state ≡ b → (reason : NakReason) → owes_nak reason (unless_left b owed) ≡ true → has_cause reason d ≡ true
+      go : (b : Bool) → same_state k.state v.state ≡ b → (reason : NakReason) → owes_nak reason (unless_left b owed) ≡ true →
+          has_cause reason d ≡ true
       go true same reason e = has same reason (p.nak reason e)
       go false same reason e = let f = none_owed reason in absurd cc
 
   -- with less of the rest
-  lessened : (v : StationVariables L) (d : Causes) (owed : Owed) (strt stack ack rep : Bool) → (rep ≡ true → owed.rep ≡ true) → IsPayable v d owed → IsPayable v d (record owed { strt = strt; stack = stack; ack = ack; rep = rep })
+  lessened : (v : StationVariables L) (d : Causes) (owed : Owed) (strt stack ack rep : Bool) → (rep ≡ true → owed.rep ≡ true) → IsPayable v d owed →
+      IsPayable v d (record owed { strt = strt; stack = stack; ack = ack; rep = rep })
   lessened v d owed strt stack ack rep less p = record { nak = λ reason e. p.nak reason (sym (aside reason owed strt stack ack rep) ∙ e); rep = λ e. p.rep (less e) }
 
   -- with one thing more
-  pub debt_pays : (v : StationVariables L) (d : Causes) (owed : Owed) (debt : Option Debt) → ((reason : NakReason) → debt ≡ Some (OwesNak reason) → has_cause reason d ≡ true) → (debt ≡ Some OwesRep → all_acknowledged v ≡ false) →
+  pub debt_pays : (v : StationVariables L) (d : Causes) (owed : Owed) (debt : Option Debt) →
+      ((reason : NakReason) → debt ≡ Some (OwesNak reason) → has_cause reason d ≡ true) → (debt ≡ Some OwesRep → all_acknowledged v ≡ false) →
       IsPayable v d owed → IsPayable v d (with_debt debt owed)
   debt_pays v d owed None has rep p = p
   debt_pays v d owed (Some OwesStrt) has rep p = lessened v d owed true owed.stack owed.ack owed.rep (λ e. e) p
@@ -115,7 +122,8 @@ module _ {L : Type 0} where
 
   -- ---- the timer runs out
 
-  pub timer_pays : (k : StationVariables L) (c : Causes) (owed : Owed) (state : State) → IsPayable k c owed → IsPayable k c (with_debt (timer_debt state k) owed)
+  pub timer_pays : (k : StationVariables L) (c : Causes) (owed : Owed) (state : State) → IsPayable k c owed →
+      IsPayable k c (with_debt (timer_debt state k) owed)
   timer_pays k c owed state p = debt_pays k c owed (timer_debt state k) (λ reason e. never_nak state reason e) (λ e. outstanding state e) p
     where
       no_nak : (b : Bool) (reason : NakReason) → ◌≡◌ {A = Option Debt} (Some (cond b OwesAck OwesRep)) (Some (OwesNak reason)) → ⊥
@@ -155,13 +163,15 @@ module _ {L : Type 0} where
 
     -- ---- a sending
 
-    nak_pays : (reason : NakReason) (flags : Flags) (resp : ℕ) → Pays (wire_after_sending w (Nak flags reason resp)) (after_choice (SendNak reason) (still_owed k k owed))
+    nak_pays : (reason : NakReason) (flags : Flags) (resp : ℕ) →
+        Pays (wire_after_sending w (Nak flags reason resp)) (after_choice (SendNak reason) (still_owed k k owed))
     nak_pays reason flags resp =
         let o = still_owed k k owed in
         let q = lessened k w.causes o o.strt o.stack false o.rep (λ e. e) same_pays in
         record { nak = λ other e. used_up reason other w.causes (record o { ack = false }) (q.nak other) e; rep = λ e. q.rep (sym (rep_aside reason false (record o { ack = false })) ∙ e) }
 
-    data_pays : (flags : Flags) (resp num : ℕ) (body : List ℕ) → let v = wire_after_sending w (Data flags resp num body) in Pays v (record (still_owed k v.variables owed) { ack = false })
+    data_pays : (flags : Flags) (resp num : ℕ) (body : List ℕ) →
+        let v = wire_after_sending w (Data flags resp num body) in Pays v (record (still_owed k v.variables owed) { ack = false })
     data_pays flags resp num body =
         let v = wire_after_sending w (Data flags resp num body) in
         let o = still_owed k v.variables owed in
@@ -175,11 +185,13 @@ module _ {L : Type 0} where
       pays_same : (x m : MessageValue) → PaysAfter x → ◌≡◌ {A = Option MessageValue} (Some x) (Some m) → PaysAfter m
       pays_same x m q e = let same : x ≡ m = cc in subst PaysAfter same q
 
-      again_pays : (m : MessageValue) → ((body : List ℕ) → PaysAfter (data_with k body)) → (o : Option (HeldPacket L)) → packet_again k o ≡ Some m → PaysAfter m
+      again_pays : (m : MessageValue) → ((body : List ℕ) → PaysAfter (data_with k body)) → (o : Option (HeldPacket L)) → packet_again k o ≡ Some m →
+          PaysAfter m
       again_pays m all None e = absurd cc
       again_pays m all (Some packet) e = pays_same (data_with k packet.body) m (all packet.body) e
 
-      new_pays : (head : Head) (m : MessageValue) → ((body : List ℕ) → PaysAfter (data_with k body)) → (o : Option NspValue) → new_data k head o ≡ Some m → PaysAfter m
+      new_pays : (head : Head) (m : MessageValue) → ((body : List ℕ) → PaysAfter (data_with k body)) → (o : Option NspValue) →
+          new_data k head o ≡ Some m → PaysAfter m
       new_pays head m all None e = absurd cc
       new_pays head m all (Some message) e = pays_same (data_with k (packet_with head message)) m (all (packet_with head message)) e
 
@@ -199,7 +211,8 @@ module _ {L : Type 0} where
       comes v effect = wire_does m tag kept v effect
 
       -- no cause is closed
-      effect_opens : (v : WireStation L) (effect : Effect) (reason : NakReason) → has_cause reason v.causes ≡ true → has_cause reason (comes v effect).causes ≡ true
+      effect_opens : (v : WireStation L) (effect : Effect) (reason : NakReason) → has_cause reason v.causes ≡ true →
+          has_cause reason (comes v effect).causes ≡ true
       effect_opens v TakePacket reason e = go (wire_is_next v.variables (num_of m) && not kept)
         where
           go : (b : Bool) → has_cause reason (cond b (with_cause NoBuffer v.causes) v.causes) ≡ true
@@ -223,7 +236,8 @@ module _ {L : Type 0} where
           go true = refl
           go false = refl
 
-      not_kept_opens : kept ≡ false → (effects : List Effect) (v : WireStation L) → has_packet effects ≡ true → wire_is_next v.variables (num_of m) ≡ true → has_cause NoBuffer (fold comes v effects).causes ≡ true
+      not_kept_opens : kept ≡ false → (effects : List Effect) (v : WireStation L) → has_packet effects ≡ true →
+          wire_is_next v.variables (num_of m) ≡ true → has_cause NoBuffer (fold comes v effects).causes ≡ true
       not_kept_opens none [] v has next = absurd cc
       not_kept_opens none (TakePacket ∷ later) v has next =
           all_open later (comes v TakePacket) NoBuffer
@@ -237,19 +251,22 @@ module _ {L : Type 0} where
       abbrev Open : NakReason → Type 0
       Open reason = has_cause reason (wire_after_arrival w (Sound m tag) kept).causes ≡ true
 
-      data_opens : (b now : Bool) (reason : NakReason) → (b ≡ true → now ≡ false → Open NoBuffer) → data_debt b now ≡ Some (OwesNak reason) → Open reason
+      data_opens : (b now : Bool) (reason : NakReason) → (b ≡ true → now ≡ false → Open NoBuffer) → data_debt b now ≡ Some (OwesNak reason) →
+          Open reason
       data_opens true true reason has e = absurd cc
       data_opens true false reason has e = let same : NoBuffer ≡ reason = cc in subst Open same (has refl refl)
       data_opens false now reason has e = absurd cc
 
-      rep_opens : (b : Bool) (reason : NakReason) → (b ≡ false → Open RepResponse) → ◌≡◌ {A = Option Debt} (Some (rep_debt b)) (Some (OwesNak reason)) → Open reason
+      rep_opens : (b : Bool) (reason : NakReason) → (b ≡ false → Open RepResponse) →
+          ◌≡◌ {A = Option Debt} (Some (rep_debt b)) (Some (OwesNak reason)) → Open reason
       rep_opens true reason has e = absurd cc
       rep_opens false reason has e = let same : RepResponse ≡ reason = cc in subst Open same (has refl)
 
       taken_opens : can_take k m ≡ true → kept ≡ false → Open NoBuffer
       taken_opens can none = let parts = and_parts _ _ can in not_kept_opens none (row k.state m).effects w parts.0 parts.1
 
-    message_opens : (state : State) → k.state ≡ state → (m : MessageValue) (tag : Tag) (kept : Bool) (reason : NakReason) → message_debt state k m kept ≡ Some (OwesNak reason) → Open m tag kept reason
+    message_opens : (state : State) → k.state ≡ state → (m : MessageValue) (tag : Tag) (kept : Bool) (reason : NakReason) →
+        message_debt state k m kept ≡ Some (OwesNak reason) → Open m tag kept reason
     message_opens Istrt is (Strt flags) tag kept reason e = absurd cc
     message_opens Astrt is (Data flags resp num body) tag kept reason e = let m = Data flags resp num body in data_opens m tag kept (can_take k m) kept reason (taken_opens m tag kept) e
     message_opens Running is (Data flags resp num body) tag kept reason e = let m = Data flags resp num body in data_opens m tag kept (can_take k m) kept reason (taken_opens m tag kept) e
@@ -278,7 +295,8 @@ module _ {L : Type 0} where
         go state m e = cc
 
     -- a sound message
-    pub sound_pays : (m : MessageValue) (tag : Tag) (kept : Bool) → let v = wire_after_arrival w (Sound m tag) kept in Pays v (with_debt (message_debt k.state k m kept) (still_owed k v.variables owed))
+    pub sound_pays : (m : MessageValue) (tag : Tag) (kept : Bool) →
+        let v = wire_after_arrival w (Sound m tag) kept in Pays v (with_debt (message_debt k.state k m kept) (still_owed k v.variables owed))
     sound_pays m tag kept =
         let v = wire_after_arrival w (Sound m tag) kept in
         debt_pays v.variables v.causes (still_owed k v.variables owed) (message_debt k.state k m kept) (λ reason e. message_opens k.state refl m tag kept reason e) (λ e. absurd (message_no_rep k.state m kept e))
@@ -289,7 +307,8 @@ module _ {L : Type 0} where
         let v = damaged_by wire_book reason w in Pays v (with_debt (damage_debt state reason) (still_owed k v.variables owed))
     damaged_pays reason state is = go state (counts_damage k.state) (ap counts_damage is)
       where
-        go : (state : State) (b : Bool) → b ≡ counts_damage state → let v = cond b (wire_book.counts reason w) w in Pays v (with_debt (damage_debt state reason) (still_owed k v.variables owed))
+        go : (state : State) (b : Bool) → b ≡ counts_damage state →
+            let v = cond b (wire_book.counts reason w) w in Pays v (with_debt (damage_debt state reason) (still_owed k v.variables owed))
         go Running true e = debt_pays k (with_cause reason w.causes) (still_owed k k owed) (Some (OwesNak reason)) (λ other f. let same : reason ≡ other = cc in subst (λ (r : NakReason). has_cause r (with_cause reason w.causes) ≡ true) same (now_open reason w.causes)) (λ f. absurd cc)
             (still k k w.causes (with_cause reason w.causes) owed (λ same other f. one_more reason w.causes other f) p)
         go Running false e = absurd cc

@@ -1,19 +1,18 @@
 -- What an end of the player chooses to send as a station it may send: each NAK that it owes has an open cause, and it owes a REP only while a
 -- packet is outstanding.
-use Rattle.std.proofs.Common.{◌≡◌, ℕ, ◌+◌, Bool, true, false, ◌&&◌, not, cond, eqb, ltb, nat_lt, Option, Some, None, List, [], ◌∷◌, length, refl, sym, ap, ◌∙◌, subst, eq-eqb}
-use Rattle.std.specs.Prelude.{slice_get, bytes_eq}
+use Rattle.std.proofs.Common.{◌≡◌, ℕ, ◌+◌, Bool, true, false, not, cond, nat_lt, Option, Some, None, List, [], ◌∷◌, length, refl, sym, ap, ◌∙◌, subst, eq-eqb}
+use Rattle.std.specs.Prelude.{slice_get}
 use Rattle.std.proofs.lemmas.Slice.Eq.{bytes_eq-Decides}
-use Rattle.ddcmp_msg.specs.Message.{MessageValue, Data, Ack, Nak, Rep, Strt, Stack}
+use Rattle.ddcmp_msg.specs.Message.{MessageValue, Ack, Nak, Rep}
 use Rattle.ddcmp_msg.specs.declared.nak_reason.NakReason.{NakReason}
-use Rattle.ddcmp_msg.specs.declared.nak_reason.NakReason.TheVariants.{HeaderCheck, DataCheck, RepResponse, NoBuffer, Overrun, MessageTooLong, HeaderFormat}
+use Rattle.ddcmp_msg.specs.declared.nak_reason.NakReason.TheVariants.{HeaderCheck, DataCheck, RepResponse, NoBuffer}
 use Rattle.dna_packet.specs.Nsp.{NspValue}
 use Rattle.dna_model.specs.declared.head.Head.{Head}
 use Rattle.dna_model.specs.declared.state.State.{State}
 use Rattle.dna_model.specs.declared.state.State.TheVariants.{Halted, Istrt, Astrt, Running}
-use Rattle.dna_model.specs.declared.refusal.StationRefusal.{StationRefusal}
 use Rattle.dna_model.specs.Causes.{Causes, has_cause}
 use Rattle.dna_model.specs.Table.{WINDOW, Check, checks, RespIsLast, CauseIsOpen, SomeOutstanding, NumIsHighest, NumIsNext, RoomIfNew, AsFirstGiven, refusal_of}
-use Rattle.dna_model.specs.Book.{first_failed, failed, resp_of, num_of}
+use Rattle.dna_model.specs.Book.{first_failed, failed}
 use Rattle.dna_model.specs.Station.{wire}
 use Rattle.dna_model.specs.WireStation.{HeldPacket, StationVariables, WireStation}
 use Rattle.dna_model.specs.WireBook.{wire_is_new, is_held_packet, wire_passes, wire_sending_refusal}
@@ -42,7 +41,8 @@ pub data IsChosen {L : Type 0} (k : StationVariables L) (owed : Owed) (asked : O
   ByNak : (reason : NakReason) → owes_nak reason owed ≡ true → IsChosen k owed asked Running (SendNak reason)
   ByRep : owed.rep ≡ true → IsChosen k owed asked Running SendRep
   ByAgain : wire_is_new k ≡ false → IsChosen k owed asked Running SendAgain
-  ByNew : (message : LinkChoice) → wire_is_new k ≡ true → nat_lt (length k.held) WINDOW ≡ true → asked ≡ Some message → IsChosen k owed asked Running (SendNew message)
+  ByNew : (message : LinkChoice) → wire_is_new k ≡ true → nat_lt (length k.held) WINDOW ≡ true → asked ≡ Some message →
+      IsChosen k owed asked Running (SendNew message)
   ByAck : owed.ack ≡ true → IsChosen k owed asked Running SendAck
 
 module _ {L : Type 0} (k : StationVariables L) (owed : Owed) (asked : Option LinkChoice) (c : Choice) where
@@ -59,7 +59,8 @@ module _ {L : Type 0} (k : StationVariables L) (owed : Owed) (asked : Option Lin
   when_chosen state true x p e = same_choice state x (p refl) e
   when_chosen state false x p e = absurd cc
 
-  else_chosen : (first next : Option Choice) → (first ≡ Some c → Chosen Running) → (next ≡ Some c → Chosen Running) → or_else first next ≡ Some c → Chosen Running
+  else_chosen : (first next : Option Choice) → (first ≡ Some c → Chosen Running) → (next ≡ Some c → Chosen Running) → or_else first next ≡ Some c →
+      Chosen Running
   else_chosen None next p q e = q e
   else_chosen (Some x) next p q e = p e
 
@@ -70,22 +71,28 @@ module _ {L : Type 0} (k : StationVariables L) (owed : Owed) (asked : Option Lin
       buffer true is e = same_choice Running (SendNak NoBuffer) (ByNak NoBuffer is) e
       buffer false is e = absurd cc
 
-      rep : (b : Bool) → owed.rep_response ≡ b → cond b (Some (SendNak RepResponse)) (cond owed.no_buffer (Some (SendNak NoBuffer)) None) ≡ Some c → Chosen Running
+      rep : (b : Bool) → owed.rep_response ≡ b → cond b (Some (SendNak RepResponse)) (cond owed.no_buffer (Some (SendNak NoBuffer)) None) ≡ Some c →
+          Chosen Running
       rep true is e = same_choice Running (SendNak RepResponse) (ByNak RepResponse is) e
       rep false is e = buffer owed.no_buffer refl e
 
-      data_ : (b : Bool) → owed.data_check ≡ b → cond b (Some (SendNak DataCheck)) (cond owed.rep_response (Some (SendNak RepResponse)) (cond owed.no_buffer (Some (SendNak NoBuffer)) None)) ≡ Some c → Chosen Running
+      data_ : (b : Bool) → owed.data_check ≡ b →
+          cond b (Some (SendNak DataCheck)) (cond owed.rep_response (Some (SendNak RepResponse)) (cond owed.no_buffer (Some (SendNak NoBuffer)) None)) ≡ Some c →
+          Chosen Running
       data_ true is e = same_choice Running (SendNak DataCheck) (ByNak DataCheck is) e
       data_ false is e = rep owed.rep_response refl e
 
-      header : (b : Bool) → owed.header_check ≡ b → cond b (Some (SendNak HeaderCheck)) (cond owed.data_check (Some (SendNak DataCheck)) (cond owed.rep_response (Some (SendNak RepResponse)) (cond owed.no_buffer (Some (SendNak NoBuffer)) None))) ≡ Some c → Chosen Running
+      header : (b : Bool) → owed.header_check ≡ b →
+          cond b (Some (SendNak HeaderCheck)) (cond owed.data_check (Some (SendNak DataCheck)) (cond owed.rep_response (Some (SendNak RepResponse)) (cond owed.no_buffer (Some (SendNak NoBuffer)) None))) ≡ Some c →
+          Chosen Running
       header true is e = same_choice Running (SendNak HeaderCheck) (ByNak HeaderCheck is) e
       header false is e = data_ owed.data_check refl e
 
   data_chosen : data_choice k asked ≡ Some c → Chosen Running
   data_chosen e = go (wire_is_new k) refl e
     where
-      message : (o : Option LinkChoice) → asked ≡ o → wire_is_new k ≡ true → nat_lt (length k.held) WINDOW ≡ true → new_packet o ≡ Some c → Chosen Running
+      message : (o : Option LinkChoice) → asked ≡ o → wire_is_new k ≡ true → nat_lt (length k.held) WINDOW ≡ true → new_packet o ≡ Some c →
+          Chosen Running
       message None is new room e = absurd cc
       message (Some m) is new room e = same_choice Running (SendNew m) (ByNew m new room is) e
 
@@ -93,7 +100,8 @@ module _ {L : Type 0} (k : StationVariables L) (owed : Owed) (asked : Option Lin
       room true is new e = message asked refl new is e
       room false is new e = absurd cc
 
-      go : (b : Bool) → wire_is_new k ≡ b → cond b (cond (nat_lt (length k.held) WINDOW) (new_packet asked) None) (Some SendAgain) ≡ Some c → Chosen Running
+      go : (b : Bool) → wire_is_new k ≡ b → cond b (cond (nat_lt (length k.held) WINDOW) (new_packet asked) None) (Some SendAgain) ≡ Some c →
+          Chosen Running
       go true is e = room (nat_lt (length k.held) WINDOW) refl is e
       go false is e = same_choice Running SendAgain (ByAgain is) e
 
@@ -124,7 +132,8 @@ module _ {L : Type 0} (w : WireStation L) (owed : Owed) (asked : Option LinkChoi
       same : (x : MessageValue) → ◌≡◌ {A = Option MessageValue} (Some x) (Some m) → x ≡ m
       same x e = cc
 
-  data_may : (body : List ℕ) → (wire_is_new k ≡ true → nat_lt (length k.held) WINDOW ≡ true) → (wire_is_new k ≡ false → is_held_packet (slice_get k.held k.ahead) body ≡ true) → MaySend Running (data_with k body)
+  data_may : (body : List ℕ) → (wire_is_new k ≡ true → nat_lt (length k.held) WINDOW ≡ true) →
+      (wire_is_new k ≡ false → is_held_packet (slice_get k.held k.ahead) body ≡ true) → MaySend Running (data_with k body)
   data_may body room given =
       let m = data_with k body in let p = wire_passes w m in
       pass p NumIsNext (RespIsLast ∷ RoomIfNew ∷ AsFirstGiven ∷ []) (eq-eqb _ _ refl) (pass p RespIsLast (RoomIfNew ∷ AsFirstGiven ∷ []) (eq-eqb _ _ refl) (pass p RoomIfNew (AsFirstGiven ∷ []) (has_room (wire_is_new k) refl) (pass p AsFirstGiven [] (as_given (wire_is_new k) refl) refl)))
@@ -137,7 +146,8 @@ module _ {L : Type 0} (w : WireStation L) (owed : Owed) (asked : Option LinkChoi
       as_given true e = refl
       as_given false e = given e
 
-  again_may : (m : MessageValue) → wire_is_new k ≡ false → (o : Option (HeldPacket L)) → slice_get k.held k.ahead ≡ o → packet_again k o ≡ Some m → MaySend Running m
+  again_may : (m : MessageValue) → wire_is_new k ≡ false → (o : Option (HeldPacket L)) → slice_get k.held k.ahead ≡ o → packet_again k o ≡ Some m →
+      MaySend Running m
   again_may m old None there e = absurd cc
   again_may m old (Some packet) there e = same_message Running (data_with k packet.body) m
       (data_may packet.body (λ new. absurd (differ (sym new ∙ old))) (λ is. ap (λ (o : Option (HeldPacket L)). is_held_packet o packet.body) there ∙ (bytes_eq-Decides packet.body packet.body).1 refl)) e
@@ -145,7 +155,8 @@ module _ {L : Type 0} (w : WireStation L) (owed : Owed) (asked : Option LinkChoi
       differ : true ≡ false → ⊥
       differ e = cc
 
-  new_may : (m : MessageValue) → wire_is_new k ≡ true → nat_lt (length k.held) WINDOW ≡ true → (o : Option NspValue) → new_data k head o ≡ Some m → MaySend Running m
+  new_may : (m : MessageValue) → wire_is_new k ≡ true → nat_lt (length k.held) WINDOW ≡ true → (o : Option NspValue) → new_data k head o ≡ Some m →
+      MaySend Running m
   new_may m new room None e = absurd cc
   new_may m new room (Some message) e = same_message Running _ m (data_may _ (λ is. room) (λ old. absurd (differ (sym new ∙ old)))) e
     where
@@ -166,5 +177,6 @@ module _ {L : Type 0} (w : WireStation L) (owed : Owed) (asked : Option LinkChoi
   choice_may state c m (ByAck is) e = let x = Ack no_flags k.received in same_message Running x m (pass (wire_passes w x) RespIsLast [] (eq-eqb _ _ refl) refl) e
 
   -- what is chosen and put together, the station may send
-  pub chosen_may : (c : Choice) (m : MessageValue) → choice k owed asked ≡ Some c → message_of c head k links ≡ Some m → wire_sending_refusal w m ≡ None
+  pub chosen_may : (c : Choice) (m : MessageValue) → choice k owed asked ≡ Some c → message_of c head k links ≡ Some m →
+      wire_sending_refusal w m ≡ None
   chosen_may c m is e = choice_may k.state c m (chosen k owed asked c k.state is) e

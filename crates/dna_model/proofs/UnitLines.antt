@@ -1,10 +1,9 @@
 -- The units of an end of the player have lines, and its packets are read as they were put together.
-use Rattle.std.proofs.Common.{◌≡◌, ℕ, zero, suc, ◌+◌, ◌*◌, ◌/◌, ◌%◌, ◌^◌, ◌<◌, ◌≤◌, Bool, true, false, ◌&&◌, nat_lt, nat_le, Option, Some, None, List, [], ◌∷◌, ◌++◌, length, Result, Ok, Err, refl, sym, ap, ap₂, ◌∙◌, subst, arith, lt-ltb, ltb-true, le-leb, length-append}
-use Rattle.std.specs.Prelude.{get_or, slice_get}
-use Rattle.std.specs.List.{AllByRecursion}
+use Rattle.std.proofs.Common.{◌≡◌, ℕ, ◌+◌, ◌*◌, ◌/◌, ◌%◌, ◌^◌, ◌<◌, ◌≤◌, Bool, true, false, ◌&&◌, nat_lt, Some, List, [], ◌∷◌, ◌++◌, length, Ok, refl, ap, ap₂, ◌∙◌, arith, lt-ltb, le-leb, length-append}
+use Rattle.std.specs.Prelude.{slice_get}
 use Rattle.std.proofs.lemmas.Bool.{and_parts}
-use Rattle.wire_base.specs.BlockCheck.{check_of, word_bytes, check_bytes}
-use Rattle.wire_base.proofs.BlockCheck.{AreBytes, check_of_lt}
+use Rattle.wire_base.specs.BlockCheck.{check_of, check_bytes}
+use Rattle.wire_base.proofs.BlockCheck.{check_of_lt}
 use Rattle.ddcmp_msg.specs.declared.flags.Flags.{Flags}
 use Rattle.ddcmp_msg.specs.declared.nak_reason.NakReason.{NakReason}
 use Rattle.ddcmp_msg.specs.declared.nak_reason.NakReason.TheVariants.{HeaderCheck}
@@ -13,14 +12,13 @@ use Rattle.ddcmp_msg.specs.Spelling.{SOH, ENQ, ADDRESS, header, with_check, rest
 use Rattle.dna_packet.specs.Fields.{word}
 use Rattle.dna_packet.specs.AckWord.{ack_word}
 use Rattle.dna_packet.specs.Packet as packets
-use Rattle.dna_packet.specs.Nsp.{NspValue, DataSegment, IsNsp, nsp_bytes, connect_fields, segment_flag, segnum, ConnectAck, ConnectInitiate, ConnectConfirm, DisconnectInitiate, DisconnectConfirm, DataAck}
+use Rattle.dna_packet.specs.Nsp.{NspValue, IsNsp, nsp_bytes, connect_fields, segment_flag, segnum, ConnectInitiate, DisconnectConfirm}
 use Rattle.dna_packet.proofs.PacketLemmas.{packet_again}
 use Rattle.dna_packet.proofs.NspAgain.{nsp_again}
 use Rattle.capture.specs.declared.record.Record.TheVariants.{Sent}
 use Rattle.capture.specs.declared.limit.TheConstants.{MAX_UNIT}
 use Rattle.dna_model.specs.declared.head.Head.{Head}
 use Rattle.dna_model.specs.Book.{resp_of, num_of, body_of}
-use Rattle.dna_model.specs.Pieces.{Piece}
 use Rattle.dna_model.specs.Links.{LinkOf}
 use Rattle.dna_model.specs.TrueFlow.{TrueFlow}
 use Rattle.dna_model.specs.Content.{message_in, content_of, content}
@@ -29,7 +27,7 @@ use Rattle.dna_model.specs.LinkOwed.{LinkOwed, Turn, ConnectAckTurn, InitiateTur
 use Rattle.dna_model.specs.NextSent.{LinkEnd}
 use Rattle.dna_model.specs.Compose.{SERVICES, INFO, SEGSIZE, USER_DATA, address, packet_with, piece_to_send, segment_with, ack_of, turn_message}
 use Rattle.dna_model.proofs.PlayLines.{bytes_told}
-use Rattle.dna_model.proofs.LinkFits.{PieceFits, IsPlain}
+use Rattle.dna_model.proofs.LinkFits.{IsPlain}
 
 -- ---- bytes
 
@@ -106,7 +104,8 @@ unit_line m h =
 
 -- ---- a packet
 
-pub composed_content : (head : Head) (m : NspValue) → head.own < 2 ^ 16 → head.peer < 2 ^ 16 → IsNsp m → content (packet_with head m) ≡ Ok (Some (record { dst = head.peer; src = head.own; message = m }))
+pub composed_content : (head : Head) (m : NspValue) → head.own < 2 ^ 16 → head.peer < 2 ^ 16 → IsNsp m →
+    content (packet_with head m) ≡ Ok (Some (record { dst = head.peer; src = head.own; message = m }))
 composed_content head m own peer n =
     ap content_of (packet_again (packets.Data 2 head.peer head.own 0 (nsp_bytes m)) ((omega arith, refl), (peer, own, omega arith)))
     ∙ ap (message_in head.peer head.own) (nsp_again m n)

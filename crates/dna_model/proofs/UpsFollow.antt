@@ -1,11 +1,9 @@
 -- What a receipt makes whole the user gets at once: each delivery that follows it is made.
-use Rattle.std.proofs.Common.{◌≡◌, ℕ, zero, suc, ◌+◌, Bool, true, false, cond, Option, Some, None, List, [], ◌∷◌, ◌++◌, map, drop, length, Result, Ok, Err, refl, sym, ap, ◌∙◌, subst, arith, append_assoc, ◌⊎◌, inl, inr}
-use Rattle.std.specs.Prelude.{slice_get, bytes_eq}
-use Rattle.std.proofs.lemmas.Option.{same_Some}
+use Rattle.std.proofs.Common.{◌≡◌, ℕ, suc, ◌+◌, Bool, true, false, cond, Option, Some, None, List, [], ◌∷◌, ◌++◌, map, drop, Result, Ok, Err, refl, sym, ap, ◌∙◌, arith, append_assoc, ◌⊎◌, inl, inr}
+use Rattle.std.specs.Prelude.{slice_get}
 use Rattle.std.proofs.lemmas.List.{drop-drop}
 use Rattle.std.proofs.lemmas.Slice.Eq.{bytes_eq-Decides}
-use Rattle.two_nodes.specs.Nodes.{Half, Made, answered, advance, stepped}
-use Rattle.capture.specs.declared.event.Event.{Event}
+use Rattle.two_nodes.specs.Nodes.{answered, advance, stepped}
 use Rattle.capture.specs.declared.event.Event.TheVariants as events
 use Rattle.capture.specs.declared.record.Record.TheVariants.{User}
 use Rattle.dna_model.specs.declared.link_refusal.LinkRefusal.{LinkRefusal}
@@ -13,20 +11,17 @@ use Rattle.dna_model.specs.declared.link_refusal.LinkRefusal.TheVariants.{NoLink
 use Rattle.dna_model.specs.declared.port.LinkTest.TheVariants.{HasAddress}
 use Rattle.dna_model.specs.LinkTests.{is_at}
 use Rattle.dna_model.specs.Pieces.{Piece, Whole, with_piece, next_message}
-use Rattle.dna_model.specs.Links.{LinkOf, with_link, changed, with_flow}
+use Rattle.dna_model.specs.Links.{LinkOf, changed, with_flow}
 use Rattle.dna_model.specs.LinkUser.{Up, delivered}
 use Rattle.dna_model.specs.TrueFlow.{TrueFlow, true_flows, delivered_as, delivers_whole, delivers}
 use Rattle.dna_model.specs.TrueLinks.{Links, links_user}
 use Rattle.dna_model.specs.Machine.{does}
-use Rattle.dna_model.specs.Layers.{LayersNode, LayersUnit, with_links, layers_machine}
+use Rattle.dna_model.specs.Layers.{with_links}
 use Rattle.dna_model.specs.HasLine.{has_line}
-use Rattle.dna_model.specs.LinkOwed.{variables_of}
-use Rattle.dna_model.specs.Player.{End, by_bytes, end_step, made_half, makes, links_of, after_record}
-use Rattle.dna_model.specs.Stepped.{Stepped, Stop}
+use Rattle.dna_model.specs.Player.{end_step, made_half, makes, links_of, after_record}
+use Rattle.dna_model.specs.Stepped.{Stepped}
 use Rattle.dna_model.specs.Receipt.{complete, with_half, gets_all}
-use Rattle.dna_model.proofs.LinkReads.{at_is}
 use Rattle.dna_model.proofs.LinkSides.{set_same, at_set}
-use Rattle.dna_model.proofs.LinkTables.{IsFound}
 use Rattle.dna_model.proofs.LinkPays.{found_at, with_found}
 use Rattle.dna_model.proofs.PlayedSteps.{PlayHalf}
 
@@ -44,7 +39,8 @@ same_first x y xs ys e = cc
 same_rest : (x y : List ℕ) (xs ys : List (List ℕ)) → x ∷ xs ≡ y ∷ ys → xs ≡ ys
 same_rest x y xs ys e = cc
 
-pub next_whole : (begun : List ℕ) (pieces : List (Option Piece)) (message : List ℕ) (rest : List (List ℕ)) → complete begun pieces ≡ message ∷ rest → IsNextWhole begun pieces message rest
+pub next_whole : (begun : List ℕ) (pieces : List (Option Piece)) (message : List ℕ) (rest : List (List ℕ)) → complete begun pieces ≡ message ∷ rest →
+    IsNextWhole begun pieces message rest
 next_whole begun [] message rest e = absurd cc
 next_whole begun (None ∷ later) message rest e = absurd cc
 next_whole begun (Some p ∷ later) message rest e = go p.ends refl e (next_whole (begun ++ p.body) later message rest)
@@ -55,7 +51,8 @@ next_whole begun (Some p ∷ later) message rest e = go p.ends refl e (next_whol
         more : (n : ℕ) → n + 1 ≡ suc n
         more n = omega arith
 
-    go : (b : Bool) → p.ends ≡ b → cond b ((begun ++ p.body) ∷ complete [] later) (complete (begun ++ p.body) later) ≡ message ∷ rest → (complete (begun ++ p.body) later ≡ message ∷ rest → IsNextWhole (begun ++ p.body) later message rest) →
+    go : (b : Bool) → p.ends ≡ b → cond b ((begun ++ p.body) ∷ complete [] later) (complete (begun ++ p.body) later) ≡ message ∷ rest →
+        (complete (begun ++ p.body) later ≡ message ∷ rest → IsNextWhole (begun ++ p.body) later message rest) →
         IsNextWhole begun (Some p ∷ later) message rest
     go true ends e next = record {
       w = record { pieces = 1; message = p.body };
@@ -78,7 +75,8 @@ pub record DeliversNext (f : TrueFlow) (message : List ℕ) (rest : List (List �
   pub does : delivers message f ≡ Some flow
   pub left : complete [] (drop flow.passed flow.received) ≡ rest
 
-delivers_next : (f : TrueFlow) (message : List ℕ) (rest : List (List ℕ)) → complete [] (drop f.passed f.received) ≡ message ∷ rest → DeliversNext f message rest
+delivers_next : (f : TrueFlow) (message : List ℕ) (rest : List (List ℕ)) → complete [] (drop f.passed f.received) ≡ message ∷ rest →
+    DeliversNext f message rest
 delivers_next f message rest e =
     let n = next_whole [] (drop f.passed f.received) message rest e in
     record {
@@ -103,7 +101,8 @@ record IsDelivered (s : Links) (address number : ℕ) (message : List ℕ) (rest
   pub does : links_user s (Up address message) ≡ Ok left
   pub others : IsWholeAt left address number rest
 
-one_delivered : (s : Links) (address number : ℕ) (message : List ℕ) (rest : List (List ℕ)) → IsWholeAt s address number (message ∷ rest) → IsDelivered s address number message rest
+one_delivered : (s : Links) (address number : ℕ) (message : List ℕ) (rest : List (List ℕ)) → IsWholeAt s address number (message ∷ rest) →
+    IsDelivered s address number message rest
 one_delivered s address number message rest h =
     let d = delivers_next h.link.flow message rest h.whole in
     let k = with_flow d.flow h.link in
@@ -120,7 +119,8 @@ one_delivered s address number message rest h =
       };
     }
   where
-    go : {k : LinkOf TrueFlow} (j : ℕ) (m : LinkOf TrueFlow) → is_at m.port.own address ≡ true → ((j ≡ number) × (k ≡ m)) ⊎ ((j ≡ number → ⊥) × (slice_get s.links j ≡ Some m)) → j ≡ number
+    go : {k : LinkOf TrueFlow} (j : ℕ) (m : LinkOf TrueFlow) → is_at m.port.own address ≡ true →
+        ((j ≡ number) × (k ≡ m)) ⊎ ((j ≡ number → ⊥) × (slice_get s.links j ≡ Some m)) → j ≡ number
     go j m e (inl is) = is.0
     go j m e (inr is) = h.only j m is.1 e
 
@@ -130,7 +130,8 @@ AllLined address [] = Unit {0}
 AllLined address (message ∷ later) = (has_line (User (events.Up address message)) ≡ true) × AllLined address later
 
 module _ (own other : PlayHalf) where
-  up_made : (address : ℕ) (message : List ℕ) (left : Links) → has_line (User (events.Up address message)) ≡ true → links_user (links_of own) (Up address message) ≡ Ok left →
+  up_made : (address : ℕ) (message : List ℕ) (left : Links) → has_line (User (events.Up address message)) ≡ true →
+      links_user (links_of own) (Up address message) ≡ Ok left →
       makes own other (User (events.Up address message)) ≡ Some (stepped own (record own.state { station = record own.state.station { links = left } }))
   unfolding end_step
   up_made address message left lined does_it =
@@ -138,7 +139,8 @@ module _ (own other : PlayHalf) where
       ∙ ap (λ (r : Result Links LinkRefusal). made_half (answered own other (does own.state (with_links own.state.station r)))) does_it
 
 -- all that is whole is delivered
-pub gets_whole : (other : PlayHalf) (address number : ℕ) (messages : List (List ℕ)) (so_far : Stepped) → AllLined address messages → IsWholeAt (links_of so_far.end.half) address number messages →
+pub gets_whole : (other : PlayHalf) (address number : ℕ) (messages : List (List ℕ)) (so_far : Stepped) → AllLined address messages →
+    IsWholeAt (links_of so_far.end.half) address number messages →
     (got : Stepped) × (gets_all (map (λ (message : List ℕ). events.Up address message) messages) other so_far ≡ Ok got)
 gets_whole other address number [] so_far lined h = (so_far, refl)
 gets_whole other address number (message ∷ later) so_far lined h =
