@@ -17,10 +17,10 @@ use Rattle.capture.proofs.NumberLaws.{positive_takes, positive_again, decimal_la
 use Rattle.capture.proofs.BytesLaws.{IsBytesOf, IsLongOf, bytes_shows, bytes_again, limited, limited_then}
 use Rattle.capture.proofs.Shown.{Shows, shows_map, shows_must, shows_or_else}
 
-link_takes : (text : List ℕ) (link : ℕ) → positive_at MAX_LINK text ≡ Some link → (text ≡ decimal link) × IsLink link
+pub link_takes : (text : List ℕ) (link : ℕ) → positive_at MAX_LINK text ≡ Some link → (text ≡ decimal link) × IsLink link
 link_takes text link e = let p = positive_takes MAX_LINK text link (lit< tt) e in (p.0, record { least = p.2; most = p.1 })
 
-link_again : (link : ℕ) → IsLink link → positive_at MAX_LINK (decimal link) ≡ Some link
+pub link_again : (link : ℕ) → IsLink link → positive_at MAX_LINK (decimal link) ≡ Some link
 link_again link h = positive_again MAX_LINK link (lit< tt) h.most h.least
 
 link_lacks : (link : ℕ) → IsLink link → link < 2 ^ 64
@@ -51,13 +51,13 @@ links_again partner link p q =
 
 -- ---- a link and a message
 
-abbrev IsMessageOf : List ℕ → ℕ × List ℕ → Type 0
+abbrev pub IsMessageOf : List ℕ → ℕ × List ℕ → Type 0
 IsMessageOf text m = (text ≡ spaced (decimal m.0) (bytes_text m.1)) × IsLink m.0 × IsBytes m.1 × (length m.1 ≤ MAX_MESSAGE)
 
-abbrev IsLongMessageOf : List ℕ → ℕ × List ℕ → Type 0
+abbrev pub IsLongMessageOf : List ℕ → ℕ × List ℕ → Type 0
 IsLongMessageOf text m = (text ≡ spaced (decimal m.0) (bytes_text m.1)) × IsLink m.0 × IsBytes m.1 × (MAX_MESSAGE < length m.1)
 
-message_shows : (text : List ℕ) → Shows (IsMessageOf text) (IsLongMessageOf text) (message_at text)
+pub message_shows : (text : List ℕ) → Shows (IsMessageOf text) (IsLongMessageOf text) (message_at text)
 unfolding message_at
 message_shows text =
     shows_must (IsMessageOf text) (IsLongMessageOf text) (cut_at 32 text) _ (λ parts cut.
@@ -68,7 +68,7 @@ message_shows text =
     (λ bytes h. (front ∙ ap (λ (t : List ℕ). decimal link ++ 32 ∷ t) h.0, p.1, h.1, h.2))
     (λ bytes h. (front ∙ ap (λ (t : List ℕ). decimal link ++ 32 ∷ t) h.0, p.1, h.1, h.2))))
 
-message_again : (link : ℕ) (bytes : List ℕ) → IsLink link → IsBytes bytes → message_at (spaced (decimal link) (bytes_text bytes)) ≡ limited MAX_MESSAGE bytes (link, bytes)
+pub message_again : (link : ℕ) (bytes : List ℕ) → IsLink link → IsBytes bytes → message_at (spaced (decimal link) (bytes_text bytes)) ≡ limited MAX_MESSAGE bytes (link, bytes)
 unfolding message_at
 message_again link bytes h fits =
     rw (cut_again 32 (decimal link) (bytes_text bytes) (decimal_lacks 32 link (lit< tt) (link_lacks link h)), link_again link h, bytes_again MAX_MESSAGE bytes fits) (limited_then MAX_MESSAGE bytes bytes (λ b. (link, b)))
@@ -82,7 +82,7 @@ IsEventOf text e = (text ≡ event_text e) × EventNumbersFit e × IsBytes (even
 abbrev pub IsLongEventOf : List ℕ → Event → Type 0
 IsLongEventOf text e = (text ≡ event_text e) × EventNumbersFit e × IsBytes (event_bytes e) × (MAX_MESSAGE < length (event_bytes e))
 
-no_bytes : IsBytes []
+pub no_bytes : IsBytes []
 no_bytes i = omega arith
 
 link_event_shows : (text : List ℕ) → Shows (IsEventOf text) (IsLongEventOf text) (link_event_at text)

@@ -25,16 +25,16 @@ use Rattle.capture.proofs.BytesLaws.{bytes_lack}
 use Rattle.capture.proofs.HintLaws.{hint_lacks, hint_short}
 
 -- by a test that computes
-lacks : (mark : ℕ) (text : List ℕ) → list_all (λ b. not (eqb b mark)) text ≡ true → HasNo mark text
+pub lacks : (mark : ℕ) (text : List ℕ) → list_all (λ b. not (eqb b mark)) text ≡ true → HasNo mark text
 lacks mark [] h = tt
 lacks mark (b ∷ text) h =
     let parts = and_parts (not (eqb b mark)) (list_all (λ c. not (eqb c mark)) text) h in
     (eqb-false b mark (not-true _ parts.0), lacks mark text parts.1)
 
-spaced_lacks : (a b : List ℕ) → HasNo 10 a → HasNo 10 b → HasNo 10 (spaced a b)
+pub spaced_lacks : (a b : List ℕ) → HasNo 10 a → HasNo 10 b → HasNo 10 (spaced a b)
 spaced_lacks a b p q = HasNo-append 10 a (32 ∷ b) p (λ e. absurd (omega arith), q)
 
-link_lacks : (link : ℕ) → IsLink link → HasNo 10 (decimal link)
+pub link_lacks : (link : ℕ) → IsLink link → HasNo 10 (decimal link)
 link_lacks link h = let most = h.most in decimal_lacks 10 link (omega arith) (omega arith)
 
 event_lacks : (e : Event) → EventNumbersFit e → IsBytes (event_bytes e) → HasNo 10 (event_text e)
@@ -65,14 +65,14 @@ head_lacks format own peer p q = HasNo-append 10 (format_text format) (spaced (a
 decimal_short : (k n : ℕ) → 0 < k → n < 10 ^ k → n < 2 ^ 64 → length (decimal n) ≤ k
 decimal_short k n some small fits = length-decimal-le k n some small fits
 
-link_short : (link : ℕ) → IsLink link → length (decimal link) ≤ 5
+pub link_short : (link : ℕ) → IsLink link → length (decimal link) ≤ 5
 link_short link h = let most = h.most in length-decimal-le 5 link (lit< tt) (omega arith) (omega arith)
 
-bytes_short : (most : ℕ) (bytes : List ℕ) → 1 ≤ most → length bytes ≤ most → length (bytes_text bytes) ≤ 2 * most
+pub bytes_short : (most : ℕ) (bytes : List ℕ) → 1 ≤ most → length bytes ≤ most → length (bytes_text bytes) ≤ 2 * most
 bytes_short most [] some h = omega arith
 bytes_short most (b ∷ bytes) some h = let len = length-encode_with lower_digits (b ∷ bytes) in omega arith
 
-spaced_short : (a b : List ℕ) (m n : ℕ) → length a ≤ m → length b ≤ n → length (spaced a b) ≤ m + n + 1
+pub spaced_short : (a b : List ℕ) (m n : ℕ) → length a ≤ m → length b ≤ n → length (spaced a b) ≤ m + n + 1
 spaced_short a b m n p q = omega (arith, length-append a (32 ∷ b))
 
 event_short : (e : Event) → EventNumbersFit e → length (event_bytes e) ≤ MAX_MESSAGE → length (event_text e) ≤ 131079
@@ -91,7 +91,7 @@ record_short form (Received hint false bytes) fits h = let n = spaced_short (hin
 record_short form (Received hint true bytes) fits h = let n = spaced_short (hint_text form hint) (bytes_text bytes) 20 32786 (hint_short form hint fits h.spelling.numbers) (bytes_short MAX_UNIT bytes (omega arith) h.short) in omega arith
 record_short form (User event) fits h = let n = event_short event h.spelling.numbers h.short in omega arith
 
-address_short : (address : ℕ) → IsNode address → length (address_text address) ≤ 7
+pub address_short : (address : ℕ) → IsNode address → length (address_text address) ≤ 7
 address_short address h =
     let area = length-decimal-le 2 (address / 1024) (lit< tt) (omega (arith, h.most_area)) (omega (arith, h.most_area)) in
     let node = length-decimal-le 4 (address % 1024) (lit< tt) (omega arith) (omega arith) in

@@ -20,11 +20,11 @@ use Rattle.capture.proofs.HintLaws.{form_fits}
 
 -- ---- lists of records
 
-All-push : {X : Type 0} (P : X → Type 0) (xs : List X) (x : X) → AllByRecursion P xs → P x → AllByRecursion P (xs ++ x ∷ [])
+pub All-push : {X : Type 0} (P : X → Type 0) (xs : List X) (x : X) → AllByRecursion P xs → P x → AllByRecursion P (xs ++ x ∷ [])
 All-push P [] x all last = (last, tt)
 All-push P (y ∷ ys) x all last = (all.0, All-push P ys x all.1 last)
 
-All-behind : {X : Type 0} (P : X → Type 0) (xs ys : List X) → AllByRecursion P (xs ++ ys) → AllByRecursion P ys
+pub All-behind : {X : Type 0} (P : X → Type 0) (xs ys : List X) → AllByRecursion P (xs ++ ys) → AllByRecursion P ys
 All-behind P [] ys all = all
 All-behind P (x ∷ xs) ys all = All-behind P xs ys all.1
 

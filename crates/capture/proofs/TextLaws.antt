@@ -25,11 +25,11 @@ use Rattle.capture.proofs.LackLaws.{record_lacks, head_lacks, record_short, head
 ended-append : (text rest : List ℕ) → ended text ++ rest ≡ text ++ 10 ∷ rest
 ended-append text rest = append_assoc text (10 ∷ []) rest
 
-ended_first : (text rest : List ℕ) → HasNo 10 text → (first_line (ended text ++ rest) ≡ text) × (has_lf (ended text ++ rest) ≡ true)
+pub ended_first : (text rest : List ℕ) → HasNo 10 text → (first_line (ended text ++ rest) ≡ text) × (has_lf (ended text ++ rest) ≡ true)
 ended_first text rest h = rw (ended-append text rest) (line-ended text rest h)
 
 -- neither of two such lines begins the other
-same_ended : (a b x y : List ℕ) → HasNo 10 a → HasNo 10 b → ended a ++ x ≡ ended b ++ y → (a ≡ b) × (x ≡ y)
+pub same_ended : (a b x y : List ℕ) → HasNo 10 a → HasNo 10 b → ended a ++ x ≡ ended b ++ y → (a ≡ b) × (x ≡ y)
 same_ended a b x y p q e =
     let same : a ≡ b = sym (ended_first a x p).0 ∙ ap first_line e ∙ (ended_first b y q).0 in
     (same, append_cancel_left (ended b) x y (ap (λ (t : List ℕ). ended t ++ x) (sym same) ∙ e))
@@ -53,7 +53,7 @@ one_head_line format format' own peer own' peer' x y p q p' q' e =
     (ap (λ (z : Format × ℕ × ℕ). z.0) parts, ap (λ (z : Format × ℕ × ℕ). z.1) parts, ap (λ (z : Format × ℕ × ℕ). z.2) parts, same.1)
 
 -- a line is not empty
-line_some : (text rest : List ℕ) → ended text ++ rest ≡ [] → ⊥
+pub line_some : (text rest : List ℕ) → ended text ++ rest ≡ [] → ⊥
 line_some [] rest e = cc
 line_some (b ∷ text) rest e = cc
 
@@ -122,7 +122,7 @@ no_departure form kind r rest records fits h few (inr d) =
 
 -- ---- one departure
 
-line_once : (most taken : ℕ) (bytes : List ℕ) (a b : Departure) → LineDeparts most taken a bytes → LineDeparts most taken b bytes → a ≡ b
+pub line_once : (most taken : ℕ) (bytes : List ℕ) (a b : Departure) → LineDeparts most taken a bytes → LineDeparts most taken b bytes → a ≡ b
 line_once most taken bytes Syntax Syntax p q = refl
 line_once most taken bytes TooLong TooLong p q = refl
 line_once most taken bytes TooMany TooMany p q = refl
@@ -141,7 +141,7 @@ words_once form line a TooMany p q = absurd q
 words_once form line Syntax TooLong p q = absurd (p q.0 q.1 q.3)
 words_once form line TooLong Syntax p q = absurd (q p.0 p.1 p.3)
 
-whole_or_not : (most taken : ℕ) (bytes : List ℕ) (a : Departure) → LineDeparts most taken a bytes → taken < most → IsWhole bytes → ⊥
+pub whole_or_not : (most taken : ℕ) (bytes : List ℕ) (a : Departure) → LineDeparts most taken a bytes → taken < most → IsWhole bytes → ⊥
 whole_or_not most taken bytes Syntax p lt whole = let open_line = p.3 in let ended_line = whole.ended in cc
 whole_or_not most taken bytes TooLong p lt whole = let long = p.1 in let short = whole.short in omega arith
 whole_or_not most taken bytes TooMany p lt whole = let le = p.0 in omega arith

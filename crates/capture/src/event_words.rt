@@ -11,7 +11,8 @@ use crate::limit::MAX_LINK;
 use crate::number::positive_of;
 use crate::part::{after, cut_at};
 
-fn link_of(text: &[u8]) -> Option<u16>
+/// The address of a link that the text spells, from 1 to 65,535. `1` and `65535` are addresses; `0`, `65536` and `01` are none.
+pub fn link_of(text: &[u8]) -> Option<u16>
     ensures { result ≡ positive_at MAX_LINK text.now }
 {
     match positive_of(text, MAX_LINK) {
@@ -30,9 +31,10 @@ fn links_of(text: &[u8]) -> Option<(u16, u16)>
     Some((partner, link))
 }
 
-// A link and the text of a message.
+/// The address of a link and the text of a message, as they stand behind `in ` in a line, with one space between them. What the
+/// text of the message spells is not looked at: `7 -` and `7 x` are both a link and a text, `0 -` and `7` are none.
 #[tactic(auto, unfolding(crate::specs::Reading::message_at))]
-fn message_of(text: &[u8]) -> Option<(u16, &[u8])>
+pub fn message_of(text: &[u8]) -> Option<(u16, &[u8])>
     ensures { message_at text.now ≡ messaged (option_map (λ parts. (parts.0, parts.1.now)) result) }
 {
     let (link, bytes) = cut_at(text, b' ')?;

@@ -1,5 +1,6 @@
 use crate::{
-    Bytes, CaptureFault, Departure, Event, Record, address_of, is_node, number_of, positive_of,
+    Bytes, CaptureFault, Departure, Event, Record, address_of, bytes_into, is_node, link_of,
+    message_of, number_of, positive_of,
 };
 use std::test::Fail;
 
@@ -38,6 +39,44 @@ fn a_number_has_no_leading_zero(rt: HostRuntime) {
     }
     assert_eq!(rt; positive_of(b"0", 9), None, "0 is not positive");
     assert_eq!(rt; positive_of(b"9", 9), Some(9));
+}
+
+#[test]
+fn a_link_and_its_message_are_told_apart(rt: HostRuntime) {
+    for (text, answer) in [
+        (b"1".as_slice(), Some(1)),
+        (b"65535", Some(65_535)),
+        (b"0", None),
+    ] {
+        assert_eq!(rt; link_of(text), answer, "{text:?}");
+    }
+    let rows: [(&[u8], Option<(u16, &[u8])>); 4] = [
+        (b"7 05", Some((7, b"05"))),
+        (b"7 0 5", Some((7, b"0 5"))),
+        (b"0 05", None),
+        (b"7", None),
+    ];
+    for (text, answer) in rows {
+        assert!(rt; message_of(text) == answer, "{text:?}");
+    }
+}
+
+#[test]
+fn bytes_are_written_to_the_front_of_the_room(rt: HostRuntime) {
+    let rows: [(&[u8], Result<usize, Departure>); 5] = [
+        (b"-", Ok(0)),
+        (b"00ff", Ok(2)),
+        (b"0", Err(Departure::Syntax)),
+        (b"0A", Err(Departure::Syntax)),
+        (b"00ff0102", Err(Departure::TooLong)),
+    ];
+    for (text, answer) in rows {
+        let mut room = [7u8; 4];
+        assert_eq!(rt; bytes_into(text, 3, &mut room), answer, "{text:?}");
+        if text == b"00ff".as_slice() {
+            assert!(rt; room == [0, 255, 7, 7], "the rest of the room stays");
+        }
+    }
 }
 
 #[test]
