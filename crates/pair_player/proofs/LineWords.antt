@@ -1,0 +1,94 @@
+-- The line of a step: what is read is its one spelling, and its spelling is read.
+use Rattle.std.proofs.Common.{◌≡◌, ℕ, ◌<◌, ◌≤◌, Bool, true, false, cond, leb, List, ◌∷◌, ◌++◌, length, Option, Some, None, Result, Ok, Err, refl, sym, ap, subst, ◌∙◌, arith}
+use Rattle.std.specs.Prelude.{codes, IfSome}
+use Rattle.wire_base.specs.declared.side.Side.{Side}
+use Rattle.wire_base.specs.declared.side.Side.TheVariants.{A, B}
+use Rattle.wire_base.specs.Side.{side_letter}
+use Rattle.capture.specs.declared.limit.TheConstants.{MAX_MESSAGE}
+use Rattle.capture.specs.declared.fault.Departure.{Departure}
+use Rattle.capture.specs.declared.fault.Departure.TheVariants.{Syntax, TooLong, TooMany}
+use Rattle.capture.specs.Text.{spaced}
+use Rattle.capture.specs.Reading.{after, or_else}
+use Rattle.capture.proofs.PartLaws.{after_takes}
+use Rattle.capture.proofs.BytesLaws.{limited, limited_then}
+use Rattle.capture.proofs.Shown.{Shows, shows_map, shows_must}
+use Rattle.dna_model.specs.Script.{StepValue, ScriptStep}
+use Rattle.dna_model.specs.ScriptText.{step_text, line_text, message_of, HasSpelling, IsShort, IsStep, WordsDepart}
+use Rattle.pair_player.specs.Reading.{side_at, step_at, line_at}
+use Rattle.pair_player.proofs.StepLaws.{IsStepOf, IsLongStepOf, step_shows, step_again}
+
+abbrev pub at_side : Side → StepValue → ScriptStep
+at_side side step = record { side = side; step = step }
+
+-- a line that was read, and one that was read but for the length of its message
+abbrev IsLineOf : List ℕ → ScriptStep → Type 0
+IsLineOf text line = (text ≡ line_text line) × IsStep line
+
+abbrev IsLongLineOf : List ℕ → ScriptStep → Type 0
+IsLongLineOf text line = (text ≡ line_text line) × HasSpelling line × (MAX_MESSAGE < length (message_of line.step))
+
+-- ---- the letter
+
+-- what was read is behind the letter of its side
+abbrev IsSided : List ℕ → Option (Side × List ℕ) → Type 0
+IsSided text o = IfSome o (λ parts. text ≡ spaced (side_letter parts.0) parts.1)
+
+b_shows : (text : List ℕ) (o : Option (List ℕ)) → ((rest : List ℕ) → o ≡ Some rest → text ≡ codes "b " ++ rest)
+    → IsSided text (or_else o (λ rest. Some (B, rest)) None)
+b_shows text None h = tt
+b_shows text (Some rest) h = h rest refl
+
+a_shows : (text : List ℕ) (o : Option (List ℕ)) (other : Option (Side × List ℕ)) → ((rest : List ℕ) → o ≡ Some rest → text ≡ codes "a " ++ rest)
+    → IsSided text other → IsSided text (or_else o (λ rest. Some (A, rest)) other)
+a_shows text None other h rest_shows = rest_shows
+a_shows text (Some rest) other h rest_shows = h rest refl
+
+side_shows : (text : List ℕ) → IsSided text (side_at text)
+unfolding side_at
+side_shows text = a_shows text (after (codes "a ") text) _ (after_takes (codes "a ") text) (b_shows text (after (codes "b ") text) (after_takes (codes "b ") text))
+
+side_takes : (text : List ℕ) (parts : Side × List ℕ) → side_at text ≡ Some parts → text ≡ spaced (side_letter parts.0) parts.1
+side_takes text parts e = subst (IsSided text) e (side_shows text)
+
+side_again : (side : Side) (rest : List ℕ) → side_at (spaced (side_letter side) rest) ≡ Some (side, rest)
+unfolding side_at
+side_again A rest = refl
+side_again B rest = refl
+
+-- ---- the line
+
+line_shows : (text : List ℕ) → Shows (IsLineOf text) (IsLongLineOf text) (line_at text)
+unfolding line_at
+line_shows text =
+    shows_must (IsLineOf text) (IsLongLineOf text) (side_at text) _ (λ parts cut.
+    let front = side_takes text parts cut in
+    shows_map (IsStepOf parts.1) (IsLongStepOf parts.1) (IsLineOf text) (IsLongLineOf text) (at_side parts.0) (step_at parts.1) (step_shows parts.1)
+    (λ step h. (front ∙ ap (spaced (side_letter parts.0)) h.0, record { spelling = record { numbers = h.1; bytes = h.2 }; short = h.3 }))
+    (λ step h. (front ∙ ap (spaced (side_letter parts.0)) h.0, record { numbers = h.1; bytes = h.2 }, h.3)))
+
+pub line_again : (side : Side) (step : StepValue) → HasSpelling (at_side side step) → line_at (line_text (at_side side step)) ≡ limited MAX_MESSAGE (message_of step) (at_side side step)
+unfolding line_at
+line_again side step h = rw (side_again side (step_text step), step_again step h.numbers h.bytes) (limited_then MAX_MESSAGE (message_of step) step (at_side side))
+
+-- ---- what a reading says of its line
+
+pub line_ok : (text : List ℕ) (line : ScriptStep) → line_at text ≡ Ok line → (text ≡ line_text line) × IsStep line
+line_ok text line e = subst (Shows (IsLineOf text) (IsLongLineOf text)) e (line_shows text)
+
+-- neither `Ok` nor `TooLong` is `Syntax`
+limited_apart : (most : ℕ) (bytes : List ℕ) (line : ScriptStep) → limited most bytes line ≡ Err Syntax → ⊥
+limited_apart most bytes line e = by_test (leb (length bytes) most) e
+  where
+    by_test : (t : Bool) → ◌≡◌ {A = Result ScriptStep Departure} (cond t (Ok line) (Err TooLong)) (Err Syntax) → ⊥
+    by_test true h = cc
+    by_test false h = cc
+
+pub words_depart : (kind : Departure) (text : List ℕ) → line_at text ≡ Err kind → WordsDepart kind text
+words_depart Syntax text e = λ line h spelled. limited_apart MAX_MESSAGE (message_of line.step) line (sym (line_again line.side line.step h) ∙ ap line_at (sym spelled) ∙ e)
+words_depart TooLong text e =
+    let shown = subst (Shows (IsLineOf text) (IsLongLineOf text)) e (line_shows text) in
+    long_from shown.0 shown.1
+  where
+    long_from : (line : ScriptStep) → IsLongLineOf text line → WordsDepart TooLong text
+    long_from line h = (line, h.1, (λ short. let long = h.2 in absurd (omega arith)), h.0)
+words_depart TooMany text e = subst (Shows (IsLineOf text) (IsLongLineOf text)) e (line_shows text)

@@ -1,0 +1,121 @@
+-- The words behind the letter of a side: what is read is the step's one spelling, and its spelling is read.
+use Rattle.std.proofs.Common.{◌≡◌, ℕ, ◌^◌, ◌<◌, ◌≤◌, List, [], ◌∷◌, ◌++◌, length, Option, Some, None, Ok, refl, ap, subst, ◌∙◌, arith, lit<}
+use Rattle.std.specs.Prelude.{codes, IfSome}
+use Rattle.std.specs.Fmt.{decimal}
+use Rattle.std.specs.Str.{bytes_eq}
+use Rattle.std.proofs.lemmas.Bool.{cond_both}
+use Rattle.std.proofs.lemmas.Slice.Eq.{bytes_eq-Decides}
+use Rattle.ddcmp_msg.specs.Message.{IsBytes}
+use Rattle.capture.specs.declared.limit.TheConstants.{MAX_HINT, MAX_LINK, MAX_MESSAGE}
+use Rattle.capture.specs.Text.{spaced, bytes_text}
+use Rattle.capture.specs.Range.{IsLink}
+use Rattle.capture.specs.Reading.{after, cut_at, number_at, positive_at, message_at}
+use Rattle.capture.proofs.PartLaws.{after_takes, cut_takes, cut_again}
+use Rattle.capture.proofs.NumberLaws.{number_takes, number_again, decimal_lacks}
+use Rattle.capture.proofs.BytesLaws.{limited, limited_then}
+use Rattle.capture.proofs.EventLaws.{link_takes, link_again, IsMessageOf, IsLongMessageOf, message_shows, message_again, no_bytes}
+use Rattle.capture.proofs.Shown.{Shows, shows_map, shows_must, shows_or_else}
+use Rattle.dna_model.specs.Script.{StepValue, Start, Halt, Timer, Send, Deliver, Refuse, Lose, Damage, Open, Accept, Reject, In, Close, Retry}
+use Rattle.dna_model.specs.ScriptText.{step_text, NumbersFit, message_of}
+use Rattle.pair_player.specs.Reading.{plain_at, damage_at, link_step_at, step_at}
+
+-- a step that was read, and one that was read but for the length of its message
+abbrev pub IsStepOf : List ℕ → StepValue → Type 0
+IsStepOf text step = (text ≡ step_text step) × NumbersFit step × IsBytes (message_of step) × (length (message_of step) ≤ MAX_MESSAGE)
+
+abbrev pub IsLongStepOf : List ℕ → StepValue → Type 0
+IsLongStepOf text step = (text ≡ step_text step) × NumbersFit step × IsBytes (message_of step) × (MAX_MESSAGE < length (message_of step))
+
+-- ---- a step of one word
+
+abbrev Tells : List ℕ → Option StepValue → Type 0
+Tells text o = IfSome o (IsStepOf text)
+
+plain_shows : (text : List ℕ) → Tells text (plain_at text)
+unfolding plain_at
+plain_shows text =
+    cond_both (bytes_eq text (codes "start")) _ _ (Tells text) (λ t. ((bytes_eq-Decides text (codes "start")).0 t, tt, no_bytes, omega arith)) (λ _.
+    cond_both (bytes_eq text (codes "halt")) _ _ (Tells text) (λ t. ((bytes_eq-Decides text (codes "halt")).0 t, tt, no_bytes, omega arith)) (λ _.
+    cond_both (bytes_eq text (codes "timer")) _ _ (Tells text) (λ t. ((bytes_eq-Decides text (codes "timer")).0 t, tt, no_bytes, omega arith)) (λ _.
+    cond_both (bytes_eq text (codes "send")) _ _ (Tells text) (λ t. ((bytes_eq-Decides text (codes "send")).0 t, tt, no_bytes, omega arith)) (λ _.
+    cond_both (bytes_eq text (codes "deliver")) _ _ (Tells text) (λ t. ((bytes_eq-Decides text (codes "deliver")).0 t, tt, no_bytes, omega arith)) (λ _.
+    cond_both (bytes_eq text (codes "refuse")) _ _ (Tells text) (λ t. ((bytes_eq-Decides text (codes "refuse")).0 t, tt, no_bytes, omega arith)) (λ _.
+    cond_both (bytes_eq text (codes "lose")) _ _ (Tells text) (λ t. ((bytes_eq-Decides text (codes "lose")).0 t, tt, no_bytes, omega arith)) (λ _.
+    cond_both (bytes_eq text (codes "open")) _ _ (Tells text) (λ t. ((bytes_eq-Decides text (codes "open")).0 t, tt, no_bytes, omega arith)) (λ _. tt))))))))
+
+-- ---- the numbers of a changed byte
+
+abbrev AreNumbersOf : List ℕ → ℕ × ℕ → Type 0
+AreNumbersOf text m = (text ≡ spaced (decimal m.0) (decimal m.1)) × (m.0 ≤ MAX_HINT) × (m.1 ≤ MAX_HINT)
+
+abbrev Never : {A : Type 0} → A → Type 0
+Never x = ⊥
+
+damage_shows : (text : List ℕ) → Shows (AreNumbersOf text) Never (damage_at text)
+unfolding damage_at
+damage_shows text =
+    shows_must (AreNumbersOf text) Never (cut_at 32 text) _ (λ parts cut.
+    shows_must (AreNumbersOf text) Never (number_at MAX_HINT parts.0) _ (λ place first.
+    shows_must (AreNumbersOf text) Never (number_at MAX_HINT parts.1) _ (λ value second.
+    let p = number_takes MAX_HINT parts.0 place (lit< tt) first in
+    let q = number_takes MAX_HINT parts.1 value (lit< tt) second in
+    (cut_takes 32 text parts cut ∙ ap (λ (t : List ℕ). t ++ 32 ∷ parts.1) p.0 ∙ ap (λ (t : List ℕ). decimal place ++ 32 ∷ t) q.0, p.1, q.1))))
+
+damage_again : (place value : ℕ) → place ≤ MAX_HINT → value ≤ MAX_HINT → damage_at (spaced (decimal place) (decimal value)) ≡ Ok (place, value)
+unfolding damage_at
+damage_again place value p q =
+    rw (cut_again 32 (decimal place) (decimal value) (decimal_lacks 32 place (lit< tt) (omega arith)), number_again MAX_HINT place (lit< tt) p, number_again MAX_HINT value (lit< tt) q) refl
+
+-- ---- a step of a link
+
+link_step_shows : (text : List ℕ) → Shows (IsStepOf text) (IsLongStepOf text) (link_step_at text)
+unfolding link_step_at
+link_step_shows text =
+    shows_or_else (IsStepOf text) (IsLongStepOf text) (after (codes "accept ") text) _ _
+    (λ rest e. shows_must (IsStepOf text) (IsLongStepOf text) (positive_at MAX_LINK rest) _ (λ partner f.
+    let p = link_takes rest partner f in (after_takes (codes "accept ") text rest e ∙ ap (λ (t : List ℕ). codes "accept " ++ t) p.0, p.1, no_bytes, omega arith)))
+    (shows_or_else (IsStepOf text) (IsLongStepOf text) (after (codes "reject ") text) _ _
+    (λ rest e. shows_must (IsStepOf text) (IsLongStepOf text) (positive_at MAX_LINK rest) _ (λ partner f.
+    let p = link_takes rest partner f in (after_takes (codes "reject ") text rest e ∙ ap (λ (t : List ℕ). codes "reject " ++ t) p.0, p.1, no_bytes, omega arith)))
+    (shows_or_else (IsStepOf text) (IsLongStepOf text) (after (codes "close ") text) _ _
+    (λ rest e. shows_must (IsStepOf text) (IsLongStepOf text) (positive_at MAX_LINK rest) _ (λ link f.
+    let p = link_takes rest link f in (after_takes (codes "close ") text rest e ∙ ap (λ (t : List ℕ). codes "close " ++ t) p.0, p.1, no_bytes, omega arith)))
+    (shows_or_else (IsStepOf text) (IsLongStepOf text) (after (codes "retry ") text) _ _
+    (λ rest e. shows_must (IsStepOf text) (IsLongStepOf text) (positive_at MAX_LINK rest) _ (λ link f.
+    let p = link_takes rest link f in (after_takes (codes "retry ") text rest e ∙ ap (λ (t : List ℕ). codes "retry " ++ t) p.0, p.1, no_bytes, omega arith)))
+    tt)))
+
+-- ---- steps
+
+plain_found : (text : List ℕ) (step : StepValue) → plain_at text ≡ Some step → IsStepOf text step
+plain_found text step e = subst (Tells text) e (plain_shows text)
+
+pub step_shows : (text : List ℕ) → Shows (IsStepOf text) (IsLongStepOf text) (step_at text)
+unfolding step_at
+step_shows text =
+    shows_or_else (IsStepOf text) (IsLongStepOf text) (plain_at text) _ _ (plain_found text)
+    (shows_or_else (IsStepOf text) (IsLongStepOf text) (after (codes "in ") text) _ _
+    (λ rest e. shows_map (IsMessageOf rest) (IsLongMessageOf rest) (IsStepOf text) (IsLongStepOf text) (λ m. In m.0 m.1) (message_at rest) (message_shows rest)
+    (λ m h. (after_takes (codes "in ") text rest e ∙ ap (λ (t : List ℕ). codes "in " ++ t) h.0, h.1, h.2, h.3))
+    (λ m h. (after_takes (codes "in ") text rest e ∙ ap (λ (t : List ℕ). codes "in " ++ t) h.0, h.1, h.2, h.3)))
+    (shows_or_else (IsStepOf text) (IsLongStepOf text) (after (codes "damage ") text) _ _
+    (λ rest e. shows_map (AreNumbersOf rest) Never (IsStepOf text) (IsLongStepOf text) (λ m. Damage m.0 m.1) (damage_at rest) (damage_shows rest)
+    (λ m h. (after_takes (codes "damage ") text rest e ∙ ap (λ (t : List ℕ). codes "damage " ++ t) h.0, (h.1, h.2), no_bytes, omega arith)) (λ m h. absurd h))
+    (link_step_shows text)))
+
+pub step_again : (step : StepValue) → NumbersFit step → IsBytes (message_of step) → step_at (step_text step) ≡ limited MAX_MESSAGE (message_of step) step
+unfolding step_at plain_at link_step_at
+step_again Start h fits = refl
+step_again Halt h fits = refl
+step_again Timer h fits = refl
+step_again Send h fits = refl
+step_again Deliver h fits = refl
+step_again Refuse h fits = refl
+step_again Lose h fits = refl
+step_again (Damage place value) h fits = rw (damage_again place value h.0 h.1) refl
+step_again Open h fits = refl
+step_again (Accept partner) h fits = rw (link_again partner h) refl
+step_again (Reject partner) h fits = rw (link_again partner h) refl
+step_again (In link message) h fits = rw (message_again link message h fits) (limited_then MAX_MESSAGE message (link, message) (λ m. In m.0 m.1))
+step_again (Close link) h fits = rw (link_again link h) refl
+step_again (Retry link) h fits = rw (link_again link h) refl

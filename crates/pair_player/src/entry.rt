@@ -1,0 +1,69 @@
+//! What the line of a step says beside its message.
+
+ghost use Rattle.std.specs.Prelude.{◌≡◌};
+ghost use Rattle.pair_player.specs.Step.{view, view_of_line};
+ghost use Rattle.pair_player.specs.Entries.{line_with, step_with};
+
+use crate::step::{ScriptStep, Step};
+use wire_base::Side;
+
+/// A step but for its message, which stands beside it. It is small and lends nothing.
+#[derive(Clone, Copy, Debug, PartialEq, Eq)]
+pub enum StepEntry {
+    Start,
+    Halt,
+    Timer,
+    Send,
+    Deliver,
+    Refuse,
+    Lose,
+    Damage { place: u64, value: u64 },
+    Open,
+    Accept { partner: u16 },
+    Reject { partner: u16 },
+    In { link: u16 },
+    Close { link: u16 },
+    Retry { link: u16 },
+}
+
+/// A line of a script but for its message.
+#[derive(Clone, Copy, Debug, PartialEq, Eq)]
+pub struct LineEntry {
+    pub side: Side,
+    pub step: StepEntry,
+}
+
+impl StepEntry {
+    /// The step of this entry and this message. Takes no memory.
+    pub fn with(self, message: &[u8]) -> Step<'_>
+        ensures { view result ≡ step_with self message.now }
+    {
+        match self {
+            StepEntry::Start => Step::Start,
+            StepEntry::Halt => Step::Halt,
+            StepEntry::Timer => Step::Timer,
+            StepEntry::Send => Step::Send,
+            StepEntry::Deliver => Step::Deliver,
+            StepEntry::Refuse => Step::Refuse,
+            StepEntry::Lose => Step::Lose,
+            StepEntry::Damage { place, value } => Step::Damage { place, value },
+            StepEntry::Open => Step::Open,
+            StepEntry::Accept { partner } => Step::Accept { partner },
+            StepEntry::Reject { partner } => Step::Reject { partner },
+            StepEntry::In { link } => Step::In { link, message },
+            StepEntry::Close { link } => Step::Close { link },
+            StepEntry::Retry { link } => Step::Retry { link },
+        }
+    }
+}
+
+impl LineEntry {
+    /// The line's step, with this message. Takes no memory.
+    pub fn with(self, message: &[u8]) -> ScriptStep<'_>
+        ensures { view_of_line result ≡ line_with self message.now }
+    {
+        let LineEntry { side, step } = self;
+        let step = step.with(message);
+        ScriptStep { side, step }
+    }
+}

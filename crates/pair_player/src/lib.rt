@@ -1,0 +1,22 @@
+//! The script of a player: its head and its steps, read line by line.
+//!
+//! The crate decides which bytes are a script, which steps they spell, and where and how a text departs from the format. It
+//! never touches a file or a clock, nor what a step makes of the two ends.
+#![tactic(auto)]
+
+mod entry;
+mod fault;
+mod laws;
+mod limit;
+mod script_reader;
+mod step;
+mod words;
+
+pub use fault::ScriptFault;
+pub use laws::{known_script, one_script, one_script_departure, script_read_on};
+pub use limit::MAX_STEPS;
+pub use script_reader::ScriptReader;
+pub use step::{ScriptStep, Step};
+
+#[cfg(test)]
+mod tests;

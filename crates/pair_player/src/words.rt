@@ -1,0 +1,151 @@
+//! Reading the words of a step's line, and of the head.
+
+ghost use Rattle.std.specs.Prelude.{◌≡◌, ◌≤◌, length, IfOk};
+ghost use Rattle.std.specs.Option.{option_map};
+ghost use Rattle.capture.specs.Reading.{must};
+ghost use Rattle.capture.specs.declared.limit.TheConstants.{MAX_MESSAGE};
+ghost use Rattle.pair_player.specs.Entries.{parted, plain, told};
+ghost use Rattle.pair_player.specs.Reading.{damage_at, head_at, line_at, link_step_at, plain_at, side_at, step_at};
+
+use crate::entry::{LineEntry, StepEntry};
+use capture::{
+    Departure, MAX_HINT, MAX_MESSAGE, address_of, after, bytes_into, cut_at, link_of, message_of,
+    number_of,
+};
+use wire_base::Side;
+
+// A step of one word.
+#[tactic(auto, unfolding(crate::specs::Reading::plain_at))]
+fn plain_of(text: &[u8]) -> Option<StepEntry>
+    ensures { option_map plain result ≡ plain_at text.now }
+{
+    if text == b"start".as_slice() {
+        return Some(StepEntry::Start);
+    }
+    if text == b"halt".as_slice() {
+        return Some(StepEntry::Halt);
+    }
+    if text == b"timer".as_slice() {
+        return Some(StepEntry::Timer);
+    }
+    if text == b"send".as_slice() {
+        return Some(StepEntry::Send);
+    }
+    if text == b"deliver".as_slice() {
+        return Some(StepEntry::Deliver);
+    }
+    if text == b"refuse".as_slice() {
+        return Some(StepEntry::Refuse);
+    }
+    if text == b"lose".as_slice() {
+        return Some(StepEntry::Lose);
+    }
+    if text == b"open".as_slice() {
+        return Some(StepEntry::Open);
+    }
+    None
+}
+
+#[tactic(auto, unfolding(crate::specs::Reading::damage_at))]
+fn damage_of(text: &[u8]) -> Option<(u64, u64)>
+    ensures { damage_at text.now ≡ must result }
+{
+    let (place, value) = cut_at(text, b' ')?;
+    let place = number_of(place, MAX_HINT)?;
+    let value = number_of(value, MAX_HINT)?;
+    Some((place, value))
+}
+
+// A step of a link that has no message.
+#[tactic(auto, unfolding(crate::specs::Reading::link_step_at))]
+fn link_step_of(text: &[u8]) -> Option<StepEntry>
+    ensures { link_step_at text.now ≡ must (option_map plain result) }
+{
+    if let Some(rest) = after(text, b"accept ") {
+        let partner = link_of(rest)?;
+        return Some(StepEntry::Accept { partner });
+    }
+    if let Some(rest) = after(text, b"reject ") {
+        let partner = link_of(rest)?;
+        return Some(StepEntry::Reject { partner });
+    }
+    if let Some(rest) = after(text, b"close ") {
+        let link = link_of(rest)?;
+        return Some(StepEntry::Close { link });
+    }
+    if let Some(rest) = after(text, b"retry ") {
+        let link = link_of(rest)?;
+        return Some(StepEntry::Retry { link });
+    }
+    None
+}
+
+// What the line says behind the letter of its side, with the text of its BYTES, where it has any; `None` where it can be no step's.
+#[tactic(auto, unfolding(crate::specs::Reading::step_at))]
+fn entry_of(text: &[u8]) -> Option<(StepEntry, Option<&[u8]>)>
+    ensures { step_at text.now ≡ told (option_map (λ parts. (parts.0, option_map (λ digits. digits.now) parts.1)) result) }
+{
+    if let Some(entry) = plain_of(text) {
+        return Some((entry, None));
+    }
+    if let Some(rest) = after(text, b"in ") {
+        let (link, digits) = message_of(rest)?;
+        return Some((StepEntry::In { link }, Some(digits)));
+    }
+    if let Some(rest) = after(text, b"damage ") {
+        let (place, value) = damage_of(rest)?;
+        return Some((StepEntry::Damage { place, value }, None));
+    }
+    let entry = link_step_of(text)?;
+    Some((entry, None))
+}
+
+// The side of a step, and what stands behind its letter and a space.
+#[tactic(auto, unfolding(crate::specs::Reading::side_at))]
+fn side_of(line: &[u8]) -> Option<(Side, &[u8])>
+    ensures { option_map (λ parts. (parts.0, parts.1.now)) result ≡ side_at line.now }
+{
+    if let Some(rest) = after(line, b"a ") {
+        return Some((Side::A, rest));
+    }
+    if let Some(rest) = after(line, b"b ") {
+        return Some((Side::B, rest));
+    }
+    None
+}
+
+/// Reads the line's step in two parts: its entry, and its message, which is written to the front of the room, with how many bytes
+/// it has. The line is given without its LF.
+///
+/// `Syntax` where it spells no step; `TooLong` where it would but for too long a message. Takes no memory.
+#[tactic(auto, unfolding(crate::specs::Reading::line_at))]
+pub fn line_into(line: &[u8], room: &mut [u8]) -> Result<(LineEntry, usize), Departure>
+    requires { length room.old ≡ MAX_MESSAGE }
+    ensures step { line_at line.now ≡ parted room.new result }
+    ensures len { IfOk result (λ parts. parts.1 ≤ MAX_MESSAGE) }
+    ensures room { length room.new ≡ MAX_MESSAGE }
+{
+    let Some((side, text)) = side_of(line) else {
+        return Err(Departure::Syntax);
+    };
+    let Some((step, digits)) = entry_of(text) else {
+        return Err(Departure::Syntax);
+    };
+    let Some(digits) = digits else {
+        return Ok((LineEntry { side, step }, 0));
+    };
+    let len = bytes_into(digits, MAX_MESSAGE, room)?;
+    Ok((LineEntry { side, step }, len))
+}
+
+/// The addresses of node a and node b, as the head spells them; the line is given without its LF. Takes no memory.
+#[tactic(auto, unfolding(crate::specs::Reading::head_at))]
+pub fn head_of(line: &[u8]) -> Option<(u16, u16)>
+    ensures { result ≡ head_at line.now }
+{
+    let rest = after(line, b"ddplay 1 ")?;
+    let (node_a, node_b) = cut_at(rest, b' ')?;
+    let node_a = address_of(node_a)?;
+    let node_b = address_of(node_b)?;
+    Some((node_a, node_b))
+}
