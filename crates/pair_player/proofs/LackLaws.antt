@@ -1,5 +1,5 @@
 -- No LF stands in the words of a line, and they are no longer than a line may be.
-use Rattle.std.proofs.Common.{◌≡◌, ℕ, ◌+◌, ◌*◌, ◌<◌, ◌≤◌, List, ◌∷◌, ◌++◌, length, refl, arith, lit<}
+use Rattle.std.proofs.Common.{ℕ, ◌≤◌, length, refl, arith, lit<}
 use Rattle.std.specs.Prelude.{codes}
 use Rattle.std.specs.Fmt.{decimal}
 use Rattle.std.proofs.lemmas.Fmt.{length-decimal-le}

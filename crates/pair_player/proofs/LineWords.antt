@@ -1,5 +1,5 @@
 -- The line of a step: what is read is its one spelling, and its spelling is read.
-use Rattle.std.proofs.Common.{◌≡◌, ℕ, ◌<◌, ◌≤◌, Bool, true, false, cond, leb, List, ◌∷◌, ◌++◌, length, Option, Some, None, Result, Ok, Err, refl, sym, ap, subst, ◌∙◌, arith}
+use Rattle.std.proofs.Common.{◌≡◌, ℕ, ◌<◌, Bool, true, false, cond, leb, List, ◌++◌, length, Option, Some, None, Result, Ok, Err, refl, sym, ap, subst, ◌∙◌, arith}
 use Rattle.std.specs.Prelude.{codes, IfSome}
 use Rattle.wire_base.specs.declared.side.Side.{Side}
 use Rattle.wire_base.specs.declared.side.Side.TheVariants.{A, B}
@@ -13,7 +13,7 @@ use Rattle.capture.proofs.PartLaws.{after_takes}
 use Rattle.capture.proofs.BytesLaws.{limited, limited_then}
 use Rattle.capture.proofs.Shown.{Shows, shows_map, shows_must}
 use Rattle.dna_model.specs.Script.{StepValue, ScriptStep}
-use Rattle.dna_model.specs.ScriptText.{step_text, line_text, message_of, HasSpelling, IsShort, IsStep, WordsDepart}
+use Rattle.dna_model.specs.ScriptText.{step_text, line_text, message_of, HasSpelling, IsStep, WordsDepart}
 use Rattle.pair_player.specs.Reading.{side_at, step_at, line_at}
 use Rattle.pair_player.proofs.StepLaws.{IsStepOf, IsLongStepOf, step_shows, step_again}
 

@@ -8,10 +8,10 @@ use Rattle.capture.specs.Lines.{to_come}
 use Rattle.capture.specs.Text.{ended}
 use Rattle.capture.proofs.SoFarLaws.{All-push, All-behind}
 use Rattle.dna_model.specs.Script.{ScriptStep, Script}
-use Rattle.dna_model.specs.ScriptText.{BeginsWithScript, IsScript, IsScriptText, IsStep, StepDeparts, ScriptHeadDeparts, script_head, script_line, script_text, MAX_STEPS}
+use Rattle.dna_model.specs.ScriptText.{BeginsWithScript, IsScriptText, IsStep, StepDeparts, ScriptHeadDeparts, script_head, script_line, script_text, MAX_STEPS}
 use Rattle.pair_player.specs.Reader.{Opens, ScriptState}
 use Rattle.pair_player.specs.SoFar.{IsReadSoFar, IsBegun, no_steps, with_step}
-use Rattle.pair_player.proofs.TextLaws.{one_head, begun_lines, nothing_more, no_departure, no_end_departure, no_head_departure}
+use Rattle.pair_player.proofs.TextLaws.{one_line, one_head, begun_lines, nothing_more, no_departure, no_end_departure, no_head_departure}
 
 -- ---- lists of steps
 
@@ -108,3 +108,36 @@ head_stands bytes rest begun kind h departs =
     let head = ended (script_head begun.node_a begun.node_b) in
     let lines = flat_map script_line begun.steps in
     no_head_departure kind begun.node_a begun.node_b (lines ++ rest) h.fits.node_a h.fits.node_b (subst (ScriptHeadDeparts kind) (h.spelled ∙ append_assoc head lines rest) departs)
+
+-- ---- behind what a text departs
+
+-- steps that a text begins with come before those that it departs behind
+comes_before : (steps : ℕ) (ps qs : List ScriptStep) (rest rest' : List ℕ) (kind : Departure) → AllByRecursion IsStep ps → AllByRecursion IsStep qs → steps + length qs ≤ MAX_STEPS
+    → flat_map script_line ps ++ rest ≡ flat_map script_line qs ++ rest' → StepDeparts (steps + length ps) kind rest → (more : List ScriptStep) × (ps ≡ qs ++ more)
+comes_before steps ps [] rest rest' kind all all' few e departs = (ps, refl)
+comes_before steps [] (q ∷ qs) rest rest' kind all all' few e departs =
+    let later = flat_map script_line qs ++ rest' in
+    let next : rest ≡ script_line q ++ later = e ∙ append_assoc (script_line q) (flat_map script_line qs) rest' in
+    let none : steps + 0 ≡ steps = omega arith in
+    absurd (no_departure kind q later steps all'.0 (omega arith) (subst (λ (n : ℕ). StepDeparts n kind (script_line q ++ later)) none (subst (StepDeparts (steps + 0) kind) next departs)))
+comes_before steps (p ∷ ps) (q ∷ qs) rest rest' kind all all' few e departs =
+    let same : script_line p ++ (flat_map script_line ps ++ rest) ≡ script_line q ++ (flat_map script_line qs ++ rest') =
+    sym (append_assoc (script_line p) (flat_map script_line ps) rest) ∙ e ∙ append_assoc (script_line q) (flat_map script_line qs) rest' in
+    let one = one_line p q (flat_map script_line ps ++ rest) (flat_map script_line qs ++ rest') all.0 all'.0 same in
+    let count : steps + length (p ∷ ps) ≡ (steps + 1) + length ps = omega arith in
+    let ih = comes_before (steps + 1) ps qs rest rest' kind all.1 all'.1 (omega arith) one.1 (subst (λ (n : ℕ). StepDeparts n kind rest) count departs) in
+    let head : p ≡ q = one.0 in
+    let tail : ps ≡ qs ++ ih.0 = ih.1 in
+    (ih.0, cc)
+
+pub departs_first : (bytes rest rest' : List ℕ) (script begun : Script) (kind : Departure) → BeginsWithScript bytes script rest → StepDeparts (length script.steps) kind rest → BeginsWithScript bytes begun rest' → IsBegun begun script
+departs_first bytes rest rest' script begun kind h departs k =
+    let lines = flat_map script_line script.steps in
+    let lines' = flat_map script_line begun.steps in
+    let same : ended (script_head script.node_a script.node_b) ++ (lines ++ rest) ≡ ended (script_head begun.node_a begun.node_b) ++ (lines' ++ rest') =
+    sym (append_assoc (ended (script_head script.node_a script.node_b)) lines rest) ∙ sym h.spelled ∙ k.spelled ∙ append_assoc (ended (script_head begun.node_a begun.node_b)) lines' rest' in
+    let heads = one_head script.node_a script.node_b begun.node_a begun.node_b (lines ++ rest) (lines' ++ rest') h.fits.node_a h.fits.node_b k.fits.node_a k.fits.node_b same in
+    let few = k.fits.few in
+    let none : length script.steps ≡ 0 + length script.steps = omega arith in
+    let more = comes_before 0 script.steps begun.steps rest rest' kind h.fits.each k.fits.each (omega arith) heads.rest (subst (λ (n : ℕ). StepDeparts n kind rest) none departs) in
+    record { node_a = heads.node_a; node_b = heads.node_b; more = more.0; steps = more.1 }

@@ -1,5 +1,5 @@
 -- The words behind the letter of a side: what is read is the step's one spelling, and its spelling is read.
-use Rattle.std.proofs.Common.{◌≡◌, ℕ, ◌^◌, ◌<◌, ◌≤◌, List, [], ◌∷◌, ◌++◌, length, Option, Some, None, Ok, refl, ap, subst, ◌∙◌, arith, lit<}
+use Rattle.std.proofs.Common.{◌≡◌, ℕ, ◌<◌, ◌≤◌, List, ◌∷◌, ◌++◌, length, Option, Some, Ok, refl, ap, subst, ◌∙◌, arith, lit<}
 use Rattle.std.specs.Prelude.{codes, IfSome}
 use Rattle.std.specs.Fmt.{decimal}
 use Rattle.std.specs.Str.{bytes_eq}
@@ -7,8 +7,7 @@ use Rattle.std.proofs.lemmas.Bool.{cond_both}
 use Rattle.std.proofs.lemmas.Slice.Eq.{bytes_eq-Decides}
 use Rattle.ddcmp_msg.specs.Message.{IsBytes}
 use Rattle.capture.specs.declared.limit.TheConstants.{MAX_HINT, MAX_LINK, MAX_MESSAGE}
-use Rattle.capture.specs.Text.{spaced, bytes_text}
-use Rattle.capture.specs.Range.{IsLink}
+use Rattle.capture.specs.Text.{spaced}
 use Rattle.capture.specs.Reading.{after, cut_at, number_at, positive_at, message_at}
 use Rattle.capture.proofs.PartLaws.{after_takes, cut_takes, cut_again}
 use Rattle.capture.proofs.NumberLaws.{number_takes, number_again, decimal_lacks}

@@ -1,5 +1,5 @@
 -- A text of a script is read in one way alone.
-use Rattle.std.proofs.Common.{◌≡◌, ℕ, ◌+◌, ◌<◌, ◌≤◌, true, List, [], ◌∷◌, ◌++◌, length, Option, Some, Result, Ok, Err, refl, sym, ap, subst, ◌∙◌, inl, inr, arith, append_assoc}
+use Rattle.std.proofs.Common.{◌≡◌, ℕ, ◌<◌, true, List, [], ◌∷◌, ◌++◌, length, Option, Some, Result, Ok, Err, refl, sym, ap, subst, ◌∙◌, inl, inr, arith, append_assoc}
 use Rattle.std.specs.List.{flat_map, AllByRecursion}
 use Rattle.std.proofs.lemmas.Bool.{le-leb, lt-leb}
 use Rattle.std.proofs.lemmas.Option.{same_Some}
@@ -11,7 +11,7 @@ use Rattle.capture.specs.Range.{IsNode}
 use Rattle.capture.specs.Departing.{first_line, has_lf, LineDeparts}
 use Rattle.capture.proofs.TextLaws.{ended_first, same_ended, line_some, line_once, whole_or_not}
 use Rattle.dna_model.specs.Script.{ScriptStep}
-use Rattle.dna_model.specs.ScriptText.{line_text, script_head, script_line, message_of, HasSpelling, IsShort, IsStep, WordsDepart, StepDeparts, HeadWordsDepart, ScriptHeadDeparts, MAX_STEPS}
+use Rattle.dna_model.specs.ScriptText.{line_text, script_head, script_line, message_of, IsStep, WordsDepart, StepDeparts, HeadWordsDepart, ScriptHeadDeparts, MAX_STEPS}
 use Rattle.pair_player.specs.Reading.{line_at, head_at}
 use Rattle.pair_player.proofs.LineWords.{line_again}
 use Rattle.pair_player.proofs.HeadLaws.{head_again}

@@ -39,8 +39,12 @@ pub fn one_script()
         BeginsWithScript bytes begun rest → ¬ (ScriptHeadDeparts kind bytes) }
 {}
 
-/// A line departs in one way at most, and so does the first line of a text from a head.
+/// A line departs in one way at most, and so does the first line of a text from a head; and a text departs behind one script alone, of
+/// which everything that it begins with is a beginning.
 pub fn one_script_departure()
     ensures step { (steps : ℕ) (bytes : List ℕ) (a b : Kind) → StepDeparts steps a bytes → StepDeparts steps b bytes → a ≡ b }
+    ensures first { (bytes rest rest' : List ℕ) (script begun : Script) (kind : Kind) →
+        BeginsWithScript bytes script rest → StepDeparts (length script.steps) kind rest → BeginsWithScript bytes begun rest' →
+        IsBegun begun script }
     ensures head { (bytes : List ℕ) (a b : Kind) → ScriptHeadDeparts a bytes → ScriptHeadDeparts b bytes → a ≡ b }
 {}
