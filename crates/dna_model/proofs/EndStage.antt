@@ -6,6 +6,7 @@ use Rattle.std.proofs.lemmas.Option.{same_Some}
 use Rattle.two_nodes.specs.Nodes.{stepped}
 use Rattle.two_nodes.specs.Cutting.{cut_half}
 use Rattle.capture.specs.declared.limit.TheConstants.{MAX_LINK}
+use Rattle.dna_model.specs.declared.head.Head.{Head}
 use Rattle.dna_model.specs.declared.state.State.TheVariants.{Halted}
 use Rattle.dna_model.specs.declared.state.StationEvent.{StationEvent}
 use Rattle.dna_model.specs.declared.state.StationEvent.TheVariants as events
@@ -24,13 +25,13 @@ use Rattle.dna_model.specs.Layers.{stations}
 use Rattle.dna_model.specs.Owed.{Debt, timer_debt}
 use Rattle.dna_model.specs.LinkOwed.{LinkOwed, InitiateTurn, ConfirmTurn, DisconnectTurn, retried, changed}
 use Rattle.dna_model.specs.Compose.{address}
-use Rattle.dna_model.specs.Player.{End, made_half, station_of, links_of, after_record}
+use Rattle.dna_model.specs.Player.{End, made_half, station_of, links_of, after_record, new_end}
 use Rattle.dna_model.specs.Player as player
 use Rattle.dna_model.specs.Stepped.{owing_more}
 use Rattle.dna_model.proofs.OrderlyRecords.{IsHigher, higher}
 use Rattle.dna_model.proofs.PlayedSteps.{PlayHalf}
 use Rattle.dna_model.proofs.PlayerChecked.{IsReady}
-use Rattle.dna_model.proofs.StationOwes.{timer_pays}
+use Rattle.dna_model.proofs.StationOwes.{timer_pays, none_owed}
 use Rattle.dna_model.proofs.LinkTables.{user_did}
 use Rattle.dna_model.proofs.LinkAddresses.{LinkList, AreAddressed}
 use Rattle.dna_model.proofs.LinkPays.{OwedFits}
@@ -49,6 +50,16 @@ pub record Stage (e : End) : Type 0 where
   -- of all messages that its links ever sent
   pub plain : (k : ℕ) (u : SentMessage) → slice_get e.half.state.station.messages k ≡ Some (Some u) → IsPlain u.packet.message
   pub few : e.addresses ≤ MAX_LINK
+
+-- before any step
+pub new_stage : (head : Head) → Stage (new_end head)
+new_stage head = record {
+  pays = record { nak = λ reason e. let f = none_owed reason in absurd cc; rep = λ e. absurd cc };
+  packets = λ i packet at. absurd cc;
+  links = record { fit = λ i l at. absurd cc; owes = λ i l o at owes. absurd cc; confirms = λ i confirm at. absurd cc };
+  plain = λ k u at. absurd cc;
+  few = omega arith;
+}
 
 abbrev pub HasNumbers : LinkList → Type 0
 HasNumbers links = (i : ℕ) (l : LinkOf TrueFlow) → slice_get links i ≡ Some l → IsOrdered l.flow × IsAnswered l.flow

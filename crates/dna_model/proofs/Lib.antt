@@ -106,31 +106,31 @@ mod LinkAddressRuns
 mod PlayerChecked
 mod PlayedOrder
 mod PlayedChecked
-mod StationPays
-mod StationOwes
-mod FlowPays
-mod LinkPays
-mod LinkChoices
+pub mod StationPays
+pub mod StationOwes
+pub mod FlowPays
+pub mod LinkPays
+pub mod LinkChoices
 mod LinkNodes
-mod ReceiptMakes
+pub mod ReceiptMakes
 mod FlowDid
 mod LinkFits
 mod LinkOwing
 mod LinkDebts
-mod UnitLines
-mod SendMakes
-mod EndSends
-mod UpsFollow
-mod StationStage
-mod LinkStage
+pub mod UnitLines
+pub mod SendMakes
+pub mod EndSends
+pub mod UpsFollow
+pub mod StationStage
+pub mod LinkStage
 mod SegmentSent
-mod EndStage
-mod SendStage
-mod DamagedUnits
-mod EndReceives
-mod ReceiptStage
-mod PlayedKnown
-mod EndUser
+pub mod EndStage
+pub mod SendStage
+pub mod DamagedUnits
+pub mod EndReceives
+pub mod ReceiptStage
+pub mod PlayedKnown
+pub mod EndUser
 mod PlayRowSteps
 mod PlayRows
 mod PlayRowsStation

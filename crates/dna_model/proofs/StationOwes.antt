@@ -52,7 +52,7 @@ aside : (reason : NakReason) (owed : Owed) (strt stack ack rep : Bool) →
 aside HeaderCheck owed strt stack ack rep = refl
 aside reason owed strt stack ack rep = refl
 
-none_owed : (reason : NakReason) → owes_nak reason nothing ≡ false
+pub none_owed : (reason : NakReason) → owes_nak reason nothing ≡ false
 none_owed HeaderCheck = refl
 none_owed reason = refl
 
