@@ -1,14 +1,9 @@
 //! What comes to a side.
 
 ghost use Rattle.std.specs.Prelude.{◌≡◌, ◌+◌, ◌^◌, ◌<◌, ◌≤◌, Ok, Err, OnOk, IfErr};
-ghost use Rattle.dna_packet.specs.Nsp as nsp;
-ghost use Rattle.dna_model.specs.declared.link_refusal.LinkRefusal.{LinkRefusal};
-ghost use Rattle.dna_model.specs.declared.refusal.StepRefusal.TheVariants as StepRefusal;
 ghost use Rattle.dna_model.specs.Content as spec;
-ghost use Rattle.dna_model.specs.LinkArriving.{of_partner};
 ghost use Rattle.dna_model.specs.Rules.{judged};
 ghost use Rattle.dna_model.specs.WireStation.{load};
-ghost use Rattle.dna_model.specs.WireLinks.{wire_links_arrived};
 ghost use Rattle.dna_model.specs.WireLayers.{tag_or_none, wire_keeps_packet};
 ghost use Rattle.ddcmp_station.specs.Arrival.{arrival_view};
 ghost use Rattle.pair_judge.specs.Packets.{lent_content};

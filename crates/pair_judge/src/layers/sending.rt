@@ -2,14 +2,10 @@
 
 ghost use Rattle.std.specs.Prelude.{◌≡◌, ◌<◌, ◌≤◌, Ok, Err, Some, length, IfOk, IfErr};
 ghost use Rattle.ddcmp_msg.specs.Message.{view};
-ghost use Rattle.dna_packet.specs.Nsp as nsp;
-ghost use Rattle.dna_model.specs.declared.link_refusal.LinkRefusal.{LinkRefusal};
-ghost use Rattle.dna_model.specs.declared.refusal.StepRefusal.TheVariants as StepRefusal;
 ghost use Rattle.dna_model.specs.declared.tag.Tag.{Tag};
 ghost use Rattle.dna_model.specs.Book.{body_of};
 ghost use Rattle.dna_model.specs.Content as spec;
 ghost use Rattle.dna_model.specs.WireStation.{WireStation, load};
-ghost use Rattle.dna_model.specs.WireLinks.{wire_links_sent};
 ghost use Rattle.dna_model.specs.WireLayers.{WireLayers, first_tagged, wire_sends_first};
 ghost use Rattle.pair_judge.specs.Packets.{lent_content};
 ghost use Rattle.pair_judge.specs.Steps.{IfRefused};
