@@ -37,12 +37,10 @@ impl Spare {
             return self.short_of_room(alloc, bytes);
         };
         let mut own = self.rooms.swap_remove(place);
-        if own.len() == bytes.len() {
-            own.copy_from_slice(bytes);
-            return Ok(Bytes::new(own));
+        if own.len() != bytes.len() {
+            return refilled(own, bytes);
         }
-        own.clear();
-        own.extend_from_slice(bytes)?;
+        own.copy_from_slice(bytes);
         Ok(Bytes::new(own))
     }
 
@@ -79,4 +77,15 @@ impl Spare {
         own.extend_from_slice(bytes)?;
         Ok(Bytes::new(own))
     }
+}
+
+// A copy of these bytes in this memory, which held more or fewer of them.
+#[inline(always)]
+fn refilled(room: Vec<u8>, bytes: &[u8]) -> Result<Bytes, AllocError>
+    ensures { IfOk result (λ copy. copy ≡ bytes.now) }
+{
+    let mut own = room;
+    own.clear();
+    own.extend_from_slice(bytes)?;
+    Ok(Bytes::new(own))
 }

@@ -53,7 +53,20 @@ impl Tags {
         if is_same(&self.newest, tag) {
             return Ok(());
         }
-        self.begin(number, tag)
+        self.begin_copied(number, tag)
+    }
+
+    // The same with a tag of its own, so that where no run begins nothing of the unit's goes through memory.
+    #[inline(always)]
+    fn begin_copied(&mut self, number: u64, tag: &Tag) -> Result<(), AllocError>
+        requires { behind self.old.older.items ≤ number }
+        ensures before { (k : ℕ) → k < number → tag_of self.new k ≡ tag_of self.old k }
+        ensures ok { OnOk result ((k : ℕ) → number ≤ k → tag_of self.new k ≡ tag.now) }
+        ensures err { OnErr result ((k : ℕ) → tag_of self.new k ≡ tag_of self.old k) }
+        ensures end { behind self.new.older.items ≤ number }
+    {
+        let own = *tag;
+        self.begin(number, &own)
     }
 
     // The unit with this number begins a run with this tag. Few units do: what this keeps on its way costs the others nothing.
@@ -94,12 +107,16 @@ impl Tags {
         ensures tags { (k : ℕ) → front ≤ k → tag_of self.new k ≡ tag_of self.old k }
         ensures end { behind self.new.older.items ≤ behind self.old.older.items }
     {
-        if !self.older.is_empty() {
-            self.let_go(front);
+        if self.older.is_empty() {
+            return;
         }
+        if front < self.older[0].end {
+            return;
+        }
+        self.let_go(front);
     }
 
-    // Lets go of the runs that end in front of this number. Most lines have none.
+    // Lets go of the runs that end in front of this number. Few units end one.
     fn let_go(&mut self, front: u64)
         ensures tags { (k : ℕ) → front ≤ k → tag_of self.new k ≡ tag_of self.old k }
         ensures end { behind self.new.older.items ≤ behind self.old.older.items }
