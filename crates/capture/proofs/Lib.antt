@@ -2,6 +2,7 @@ pub mod PartLaws
 pub mod NumberLaws
 pub mod AddressLaws
 pub mod BytesLaws
+pub mod DigitsLaws
 pub mod Shown
 pub mod EventLaws
 pub mod RecordLaws

@@ -1,6 +1,6 @@
 use Rattle.std.proofs.Common.{arith, sym, ◌∙◌}
 use Rattle.std.proofs.lemmas.Bool.{eqb-true}
-use Rattle.capture.proofs.BytesLaws.{bytes_empty, bytes_odd}
+use Rattle.capture.proofs.DigitsLaws.{bytes_empty, bytes_odd}
 use Rattle.capture.proofs.digits.bytes_into.Goals as goal
 
 pub returns-then-is_empty-clause-bytes : goal.returns-then-is_empty-clause-bytes

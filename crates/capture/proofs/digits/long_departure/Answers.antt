@@ -1,4 +1,4 @@
-use Rattle.capture.proofs.BytesLaws.{bytes_long, bytes_bad}
+use Rattle.capture.proofs.DigitsLaws.{bytes_long, bytes_bad}
 use Rattle.std.proofs.Common.{sym, ◌∙◌}
 use Rattle.capture.proofs.digits.long_departure.Goals as goal
 

@@ -1,5 +1,5 @@
 use Rattle.std.proofs.Common.{arith, sym, ◌∙◌}
-use Rattle.capture.proofs.BytesLaws.{pairs_of_spelling, pairs_of_others, pairs_decoded}
+use Rattle.capture.proofs.DigitsLaws.{pairs_of_spelling, pairs_of_others, pairs_decoded}
 use Rattle.capture.proofs.digits.pairs_into.Goals as goal
 
 pub returns-then-spells : goal.returns-then-spells

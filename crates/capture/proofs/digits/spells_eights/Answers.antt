@@ -1,7 +1,7 @@
 use Rattle.std.proofs.Common.{◌≡◌, refl, sym, ◌+◌, ◌-◌, ◌*◌, ◌≤◌, length, take, drop, arith}
 use Rattle.std.proofs.lemmas.Slice.Eq.{bytes_eq-Decides}
 use Rattle.hex.specs.Hex.{encode_lower}
-use Rattle.capture.proofs.BytesLaws.{spelled_more, spelled_piece, spelled_whole}
+use Rattle.capture.proofs.DigitsLaws.{spelled_more, spelled_piece, spelled_whole}
 use Rattle.capture.proofs.digits.spells_eights.Goals as goal
 
 pub returns-then-not-spells_singly-clause-value : goal.returns-then-not-spells_singly-clause-value

@@ -1,6 +1,6 @@
 use Rattle.std.proofs.Common.{◌/◌, ◌*◌, length, refl, sym, ap, ◌∙◌, arith}
 use Rattle.hex.specs.Hex.{encode_lower}
-use Rattle.capture.proofs.BytesLaws.{all_behind, spelled_parts, front_spelled, rest_spelled}
+use Rattle.capture.proofs.DigitsLaws.{all_behind, spelled_parts, front_spelled, rest_spelled}
 use Rattle.capture.proofs.digits.spells_few.Goals as goal
 
 pub returns-then-not-spells_eights-clause-value : goal.returns-then-not-spells_eights-clause-value

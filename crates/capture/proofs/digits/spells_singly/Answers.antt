@@ -1,5 +1,5 @@
 use Rattle.std.proofs.Common.{refl, sym, ◌+◌, ◌∙◌, arith}
-use Rattle.capture.proofs.BytesLaws.{spelled_more, spelled_piece, spelled_whole, not_both, was_true}
+use Rattle.capture.proofs.DigitsLaws.{spelled_more, spelled_piece, spelled_whole, not_both, was_true}
 use Rattle.capture.proofs.digits.spells_singly.Goals as goal
 
 pub returns-then-ne-clause-value : goal.returns-then-ne-clause-value
