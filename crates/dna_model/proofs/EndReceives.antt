@@ -28,6 +28,7 @@ use Rattle.dna_model.proofs.LinkTables.{IsFound, looked}
 use Rattle.dna_model.proofs.LinkReads.{at_is}
 use Rattle.dna_model.proofs.LinkAddresses.{LinkList, OwnsIn}
 use Rattle.dna_model.proofs.PlayedSteps.{PlayHalf}
+use Rattle.dna_model.proofs.StationNumbers.{is_data}
 use Rattle.dna_model.proofs.PlayerChecked.{IsReady}
 use Rattle.dna_model.proofs.ReceiptMakes.{came_left, header_made, data_made, unit_made}
 use Rattle.dna_model.proofs.DamagedUnits.{Damaged, damage_is_seen}
@@ -112,7 +113,7 @@ module _ (own : End) (other : PlayHalf) where
   module _ (unit : LayersUnit) (there : slice_get other.sent own.passed ≡ Some unit) (ahead : own.half.state.front ≤ own.passed) (told : reading unit.bytes ≡ Sound unit.message) where
     -- it comes as it was sent, with a buffer or without one
     pub unit_comes : (ready : IsReady own.half other) (in_bounds : IsBounded (cut_half stations own.half) (cut_half stations other))
-        (from : (u : SentMessage) → unit.known.carried ≡ Some u → (u.packet.src ≡ (links_of own.half).peer) × (u.packet.dst ≡ (links_of own.half).node)) (buffer : Bool) →
+        (from : is_data unit.message ≡ true → (u : SentMessage) → unit.known.carried ≡ Some u → (u.packet.src ≡ (links_of own.half).peer) × (u.packet.dst ≡ (links_of own.half).node)) (buffer : Bool) →
         has_line (Received own.passed (buffer && can_keep own (reading unit.bytes)) unit.bytes) ≡ true →
         ((half : PlayHalf) → advance end_step own.half other (Received own.passed (buffer && can_keep own (reading unit.bytes)) unit.bytes) ≡ Made half → IsClear half (carried (buffer && can_keep own (reading unit.bytes)) (reading unit.bytes))) →
         (stepped : Stepped) × (comes own other buffer unit.bytes ≡ Ok stepped)

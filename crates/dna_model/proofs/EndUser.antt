@@ -65,3 +65,13 @@ module _ (own other half : PlayHalf) where
   pub halt_made : makes own other (User happened.Halt) ≡ Some half → after_user Halt ≡ half
   unfolding end_step
   halt_made e = let told = makes_tells own other (User happened.Halt) half e in same_Some (after_user Halt) half (ap made_half told.1)
+
+-- ---- and it is made: a start in HALTED, a halt always
+
+pub start_makes : (own other : PlayHalf) → (station_of own).state ≡ Halted → (half : PlayHalf) × (makes own other (User happened.Start) ≡ Some half)
+unfolding end_step
+start_makes own other is = (after_user own other own Start, ap (started own other own) is)
+
+pub halt_makes : (own other : PlayHalf) → (half : PlayHalf) × (makes own other (User happened.Halt) ≡ Some half)
+unfolding end_step
+halt_makes own other = (after_user own other own Halt, refl)

@@ -138,6 +138,17 @@ mod UserStages
 mod UnitFacts
 mod HandedLined
 mod SidesLined
+mod SentLined
+mod PlayedFacts
+mod ComesStage
+mod StepPasses
+mod StepStages
+mod PlayedStages
+mod ComesMade
+mod LinksMade
+mod StepRuled
+mod PlayedRuled
+pub mod StepTests
 mod PlayRowSteps
 mod PlayRows
 mod PlayRowsStation

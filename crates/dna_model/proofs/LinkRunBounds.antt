@@ -159,7 +159,7 @@ side_in_step own other b = record {
 
 -- ---- in every run
 
-record BothOwned (w : LinkWorld) (events further : List LinkEventValue) : Type 0 where
+pub record BothOwned (w : LinkWorld) (events further : List LinkEventValue) : Type 0 where
   pub of_a : AreOwned events w.a.links.links
   pub of_b : AreOwned further w.b.links.links
 
@@ -206,10 +206,10 @@ reached_counted sound first (ByB {w = v} {of_b = ys} {events = events} {left = l
     record { of_a = o.of_a; of_b = step_counted v.b v.a left ys events (reached_sound sound r).of_b o.of_b step }
 
 module _ (node_a peer_a node_b peer_b : ℕ) (w : LinkWorld) (of_a of_b : List LinkEventValue) (run : Reached (new_world node_a peer_a node_b peer_b) w of_a of_b) where
-  sound : BothLinksSound w
+  pub sound : BothLinksSound w
   sound = reached_sound (start_sound node_a peer_a node_b peer_b) run
 
-  owned : BothOwned w of_a of_b
+  pub owned : BothOwned w of_a of_b
   owned = reached_owned (start_sound node_a peer_a node_b peer_b) (record { of_a = none_owned; of_b = none_owned }) run
 
   pub bounded : AreLinksBounded w.a w.b × AreLinksBounded w.b w.a

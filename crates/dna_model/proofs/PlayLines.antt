@@ -46,7 +46,7 @@ line_told r e =
 both : (p q : Bool) → p ≡ true → q ≡ true → (p && q) ≡ true
 both p q e f = rw (e, f)
 
-bytes_tested : (bytes : List ℕ) → ((i : ℕ) → slice_index bytes i < 256) → are_bytes bytes ≡ true
+pub bytes_tested : (bytes : List ℕ) → ((i : ℕ) → slice_index bytes i < 256) → are_bytes bytes ≡ true
 bytes_tested [] h = refl
 bytes_tested (b ∷ bytes) h = both _ _ (lt-ltb b 256 (h 0)) (bytes_tested bytes (λ i. h (suc i)))
 

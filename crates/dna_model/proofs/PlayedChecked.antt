@@ -28,7 +28,7 @@ counted_as played a b c d e f h = record {
 
 -- ---- a step
 
-abbrev AreNext : (count_a count_b : ℕ) → Result Played Stop → Type 0
+abbrev pub AreNext : (count_a count_b : ℕ) → Result Played Stop → Type 0
 AreNext count_a count_b (Ok played) = AreInOrder played count_a count_b
 AreNext count_a count_b (Err stop) = Unit {0}
 
@@ -51,7 +51,7 @@ step_at so_far count_a count_b B step h = go (plays so_far.b so_far.a.half step)
     }
     go (Err stop) m = tt
 
-step_next : (so_far : Played) (count_a count_b : ℕ) (step : ScriptStep) → AreInOrder so_far count_a count_b → AreNext (count_a + starts_at A step.side step.step) (count_b + starts_at B step.side step.step) (plays_step so_far step)
+pub step_next : (so_far : Played) (count_a count_b : ℕ) (step : ScriptStep) → AreInOrder so_far count_a count_b → AreNext (count_a + starts_at A step.side step.step) (count_b + starts_at B step.side step.step) (plays_step so_far step)
 unfolding plays_step
 step_next so_far count_a count_b step h = step_at so_far count_a count_b step.side step.step h
 

@@ -99,7 +99,7 @@ module _ (own : End) (count : ℕ) where
 -- ---- what comes
 
 -- each is a delivery
-abbrev AreUps : List Event → Type 0
+abbrev pub AreUps : List Event → Type 0
 AreUps [] = Unit {0}
 AreUps (events.Up link message ∷ later) = AreUps later
 AreUps (event ∷ later) = ⊥
@@ -131,18 +131,18 @@ delivers_ups s (DataAck dst src acks) = tt
 delivers_ups s (LinkService interrupt dst src rest) = tt
 delivers_ups s (OtherDataAck dst src rest) = tt
 
-now_ups : (s : Links) (o : Option NspValue) → AreUps (delivered_now s o)
+pub now_ups : (s : Links) (o : Option NspValue) → AreUps (delivered_now s o)
 now_ups s None = tt
 now_ups s (Some m) = delivers_ups s m
 
-abbrev IsSoFar : (own : End) (count : ℕ) → Stepped → Type 0
+abbrev pub IsSoFar : (own : End) (count : ℕ) → Stepped → Type 0
 IsSoFar own count so_far = InOrder own.addresses count so_far.records so_far.end.addresses
 
 zero-more : (n : ℕ) → n + 0 ≡ n
 zero-more n = omega arith
 
 -- a delivery starts nothing and gives no address
-up_more : (own : End) (count : ℕ) (so_far : Stepped) (link : ℕ) (message : List ℕ) → IsSoFar own count so_far → InOrder own.addresses count (so_far.records ++ User (events.Up link message) ∷ []) so_far.end.addresses
+pub up_more : (own : End) (count : ℕ) (so_far : Stepped) (link : ℕ) (message : List ℕ) → IsSoFar own count so_far → InOrder own.addresses count (so_far.records ++ User (events.Up link message) ∷ []) so_far.end.addresses
 up_more own count so_far link message h =
     subst (λ (n : ℕ). InOrder own.addresses n (so_far.records ++ User (events.Up link message) ∷ []) so_far.end.addresses) (zero-more count)
     (order_join own.addresses so_far.end.addresses so_far.end.addresses count 0 so_far.records (User (events.Up link message) ∷ []) h (record { counted = refl; rise = (tt, tt); top = refl }))
@@ -170,7 +170,7 @@ then_orderly own other message (Err stop) h = tt
 then_orderly own other message (Ok so_far) h = gets_orderly own 0 other (delivered_now (links_of so_far.end.half) message) so_far (now_ups (links_of so_far.end.half) message) h
 
 -- a record without an event of the user
-abbrev quiet : (own : End) (r : Record) → starts (r ∷ []) ≡ 0 → link_events (r ∷ []) ≡ [] → InOrder own.addresses 0 (r ∷ []) own.addresses
+abbrev pub quiet : (own : End) (r : Record) → starts (r ∷ []) ≡ 0 → link_events (r ∷ []) ≡ [] → InOrder own.addresses 0 (r ∷ []) own.addresses
 quiet own r none no_events = record { counted = none; rise = subst (AddressesRise own.addresses) (sym no_events) tt; top = ap (highest own.addresses) no_events }
 
 module _ (own : End) (other : PlayHalf) where

@@ -42,7 +42,7 @@ with_line (first ∷ later) r all one = (all.0, with_line later r all.1 one)
 
 -- ---- the records of one step
 
-abbrev start_of : Script → World LayersNode LayersUnit
+abbrev pub start_of : Script → World LayersNode LayersUnit
 start_of script = layers_start (head_a script) (head_b script)
 
 -- what is left when a's half has moved, and when b's has
@@ -52,7 +52,7 @@ pub record AreMade (script : Script) (w : World LayersNode LayersUnit) (of_a of_
   pub lines_b : AllByRecursion IsRecord of_b
 
 module _ (script : Script) where
-  more_of_a : (b : PlayHalf) {own end : PlayHalf} {records : List Record} (of_a of_b : List Record) → MakesAll b own records end → AreMade script (record { a = own; b = b }) of_a of_b → AreMade script (record { a = end; b = b }) (of_a ++ records) of_b
+  pub more_of_a : (b : PlayHalf) {own end : PlayHalf} {records : List Record} (of_a of_b : List Record) → MakesAll b own records end → AreMade script (record { a = own; b = b }) of_a of_b → AreMade script (record { a = end; b = b }) (of_a ++ records) of_b
   unfolding end_step
   more_of_a b {own} of_a of_b Nothing h = subst (λ (x : List Record). AreMade script (record { a = own; b = b }) x of_b) (sym (append-nil of_a)) h
   more_of_a b of_a of_b (First {own} {next} {end} {r} {later} m rest) h =
@@ -60,7 +60,7 @@ module _ (script : Script) where
       subst (λ (x : List Record). AreMade script (record { a = end; b = b }) x of_b) (append_assoc of_a (r ∷ []) later)
       (more_of_a b (of_a ++ r ∷ []) of_b rest (record { run = one_more_of_a player_pair r next h.run told.1; lines_a = with_line of_a r h.lines_a (line_told r told.0); lines_b = h.lines_b }))
 
-  more_of_b : (a : PlayHalf) {own end : PlayHalf} {records : List Record} (of_a of_b : List Record) → MakesAll a own records end → AreMade script (record { a = a; b = own }) of_a of_b → AreMade script (record { a = a; b = end }) of_a (of_b ++ records)
+  pub more_of_b : (a : PlayHalf) {own end : PlayHalf} {records : List Record} (of_a of_b : List Record) → MakesAll a own records end → AreMade script (record { a = a; b = own }) of_a of_b → AreMade script (record { a = a; b = end }) of_a (of_b ++ records)
   unfolding end_step
   more_of_b a {own} of_a of_b Nothing h = subst (λ (x : List Record). AreMade script (record { a = a; b = own }) of_a x) (sym (append-nil of_b)) h
   more_of_b a of_a of_b (First {own} {next} {end} {r} {later} m rest) h =
@@ -70,7 +70,7 @@ module _ (script : Script) where
 
   -- ---- a step, and all steps
 
-  abbrev GoodPlay : Result Played Stop → Type 0
+  abbrev pub GoodPlay : Result Played Stop → Type 0
   GoodPlay (Ok played) = ArePlayed script played
   GoodPlay (Err stop) = Unit {0}
 
@@ -104,8 +104,12 @@ module _ (script : Script) where
   all_played steps so_far [] h = h
   all_played steps so_far (step ∷ later) h = after_step steps so_far later h (λ next k. all_played (steps + 1) next later k) (plays_step so_far step) (step_played so_far step h)
 
+  -- before any step
+  pub none_played : ArePlayed script (not_begun script)
+  none_played = record { run = Done; lines_a = tt; lines_b = tt }
+
   pub is_played : SoFarPlayed (play script)
-  is_played = all_played 0 (not_begun script) script.steps (record { run = Done; lines_a = tt; lines_b = tt })
+  is_played = all_played 0 (not_begun script) script.steps none_played
 
   pub whole_is_played : (played : Played) → play script ≡ Ok played → ArePlayed script played
   whole_is_played played e = subst SoFarPlayed e is_played

@@ -47,7 +47,7 @@ either_row : (b : Bool) (r : Row) → has_packet r.effects ≡ false → has_pac
 either_row true r e = e
 either_row false r e = refl
 
-row_is_data : (state : State) (m : MessageValue) → has_packet (row state m).effects ≡ true → is_data m ≡ true
+pub row_is_data : (state : State) (m : MessageValue) → has_packet (row state m).effects ≡ true → is_data m ≡ true
 row_is_data Halted m e = absurd cc
 row_is_data Istrt (Strt flags) e = absurd cc
 row_is_data Istrt (Stack flags) e = absurd cc

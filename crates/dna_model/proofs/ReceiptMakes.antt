@@ -1,10 +1,12 @@
 -- What comes to a node of the player it takes: a unit as it was sent, with its packet where that can be taken, and a damaged one.
 use Rattle.std.proofs.Common.{◌≡◌, ℕ, ◌+◌, ◌≤◌, Bool, true, false, ◌&&◌, cond, Option, Some, None, option_map, List, Result, Ok, Err, refl, ap, ap₂, ◌∙◌, le-ltb, eq-eqb}
 use Rattle.std.specs.Prelude.{slice_get, bytes_eq}
+use Rattle.std.proofs.lemmas.Bool.{and_parts}
 use Rattle.std.proofs.lemmas.Option.{slice_get-map}
 use Rattle.std.proofs.lemmas.Slice.Eq.{bytes_eq-Decides}
 use Rattle.two_nodes.specs.Nodes.{Made, stepped, concluded, read, advance}
 use Rattle.two_nodes.specs.Cutting.{cut_half}
+use Rattle.ddcmp_msg.specs.Message.{MessageValue}
 use Rattle.ddcmp_msg.specs.Reading.{ReadingValue, reading}
 use Rattle.ddcmp_msg.specs.Reading as read_as
 use Rattle.dna_packet.specs.Nsp.{NspValue, DataSegment, LinkService, DataAck, OtherDataAck, ConnectAck, NoOperation, ConnectInitiate, ConnectConfirm, DisconnectInitiate, DisconnectConfirm}
@@ -16,10 +18,13 @@ use Rattle.dna_model.specs.declared.link_refusal.LinkRefusal.TheVariants.{WrongN
 use Rattle.dna_model.specs.declared.refusal.StationRefusal.{StationRefusal}
 use Rattle.dna_model.specs.declared.refusal.StepRefusal.{StepRefusal}
 use Rattle.dna_model.specs.declared.refusal.StepRefusal.TheVariants.{HintOrder}
-use Rattle.dna_model.specs.Book.{ArrivalValue, Sound, HeaderBad, DataBad, keep_refusal}
+use Rattle.dna_model.specs.Table.{row}
+use Rattle.dna_model.specs.Book.{ArrivalValue, Sound, HeaderBad, DataBad, keep_refusal, has_packet, num_of}
 use Rattle.dna_model.specs.StationBook.{arrival_refusal, after_arrival}
 use Rattle.dna_model.specs.Bounds.{IsBounded, IsWithin}
 use Rattle.dna_model.specs.WireNode.{unlabelled}
+use Rattle.dna_model.specs.WireStation.{StationVariables}
+use Rattle.dna_model.specs.WireBook.{wire_is_next}
 use Rattle.dna_model.specs.Line.{coming_by}
 use Rattle.dna_model.specs.Machine.{met, comes, receives, unless_refused}
 use Rattle.dna_model.specs.Links.{LinkOf, LinkTruth, check, on_link, at_number, number_of, with_link}
@@ -33,7 +38,12 @@ use Rattle.dna_model.specs.Player.{by_bytes, end_step, variables_of}
 use Rattle.dna_model.proofs.CutArriving.{arrival_refusal_same}
 use Rattle.dna_model.proofs.OnTop.{IsMet, NotKept, KeptNone, KeptOne}
 use Rattle.dna_model.proofs.PlayedSteps.{PlayHalf}
-use Rattle.dna_model.proofs.PlayerChecked.{IsReady, meets_it}
+use Rattle.dna_model.proofs.StationNumbers.{is_data}
+use Rattle.dna_model.proofs.PlayerChecked.{row_is_data, IsReady, meets_it}
+
+-- a packet that can be taken is of data
+pub taken_is_data : {L : Type 0} (k : StationVariables L) (m : MessageValue) → can_take k m ≡ true → is_data m ≡ true
+taken_is_data k m e = row_is_data k.state m (and_parts (has_packet (row k.state m).effects) (wire_is_next k (num_of m)) e).0
 
 -- ---- the links
 
@@ -101,7 +111,7 @@ module _ (own other : PlayHalf) (hint : ℕ) (unit : LayersUnit) (there : slice_
       advance end_step own other (Received hint false bytes) ≡ Made (came_left DataBad false s.links)
   data_made bytes differs shows = is_made false bytes _ (ap₂ (λ (r : ReadingValue) (b : Bool). comes (layers_machine by_bytes) own.state (hint + 1) false (coming_by b unit r)) shows differs)
 
-  module _ (h : IsReady own other) (bounded : IsBounded (cut_half stations own) (cut_half stations other)) (from : (u : SentMessage) → unit.known.carried ≡ Some u → (u.packet.src ≡ s.links.peer) × (u.packet.dst ≡ s.links.node)) where
+  module _ (h : IsReady own other) (bounded : IsBounded (cut_half stations own) (cut_half stations other)) (from : is_data unit.message ≡ true → (u : SentMessage) → unit.known.carried ≡ Some u → (u.packet.src ≡ s.links.peer) × (u.packet.dst ≡ s.links.node)) where
     pub within : IsWithin s.station unit.message unit.known.station
     within = bounded.within hint (unit_of_station unit) (slice_get-map unit_of_station other.sent hint ∙ ap (option_map unit_of_station) there) ahead (meets_it own other h hint unit there)
 
@@ -140,7 +150,7 @@ module _ (own other : PlayHalf) (hint : ℕ) (unit : LayersUnit) (there : slice_
     by_carried false can o is = made_with false can s.links NotKept refl
     by_carried true can None is = made_with true can s.links (KeptNone is) (ap (keeps by_bytes (after true)) is)
     by_carried true can (Some u) is =
-        let f = from u is in
+        let f = from (taken_is_data (variables_of own) unit.message (can refl)) u is in
         let l = links_take s.links u f.0 f.1 in
         made_with true can l.0 (KeptOne u l.0 is l.1) (ap (keeps by_bytes (after true)) is ∙ ap (with_links (after true)) l.1)
 

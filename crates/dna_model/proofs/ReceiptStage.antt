@@ -25,6 +25,7 @@ use Rattle.dna_model.specs.LinkOwed.{NoDebt, Owes, OwesConfirm, EndConfirm, Data
 use Rattle.dna_model.specs.Player.{End, by_bytes, station_of, links_of, after_record}
 use Rattle.dna_model.specs.Receipt.{carried_in, carried, carried_debt, after_receipt}
 use Rattle.dna_model.proofs.CutNode.{arrival_packets}
+use Rattle.dna_model.proofs.StationNumbers.{is_data}
 use Rattle.dna_model.proofs.LayersRead.{packet_in}
 use Rattle.dna_model.proofs.OnTop.{IsMet, NotKept, KeptNone, KeptOne}
 use Rattle.dna_model.proofs.LinkTables.{looked, checked, arrived_did}
@@ -113,39 +114,39 @@ module _ (own other : End) (h : Stage own) (theirs : Stage other) (known : Known
       (came_holds s own.addresses own.links_owed h.links ordered of_anyone m u.truth left plain came (arrived_did true_flows of_anyone s left u.truth u.packet does))
       (message_debt s m) (came_debt s of_anyone u.truth left m came) (λ confirm e. confirmed u.truth left confirm m told came e)
 
-  module _ (unit : LayersUnit) (placed : (u : SentMessage) → unit.known.carried ≡ Some u → (k : ℕ) × (slice_get other.half.state.station.messages k ≡ Some (Some u))) where
-    links_stage : (kept : Bool) (links : Links) → (kept ≡ true → content (body_of unit.message) ≡ Ok (packet_in unit.known.carried)) →
+  module _ (unit : LayersUnit) (there : slice_get other.half.sent own.passed ≡ Some unit) (ahead : own.half.state.front ≤ own.passed) where
+    links_stage : (kept : Bool) (links : Links) → (kept ≡ true → is_data unit.message ≡ true) → (kept ≡ true → content (body_of unit.message) ≡ Ok (packet_in unit.known.carried)) →
         IsMet by_bytes s unit.known.carried kept links →
         LinkHolds links.links own.addresses (with_debt (carried_debt s (carried kept (read_as.Sound unit.message))) (left_links s.links links.links own.links_owed))
-    links_stage false links is_read NotKept = same_holds s own.addresses own.links_owed h.links ordered
-    links_stage true links is_read (KeptNone is) =
+    links_stage false links taken is_read NotKept = same_holds s own.addresses own.links_owed h.links ordered
+    links_stage true links taken is_read (KeptNone is) =
         let e = is_read refl ∙ ap (λ (o : Option SentMessage). Ok (packet_in o)) is in
         subst (λ (r : Result (Option Carried) StepRefusal). LinkHolds s.links own.addresses (with_debt (carried_debt s (carried_in r)) (left_links s.links s.links own.links_owed))) (sym e) (same_holds s own.addresses own.links_owed h.links ordered)
-    links_stage true links is_read (KeptOne u left is does) =
+    links_stage true links taken is_read (KeptOne u left is does) =
         let e = is_read refl ∙ ap (λ (o : Option SentMessage). Ok (packet_in o)) is in
-        let at = placed u is in
+        let place = unit.known.station.place in
+        let at = known.ready.told.told own.passed unit there (taken refl) ∙ ap Some is in
         subst (λ (r : Result (Option Carried) StepRefusal). LinkHolds left.links own.addresses (with_debt (carried_debt s (carried_in r)) (left_links s.links left.links own.links_owed))) (sym e)
-        (message_holds u left (theirs.plain at.0 u at.1) (known.ready.other_addressed.told at.0 u at.1) does)
+        (message_holds u left (theirs.plain place u at) (known.ready.other_addressed.told place u at) does)
 
     -- ---- the end after a unit as it was sent
 
-    pub unit_stage : (kept : Bool) (links : Links) (there : slice_get other.half.sent own.passed ≡ Some unit) (ahead : own.half.state.front ≤ own.passed) →
+    pub unit_stage : (kept : Bool) (links : Links) → (kept ≡ true → is_data unit.message ≡ true) →
         reading unit.bytes ≡ read_as.Sound unit.message → IsWithin (station_of own.half) unit.message unit.known.station →
         (kept ≡ true → content (body_of unit.message) ≡ Ok (packet_in unit.known.carried)) → IsMet by_bytes s unit.known.carried kept links →
         Stage (after_receipt own (reading unit.bytes) kept (after_record own (came_left own.half other.half own.passed unit there ahead (Sound unit.message unit.known) kept links)))
-    unit_stage kept links there ahead told within is_read met_as =
+    unit_stage kept links taken told within is_read met_as =
         subst (λ (r : ReadingValue). Stage (after_receipt own r kept (after_record own (came_left own.half other.half own.passed unit there ahead (Sound unit.message unit.known) kept links)))) (sym told) (record {
           pays = sound_stage (station_of own.half) own.owed h.pays known.bounded.ordered unit.message unit.known.station kept within;
           packets = arrived_packets (station_of own.half) (after_arrival (station_of own.half) (Sound unit.message unit.known.station) kept) (arrival_packets (station_of own.half) (Sound unit.message unit.known.station) kept) h.packets;
-          links = links_stage kept links is_read met_as;
+          links = links_stage kept links taken is_read met_as;
           plain = h.plain;
           few = h.few;
           ahead = omega arith;
         })
 
-  -- ---- the end after a damaged one
+    -- ---- the end after a damaged one
 
-  module _ (unit : LayersUnit) (there : slice_get other.half.sent own.passed ≡ Some unit) (ahead : own.half.state.front ≤ own.passed) where
     pub header_bad_stage : Stage (after_receipt own read_as.HeaderBad false (after_record own (came_left own.half other.half own.passed unit there ahead HeaderBad false s)))
     header_bad_stage = record {
       pays = header_stage (station_of own.half) own.owed h.pays;

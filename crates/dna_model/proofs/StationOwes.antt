@@ -18,7 +18,7 @@ use Rattle.dna_model.specs.Book.{Sound, HeaderBad, DataBad, num_of, resp_of, has
 use Rattle.dna_model.specs.Station.{wire}
 use Rattle.dna_model.specs.WireStation.{HeldPacket, StationVariables, WireStation, wire_after_event}
 use Rattle.dna_model.specs.WireBook.{acknowledges, wire_acknowledged_by, wire_responded, wire_is_next, wire_does, wire_book, wire_after_sending, wire_after_arrival}
-use Rattle.dna_model.specs.Owed.{Owed, nothing, Debt, OwesRep, OwesNak, with_debt, data_debt, rep_debt, damage_debt, same_state, can_take, message_debt, still_owed}
+use Rattle.dna_model.specs.Owed.{Owed, Debt, OwesRep, OwesNak, with_debt, data_debt, rep_debt, damage_debt, same_state, can_take, message_debt, still_owed}
 use Rattle.dna_model.specs.NextSent.{LinkEnd, Choice, SendStrt, SendStack, SendNak, SendRep, SendAgain, SendNew, SendAck, after_choice}
 use Rattle.dna_model.specs.Compose.{no_flags, data_with, packet_again, new_data, packet_with, link_message, message_of}
 use Rattle.dna_model.proofs.Effects.{kept_by_all}

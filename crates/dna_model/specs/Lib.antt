@@ -61,3 +61,4 @@ pub mod Played
 pub mod ScriptText
 pub mod PlayedText
 pub mod PlayRun
+pub mod StepRule

@@ -3,9 +3,11 @@
 ghost use Rattle.std.specs.Prelude.{◌≡◌, take, Ok, Err};
 ghost use Rattle.two_nodes.specs.Nodes.{Run};
 ghost use Rattle.dna_model.specs.LayersPair.{layers_pair, layers_start};
-ghost use Rattle.dna_model.specs.Script.{Script};
-ghost use Rattle.dna_model.specs.Played.{Played, Stopped, head_a, head_b, play};
+ghost use Rattle.dna_model.specs.Script.{ScriptStep, Script};
+ghost use Rattle.dna_model.specs.ScriptText.{IsScript};
+ghost use Rattle.dna_model.specs.Played.{Played, Stopped, head_a, head_b, plays_step, play};
 ghost use Rattle.dna_model.specs.PlayRun.{ArePlayed, StartsOnce, world_of};
+ghost use Rattle.dna_model.specs.StepRule.{StepsByRule, StopsByRule, and_then};
 
 /// The records of a script are made by two nodes that ask no rule on tags, in some order, and each has a line in a capture; so are those of the
 /// steps before one that can't be made.
@@ -21,4 +23,13 @@ pub fn played_captures_are_a_run()
         → Run layers_pair (layers_start (head_a script) (head_b script)) played.of_a played.of_b (world_of played) }
     ensures stopped { (script : Script) (stopped : Stopped) → play script ≡ Err stopped → StartsOnce (take stopped.steps script.steps)
         → Run layers_pair (layers_start (head_a script) (head_b script)) stopped.so_far.of_a stopped.so_far.of_b (world_of stopped.so_far) }
+{}
+
+/// A step behind a script that starts each side at most once goes by its rule, where both have a text: it is bad exactly where it breaks the
+/// rule, and full exactly where it keeps the rule but needs a link address and all of its end are given. So does the step that stops a script.
+pub fn steps_go_by_their_rules()
+    ensures next { (script : Script) (step : ScriptStep) (so_far : Played) → IsScript (and_then script step) → play script ≡ Ok so_far
+        → StartsOnce script.steps → StepsByRule so_far step (plays_step so_far step) }
+    ensures stopped { (script : Script) (stopped : Stopped) → IsScript script → play script ≡ Err stopped → StartsOnce (take stopped.steps script.steps)
+        → StopsByRule script stopped }
 {}
