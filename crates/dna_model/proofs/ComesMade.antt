@@ -48,7 +48,8 @@ module _ (own other : End) (h : Stage own) (theirs : Stage other) (later : Later
   clear : (bytes : List ℕ) (kept : Bool) (o : Option NspValue) → has_line (Received own.passed kept bytes) ≡ true → (half : PlayHalf) →
       advance end_step own.half other.half (Received own.passed kept bytes) ≡ Made half → IsClear own other.half half o
   clear bytes kept o lined half is = clear_of half
-      (later (after_record own half) (Received own.passed kept bytes ∷ []) (First (made_is own.half other.half bytes own.passed kept half lined is) Nothing)
+      (later (after_record own half) (Received own.passed kept bytes ∷ []) (First
+      (made_is own.half other.half bytes own.passed kept half lined is) Nothing)
       (quiet own (Received own.passed kept bytes) refl refl)) o
 
   unit_line : (kept : Bool) → has_line (Received own.passed kept unit.bytes) ≡ true
@@ -58,13 +59,16 @@ module _ (own other : End) (h : Stage own) (theirs : Stage other) (later : Later
   pub unit_made_to : (buffer : Bool) → (stepped : Stepped) × (comes own other.half buffer unit.bytes ≡ Ok stepped)
   unit_made_to buffer =
       let kept = buffer && can_keep own (reading unit.bytes) in
-      unit_comes own other.half unit there h.ahead (facts.reads own.passed unit there) facts.known.ready facts.known.bounded (from_here own other later h theirs facts unit there) buffer (unit_line kept)
+      unit_comes own other.half unit there h.ahead (facts.reads own.passed unit there) facts.known.ready facts.known.bounded
+      (from_here own other later h theirs facts unit there) buffer (unit_line kept)
       (clear unit.bytes kept (carried kept (reading unit.bytes)) (unit_line kept))
 
-  damaged_line : (place value : ℕ) → is_damage place value unit.bytes ≡ true → has_line (Received own.passed false (damaged place value unit.bytes)) ≡ true
+  damaged_line : (place value : ℕ) → is_damage place value unit.bytes ≡ true →
+      has_line (Received own.passed false (damaged place value unit.bytes)) ≡ true
   damaged_line place value is =
       let l = facts.lined own.passed unit there in
-      let p = and_parts (nat_lt place (length unit.bytes)) (nat_le 1 value && nat_le value 255) is in let q = and_parts (nat_le 1 value) (nat_le value 255) p.1 in
+      let p = and_parts (nat_lt place (length unit.bytes)) (nat_le 1 value && nat_le value 255) is in let q =
+      and_parts (nat_le 1 value) (nat_le value 255) p.1 in
       let most = leb-true value 255 q.1 in
       let byte : slice_index unit.bytes place < 2 ^ 8 = l.spelling.bytes place in
       let y = bit_xor (slice_index unit.bytes place) value in
@@ -79,5 +83,6 @@ module _ (own other : End) (h : Stage own) (theirs : Stage other) (later : Later
   pub damage_made_to : (place value : ℕ) → is_damage place value unit.bytes ≡ true →
       (stepped : Stepped) × (comes own other.half true (damaged place value unit.bytes) ≡ Ok stepped)
   damage_made_to place value is =
-      damage_comes own other.half unit there h.ahead (facts.reads own.passed unit there) place value (are_bytes_of own other later h theirs facts unit there) is
+      damage_comes own other.half unit there h.ahead (facts.reads own.passed unit there) place value
+      (are_bytes_of own other later h theirs facts unit there) is
       facts.known.addressed.distinct (damaged_line place value is)

@@ -38,7 +38,8 @@ up_stage : (e other : End) → Stage e → Facts e other → (address : ℕ) (me
 up_stage e other h facts address message half is =
     let m = link_event_made e.half other.half half (events.Up address message) (of_links.Up address message) refl is in
     subst (λ (x : PlayHalf). Stage (after_record e x)) m.is
-    (link_event_stage e h facts.known.numbers (links_of other.half).links facts.known.addressed (of_links.Up address message) m.left tt tt h.few m.does_it)
+    (link_event_stage e h facts.known.numbers (links_of other.half).links facts.known.addressed
+    (of_links.Up address message) m.left tt tt h.few m.does_it)
 
 -- the same bytes leave the same half
 same_half : (x y : PlayHalf) → ◌≡◌ {A = Outcome LayersNode LayersUnit StepRefusal} (Made x) (Made y) → x ≡ y
@@ -52,7 +53,10 @@ module _ (own other : End) (later : Later own other) where
     pub order : InOrder own.addresses 0 so_far.records so_far.end.addresses
 
   abbrev with_up : Stepped → (address : ℕ) (message : List ℕ) → PlayHalf → Stepped
-  with_up so_far address message half = record { end = after_record so_far.end half; records = so_far.records ++ User (events.Up address message) ∷ [] }
+  with_up so_far address message half = record {
+    end = after_record so_far.end half;
+    records = so_far.records ++ User (events.Up address message) ∷ [];
+  }
 
   one_got : (address : ℕ) (message : List ℕ) (list : List Event) (so_far : Stepped) → SoFar so_far →
       ((next : Stepped) → SoFar next → Staged (gets_all list other.half next)) → (o : Option PlayHalf) →
@@ -80,7 +84,8 @@ module _ (own other : End) (later : Later own other) where
   -- ---- a receipt, with all that is got
 
   module _ (bytes : List ℕ) (read : ReadingValue) (kept : Bool)
-      (stays : (half : PlayHalf) → advance end_step own.half other.half (Received own.passed kept bytes) ≡ Made half → Stage (after_receipt own read kept (after_record own half))) where
+      (stays : (half : PlayHalf) → advance end_step own.half other.half (Received own.passed kept bytes) ≡ Made half →
+      Stage (after_receipt own read kept (after_record own half))) where
     then_staged : (o : Option PlayHalf) → makes own.half other.half (Received own.passed kept bytes) ≡ o →
         Staged (then_gets other.half (carried kept read) (made own (Received own.passed kept bytes) (after_receipt own read kept) o))
     then_staged None e = tt
@@ -97,7 +102,8 @@ module _ (own other : End) (later : Later own other) where
 
   -- ---- a unit that is on the line
 
-  module _ (h : Stage own) (theirs : Stage other) (facts : Facts own other) (unit : LayersUnit) (there : slice_get other.half.sent own.passed ≡ Some unit) where
+  module _ (h : Stage own) (theirs : Stage other) (facts : Facts own other) (unit : LayersUnit)
+      (there : slice_get other.half.sent own.passed ≡ Some unit) where
     told : reading unit.bytes ≡ read_as.Sound unit.message
     told = facts.reads own.passed unit there
 
@@ -123,7 +129,8 @@ module _ (own other : End) (later : Later own other) where
     pub are_bytes_of : are_bytes unit.bytes ≡ true
     are_bytes_of = bytes_tested unit.bytes (facts.lined own.passed unit there).spelling.bytes
 
-    pub damage_staged : (place value : ℕ) → is_damage place value unit.bytes ≡ true → Staged (comes own other.half true (damaged place value unit.bytes))
+    pub damage_staged : (place value : ℕ) → is_damage place value unit.bytes ≡ true →
+        Staged (comes own other.half true (damaged place value unit.bytes))
     damage_staged place value is = by_reading (damage_is_seen unit.message unit.bytes place value are_bytes_of told is).shows
       where
         hurt : List ℕ
@@ -132,7 +139,8 @@ module _ (own other : End) (later : Later own other) where
         differs : Damaged place value unit.bytes
         differs = damage_is_seen unit.message unit.bytes place value are_bytes_of told is
 
-        as_read : (r : ReadingValue) → reading hurt ≡ r → Staged (receives own other.half hurt r (true && can_keep own r)) → Staged (comes own other.half true hurt)
+        as_read : (r : ReadingValue) → reading hurt ≡ r → Staged (receives own other.half hurt r (true && can_keep own r)) →
+            Staged (comes own other.half true hurt)
         as_read r e s = subst (λ (x : ReadingValue). Staged (receives own other.half hurt x (true && can_keep own x))) (sym e) s
 
         by_reading : (reading (damaged place value unit.bytes) ≡ read_as.HeaderBad) ⊎ (reading (damaged place value unit.bytes) ≡ read_as.DataBad) →

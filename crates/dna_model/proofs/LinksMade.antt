@@ -34,7 +34,8 @@ use Rattle.dna_model.proofs.EndStage.{with_left}
 -- ---- an event is made
 
 -- one that the links take, and that has a line
-event_makes : (own other : PlayHalf) (event : Event) (value : LinkEventValue) (left : Links) → link_event event ≡ Some value → has_line (User event) ≡ true →
+event_makes : (own other : PlayHalf) (event : Event) (value : LinkEventValue) (left : Links) → link_event event ≡ Some value →
+    has_line (User event) ≡ true →
     links_user (links_of own) value ≡ Ok left → makes own other (User event) ≡ Some (with_left own left)
 unfolding end_step
 event_makes own other event value left is lined does_it =
@@ -50,16 +51,24 @@ event_made own other event value is lined taken = (with_left own taken.0, event_
 -- ---- an event has a line
 
 pub open_line : (address : ℕ) → IsLink address → has_line (User (events.Open address)) ≡ true
-open_line address link = line_tested (User (events.Open address)) (record { spelling = record { numbers = link; bytes = λ i. omega arith }; short = omega arith })
+open_line address link = line_tested (User (events.Open address)) (record {
+  spelling = record { numbers = link; bytes = λ i. omega arith };
+  short = omega arith;
+})
 
 pub accept_line : (partner address : ℕ) → IsLink partner → IsLink address → has_line (User (events.Accept partner address)) ≡ true
-accept_line partner address far link = line_tested (User (events.Accept partner address)) (record { spelling = record { numbers = (far, link); bytes = λ i. omega arith }; short = omega arith })
+accept_line partner address far link = line_tested (User (events.Accept partner address))
+    (record { spelling = record { numbers = (far, link); bytes = λ i. omega arith }; short = omega arith })
 
 pub reject_line : (partner address : ℕ) → IsLink partner → IsLink address → has_line (User (events.Reject partner address)) ≡ true
-reject_line partner address far link = line_tested (User (events.Reject partner address)) (record { spelling = record { numbers = (far, link); bytes = λ i. omega arith }; short = omega arith })
+reject_line partner address far link = line_tested (User (events.Reject partner address))
+    (record { spelling = record { numbers = (far, link); bytes = λ i. omega arith }; short = omega arith })
 
 pub close_line : (address : ℕ) → IsLink address → has_line (User (events.Close address)) ≡ true
-close_line address link = line_tested (User (events.Close address)) (record { spelling = record { numbers = link; bytes = λ i. omega arith }; short = omega arith })
+close_line address link = line_tested (User (events.Close address)) (record {
+  spelling = record { numbers = link; bytes = λ i. omega arith };
+  short = omega arith;
+})
 
 -- ---- the links take it
 
@@ -68,7 +77,8 @@ is_there known number e = ap (λ (o : Option ℕ). is_at o number) e ∙ eq-eqb 
 
 module _ (s : Links) (others : LinkList) (most : ℕ) (addressed : AreAddressed s.links others most) where
   -- a live link is the only one with its own address
-  pub live_found : (address number : ℕ) (link : LinkOf TrueFlow) → slice_get s.links number ≡ Some link → link.port.own ≡ Some address → is_live link.port.phase ≡ true →
+  pub live_found : (address number : ℕ) (link : LinkOf TrueFlow) → slice_get s.links number ≡ Some link → link.port.own ≡ Some address →
+      is_live link.port.phase ≡ true →
       IsFound (LiveAt address) s number link
   live_found address number link there owns live = found_at s (LiveAt address) number link there
       (ap₂ (λ (b c : Bool). b && c) live (is_there link.port.own address owns))
@@ -79,7 +89,12 @@ module _ (s : Links) (others : LinkList) (most : ℕ) (addressed : AreAddressed 
   -- no link has an address that was not given yet
   free : (address : ℕ) → most < address → number_of (LiveAt address) s ≡ None
   free address less = none_found s (LiveAt address) (λ j m at e.
-      let l = addressed.highest j address (record { link = m; there = at; owns = at_is m.port.own address (and_parts (is_live m.port.phase) (is_at m.port.own address) e).1 }) in absurd (omega arith))
+      let l = addressed.highest j address (record {
+        link = m;
+        there = at;
+        owns =
+            at_is m.port.own address (and_parts (is_live m.port.phase) (is_at m.port.own address) e).1;
+      }) in absurd (omega arith))
 
   with_free : (address : ℕ) (next : Links) → most < address → gives true_flows address s next ≡ Ok next
   with_free address next less = ap (λ (o : Option ℕ). at_number s.links o (Ok next) (λ number link. Err AddressInUse)) (free address less)
@@ -90,9 +105,12 @@ module _ (s : Links) (others : LinkList) (most : ℕ) (addressed : AreAddressed 
   answer_taken : (phase : Phase) (partner address number : ℕ) (link : LinkOf TrueFlow) → IsFound (CalledBy partner) s number link → most < address →
       (left : Links) × (answers true_flows phase partner address s ≡ Ok left)
   answer_taken phase partner address number link found less =
-      let next : Links = changed number (users.answered true_flows phase address link) (freed true_flows address s) in
-      (next, with_found s (CalledBy partner) number link (Err NoLink) (λ number link. gives true_flows address s (changed number (users.answered true_flows phase address link) (freed true_flows address s))) found
-      ∙ with_free address next less)
+      let next : Links = changed number (users.answered true_flows phase address link) (freed true_flows address s) in (
+        next,
+        with_found s (CalledBy partner) number link (Err NoLink) (λ number link. gives true_flows address s
+            (changed number (users.answered true_flows phase address link) (freed true_flows address s))) found
+            ∙ with_free address next less,
+      )
 
   pub accept_taken : (partner address number : ℕ) (link : LinkOf TrueFlow) → IsFound (CalledBy partner) s number link → most < address →
       (left : Links) × (links_user s (Accept partner address) ≡ Ok left)
@@ -105,13 +123,19 @@ module _ (s : Links) (others : LinkList) (most : ℕ) (addressed : AreAddressed 
 pub in_taken : (s : Links) (address : ℕ) (message : List ℕ) (number : ℕ) (link : LinkOf TrueFlow) → IsFound (LiveAt address) s number link →
     takes_messages link.port.phase ≡ true → (left : Links) × (links_user s (In address message) ≡ Ok left)
 in_taken s address message number link found may =
-    let next : Links = changed number (with_flow (true_flows.hands_in message link.flow) link) s in
-    (next, with_found s (LiveAt address) number link (Err NoLink) (λ number link. check (takes_messages link.port.phase) LinkState (Ok (changed number (with_flow (true_flows.hands_in message link.flow) link) s))) found
-    ∙ ap (λ (b : Bool). check b LinkState (Ok next)) may)
+    let next : Links = changed number (with_flow (true_flows.hands_in message link.flow) link) s in (
+      next,
+      with_found s (LiveAt address) number link (Err NoLink) (λ number link. check (takes_messages link.port.phase) LinkState
+          (Ok (changed number (with_flow (true_flows.hands_in message link.flow) link) s))) found
+          ∙ ap (λ (b : Bool). check b LinkState (Ok next)) may,
+    )
 
 pub close_taken : (s : Links) (address number : ℕ) (link : LinkOf TrueFlow) → IsFound (LiveAt address) s number link →
     is_connected link.port.phase ≡ true → (left : Links) × (links_user s (Close address) ≡ Ok left)
 close_taken s address number link found may =
-    let next : Links = changed number (in_phase Disconnecting link) s in
-    (next, with_found s (LiveAt address) number link (Err NoLink) (λ number link. check (is_connected link.port.phase) LinkState (Ok (changed number (in_phase Disconnecting link) s))) found
-    ∙ ap (λ (b : Bool). check b LinkState (Ok next)) may)
+    let next : Links = changed number (in_phase Disconnecting link) s in (
+      next,
+      with_found s (LiveAt address) number link (Err NoLink) (λ number link. check (is_connected link.port.phase) LinkState
+          (Ok (changed number (in_phase Disconnecting link) s))) found
+          ∙ ap (λ (b : Bool). check b LinkState (Ok next)) may,
+    )

@@ -51,7 +51,8 @@ pub record Facts (own other : End) : Type 0 where
 
 -- also behind records that start nothing and give no address
 abbrev pub Later : (own other : End) → Type 0
-Later own other = (e : End) (records : List Record) → MakesAll other.half own.half records e.half → InOrder own.addresses 0 records e.addresses → Facts e other
+Later own other = (e : End) (records : List Record) → MakesAll other.half own.half records e.half → InOrder own.addresses 0 records e.addresses →
+    Facts e other
 
 module _ (script : Script) where
   -- what was played so far starts each side at most once
@@ -68,19 +69,23 @@ module _ (script : Script) where
 
   module _ (node_a : IsNode script.node_a) (node_b : IsNode script.node_b) (played : Played) (g : Going played) where
     run : Run layers_pair (layers_start (head_a script) (head_b script)) played.of_a played.of_b (world_of played)
-    run = is_checked_run (head_a script) (head_b script) played.of_a played.of_b g.made.run (orderly played.of_a g.order.of_side_a g.few_a) (orderly played.of_b g.order.of_side_b g.few_b)
+    run = is_checked_run (head_a script) (head_b script) played.of_a played.of_b g.made.run (orderly played.of_a g.order.of_side_a g.few_a)
+        (orderly played.of_b g.order.of_side_b g.few_b)
 
     met : LayersRead (head_a script) (head_b script) (world_of played) played.of_a played.of_b
-    met = lasts layers_pair (LayersRead (head_a script) (head_b script)) (read_kept (head_a script) (head_b script)) [] [] (start_read (head_a script) (head_b script)) run
+    met = lasts layers_pair (LayersRead (head_a script) (head_b script)) (read_kept (head_a script) (head_b script)) [] []
+        (start_read (head_a script) (head_b script)) run
 
     abbrev links_world : LinkWorld
     links_world = record { a = side_of played.a.half met.joined.joined.front_a; b = side_of played.b.half met.joined.joined.front_b }
 
     all_sound : BothLinksSound links_world
-    all_sound = sound script.node_a script.node_b script.node_b script.node_a links_world (link_events played.of_a) (link_events played.of_b) met.joined.joined.reached
+    all_sound = sound script.node_a script.node_b script.node_b script.node_a links_world (link_events played.of_a)
+        (link_events played.of_b) met.joined.joined.reached
 
     all_owned : BothOwned links_world (link_events played.of_a) (link_events played.of_b)
-    all_owned = owned script.node_a script.node_b script.node_b script.node_a links_world (link_events played.of_a) (link_events played.of_b) met.joined.joined.reached
+    all_owned = owned script.node_a script.node_b script.node_b script.node_a links_world (link_events played.of_a)
+        (link_events played.of_b) met.joined.joined.reached
 
     nodes : BothFrom script.node_a script.node_b script.node_b script.node_a links_world
     nodes = reached_from script.node_a script.node_b script.node_b script.node_a met.joined.joined.reached
@@ -92,9 +97,11 @@ module _ (script : Script) where
     facts_a =
         let order = met.joined.placed.order in
         record {
-          known = known_a (head_a script) (head_b script) played run g.order.of_side_a g.order.of_side_b g.few_a g.few_b (word _ node_a) (word _ node_b) (word _ node_b) (word _ node_a);
+          known = known_a (head_a script) (head_b script) played run g.order.of_side_a g.order.of_side_b g.few_a g.few_b (word _ node_a)
+              (word _ node_b) (word _ node_b) (word _ node_a);
           from = λ k u at. let f = nodes.of_b.from k u at in (f.0 ∙ sym nodes.of_a.links.peer_is, f.1 ∙ sym nodes.of_a.links.node_is);
-          whole = is_lined links_world.a links_world.b (link_events played.of_a) (link_events played.of_b) all_sound.of_a all_sound.of_b all_owned.of_a all_owned.of_b
+          whole = is_lined links_world.a links_world.b (link_events played.of_a)
+              (link_events played.of_b) all_sound.of_a all_sound.of_b all_owned.of_a all_owned.of_b
               (events_lined played.of_a g.made.lines_a) (events_lined played.of_b g.made.lines_b);
           lined = lines.1;
           reads = unit_reads played.b.half played.a.half order.of_b.sound;
@@ -105,9 +112,11 @@ module _ (script : Script) where
     facts_b =
         let order = met.joined.placed.order in
         record {
-          known = known_b (head_a script) (head_b script) played run g.order.of_side_a g.order.of_side_b g.few_a g.few_b (word _ node_a) (word _ node_b) (word _ node_b) (word _ node_a);
+          known = known_b (head_a script) (head_b script) played run g.order.of_side_a g.order.of_side_b g.few_a g.few_b (word _ node_a)
+              (word _ node_b) (word _ node_b) (word _ node_a);
           from = λ k u at. let f = nodes.of_a.from k u at in (f.0 ∙ sym nodes.of_b.links.peer_is, f.1 ∙ sym nodes.of_b.links.node_is);
-          whole = is_lined links_world.b links_world.a (link_events played.of_b) (link_events played.of_a) all_sound.of_b all_sound.of_a all_owned.of_b all_owned.of_a
+          whole = is_lined links_world.b links_world.a (link_events played.of_b)
+              (link_events played.of_a) all_sound.of_b all_sound.of_a all_owned.of_b all_owned.of_a
               (events_lined played.of_b g.made.lines_b) (events_lined played.of_a g.made.lines_a);
           lined = lines.0;
           reads = unit_reads played.a.half played.b.half order.of_a.sound;
@@ -117,7 +126,8 @@ module _ (script : Script) where
   module _ (node_a : IsNode script.node_a) (node_b : IsNode script.node_b) (played : Played) (g : Going played) where
     pub later_a : Later played.a played.b
     later_a e records makes order =
-        let m = more_of_a script played.b.half played.of_a played.of_b makes (record { run = g.made.run; lines_a = g.made.lines_a; lines_b = g.made.lines_b }) in
+        let m = more_of_a script played.b.half played.of_a played.of_b makes
+        (record { run = g.made.run; lines_a = g.made.lines_a; lines_b = g.made.lines_b }) in
         let few = g.few_a in
         facts_a node_a node_b (record { a = e; b = played.b; of_a = played.of_a ++ records; of_b = played.of_b }) (record {
           made = record { run = m.run; lines_a = m.lines_a; lines_b = m.lines_b };
@@ -133,7 +143,8 @@ module _ (script : Script) where
 
     pub later_b : Later played.b played.a
     later_b e records makes order =
-        let m = more_of_b script played.a.half played.of_a played.of_b makes (record { run = g.made.run; lines_a = g.made.lines_a; lines_b = g.made.lines_b }) in
+        let m = more_of_b script played.a.half played.of_a played.of_b makes
+        (record { run = g.made.run; lines_a = g.made.lines_a; lines_b = g.made.lines_b }) in
         let few = g.few_b in
         facts_b node_a node_b (record { a = played.a; b = e; of_a = played.of_a; of_b = played.of_b ++ records }) (record {
           made = record { run = m.run; lines_a = m.lines_a; lines_b = m.lines_b };

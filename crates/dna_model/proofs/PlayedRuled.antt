@@ -28,12 +28,14 @@ module _ (script : Script) (node_a : IsNode script.node_a) (node_b : IsNode scri
   stages = end_stages script node_a node_b so_far e once
 
   -- both ends with the step
-  a_ruled : (step : StepValue) (result : Result Stepped Stop) → GoesByRule so_far.a so_far.b.half step result → GoesByRule so_far.a so_far.b.half step (with_a so_far result)
+  a_ruled : (step : StepValue) (result : Result Stepped Stop) → GoesByRule so_far.a so_far.b.half step result →
+      GoesByRule so_far.a so_far.b.half step (with_a so_far result)
   a_ruled step (Ok made) rule = rule
   a_ruled step (Err BadStep) rule = rule
   a_ruled step (Err Full) rule = rule
 
-  b_ruled : (step : StepValue) (result : Result Stepped Stop) → GoesByRule so_far.b so_far.a.half step result → GoesByRule so_far.b so_far.a.half step (with_b so_far result)
+  b_ruled : (step : StepValue) (result : Result Stepped Stop) → GoesByRule so_far.b so_far.a.half step result →
+      GoesByRule so_far.b so_far.a.half step (with_b so_far result)
   b_ruled step (Ok made) rule = rule
   b_ruled step (Err BadStep) rule = rule
   b_ruled step (Err Full) rule = rule
@@ -60,8 +62,10 @@ record StopsAt (steps : ℕ) (so_far : Played) (list : List ScriptStep) (stopped
   last : plays_step stopped.so_far step ≡ Err stopped.stop
 
 if_stopped : (steps : ℕ) (so_far : Played) (step : ScriptStep) (later : List ScriptStep) (stopped : Stopped) →
-    ((next : Played) → plays_all (steps + 1) next later ≡ Err stopped → StopsAt (steps + 1) next later stopped) → (result : Result Played Stop) → plays_step so_far step ≡ result →
-    if_made result (λ next. plays_all (steps + 1) next later) (λ stop. record { steps = steps; stop = stop; so_far = so_far }) ≡ Err stopped → StopsAt steps so_far (step ∷ later) stopped
+    ((next : Played) → plays_all (steps + 1) next later ≡ Err stopped → StopsAt (steps + 1) next later stopped) → (result : Result Played Stop) →
+    plays_step so_far step ≡ result →
+    if_made result (λ next. plays_all (steps + 1) next later) (λ stop. record { steps = steps; stop = stop; so_far = so_far }) ≡ Err stopped →
+    StopsAt steps so_far (step ∷ later) stopped
 if_stopped steps so_far step later stopped all (Ok next) is e =
     let s = all next e in let are = s.are in
     record {
@@ -69,12 +73,14 @@ if_stopped steps so_far step later stopped all (Ok next) is e =
       are = omega arith;
       step = s.step;
       there = s.there;
-      first = ap (λ (r : Result Played Stop). if_made r (λ next. plays_all (steps + 1) next (take s.more later)) (λ stop. record { steps = steps; stop = stop; so_far = so_far })) is ∙ s.first;
+      first = ap (λ (r : Result Played Stop). if_made r (λ next. plays_all (steps + 1) next (take s.more later))
+          (λ stop. record { steps = steps; stop = stop; so_far = so_far })) is ∙ s.first;
       last = s.last;
     }
 if_stopped steps so_far step later stopped all (Err stop) is e = here (record { steps = steps; stop = stop; so_far = so_far }) refl refl refl (same e)
   where
-    same : ◌≡◌ {A = Result Played Stopped} (Err (record { steps = steps; stop = stop; so_far = so_far })) (Err stopped) → record { steps = steps; stop = stop; so_far = so_far } ≡ stopped
+    same : ◌≡◌ {A = Result Played Stopped} (Err (record { steps = steps; stop = stop; so_far = so_far })) (Err stopped) →
+        record { steps = steps; stop = stop; so_far = so_far } ≡ stopped
     same e = cc
 
     here : (s : Stopped) → s.steps ≡ steps → s.stop ≡ stop → s.so_far ≡ so_far → s ≡ stopped → StopsAt steps so_far (step ∷ later) stopped
@@ -87,7 +93,8 @@ if_stopped steps so_far step later stopped all (Err stop) is e = here (record { 
       last = ap (λ (x : Played). plays_step x step) of_played ∙ is ∙ ap Err (sym of_stop);
     })
 
-stops_at : (steps : ℕ) (so_far : Played) (list : List ScriptStep) (stopped : Stopped) → plays_all steps so_far list ≡ Err stopped → StopsAt steps so_far list stopped
+stops_at : (steps : ℕ) (so_far : Played) (list : List ScriptStep) (stopped : Stopped) → plays_all steps so_far list ≡ Err stopped →
+    StopsAt steps so_far list stopped
 stops_at steps so_far [] stopped e = absurd cc
 stops_at steps so_far (step ∷ later) stopped e =
     if_stopped steps so_far step later stopped (λ next is. stops_at (steps + 1) next later stopped is) (plays_step so_far step) refl e
@@ -110,13 +117,15 @@ take_few (suc n) (step ∷ steps) = let l = take_few n steps in omega arith
 
 -- ---- the laws
 
-pub next_goes_by_rule : (script : Script) (step : ScriptStep) (so_far : Played) → IsScript (and_then script step) → play script ≡ Ok so_far → StartsOnce script.steps →
+pub next_goes_by_rule : (script : Script) (step : ScriptStep) (so_far : Played) → IsScript (and_then script step) → play script ≡ Ok so_far →
+    StartsOnce script.steps →
     StepsByRule so_far step (plays_step so_far step)
 next_goes_by_rule script step so_far fits e once =
     let l = length-append script.steps (step ∷ []) in let few = fits.few in
     next_ruled script fits.node_a fits.node_b (omega arith) so_far e once step (last_step script.steps step fits.each)
 
-pub stopped_by_rule : (script : Script) (stopped : Stopped) → IsScript script → play script ≡ Err stopped → StartsOnce (take stopped.steps script.steps) → StopsByRule script stopped
+pub stopped_by_rule : (script : Script) (stopped : Stopped) → IsScript script → play script ≡ Err stopped →
+    StartsOnce (take stopped.steps script.steps) → StopsByRule script stopped
 stopped_by_rule script stopped fits e once =
     let s = stops_at 0 (not_begun script) script.steps stopped e in
     let are = s.are in

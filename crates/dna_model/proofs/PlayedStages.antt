@@ -31,21 +31,27 @@ module _ (script : Script) (node_a : IsNode script.node_a) (node_b : IsNode scri
   AreStaged steps (Ok next) = Stages next steps
   AreStaged steps (Err stop) = Unit {0}
 
-  staged_at : (so_far : Played) (steps : ℕ) (side : Side) (step : StepValue) → Going script so_far → Stages so_far steps → AreStaged (steps + 1) (plays_at so_far side step)
+  staged_at : (so_far : Played) (steps : ℕ) (side : Side) (step : StepValue) → Going script so_far → Stages so_far steps →
+      AreStaged (steps + 1) (plays_at so_far side step)
   staged_at so_far steps A step g s =
-      go (plays so_far.a so_far.b.half step) (plays_staged so_far.a so_far.b s.of_a s.of_b (later_a script node_a node_b so_far g) step) (plays_passes so_far.a so_far.b.half step)
+      go (plays so_far.a so_far.b.half step) (plays_staged so_far.a so_far.b s.of_a s.of_b (later_a script node_a node_b so_far g) step)
+      (plays_passes so_far.a so_far.b.half step)
     where
       go : (result : Result Stepped Stop) → Staged result → Passes so_far.a.passed result → AreStaged (steps + 1) (with_a so_far result)
-      go (Ok made) stage passed = let a = s.passed_a in let b = s.passed_b in record { of_a = stage; of_b = s.of_b; passed_a = omega arith; passed_b = omega arith }
+      go (Ok made) stage passed = let a = s.passed_a in let b = s.passed_b in
+          record { of_a = stage; of_b = s.of_b; passed_a = omega arith; passed_b = omega arith }
       go (Err stop) stage passed = tt
   staged_at so_far steps B step g s =
-      go (plays so_far.b so_far.a.half step) (plays_staged so_far.b so_far.a s.of_b s.of_a (later_b script node_a node_b so_far g) step) (plays_passes so_far.b so_far.a.half step)
+      go (plays so_far.b so_far.a.half step) (plays_staged so_far.b so_far.a s.of_b s.of_a (later_b script node_a node_b so_far g) step)
+      (plays_passes so_far.b so_far.a.half step)
     where
       go : (result : Result Stepped Stop) → Staged result → Passes so_far.b.passed result → AreStaged (steps + 1) (with_b so_far result)
-      go (Ok made) stage passed = let a = s.passed_a in let b = s.passed_b in record { of_a = s.of_a; of_b = stage; passed_a = omega arith; passed_b = omega arith }
+      go (Ok made) stage passed = let a = s.passed_a in let b = s.passed_b in
+          record { of_a = s.of_a; of_b = stage; passed_a = omega arith; passed_b = omega arith }
       go (Err stop) stage passed = tt
 
-  step_staged : (so_far : Played) (steps : ℕ) (step : ScriptStep) → Going script so_far → Stages so_far steps → AreStaged (steps + 1) (plays_step so_far step)
+  step_staged : (so_far : Played) (steps : ℕ) (step : ScriptStep) → Going script so_far → Stages so_far steps →
+      AreStaged (steps + 1) (plays_step so_far step)
   unfolding plays_step
   step_staged so_far steps step g s = staged_at so_far steps step.side step.step g s
 
@@ -58,7 +64,14 @@ module _ (script : Script) (node_a : IsNode script.node_a) (node_b : IsNode scri
     pub stages : Stages so_far steps
 
   pub going : (so_far : Played) (steps count_a count_b : ℕ) → Holds so_far steps count_a count_b → count_a ≤ 1 → count_b ≤ 1 → Going script so_far
-  going so_far steps count_a count_b h few_a few_b = record { made = h.made; count_a = count_a; count_b = count_b; order = h.order; few_a = few_a; few_b = few_b }
+  going so_far steps count_a count_b h few_a few_b = record {
+    made = h.made;
+    count_a = count_a;
+    count_b = count_b;
+    order = h.order;
+    few_a = few_a;
+    few_b = few_b;
+  }
 
   module _ (steps : ℕ) (so_far : Played) (count_a count_b : ℕ) (step : ScriptStep) (later : List ScriptStep) where
     abbrev more_a : ℕ
@@ -74,8 +87,10 @@ module _ (script : Script) (node_a : IsNode script.node_a) (node_b : IsNode scri
     moved : (end : Played) → HoldsOf (steps + 1) more_a more_b later end → HoldsOf steps count_a count_b (step ∷ later) end
     moved end h =
         subst (λ (n : ℕ). Holds end n (count_a + starts_of A (step ∷ later)) (count_b + starts_of B (step ∷ later))) (longer steps (length later))
-        (subst (λ (n : ℕ). Holds end (steps + 1 + length later) n (count_b + starts_of B (step ∷ later))) (sums count_a (starts_at A step.side step.step) (starts_of A later))
-        (subst (λ (n : ℕ). Holds end (steps + 1 + length later) (more_a + starts_of A later) n) (sums count_b (starts_at B step.side step.step) (starts_of B later)) h))
+        (subst (λ (n : ℕ). Holds end (steps + 1 + length later) n (count_b + starts_of B (step ∷ later)))
+        (sums count_a (starts_at A step.side step.step) (starts_of A later))
+        (subst (λ (n : ℕ). Holds end (steps + 1 + length later) (more_a + starts_of A later) n)
+        (sums count_b (starts_at B step.side step.step) (starts_of B later)) h))
       where
         longer : (n m : ℕ) → n + 1 + m ≡ n + suc m
         longer n m = omega arith
@@ -84,7 +99,8 @@ module _ (script : Script) (node_a : IsNode script.node_a) (node_b : IsNode scri
         sums n m k = omega arith
 
     after_step : (end : Played) → Holds so_far steps count_a count_b →
-        ((next : Played) → Holds next (steps + 1) more_a more_b → plays_all (steps + 1) next later ≡ Ok end → HoldsOf (steps + 1) more_a more_b later end) →
+        ((next : Played) → Holds next (steps + 1) more_a more_b → plays_all (steps + 1) next later ≡ Ok end →
+        HoldsOf (steps + 1) more_a more_b later end) →
         (result : Result Played Stop) → GoodPlay script result → AreNext more_a more_b result → AreStaged (steps + 1) result →
         if_made result (λ next. plays_all (steps + 1) next later) (λ stop. record { steps = steps; stop = stop; so_far = so_far }) ≡ Ok end →
         HoldsOf steps count_a count_b (step ∷ later) end
@@ -115,7 +131,8 @@ module _ (script : Script) (node_a : IsNode script.node_a) (node_b : IsNode scri
       (plays_step so_far step) (step_played script so_far step h.made) (step_next so_far count_a count_b step h.order)
       (step_staged so_far steps step (going so_far steps count_a count_b h (omega arith) (omega arith)) h.stages) e
 
-  pub played_holds : (end : Played) → play script ≡ Ok end → StartsOnce script.steps → Holds end (0 + length script.steps) (0 + starts_of A script.steps) (0 + starts_of B script.steps)
+  pub played_holds : (end : Played) → play script ≡ Ok end → StartsOnce script.steps →
+      Holds end (0 + length script.steps) (0 + starts_of A script.steps) (0 + starts_of B script.steps)
   played_holds end e once =
       let few_a = once.of_a in let few_b = once.of_b in
       all_hold 0 (not_begun script) 0 0 script.steps end (record {

@@ -19,11 +19,17 @@ abbrev pub AreSentLined : PlayHalf → Type 0
 AreSentLined half = (k : ℕ) (unit : LayersUnit) → slice_get half.sent k ≡ Some unit → IsRecord (Sent unit.bytes)
 
 -- with one more
-one_more_lined : (sent : List LayersUnit) (bytes : List ℕ) (m : MessageValue) (known : LayersTruth) → ((k : ℕ) (unit : LayersUnit) → slice_get sent k ≡ Some unit → IsRecord (Sent unit.bytes)) →
-    IsRecord (Sent bytes) → (k : ℕ) (unit : LayersUnit) → slice_get (sent ++ record { bytes = bytes; message = m; known = known } ∷ []) k ≡ Some unit → IsRecord (Sent unit.bytes)
+one_more_lined : (sent : List LayersUnit) (bytes : List ℕ) (m : MessageValue) (known : LayersTruth) →
+    ((k : ℕ) (unit : LayersUnit) → slice_get sent k ≡ Some unit → IsRecord (Sent unit.bytes)) →
+    IsRecord (Sent bytes) → (k : ℕ) (unit : LayersUnit) → slice_get (sent ++ record {
+      bytes = bytes;
+      message = m;
+      known = known;
+    } ∷ []) k ≡ Some unit → IsRecord (Sent unit.bytes)
 one_more_lined sent bytes m known all line k unit at = go (at_pushed sent (record { bytes = bytes; message = m; known = known }) unit k at)
   where
-    go : (slice_get sent k ≡ Some unit) ⊎ ((k ≡ length sent) × (record { bytes = bytes; message = m; known = known } ≡ unit)) → IsRecord (Sent unit.bytes)
+    go : (slice_get sent k ≡ Some unit) ⊎ ((k ≡ length sent) × (record { bytes = bytes; message = m; known = known } ≡ unit)) →
+        IsRecord (Sent unit.bytes)
     go (inl there) = all k unit there
     go (inr e) = subst (λ (x : LayersUnit). IsRecord (Sent x.bytes)) e.1 line
 
@@ -31,7 +37,8 @@ lined_left : (own other h : PlayHalf) (r : Record) → OnTop judged own other r 
 lined_left own other h r (ByStation event) line all = all
 lined_left own other h r (ByLinks event of_links links is done) line all = all
 lined_left own other h r (Again bytes m old) line all = one_more_lined own.sent bytes m (sends_again own.state.station m (sent_by own m)).1 all line
-lined_left own other h r (First bytes m new links carried made) line all = one_more_lined own.sent bytes m (first_sent own.state.station (sent_by own m) links carried).1 all line
+lined_left own other h r (First bytes m new links carried made) line all = one_more_lined own.sent bytes m
+    (first_sent own.state.station (sent_by own m) links carried).1 all line
 lined_left own other h r (Receipt hint kept bytes unit arrival there links met) line all = all
 
 -- of both sides, in every run of records that have lines

@@ -36,7 +36,8 @@ Passes passed (Err stop) = Unit {0}
 abbrev IsSlow : (End → End) → Type 0
 IsSlow more = (e : End) → (more e).passed ≤ e.passed + 1
 
-made_passes : (own : End) (passed : ℕ) (r : Record) (more : End → End) → IsSlow more → own.passed ≡ passed → (o : Option PlayHalf) → Passes passed (made own r more o)
+made_passes : (own : End) (passed : ℕ) (r : Record) (more : End → End) → IsSlow more → own.passed ≡ passed → (o : Option PlayHalf) →
+    Passes passed (made own r more o)
 made_passes own passed r more slow same None = tt
 made_passes own passed r more slow same (Some half) = let l = slow (after_record own half) in omega arith
 
@@ -49,16 +50,24 @@ link_passes passed test s next all = looked test s (Err BadStep) next (with_link
 
 got_passes : (passed : ℕ) (other : PlayHalf) (event : Event) (list : List Event) (so_far : Stepped) → so_far.end.passed ≤ passed + 1 →
     ((next : Stepped) → next.end.passed ≤ passed + 1 → Passes passed (gets_all list other next)) → (o : Option PlayHalf) →
-    Passes passed (with_half o (λ half. gets_all list other (record { end = after_record so_far.end half; records = so_far.records ++ User event ∷ [] })))
+    Passes passed (with_half o (λ half. gets_all list other (record {
+      end = after_record so_far.end half;
+      records = so_far.records ++ User event ∷ [];
+    })))
 got_passes passed other event list so_far few all None = tt
-got_passes passed other event list so_far few all (Some half) = all (record { end = after_record so_far.end half; records = so_far.records ++ User event ∷ [] }) few
+got_passes passed other event list so_far few all (Some half) = all (record {
+  end = after_record so_far.end half;
+  records = so_far.records ++ User event ∷ [];
+}) few
 
-gets_passes : (passed : ℕ) (other : PlayHalf) (list : List Event) (so_far : Stepped) → so_far.end.passed ≤ passed + 1 → Passes passed (gets_all list other so_far)
+gets_passes : (passed : ℕ) (other : PlayHalf) (list : List Event) (so_far : Stepped) → so_far.end.passed ≤ passed + 1 →
+    Passes passed (gets_all list other so_far)
 gets_passes passed other [] so_far few = few
 gets_passes passed other (event ∷ list) so_far few =
     got_passes passed other event list so_far few (λ next n. gets_passes passed other list next n) (makes so_far.end.half other (User event))
 
-then_passes : (passed : ℕ) (other : PlayHalf) (message : Option NspValue) (result : Result Stepped Stop) → Passes passed result → Passes passed (then_gets other message result)
+then_passes : (passed : ℕ) (other : PlayHalf) (message : Option NspValue) (result : Result Stepped Stop) → Passes passed result →
+    Passes passed (then_gets other message result)
 then_passes passed other message (Err stop) h = tt
 then_passes passed other message (Ok so_far) h = gets_passes passed other (delivered_now (links_of so_far.end.half) message) so_far h
 
@@ -69,7 +78,8 @@ module _ (own : End) (other : PlayHalf) where
   receives_passes : (bytes : List ℕ) (read : ReadingValue) (kept : Bool) → Slow (receives own other bytes read kept)
   receives_passes bytes read kept =
       let r = Received own.passed kept bytes in
-      then_passes own.passed other (carried kept read) _ (made_passes own own.passed r (after_receipt own read kept) (λ e. omega arith) refl (makes own.half other r))
+      then_passes own.passed other (carried kept read) _ (made_passes own own.passed r (after_receipt own read kept) (λ e. omega arith) refl
+      (makes own.half other r))
 
   unit_passes : (o : Option LayersUnit) (next : List ℕ → Result Stepped Stop) → ((bytes : List ℕ) → Slow (next bytes)) → Slow (on_unit o next)
   unit_passes None next all = tt
@@ -92,7 +102,8 @@ module _ (own : End) (other : PlayHalf) where
 
   message_passes : (next : Choice) (o : Option MessageValue) → Slow (sends_message own other next o)
   message_passes next None = tt
-  message_passes next (Some m) = made_passes own own.passed (Sent (spelling m)) (after_sending next) (after_sending_slow next) refl (makes own.half other (Sent (spelling m)))
+  message_passes next (Some m) = made_passes own own.passed (Sent (spelling m)) (after_sending next) (after_sending_slow next) refl
+      (makes own.half other (Sent (spelling m)))
 
   choice_passes : (o : Option Choice) → Slow (sends_choice own other o)
   choice_passes None = tt
@@ -112,8 +123,10 @@ module _ (own : End) (other : PlayHalf) where
   given_passes : (debt : LinkDebt) (event : ℕ → Event) → Slow (giving own (λ end address. by_user end other (event address) (links_owing_more debt)))
   given_passes debt event = go (nat_lt own.addresses MAX_LINK)
     where
-      go : (b : Bool) → Slow (cond b (by_user (record own { addresses = own.addresses + 1 }) other (event (own.addresses + 1)) (links_owing_more debt)) (Err Full))
-      go true = made_passes (record own { addresses = own.addresses + 1 }) own.passed (User (event (own.addresses + 1))) (links_owing_more debt) (λ e. omega arith) refl (makes own.half other (User (event (own.addresses + 1))))
+      go : (b : Bool) → Slow (cond b (by_user (record own { addresses = own.addresses + 1 }) other (event (own.addresses + 1))
+          (links_owing_more debt)) (Err Full))
+      go true = made_passes (record own { addresses = own.addresses + 1 }) own.passed (User (event (own.addresses + 1))) (links_owing_more debt)
+          (λ e. omega arith) refl (makes own.half other (User (event (own.addresses + 1))))
       go false = tt
 
   pub plays_passes : (step : StepValue) → Slow (plays own other step)
@@ -122,11 +135,14 @@ module _ (own : End) (other : PlayHalf) where
   plays_passes Halt = user_passes events.Halt no_more (λ e. omega arith)
   plays_passes Timer = timed_passes (timer_debt (variables_of own.half).state (variables_of own.half))
   plays_passes Send = choice_passes (choice (variables_of own.half) own.owed (link_choice own.links_owed.confirms (link_ends_of own)))
-  plays_passes Deliver = unit_passes (slice_get other.sent own.passed) (λ bytes. comes own other true bytes) (λ bytes. receives_passes bytes (reading bytes) (can_keep own (reading bytes)))
-  plays_passes Refuse = unit_passes (slice_get other.sent own.passed) (λ bytes. comes own other false bytes) (λ bytes. receives_passes bytes (reading bytes) false)
+  plays_passes Deliver = unit_passes (slice_get other.sent own.passed) (λ bytes. comes own other true bytes)
+      (λ bytes. receives_passes bytes (reading bytes) (can_keep own (reading bytes)))
+  plays_passes Refuse = unit_passes (slice_get other.sent own.passed) (λ bytes. comes own other false bytes)
+      (λ bytes. receives_passes bytes (reading bytes) false)
   plays_passes Lose = unit_passes (slice_get other.sent own.passed) (λ bytes. silent (passing own)) (λ bytes. omega arith)
   plays_passes (Damage place value) =
-      unit_passes (slice_get other.sent own.passed) (λ bytes. cond (is_damage place value bytes) (comes own other true (damaged place value bytes)) (Err BadStep)) (λ bytes. damage_passes (is_damage place value bytes) (damaged place value bytes))
+      unit_passes (slice_get other.sent own.passed) (λ bytes. cond (is_damage place value bytes) (comes own other true (damaged place value bytes))
+      (Err BadStep)) (λ bytes. damage_passes (is_damage place value bytes) (damaged place value bytes))
   plays_passes Open = given_passes (Owes (length (links_of own.half).links) InitiateTurn) (λ address. events.Open address)
   plays_passes (Accept partner) = link_passes own.passed (CalledBy partner) (links_of own.half)
       (λ number link. giving own (λ end address. by_user end other (events.Accept partner address) (links_owing_more (Owes number ConfirmTurn))))

@@ -24,14 +24,16 @@ module _ (own other : End) (h : Stage own) (theirs : Stage other) (later : Later
   known : Known own other
   known = facts_now.known
 
-  on_staged : (o : Option LayersUnit) (next : List ℕ → Result Stepped Stop) → ((unit : LayersUnit) → o ≡ Some unit → Staged (next unit.bytes)) → Staged (on_unit o next)
+  on_staged : (o : Option LayersUnit) (next : List ℕ → Result Stepped Stop) → ((unit : LayersUnit) → o ≡ Some unit → Staged (next unit.bytes)) →
+      Staged (on_unit o next)
   on_staged None next all = tt
   on_staged (Some unit) next all = all unit refl
 
   passing_stage : Stage (passing own)
   passing_stage = record { pays = h.pays; packets = h.packets; links = h.links; plain = h.plain; few = h.few; ahead = let a = h.ahead in omega arith }
 
-  hurt_staged : (place value : ℕ) (unit : LayersUnit) → slice_get other.half.sent own.passed ≡ Some unit → (b : Bool) → is_damage place value unit.bytes ≡ b →
+  hurt_staged : (place value : ℕ) (unit : LayersUnit) → slice_get other.half.sent own.passed ≡ Some unit → (b : Bool) →
+      is_damage place value unit.bytes ≡ b →
       Staged (cond b (comes own other.half true (damaged place value unit.bytes)) (Err BadStep))
   hurt_staged place value unit there true is = damage_staged own other later h theirs facts_now unit there place value is
   hurt_staged place value unit there false is = tt
@@ -42,8 +44,10 @@ module _ (own other : End) (h : Stage own) (theirs : Stage other) (later : Later
   plays_staged Halt = halt_staged own other h theirs known
   plays_staged Timer = timed_staged own other h theirs known
   plays_staged Send = sends_staged own other h theirs known
-  plays_staged Deliver = on_staged (slice_get other.half.sent own.passed) (λ bytes. comes own other.half true bytes) (λ unit there. unit_staged own other later h theirs facts_now unit there true)
-  plays_staged Refuse = on_staged (slice_get other.half.sent own.passed) (λ bytes. comes own other.half false bytes) (λ unit there. unit_staged own other later h theirs facts_now unit there false)
+  plays_staged Deliver = on_staged (slice_get other.half.sent own.passed) (λ bytes. comes own other.half true bytes)
+      (λ unit there. unit_staged own other later h theirs facts_now unit there true)
+  plays_staged Refuse = on_staged (slice_get other.half.sent own.passed) (λ bytes. comes own other.half false bytes)
+      (λ unit there. unit_staged own other later h theirs facts_now unit there false)
   plays_staged Lose = on_staged (slice_get other.half.sent own.passed) (λ bytes. silent (passing own)) (λ unit there. passing_stage)
   plays_staged (Damage place value) = on_staged (slice_get other.half.sent own.passed)
       (λ bytes. cond (is_damage place value bytes) (comes own other.half true (damaged place value bytes)) (Err BadStep))
@@ -53,7 +57,8 @@ module _ (own other : End) (h : Stage own) (theirs : Stage other) (later : Later
       (λ number link. giving own (λ end address. by_user end other.half (events.Accept partner address) (links_owing_more (Owes number ConfirmTurn))))
       (accept_staged own other h theirs known partner)
   plays_staged (Reject partner) = link_staged (CalledBy partner) (links_of own.half)
-      (λ number link. giving own (λ end address. by_user end other.half (events.Reject partner address) (links_owing_more (Owes number DisconnectTurn))))
+      (λ number link. giving own (λ end address. by_user end other.half (events.Reject partner address)
+      (links_owing_more (Owes number DisconnectTurn))))
       (reject_staged own other h theirs known partner)
   plays_staged (In link message) = in_staged own other h theirs known link message
   plays_staged (Close link) = link_staged (LiveAt link) (links_of own.half)

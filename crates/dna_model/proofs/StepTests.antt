@@ -7,12 +7,15 @@ use Rattle.dna_model.specs.Stepped.{Stop, BadStep, Full}
 use Rattle.dna_model.specs.Played.{Played, plays_step}
 use Rattle.dna_model.specs.StepRule.{Asks, IsFull, rule_at, StepsByRule}
 
-pub made_of_b : (so_far : Played) (step : ScriptStep) (value : StepValue) → step.side ≡ B → step.step ≡ value → Asks so_far.b so_far.a.half value → ¬ (IsFull so_far.b value) →
+pub made_of_b : (so_far : Played) (step : ScriptStep) (value : StepValue) → step.side ≡ B → step.step ≡ value → Asks so_far.b so_far.a.half value →
+    ¬ (IsFull so_far.b value) →
     StepsByRule so_far step (plays_step so_far step) → (next : Played) × (plays_step so_far step ≡ Ok next)
 made_of_b so_far step value of_b is asks room rule = go (plays_step so_far step) refl
-    (subst (λ (x : StepValue). rule_at so_far B x (plays_step so_far step)) is (subst (λ (x : Side). rule_at so_far x step.step (plays_step so_far step)) of_b rule))
+    (subst (λ (x : StepValue). rule_at so_far B x (plays_step so_far step)) is
+    (subst (λ (x : Side). rule_at so_far x step.step (plays_step so_far step)) of_b rule))
   where
-    go : (result : Result Played Stop) → plays_step so_far step ≡ result → rule_at so_far B value result → (next : Played) × (plays_step so_far step ≡ Ok next)
+    go : (result : Result Played Stop) → plays_step so_far step ≡ result → rule_at so_far B value result →
+        (next : Played) × (plays_step so_far step ≡ Ok next)
     go (Ok next) made kept = (next, made)
     go (Err BadStep) made broken = absurd (broken asks)
     go (Err Full) made full = absurd (room full.1)
