@@ -5,6 +5,7 @@ pub mod BytesLaws
 pub mod DigitsLaws
 pub mod Shown
 pub mod EventLaws
+pub mod HintLaws
 pub mod RecordLaws
 pub mod HeadLaws
 pub mod BlockLaws
