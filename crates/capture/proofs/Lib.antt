@@ -8,6 +8,7 @@ pub mod EventLaws
 pub mod HintLaws
 pub mod RecordLaws
 pub mod HeadLaws
+pub mod FormatRows
 pub mod BlockLaws
 pub mod LineLaws
 pub mod SeekLaws
@@ -16,3 +17,4 @@ pub mod RangeLaws
 pub mod LackLaws
 pub mod TextLaws
 pub mod SoFarLaws
+pub mod ConvertLaws

@@ -36,7 +36,7 @@ record_lines-push form (s ∷ rs) r =
 
 -- ---- the form of the hints
 
-form_behind-push : (form : HintForm) (rs : List Record) (r : Record) → form_behind form (rs ++ r ∷ []) ≡ form_after (form_behind form rs) r
+pub form_behind-push : (form : HintForm) (rs : List Record) (r : Record) → form_behind form (rs ++ r ∷ []) ≡ form_after (form_behind form rs) r
 form_behind-push form [] r = refl
 form_behind-push form (s ∷ rs) r = form_behind-push (form_after form s) rs r
 
@@ -47,6 +47,12 @@ format_stays (Distance mark) r = refl
 behind_fits : (form : HintForm) (rs : List Record) → FormFits form → AllByRecursion IsRecord rs → FormFits (form_behind form rs)
 behind_fits form [] fits each = fits
 behind_fits form (r ∷ rs) fits each = behind_fits (form_after form r) rs (form_fits form r fits each.0.spelling.numbers) each.1
+
+-- the text of one more record
+pub text-push : (format : Format) (own peer : ℕ) (rs : List Record) (r : Record) → capture_text format own peer (rs ++ r ∷ []) ≡ capture_text format own peer rs ++ record_line (form_behind (first_form format) rs) r
+text-push format own peer rs r =
+    ap (λ bytes. head_line format own peer ++ bytes) (record_lines-push (first_form format) rs r)
+    ∙ sym (append_assoc (head_line format own peer) (record_lines (first_form format) rs) (record_line (form_behind (first_form format) rs) r))
 
 -- ---- how it grows
 
@@ -59,9 +65,7 @@ opened text left state opens = record {
 
 module _ (text before after : Option (List ℕ)) (form : HintForm) (own peer : ℕ) (rs : List Record) (r : Record) (h : IsReadSoFar text (so_far form own peer rs (ToCome before))) where
   lines_on : (format : Format) → form ≡ form_behind (first_form format) rs → capture_text format own peer rs ++ record_line form r ≡ capture_text format own peer (rs ++ r ∷ [])
-  lines_on format is =
-      append_assoc (head_line format own peer) (record_lines (first_form format) rs) (record_line form r)
-      ∙ ap (λ bytes. head_line format own peer ++ bytes) (ap (λ (f : HintForm). record_lines (first_form format) rs ++ record_line f r) is ∙ sym (record_lines-push (first_form format) rs r))
+  lines_on format is = ap (λ (f : HintForm). capture_text format own peer rs ++ record_line f r) is ∙ sym (text-push format own peer rs r)
 
   form_on : (format : Format) → form ≡ form_behind (first_form format) rs → form_after form r ≡ form_behind (first_form format) (rs ++ r ∷ [])
   form_on format is = ap (λ (f : HintForm). form_after f r) is ∙ sym (form_behind-push (first_form format) rs r)
@@ -146,7 +150,7 @@ no_line bytes left own peer rs read kind is_text marked b departs = by_more b.mo
         let few = room rs read.records (r ∷ more) is_text.is_text.fits.few all in
         no_departure read.form kind r (record_lines (form_after read.form r) more) (length read.records) marked each.0 (omega arith) d
 
-form_marked : (text : Option (List ℕ)) (read : ReadSoFar) → IsReadSoFar text read → FormFits read.form
+pub form_marked : (text : Option (List ℕ)) (read : ReadSoFar) → IsReadSoFar text read → FormFits read.form
 form_marked text read h = subst FormFits (sym h.form_is) (behind_fits (first_form (format_of read.form)) read.records (first_fits (format_of read.form)) h.fits.each)
 
 no_line_by : (behind : Behind) (bytes : List ℕ) (own peer : ℕ) (rs : List Record) (form : HintForm) (own' peer' : ℕ) (ss : List Record) (kind : Departure) (line : ℕ) → IsText own peer rs bytes → IsReadSoFar (Some bytes) (so_far form own' peer' ss behind)

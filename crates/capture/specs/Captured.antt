@@ -6,7 +6,7 @@ use Rattle.capture.specs.Range.{FormFits}
 use Rattle.capture.specs.Reader.{CaptureState}
 
 abbrev pub capture_state : Inside → CaptureState
-capture_state r = record { own = r.own; peer = r.peer; form = r.form; records = r.lines.taken - 1; phase = r.phase; unread = r.lines.unread; bytes = take r.len r.room.items }
+capture_state r = record { own = r.own; peer = r.peer; form = r.form; records = r.lines.taken - 1; phase = r.phase; unread = r.lines.unread; line = r.lines.last; bytes = take r.len r.room.items }
 
 -- the head's line is one of those taken, the bytes are within the room, and the mark is within its range
 pub record IsCounted (r : Inside) : Type 0 where

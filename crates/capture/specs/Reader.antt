@@ -14,8 +14,8 @@ use Rattle.capture.specs.Range.{IsNode, IsRecord}
 use Rattle.capture.specs.Departing.{HeadDeparts, RecordDeparts}
 use Rattle.capture.specs.Lines.{to_come}
 
--- the head, the form of the next hint, the count of records so far, whether more may come, the bytes read ahead, and those of the record
--- that `advance` read last
+-- the head, the form of the next hint, the count of records so far, whether more may come, the bytes read ahead, and the line and the bytes of
+-- the record that `advance` read last
 pub record CaptureState : Type 0 where
   pub own : ℕ
   pub peer : ℕ
@@ -23,6 +23,7 @@ pub record CaptureState : Type 0 where
   pub records : ℕ
   pub phase : Phase
   pub unread : List ℕ
+  pub line : List ℕ
   pub bytes : List ℕ
 
 -- A fault names the line at hand, by its number, and says how the first line of what was to come departs.

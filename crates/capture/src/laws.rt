@@ -1,6 +1,6 @@
 //! Laws of the text, as functions that do nothing: a text is read in one way alone.
 
-ghost use Rattle.std.specs.Prelude.{◌≡◌, ℕ, ◌<◌, [], ◌++◌, List, Ok};
+ghost use Rattle.std.specs.Prelude.{◌≡◌, ℕ, ◌<◌, [], ◌++◌, length, List, Some, Ok};
 ghost use Rattle.std.specs.List.{AllByRecursion};
 ghost use Rattle.capture.specs.declared.limit.TheConstants.{MAX_RECORDS};
 ghost use Rattle.capture.specs.declared.fault.Departure.{Departure as Kind};
@@ -8,6 +8,7 @@ ghost use Rattle.capture.specs.declared.record.Record.{Record as Line};
 ghost use Rattle.capture.specs.declared.hint.HintForm.{HintForm as Form};
 ghost use Rattle.capture.specs.declared.format.Format.{Format as Layout};
 ghost use Rattle.capture.specs.Text.{form_behind, head_line, record_line, record_lines, record_text};
+ghost use Rattle.capture.specs.Converting.{Converts};
 ghost use Rattle.capture.specs.Range.{FormFits, IsNode, IsRecord, IsText, IsTextIn};
 ghost use Rattle.capture.specs.Departing.{HeadDeparts, RecordDeparts};
 ghost use Rattle.capture.specs.Reading.{record_at};
@@ -72,4 +73,18 @@ pub fn no_head_departs()
 /// The first line of a text departs from a head in one way at most.
 pub fn one_head_departure()
     ensures { (bytes : List ℕ) (a b : Kind) → HeadDeparts a bytes → HeadDeparts b bytes → a ≡ b }
+{}
+
+/// What was converted, in a writer that was empty, is the text of the same head and records in the format that was asked
+/// for, and the answer is their number; so whatever is said of a head and records is said of both texts.
+pub fn converted_is_same()
+    ensures { (to : Layout) (bytes made : List ℕ) (own peer : ℕ) (rs : List Line) (count : ℕ) → IsText own peer rs bytes →
+        Converts to (Some bytes) (Some []) (Some made) (Ok count) → IsTextIn to own peer rs made × (count ≡ length rs) }
+{}
+
+/// What is converted and then converted back is the first text again.
+pub fn converted_back()
+    ensures { (from to : Layout) (bytes made back : List ℕ) (own peer : ℕ) (rs : List Line) (count again : ℕ) → IsTextIn from own peer rs bytes →
+        Converts to (Some bytes) (Some []) (Some made) (Ok count) →
+        Converts from (Some made) (Some []) (Some back) (Ok again) → back ≡ bytes }
 {}

@@ -7,6 +7,7 @@
 
 mod address;
 mod bytes;
+mod converting;
 mod digits;
 mod entry;
 mod event;
@@ -19,6 +20,7 @@ mod limit;
 mod line_reader;
 mod line_words;
 mod number;
+mod page;
 mod part;
 mod phase;
 mod reader;
@@ -29,16 +31,18 @@ mod writer;
 
 pub use address::{address_of, is_node};
 pub use bytes::Bytes;
+pub use converting::convert;
 pub use digits::{bytes_into, bytes_of};
 pub use entry::Entry;
 pub use event::Event;
 pub use event_words::{link_of, message_of};
-pub use fault::{CaptureFault, Departure, LineFault, PartFault, WriteFault};
+pub use fault::{CaptureFault, ConvertFault, Departure, LineFault, PartFault, WriteFault};
 pub use format::Format;
 pub use hint::HintForm;
 pub use laws::{
-    begun_list, no_end_departs, no_head_begins_another, no_head_departs, no_line_begins_another,
-    no_line_departs, one_departure, one_head_and_list, one_head_departure, written_is_read,
+    begun_list, converted_back, converted_is_same, no_end_departs, no_head_begins_another,
+    no_head_departs, no_line_begins_another, no_line_departs, one_departure, one_head_and_list,
+    one_head_departure, written_is_read,
 };
 pub use limit::{MAX_HINT, MAX_LINE, MAX_LINK, MAX_MARK, MAX_MESSAGE, MAX_RECORDS, MAX_UNIT};
 pub use line_reader::LineReader;

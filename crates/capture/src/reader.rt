@@ -1,14 +1,14 @@
 //! Reading a capture, record by record.
 
-ghost use Rattle.std.specs.Prelude.{◌≡◌, ◌≤◌, ◌+◌, length, Ok, Err, None, IfOk, IfSome};
+ghost use Rattle.std.specs.Prelude.{◌≡◌, ◌≤◌, ◌+◌, length, take, Ok, Err, None, IfOk, IfSome};
 ghost use Rattle.wire_base.specs.Tally.{tally_faults, tally_lent};
 ghost use Rattle.capture.specs.declared.limit.TheConstants.{MAX_MESSAGE, MAX_RECORDS};
 ghost use Rattle.capture.specs.Lines.{to_come};
-ghost use Rattle.capture.specs.Entries.{recorded, recorded_in};
+ghost use Rattle.capture.specs.Entries.{record_with, recorded, recorded_in};
 ghost use Rattle.capture.specs.Faulty.{CountsReads, is_failed_read};
 ghost use Rattle.capture.specs.Range.{FormFits};
 ghost use Rattle.capture.specs.Reader.{NextGives, Opens, TakesRecord};
-ghost use Rattle.capture.specs.Text.{format_number, format_of};
+ghost use Rattle.capture.specs.Text.{format_number, format_of, record_text};
 
 use crate::entry::Entry;
 use crate::fault::{CaptureFault, Departure, LineFault, PartFault};
@@ -108,6 +108,8 @@ fn take_entry<R: Read>(
         (to_come lines.new.unread (R.remaining (tally_lent reader.new))) (recorded_in room.new result) }
     ensures room { length room.new ≡ MAX_MESSAGE }
     ensures len { IfOk result (λ taken. IfSome taken (λ entry. entry.1 ≤ MAX_MESSAGE)) }
+    ensures line { IfOk result (λ taken. IfSome taken (λ entry.
+        lines.new.last ≡ record_text form (record_with entry.0 (take entry.1 room.new)))) }
     ensures memory { result ≡ Err CaptureFault.OutOfMemory → ⊥ }
     ensures reads { CountsReads (is_failed_read result) (tally_faults reader.old) (tally_faults reader.new) }
 {
@@ -190,8 +192,8 @@ impl CaptureReader {
         self.peer
     }
 
-    /// Reads the next record as [`next`](CaptureReader::next) does, but keeps its bytes, which `bytes` lends until the next call,
-    /// and answers the rest. It takes no memory, and so never answers `OutOfMemory`.
+    /// Reads the next record as [`next`](CaptureReader::next) does, but keeps its bytes and its line, which `bytes` and `line` lend until the
+    /// next call, and answers the rest. It takes no memory, and so never answers `OutOfMemory`.
     #[inline(always)]
     pub fn advance<R: Read>(&mut self, reader: &mut Tally<R>) -> Result<Option<Entry>, CaptureFault>
         ensures gives { self.old.phase ≡ Phase.Reading → NextGives self.old self.new
@@ -200,6 +202,8 @@ impl CaptureReader {
         ensures ended { self.old.phase ≡ Phase.Ended → (result ≡ Ok None) × (self.new ≡ self.old) }
         ensures failed { self.old.phase ≡ Phase.Failed → (result ≡ Err CaptureFault.Failed) × (self.new ≡ self.old) }
         ensures head { (self.new.own ≡ self.old.own) × (self.new.peer ≡ self.old.peer) × (format_of self.new.form ≡ format_of self.old.form) }
+        ensures line { IfOk result (λ next. IfSome next (λ entry.
+            self.new.line ≡ record_text self.old.form (record_with entry self.new.bytes))) }
         ensures memory { result ≡ Err CaptureFault.OutOfMemory → ⊥ }
         ensures reads { CountsReads (is_failed_read result) (tally_faults reader.old) (tally_faults reader.new) }
     {
@@ -228,6 +232,13 @@ impl CaptureReader {
     /// What its memory was taken from. Takes no memory.
     pub fn alloc(&self) -> Global {
         self.alloc
+    }
+
+    /// The line of the record that `advance` read last, without its LF. Takes no memory.
+    pub fn line(&self) -> &[u8]
+        ensures { result.now ≡ self.now.line }
+    {
+        self.lines.last()
     }
 
     /// The bytes of the record that `advance` read last. Takes no memory.

@@ -60,7 +60,8 @@ pub fn write_head_2<W: Write>(
     write_head_in(alloc, Format::Two, own, peer, writer)
 }
 
-fn write_head_in<W: Write>(
+/// Writes the head in this format, in one piece. Its faults are those of [`write_head`].
+pub fn write_head_in<W: Write>(
     alloc: Global,
     format: Format,
     own: u16,

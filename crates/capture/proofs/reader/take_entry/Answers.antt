@@ -31,6 +31,14 @@ returns-in-Ok-clause-takes g c =
       rw c.skip.ensures.unread (line_consumed c.next.new.self.unread c.in-Ok-Some.len _ (g.R.Read.remaining (tally_lent c.next.new.reader)) _ found.1 found.2 read.1 found.3),
     )
 
+pub returns-in-Ok-clause-line : goal.returns-in-Ok-clause-line
+returns-in-Ok-clause-line g c =
+    let found = rw c.in-Ok-Some.field-0-is at c.in-Ok-Some.ensures.found in
+    let is = line_is c.next.new.self.unread c.in-Ok-Some.len found.1 found.2 in
+    let words = c.line.ensures ∙ is in
+    let read = record_ok c.args.form _ (record_with c.in-Ok.entry.0 (take c.in-Ok.entry.1 c.line_into.new.room)) c.requires.form (ap (record_at c.args.form) (sym words) ∙ c.in-Ok.ensures.record) in
+    c.skip.ensures.last ∙ is ∙ read.1
+
 pub returns-in-Err-clause-takes : goal.returns-in-Err-clause-takes
 returns-in-Err-clause-takes g c =
     let found = rw c.in-Ok-Some.field-0-is at c.in-Ok-Some.ensures.found in
