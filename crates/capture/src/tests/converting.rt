@@ -18,8 +18,7 @@ fn converted(
         1 => convert(alloc, 1, &mut reader, &mut writer),
         _ => convert(alloc, 2, &mut reader, &mut writer),
     };
-    let Narrow { taken, fails_at: _ } = writer.into_inner();
-    (answer, taken)
+    (answer, writer.into_inner().into_bytes())
 }
 
 /// One list of records in both formats.

@@ -66,6 +66,12 @@ impl Narrow {
             fails_at,
         }
     }
+
+    /// The bytes that it took.
+    pub fn into_bytes(self) -> Vec<u8> {
+        let Narrow { taken, fails_at: _ } = self;
+        taken
+    }
 }
 
 impl Write for Narrow {
@@ -93,8 +99,7 @@ pub fn copied(alloc: Global, text: &[u8], step: usize) -> (Result<u64, CaptureFa
     let mut reader = Tally::new(Stepped::new(text, step));
     let mut writer = Tally::new(Narrow::new(alloc, usize::MAX));
     let answer = copy(alloc, &mut reader, &mut writer);
-    let Narrow { taken, fails_at: _ } = writer.into_inner();
-    (answer, taken)
+    (answer, writer.into_inner().into_bytes())
 }
 
 /// Reads a whole text and writes what was read, in the same format.
