@@ -1,0 +1,14 @@
+-- Where there is no memory for the printed text, nothing is read or written.
+use Rattle.std.proofs.Common.{Err, refl}
+use Rattle.std.proofs.KnownBytes.{Keeps-refl}
+use Rattle.capture.specs.declared.fault.ConvertFault.TheVariants.{OutOfMemory}
+use Rattle.ddcap.proofs.convert.convert_to.Goals as goal
+
+pub returns-in_default : goal.returns-in_default
+returns-in_default g c = λ format is. record {
+  answer = Err OutOfMemory;
+  converts = Keeps-refl _;
+  reads = refl;
+  writes = refl;
+  tells = (c.print_out_of_memory.ensures, refl);
+}
