@@ -96,6 +96,17 @@ fn a_fault_is_named_behind_what_was_converted(rt: HostRuntime) -> Result<(), Fai
     Ok(())
 }
 
+/// How many of these bytes there are through the last LF.
+fn length_of_whole_lines(bytes: &[u8]) -> usize {
+    let mut length = 0usize;
+    for (place, byte) in bytes.iter().enumerate() {
+        if *byte == b'\n' {
+            length = place.saturating_add(1);
+        }
+    }
+    length
+}
+
 #[test]
 fn a_failed_read_leaves_what_was_converted(rt: HostRuntime) {
     let text = b"ddcap 1 1.2 1.1\nu start\nr 1 05\n";
@@ -103,19 +114,17 @@ fn a_failed_read_leaves_what_was_converted(rt: HostRuntime) {
         let mut reader = Tally::new(Stepped::failing(text, 1, fails_at));
         let mut writer = Tally::new(Narrow::new(rt.alloc(), usize::MAX));
         let answer = convert(rt.alloc(), 1, &mut reader, &mut writer);
+        let read_failed = Err(ConvertFault::Capture(CaptureFault::Read));
         assert_eq!(rt;
-            answer,
-            Err(ConvertFault::Capture(CaptureFault::Read)),
+            (answer, reader.faults()),
+            (read_failed, 1),
             "call {fails_at}"
         );
-        let mut whole = 0;
-        for (place, byte) in text[..fails_at].iter().enumerate() {
-            if *byte == b'\n' {
-                whole = place.saturating_add(1);
-            }
-        }
-        assert!(rt;
-            writer.into_inner().taken.as_slice() == &text[..whole],
+        let taken = writer.into_inner().into_bytes();
+        assert!(rt; text.starts_with(taken.as_slice()), "call {fails_at}");
+        assert_eq!(rt;
+            taken.len(),
+            length_of_whole_lines(&text[..fails_at]),
             "call {fails_at}"
         );
     }

@@ -60,23 +60,38 @@ fn faulty_distances(rt: HostRuntime) -> Result<(), Fail> {
     Ok(())
 }
 
+/// The hint of a receipt.
+fn hint_of(record: &Record) -> Option<u64> {
+    match record {
+        Record::Received { hint, .. } => Some(*hint),
+        Record::Sent(_) | Record::User(_) => None,
+    }
+}
+
 #[test]
 fn each_receipt_moves_the_mark_and_nothing_else_does(rt: HostRuntime) -> Result<(), Fail> {
     let text =
         b"ddcap 2 1.2 1.1\nu start\nr 1 05\ns 05\nk 0 05\nu up 1 05\nr -2 05\nr -1 05\nk 5 05\n";
+    let hints = [
+        None,
+        Some(1u64),
+        None,
+        Some(2),
+        None,
+        Some(1),
+        Some(1),
+        Some(7),
+    ];
     let mut reader = Tally::new(Stepped::new(text, usize::MAX));
     let mut capture = CaptureReader::open(rt.alloc(), &mut reader)?;
     assert_eq!(rt; capture.format(), 2);
-    let mut hints = Vec::new(rt.alloc());
-    while let Some(record) = capture.next(&mut reader)? {
-        if let Record::Received { hint, .. } = record {
-            hints.push(hint)?;
-        }
+    for (place, wanted) in hints.iter().enumerate() {
+        let Some(record) = capture.next(&mut reader)? else {
+            return Err(Fail::new("a record is missing"));
+        };
+        assert_eq!(rt; hint_of(&record), *wanted, "record {place}");
     }
-    assert!(rt;
-        hints.as_slice() == [1u64, 2, 1, 1, 7].as_slice(),
-        "{hints:?}"
-    );
+    assert!(rt; capture.next(&mut reader)?.is_none(), "no record is left");
     assert_eq!(rt; capture.format(), 2, "the format stays");
     Ok(())
 }
