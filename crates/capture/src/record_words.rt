@@ -9,7 +9,7 @@ ghost use Rattle.capture.specs.Entries.{parted, told};
 
 use crate::address::address_of;
 use crate::bytes::Bytes;
-use crate::digits::{bytes_into, bytes_of};
+use crate::digits::{bytes_by, bytes_of};
 use crate::entry::Entry;
 use crate::event_words::event_of;
 use crate::fault::{Departure, PartFault};
@@ -19,6 +19,7 @@ use crate::limit::MAX_HINT;
 use crate::number::{number_of, positive_of};
 use crate::part::{after, cut_at};
 use crate::record::Record;
+use crate::spelling::Spelling;
 use std::alloc::Global;
 
 #[tactic(auto, unfolding(crate::specs::Reading::hint_at))]
@@ -104,7 +105,12 @@ pub fn record_of(alloc: Global, form: HintForm, line: &[u8]) -> Result<Record, P
 
 /// Reads the line's record in two parts: its entry, and its bytes, which are written to the front of the room, with how many they
 /// are. The line is given without its LF. It departs as for [`record_of`]. Takes no memory.
-pub fn line_into(form: HintForm, line: &[u8], room: &mut [u8]) -> Result<(Entry, usize), Departure>
+pub fn line_into(
+    form: HintForm,
+    spelling: &Spelling,
+    line: &[u8],
+    room: &mut [u8],
+) -> Result<(Entry, usize), Departure>
     requires form { FormFits form }
     requires room { length room.old ≡ MAX_MESSAGE }
     ensures record { record_at form line.now ≡ parted room.new result }
@@ -117,7 +123,7 @@ pub fn line_into(form: HintForm, line: &[u8], room: &mut [u8]) -> Result<(Entry,
     let Some(most) = entry.limit() else {
         return Ok((entry, 0));
     };
-    let len = bytes_into(text, most, room)?;
+    let len = bytes_by(Some(spelling), text, most, room)?;
     Ok((entry, len))
 }
 
