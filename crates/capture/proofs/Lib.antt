@@ -7,6 +7,7 @@ pub mod SpelledLaws
 pub mod Shown
 pub mod EventLaws
 pub mod HintLaws
+pub mod NumberedLaws
 pub mod RecordLaws
 pub mod HeadLaws
 pub mod FormatRows

@@ -16,7 +16,7 @@ use crate::fault::{Departure, PartFault};
 use crate::format::Format;
 use crate::hint::HintForm;
 use crate::limit::MAX_HINT;
-use crate::number::{number_of, positive_of};
+use crate::number::{number_before, number_of, positive_of};
 use crate::part::{after, cut_at};
 use crate::record::Record;
 use crate::spelling::Spelling;
@@ -51,8 +51,32 @@ fn hint_by_distance(mark: u64, text: &[u8]) -> Option<u64>
     Some(hint)
 }
 
-#[tactic(auto, unfolding(crate::specs::Reading::receipt_at))]
+#[inline(always)]
 fn receipt_of(form: HintForm, kept: bool, text: &[u8]) -> Option<(Entry, &[u8])>
+    requires { FormFits form }
+    ensures { receipt_at form kept text.now ≡ told (option_map (λ parts. (parts.0, parts.1.now)) result) }
+{
+    match form {
+        HintForm::Number => receipt_by_number(kept, text),
+        HintForm::Distance { .. } => match receipt_by_distance(form, kept, text) {
+            Some((entry, bytes)) => Some((entry, bytes)),
+            None => None,
+        },
+    }
+}
+
+#[inline(always)]
+fn receipt_by_number(kept: bool, text: &[u8]) -> Option<(Entry, &[u8])>
+    ensures { receipt_at HintForm.Number kept text.now ≡ told (option_map (λ parts. (parts.0, parts.1.now)) result) }
+{
+    match number_before(text, MAX_HINT) {
+        Some((hint, bytes)) => Some((Entry::Received { kept, hint }, bytes)),
+        None => None,
+    }
+}
+
+#[tactic(auto, unfolding(crate::specs::Reading::receipt_at))]
+fn receipt_by_distance(form: HintForm, kept: bool, text: &[u8]) -> Option<(Entry, &[u8])>
     requires { FormFits form }
     ensures { receipt_at form kept text.now ≡ told (option_map (λ parts. (parts.0, parts.1.now)) result) }
 {
