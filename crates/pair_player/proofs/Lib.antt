@@ -5,3 +5,5 @@ pub mod TakeLaws
 pub mod LackLaws
 pub mod TextLaws
 pub mod SoFarLaws
+pub mod OverLaws
+pub mod PlayLaws

@@ -5,3 +5,7 @@ pub mod Faulty
 pub mod Reader
 pub mod Fields
 pub mod SoFar
+pub mod Playing
+pub mod Stepping
+pub mod Waiting
+pub mod Beginning

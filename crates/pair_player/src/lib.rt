@@ -4,17 +4,24 @@
 //! never touches a file or a clock, nor what a step makes of the two ends.
 #![tactic(auto)]
 
+mod ends;
 mod entry;
 mod fault;
 mod laws;
 mod limit;
+mod played;
+mod playing;
 mod script_reader;
 mod step;
+mod texts;
 mod words;
 
-pub use fault::ScriptFault;
+pub use ends::{Ends, StepFault};
+pub use fault::{PlayFault, ScriptFault};
 pub use laws::{known_script, one_script, one_script_departure, script_read_on};
 pub use limit::MAX_STEPS;
+pub use played::Played;
+pub use playing::play;
 pub use script_reader::ScriptReader;
 pub use step::{ScriptStep, Step};
 

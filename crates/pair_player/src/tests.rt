@@ -1,6 +1,7 @@
 //! Tests of what no contract says: the rows of the format from outside, and readers that fail.
 
 mod limits;
+mod playing;
 mod reading;
 mod rows;
 mod stepped;
