@@ -1,6 +1,7 @@
 -- What `play` prints of a script whose captures it writes, and with which status it ends.
 use Rattle.std.specs.Prelude.{◌≡◌, ℕ, List, ◌++◌, Result, Ok, Err, codes}
 use Rattle.std.specs.Fmt.{decimal}
+use Rattle.wire_base.specs.declared.side.Side.{Side}
 use Rattle.wire_base.specs.declared.side.Side.TheVariants.{A, B}
 use Rattle.capture.specs.Faulty.{kind_words}
 use Rattle.pair_judge.specs.declared.fault.JudgeFault.TheVariants as judge
@@ -18,13 +19,16 @@ steps_text steps = codes "played " ++ (decimal steps ++ codes " steps\n")
 abbrev pub script_line_text : (line : ℕ) (words : List ℕ) → List ℕ
 script_line_text line words = codes "script: line " ++ (decimal line ++ (codes ": " ++ (words ++ codes "\n")))
 
+abbrev pub failed_write_text : Side → List ℕ
+failed_write_text A = codes "a: write failed\n"
+failed_write_text B = codes "b: write failed\n"
+
 abbrev pub play_fault_text : PlayFault → List ℕ
 play_fault_text (Departs kind line) = script_line_text line (kind_words kind)
 play_fault_text (BadStep line) = script_line_text line (codes "bad step")
 play_fault_text (Full line) = script_line_text line (codes "full")
 play_fault_text Read = codes "script: read failed\n"
-play_fault_text (Write A) = codes "a: write failed\n"
-play_fault_text (Write B) = codes "b: write failed\n"
+play_fault_text (Write side) = failed_write_text side
 play_fault_text OutOfMemory = fault_text judge.OutOfMemory
 
 -- 2: a line departs, or its step can't be made; 3: the script's reader, a capture's file or the memory failed

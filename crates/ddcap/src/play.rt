@@ -1,7 +1,7 @@
 //! `play`: a script, and the captures of both sides that it stands for.
 
 ghost use Rattle.std.specs.Prelude.{◌≤◌, length};
-ghost use Rattle.ddcap.specs.Playing.{IsPlaying, play_fault_status, play_fault_text, script_line_text, steps_text};
+ghost use Rattle.ddcap.specs.Playing.{IsPlaying, failed_write_text, play_fault_status, play_fault_text, script_line_text, steps_text};
 ghost use Rattle.ddcap.specs.Printed.{Writes, moved, stream_of};
 
 use crate::check::{print, print_out_of_memory};
@@ -66,8 +66,7 @@ fn print_play_fault<W: Write>(page: &mut Page, err: &mut Tally<W>, fault: PlayFa
         PlayFault::BadStep { line } => print_script_line(page, err, line, b"bad step"),
         PlayFault::Full { line } => print_script_line(page, err, line, b"full"),
         PlayFault::Read => print(err, b"script: read failed\n", FAILED),
-        PlayFault::Write { side: Side::A } => print(err, b"a: write failed\n", FAILED),
-        PlayFault::Write { side: Side::B } => print(err, b"b: write failed\n", FAILED),
+        PlayFault::Write { side } => print_failed_write(err, side),
         PlayFault::OutOfMemory => print_out_of_memory(err),
     }
 }
@@ -84,4 +83,14 @@ fn print_script_line<W: Write>(page: &mut Page, err: &mut Tally<W>, line: u64, w
     page.put(words);
     page.put(b"\n");
     print(err, page.as_slice(), FAULTY)
+}
+
+// Prints that a write to the capture of this side failed, from a constant.
+fn print_failed_write<W: Write>(err: &mut Tally<W>, side: Side) -> u8
+    ensures { Writes (stream_of W.contents err.old) (stream_of W.contents err.new) (failed_write_text side) 3 result }
+{
+    match side {
+        Side::A => print(err, b"a: write failed\n", FAILED),
+        Side::B => print(err, b"b: write failed\n", FAILED),
+    }
 }

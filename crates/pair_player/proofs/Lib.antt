@@ -7,3 +7,4 @@ pub mod TextLaws
 pub mod SoFarLaws
 pub mod OverLaws
 pub mod PlayLaws
+pub mod WholeLaws

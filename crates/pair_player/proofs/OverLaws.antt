@@ -38,6 +38,10 @@ module _ (whole rest : List ℕ) (old now : Option (List ℕ)) (h : HandsOver wh
       subst (λ (x : List ℕ). Appends old later (take (length h.written + taken) x)) (sym h.parts)
       (subst (Appends old later) (sym (take-append-add h.written rest taken)) (Appends-trans old now later h.written (take taken rest) h.taken some))
 
+  -- what was taken is a beginning
+  pub begun_over : AppendsSome old now whole
+  begun_over = (length h.written + 0, taken_over now 0 (Appends-nil now))
+
   pub some_over : (later : Option (List ℕ)) → AppendsSome now later rest → AppendsSome old later whole
   some_over later some = (length h.written + some.0, taken_over later some.0 some.1)
 

@@ -23,16 +23,16 @@ use Rattle.pair_player.specs.declared.fault.PlayFault.{PlayFault}
 use Rattle.pair_player.specs.declared.fault.PlayFault.TheVariants as faults
 use Rattle.pair_player.specs.declared.fault.ScriptFault.{ScriptFault}
 use Rattle.pair_player.specs.declared.fault.ScriptFault.TheVariants as of_script
-use Rattle.pair_player.specs.declared.ends.StepFault.{StepFault}
-use Rattle.pair_player.specs.declared.ends.StepFault.TheVariants as stops
+use Rattle.pair_player.specs.declared.fault.StepFault.{StepFault}
+use Rattle.pair_player.specs.declared.fault.StepFault.TheVariants as stops
 use Rattle.pair_player.specs.declared.played.Played.{Played}
 use Rattle.pair_player.specs.Beginning.{HeadFault, fault_of, fault_at, is_failed_read}
 use Rattle.pair_player.specs.Faulty as of_reader
 use Rattle.pair_player.specs.Playing.{CountsReadsOf, CountsWritesOf, CountsOfSide, DepartsBehind, EndsBehind, HasCut, HasPlayed, HasWritten, Held, Plays, Reached, StopsBehind, TakesNothing, held, text_a, text_b}
 use Rattle.pair_player.specs.Reader.{Advances, FaultShows, Opens, ScriptState}
 use Rattle.pair_player.specs.SoFar.{IsReadSoFar, no_steps, with_step}
-use Rattle.pair_player.specs.Ends.{StopMeans}
-use Rattle.pair_player.specs.Stepping.{PutsLines, Standing, Steps, standing}
+use Rattle.pair_player.specs.Stepping.{StopMeans}
+use Rattle.pair_player.specs.Making.{PutsLines, Standing, Steps, StopsStep, standing}
 use Rattle.pair_player.specs.Waiting.{EndsAll, FailsAt, Fails, Outlet, PassBoth, Passes, PassesSome, outlet}
 use Rattle.pair_player.proofs.OverLaws.{nothing_over, more_over, on_over, all_over, some_over, beginning_over}
 use Rattle.pair_player.proofs.SoFarLaws.{opened, one_more}
@@ -46,44 +46,10 @@ lines-append (r ∷ rs) more = ap (λ (x : List ℕ). record_line Number r ++ x)
 pub text-more : (own peer : ℕ) (rs more : List Record) → capture_text One own peer (rs ++ more) ≡ capture_text One own peer rs ++ record_lines Number more
 text-more own peer rs more = ap (λ (x : List ℕ). head_line One own peer ++ x) (lines-append rs more) ∙ sym (append_assoc (head_line One own peer) (record_lines Number rs) (record_lines Number more))
 
--- ---- counts
-
-pub counts_head : (fault : PlayFault) (text : Option (List ℕ)) (old new : ℕ) → HeadFault text fault → CountsReads (is_failed_read {A = Played} (Err fault)) old new → CountsReadsOf (Err fault) old new
-counts_head (faults.Departs kind line) text old new h k = k
-counts_head (faults.BadStep line) text old new h k = k
-counts_head (faults.Full line) text old new h k = k
-counts_head faults.Read text old new h k = k
-counts_head (faults.Write side) text old new h k = absurd h
-counts_head faults.OutOfMemory text old new h k = k
-
-pub no_write : (side : Side) (fault : PlayFault) (text : Option (List ℕ)) (faults_now : ℕ) → HeadFault text fault → CountsWritesOf side (Err fault) faults_now faults_now
-no_write side (faults.Departs kind line) text n h = refl
-no_write side (faults.BadStep line) text n h = refl
-no_write side (faults.Full line) text n h = refl
-no_write side faults.Read text n h = refl
-no_write side (faults.Write failed) text n h = absurd h
-no_write side faults.OutOfMemory text n h = refl
-
--- ---- faults
-
-pub head_fault : (text : Option (List ℕ)) (fault : ScriptFault) → FaultShows ScriptHeadDeparts 1 text fault → HeadFault text (fault_of fault)
-head_fault text (of_script.Departs kind line) shows = record { departs = shows.1; line_is = shows.0 }
-head_fault text of_script.Read shows = tt
-head_fault text of_script.OutOfMemory shows = tt
-head_fault text of_script.Failed shows = absurd shows
-
 -- the step that was read
 read_step : (read : Option ScriptStep) (step : ScriptStep) (after come : Option (List ℕ)) → read ≡ Some step → IsSomeAnd read (λ step. IsStep step × Consumes come after (script_line step))
     → IsStep step × Consumes come after (script_line step)
 read_step read step after come e h = subst (λ (x : Option ScriptStep). IsSomeAnd x (λ step. IsStep step × Consumes come after (script_line step))) e h
-
-pub not_begun : (text : Option (List ℕ)) (old : Held) (fault : PlayFault) → HeadFault text fault → Plays text old old (Err fault)
-not_begun text old (faults.Departs kind line) h = inl (h, record { a = Keeps-refl old.a; b = Keeps-refl old.b })
-not_begun text old (faults.BadStep line) h = absurd h
-not_begun text old (faults.Full line) h = absurd h
-not_begun text old faults.Read h = inl (record { a = Keeps-refl old.a; b = Keeps-refl old.b })
-not_begun text old (faults.Write side) h = absurd h
-not_begun text old faults.OutOfMemory h = inl (record { a = Keeps-refl old.a; b = Keeps-refl old.b })
 
 -- ---- between two steps
 
@@ -132,7 +98,7 @@ under_way text left old lines at opens is head_a head_b = record {
 
 -- ---- one step more
 
-same_Ok : (x y : KeptPlayed) → ◌≡◌ {A = Result KeptPlayed KeptStopped} (Ok x) (Ok y) → x ≡ y
+pub same_Ok : (x y : KeptPlayed) → ◌≡◌ {A = Result KeptPlayed KeptStopped} (Ok x) (Ok y) → x ≡ y
 same_Ok x y e = cc
 
 -- where the first step is made, what more steps behind the others make is what they make behind it
@@ -218,8 +184,8 @@ module _ (text : Option (List ℕ)) (old : Held) (p : Place) (h : IsUnderWay tex
   -- ---- where a write fails, or the rest is written
 
   pub fails : (side : Side) (n m : ℕ) (new : Outlet × Outlet) → FailsAt side (outlet p.a p.now.a n, outlet p.b p.now.b m) new → Plays text old (held new.0.held new.1.held) (Err (faults.Write side))
-  fails A n m new f = (h.reached, h.played, beginning_over _ _ _ _ h.over_a new.0.held f.0.some, some_over _ _ _ _ h.over_b new.1.held f.1.some)
-  fails B n m new f = (h.reached, h.played, some_over _ _ _ _ h.over_a new.0.held f.0.some, beginning_over _ _ _ _ h.over_b new.1.held f.1.some)
+  fails A n m new f = (h.reached, h.played, (beginning_over _ _ _ _ h.over_a new.0.held f.0.some, some_over _ _ _ _ h.over_b new.1.held f.1.some))
+  fails B n m new f = (h.reached, h.played, (some_over _ _ _ _ h.over_a new.0.held f.0.some, beginning_over _ _ _ _ h.over_b new.1.held f.1.some))
 
   written : (later : Held) (a b : List ℕ) → HandsOver p.a a p.now.a later.a → HandsOver p.b b p.now.b later.b → a ≡ [] → b ≡ [] → HasWritten old later h.reached
   written later a b over_a over_b none_a none_b = record {
@@ -277,7 +243,7 @@ module _ (text : Option (List ℕ)) (old : Held) (p : Place) (h : IsUnderWay tex
       by_fault of_script.Failed shows = absurd shows
 
   -- its next step isn't made
-  pub at_stop : (step : ScriptStep) (lines : ScriptState) (after : Option (List ℕ)) (fault : StepFault) → lines.step ≡ Some step → Advances p.lines lines p.come after (Ok true)
+  at_stop : (step : ScriptStep) (lines : ScriptState) (after : Option (List ℕ)) (fault : StepFault) → lines.step ≡ Some step → Advances p.lines lines p.come after (Ok true)
       → StopMeans (kept_plays_step p.pair step) fault → Meant h.reached (Err (fault_at (p.steps + 2) fault))
   at_stop step lines after fault is advances means = by_fault fault means
     where
@@ -298,70 +264,16 @@ module _ (text : Option (List ℕ)) (old : Held) (p : Place) (h : IsUnderWay tex
       by_fault stops.Full e = behind Full e
       by_fault stops.OutOfMemory e = tt
 
--- ---- counts at the end
+  -- the same where the lines that wait are seen behind it
+  pub stopped : (step : ScriptStep) (lines : ScriptState) (after : Option (List ℕ)) (at : Standing) (fault : StepFault) (answer : Result Played PlayFault) (n m : ℕ) (new : Outlet × Outlet) → lines.step ≡ Some step
+      → Advances p.lines lines p.come after (Ok true) → StopsStep step (standing p.pair p.a p.b) at fault → EndsAll (Err (fault_at (p.steps + 2) fault)) (outlet at.a p.now.a n, outlet at.b p.now.b m) new answer
+      → Plays text old (held new.0.held new.1.held) answer
+  stopped step lines after at fault answer n m new is advances stops ends =
+      ended (Err (fault_at (p.steps + 2) fault)) answer n m new (at_stop step lines after fault is advances stops.means)
+      (subst (λ (x : List ℕ). EndsAll (Err (fault_at (p.steps + 2) fault)) (outlet p.a p.now.a n, outlet x p.now.b m) new answer) stops.b
+      (subst (λ (x : List ℕ). EndsAll (Err (fault_at (p.steps + 2) fault)) (outlet x p.now.a n, outlet at.b p.now.b m) new answer) stops.a ends))
 
--- an answer that no writer gives
-abbrev IsNoWrite : Result Played PlayFault → Type 0
-IsNoWrite (Err (faults.Write side)) = ⊥
-IsNoWrite answer = Unit {0}
-
-pub meant_no_write : (r : Reached) (meant : Result Played PlayFault) → Meant r meant → IsNoWrite meant
-meant_no_write r (Ok answer) h = tt
-meant_no_write r (Err (faults.Departs kind line)) h = tt
-meant_no_write r (Err (faults.BadStep line)) h = tt
-meant_no_write r (Err (faults.Full line)) h = tt
-meant_no_write r (Err faults.Read) h = tt
-meant_no_write r (Err (faults.Write side)) h = absurd h
-meant_no_write r (Err faults.OutOfMemory) h = tt
-
-stands : (side : Side) (meant : Result Played PlayFault) (old new : ℕ) → IsNoWrite meant → new ≡ old → CountsWritesOf side meant old new
-stands side (Ok answer) old new h e = e
-stands side (Err (faults.Departs kind line)) old new h e = e
-stands side (Err (faults.BadStep line)) old new h e = e
-stands side (Err (faults.Full line)) old new h e = e
-stands side (Err faults.Read) old new h e = e
-stands side (Err (faults.Write failed)) old new h e = absurd h
-stands side (Err faults.OutOfMemory) old new h e = e
-
-pub fails_a : (failed : Side) (old new : Outlet × Outlet) → FailsAt failed old new → CountsOfSide A failed old.0.faults new.0.faults
-fails_a A old new f = f.0.faults
-fails_a B old new f = f.0.faults
-
-pub fails_b : (failed : Side) (old new : Outlet × Outlet) → FailsAt failed old new → CountsOfSide B failed old.1.faults new.1.faults
-fails_b A old new f = f.1.faults
-fails_b B old new f = f.1.faults
-
-pub writes_a : (meant answer : Result Played PlayFault) (old new : Outlet × Outlet) → IsNoWrite meant → EndsAll meant old new answer → CountsWritesOf A answer old.0.faults new.0.faults
-writes_a meant answer old new h (inl all) = subst (λ (x : Result Played PlayFault). CountsWritesOf A x old.0.faults new.0.faults) (sym all.4) (stands A meant old.0.faults new.0.faults h all.0.faults)
-writes_a meant answer old new h (inr some) = subst (λ (x : Result Played PlayFault). CountsWritesOf A x old.0.faults new.0.faults) (sym some.2) (fails_a some.0 old new some.1)
-
-pub writes_b : (meant answer : Result Played PlayFault) (old new : Outlet × Outlet) → IsNoWrite meant → EndsAll meant old new answer → CountsWritesOf B answer old.1.faults new.1.faults
-writes_b meant answer old new h (inl all) = subst (λ (x : Result Played PlayFault). CountsWritesOf B x old.1.faults new.1.faults) (sym all.4) (stands B meant old.1.faults new.1.faults h all.1.faults)
-writes_b meant answer old new h (inr some) = subst (λ (x : Result Played PlayFault). CountsWritesOf B x old.1.faults new.1.faults) (sym some.2) (fails_b some.0 old new some.1)
-
--- the reader's count, where this answer is meant
-pub reads_of_fault : (fault : ScriptFault) (departs : Departure → List ℕ → Type 0) (line : ℕ) (come : Option (List ℕ)) (old new : ℕ) → FaultShows departs line come fault → CountsReads (of_reader.is_read_fault fault) old new
-    → CountsReadsOf (Err (fault_of fault)) old new
-reads_of_fault (of_script.Departs kind line) departs n come old new shows h = h
-reads_of_fault of_script.Read departs n come old new shows h = h
-reads_of_fault of_script.OutOfMemory departs n come old new shows h = h
-reads_of_fault of_script.Failed departs n come old new shows h = absurd shows
-
-pub reads_of_stop : (stop : StepFault) (line old new : ℕ) → new ≡ old → CountsReadsOf (Err (fault_at line stop)) old new
-reads_of_stop stops.BadStep line old new e = e
-reads_of_stop stops.Full line old new e = e
-reads_of_stop stops.OutOfMemory line old new e = e
-
-reads_either : (meant : Result Played PlayFault) (old new : ℕ) → IsNoWrite meant → CountsReadsOf meant old new → (new ≡ old) ⊎ CountedFault old new
-reads_either (Ok answer) old new h k = inl k
-reads_either (Err (faults.Departs kind line)) old new h k = inl k
-reads_either (Err (faults.BadStep line)) old new h k = inl k
-reads_either (Err (faults.Full line)) old new h k = inl k
-reads_either (Err faults.Read) old new h k = inr k
-reads_either (Err (faults.Write side)) old new h k = absurd h
-reads_either (Err faults.OutOfMemory) old new h k = inl k
-
-pub reads_meant : (meant answer : Result Played PlayFault) (reads_old reads_new : ℕ) (old new : Outlet × Outlet) → IsNoWrite meant → CountsReadsOf meant reads_old reads_new → EndsAll meant old new answer
-    → CountsReadsOf answer reads_old reads_new
-reads_meant meant answer n m old new h k (inl all) = subst (λ (x : Result Played PlayFault). CountsReadsOf x n m) (sym all.4) k
-reads_meant meant answer n m old new h k (inr some) = subst (λ (x : Result Played PlayFault). CountsReadsOf x n m) (sym some.2) (reads_either meant n m h k)
+-- a step that was read is some step
+pub some_step : (read : Option ScriptStep) (come after : Option (List ℕ)) → IsSomeAnd read (λ step. IsStep step × Consumes come after (script_line step)) → (step : ScriptStep) × (read ≡ Some step)
+some_step None come after h = absurd h
+some_step (Some step) come after h = (step, refl)

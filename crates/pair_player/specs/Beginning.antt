@@ -1,11 +1,11 @@
 -- What a player has before the first step of a script.
-use Rattle.std.specs.Prelude.{ℕ, Bool, true, false, Option, Result, Ok, Err}
+use Rattle.std.specs.Prelude.{ℕ, Bool, true, false, List, Option, Result, Ok, Err}
 use Rattle.pair_player.specs.declared.fault.PlayFault.{PlayFault}
 use Rattle.pair_player.specs.declared.fault.PlayFault.TheVariants as faults
 use Rattle.pair_player.specs.declared.fault.ScriptFault.{ScriptFault}
 use Rattle.pair_player.specs.declared.fault.ScriptFault.TheVariants as of_script
-use Rattle.pair_player.specs.declared.ends.StepFault.{StepFault}
-use Rattle.pair_player.specs.declared.ends.StepFault.TheVariants as stops
+use Rattle.pair_player.specs.declared.fault.StepFault.{StepFault}
+use Rattle.pair_player.specs.declared.fault.StepFault.TheVariants as stops
 use Rattle.pair_player.specs.Playing.{HeadDepartsAt}
 
 -- ---- faults

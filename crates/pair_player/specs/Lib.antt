@@ -6,6 +6,6 @@ pub mod Reader
 pub mod Fields
 pub mod SoFar
 pub mod Playing
-pub mod Stepping
+pub mod Making
 pub mod Waiting
 pub mod Beginning

@@ -39,6 +39,9 @@ pub record Reached : Type 0 where
   pub played : KeptPlayed
   pub come : Option (List ℕ)
 
+abbrev pub reached : Script → KeptPlayed → Option (List ℕ) → Reached
+reached script played come = record { script = script; played = played; come = come }
+
 -- the text begins with this script, and its steps are made
 pub record HasPlayed (text : Option (List ℕ)) (r : Reached) : Type 0 where
   pub read : IsReadSoFar text r.script r.come
@@ -108,6 +111,20 @@ Plays text old new (Err (faults.Full line)) = PlaysTo text old new (StopsBehind 
 Plays text old new (Err faults.Read) = PlaysSome text old new
 Plays text old new (Err (faults.Write side)) = (r : Reached) × HasPlayed text r × HasCut side old new r
 Plays text old new (Err faults.OutOfMemory) = PlaysSome text old new
+
+-- ---- of a script that is played whole
+
+-- a device's fault, or want of memory
+abbrev pub IsOfDevice : PlayFault → Type 0
+IsOfDevice faults.Read = Unit {0}
+IsOfDevice (faults.Write side) = Unit {0}
+IsOfDevice faults.OutOfMemory = Unit {0}
+IsOfDevice fault = ⊥
+
+-- the answer counts its steps and both captures are written, or a device or the memory failed
+abbrev pub AnswersWhole : Reached → Held → Held → Result Played PlayFault → Type 0
+AnswersWhole r old new (Ok answer) = (answer.steps ≡ length r.script.steps) × HasWritten old new r
+AnswersWhole r old new (Err fault) = IsOfDevice fault
 
 -- ---- counts of failed calls
 

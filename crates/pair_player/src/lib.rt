@@ -16,9 +16,9 @@ mod step;
 mod texts;
 mod words;
 
-pub use ends::{Ends, StepFault};
-pub use fault::{PlayFault, ScriptFault};
-pub use laws::{known_script, one_script, one_script_departure, script_read_on};
+pub use ends::Ends;
+pub use fault::{PlayFault, ScriptFault, StepFault};
+pub use laws::{known_script, one_script, one_script_departure, played_whole, script_read_on};
 pub use limit::MAX_STEPS;
 pub use played::Played;
 pub use playing::play;

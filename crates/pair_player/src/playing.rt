@@ -10,15 +10,14 @@ ghost use Rattle.dna_model.specs.KeptPlayed.{new_pair};
 ghost use Rattle.dna_model.specs.Script.{ScriptStep as Line};
 ghost use Rattle.dna_model.specs.ScriptText.{IsStep};
 ghost use Rattle.pair_player.specs.Beginning.{HeadFault, fault_at, fault_of, is_failed_read};
-ghost use Rattle.pair_player.specs.Ends.{units_passed};
+ghost use Rattle.pair_player.specs.Stepping.{units_passed};
 ghost use Rattle.pair_player.specs.Playing.{CountsReadsOf, CountsWritesOf, Plays, held};
 ghost use Rattle.pair_player.specs.Reader.{Opens};
-ghost use Rattle.pair_player.specs.Stepping.{StepsOrStops, standing};
+ghost use Rattle.pair_player.specs.Making.{StepsOrStops, standing};
 ghost use Rattle.pair_player.specs.Waiting.{EndsAll, outlet};
 
-use crate::ends::{Ends, StepFault};
-use crate::fault::{PlayFault, ScriptFault};
-use crate::laws::script_read_on;
+use crate::ends::Ends;
+use crate::fault::{PlayFault, ScriptFault, StepFault};
 use crate::limit::MAX_STEPS;
 use crate::played::Played;
 use crate::script_reader::ScriptReader;
@@ -49,7 +48,6 @@ pub fn play<R: Read, A: Write, B: Write>(
     ensures writes_a { CountsWritesOf of_side.A result (tally_faults a.old) (tally_faults a.new) }
     ensures writes_b { CountsWritesOf of_side.B result (tally_faults b.old) (tally_faults b.new) }
 {
-    script_read_on();
     let Begun {
         mut lines,
         mut ends,

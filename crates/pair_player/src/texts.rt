@@ -4,7 +4,7 @@ ghost use Rattle.std.specs.Prelude.{◌≡◌, [], ◌++◌, IfOk, OnOk, OnErr};
 ghost use Rattle.wire_base.specs.Tally.{tally_faults, tally_lent};
 ghost use Rattle.capture.specs.declared.format.Format.TheVariants as Layout;
 ghost use Rattle.capture.specs.Text.{head_line};
-ghost use Rattle.pair_player.specs.Stepping.{PutsLines};
+ghost use Rattle.pair_player.specs.Making.{PutsLines};
 ghost use Rattle.pair_player.specs.Waiting.{PassBoth, Passes, Fails, outlet};
 
 use capture::{Format, put_head};
