@@ -10,9 +10,14 @@ use std::convert::AsStr;
 #[derive(Clone, Copy, Debug, PartialEq, Eq)]
 pub enum Task<'a> {
     /// To judge the captures in two files.
-    Check { a: &'a str, b: &'a str },
+    Check {
+        a: &'a str,
+        b: &'a str,
+    },
     /// To show the records of the capture in a file.
-    Show { a: &'a str },
+    Show {
+        a: &'a str,
+    },
     /// To play the script in a file, and to write its captures into the files `a` and `b`.
     Play {
         script: &'a str,
@@ -20,7 +25,11 @@ pub enum Task<'a> {
         b: &'a str,
     },
     /// To write the capture in the file `a` in this format, into the file `b`.
-    Convert { to: Format, a: &'a str, b: &'a str },
+    Convert {
+        to: Format,
+        a: &'a str,
+        b: &'a str,
+    },
 }
 
 /// Why the words ask for nothing.

@@ -232,10 +232,11 @@ module _ (text : Option (List ℕ)) (old : Held) (p : Place) (h : IsUnderWay tex
     where
       same : p.lines.steps ≡ length h.reached.script.steps
       same = h.counted ∙ sym h.count
+
       by_fault : (fault : ScriptFault) → FaultShows (StepDeparts p.lines.steps) (p.lines.steps + 2) p.come fault → Meant h.reached (Err (fault_of fault))
       by_fault (of_script.Departs kind line) shows = record {
         departs = subst (λ (x : Option (List ℕ)). IfSome x (StepDeparts (length h.reached.script.steps) kind)) (sym h.come_is)
-        (subst (λ (n : ℕ). IfSome p.come (StepDeparts n kind)) same shows.1);
+            (subst (λ (n : ℕ). IfSome p.come (StepDeparts n kind)) same shows.1);
         line_is = shows.0 ∙ ap (λ n. n + 2) same;
       }
       by_fault of_script.Read shows = tt
@@ -259,6 +260,7 @@ module _ (text : Option (List ℕ)) (old : Held) (p : Place) (h : IsUnderWay tex
             stops = ap (λ (x : KeptPair). kept_plays_step x step) h.pair_is ∙ e;
             line_is = ap (λ n. n + 2) (sym h.count);
           }
+
       by_fault : (fault : StepFault) → StopMeans (kept_plays_step p.pair step) fault → Meant h.reached (Err (fault_at (p.steps + 2) fault))
       by_fault stops.BadStep e = behind BadStep e
       by_fault stops.Full e = behind Full e

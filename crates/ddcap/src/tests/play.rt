@@ -8,7 +8,8 @@ use std::test::Fail;
 use wire_base::Tally;
 
 /// The script of the worked session.
-pub const WORKED: &str = "a start; b start; a send; b lose; a timer; a send; b deliver; b send; a deliver; a send; b deliver; \
+pub const WORKED: &str =
+    "a start; b start; a send; b lose; a timer; a send; b deliver; b send; a deliver; a send; b deliver; \
 a open; a send; b damage 0 132; b send; a deliver; a send; b refuse; b send; a deliver; a send; b deliver; b send; a deliver";
 
 /// How many bytes the first lines of a text have.
@@ -39,19 +40,39 @@ fn scripted_example(rt: HostRuntime) -> Result<(), Fail> {
 #[test]
 fn a_head_alone_is_played(rt: HostRuntime) -> Result<(), Fail> {
     let script = script_of(rt.alloc(), "")?;
-    let (a, b) = (text_of(rt.alloc(), HEAD_A, "")?, text_of(rt.alloc(), HEAD_B, "")?);
+    let (a, b) = (
+        text_of(rt.alloc(), HEAD_A, "")?,
+        text_of(rt.alloc(), HEAD_B, "")?,
+    );
     let answer = played("played 0 steps\n");
-    expect_played(&rt, rt.alloc(), script.as_str(), a.as_str(), b.as_str(), answer);
+    expect_played(
+        &rt,
+        rt.alloc(),
+        script.as_str(),
+        a.as_str(),
+        b.as_str(),
+        answer,
+    );
     Ok(())
 }
 
 #[test]
 fn a_first_step_that_cannot_be_made_leaves_two_heads(rt: HostRuntime) -> Result<(), Fail> {
-    let (a, b) = (text_of(rt.alloc(), HEAD_A, "")?, text_of(rt.alloc(), HEAD_B, "")?);
+    let (a, b) = (
+        text_of(rt.alloc(), HEAD_A, "")?,
+        text_of(rt.alloc(), HEAD_B, "")?,
+    );
     for step in ["a send", "b lose", "a timer"] {
         let script = script_of(rt.alloc(), step)?;
         let answer = faulty("script: line 2: bad step\n");
-        expect_played(&rt, rt.alloc(), script.as_str(), a.as_str(), b.as_str(), answer);
+        expect_played(
+            &rt,
+            rt.alloc(),
+            script.as_str(),
+            a.as_str(),
+            b.as_str(),
+            answer,
+        );
     }
     Ok(())
 }
@@ -62,7 +83,14 @@ fn a_byte_behind_the_unit_cannot_be_changed(rt: HostRuntime) -> Result<(), Fail>
     let a = text_of(rt.alloc(), HEAD_A, "u start; s STRT")?;
     let b = text_of(rt.alloc(), HEAD_B, "u start")?;
     let answer = faulty("script: line 5: bad step\n");
-    expect_played(&rt, rt.alloc(), script.as_str(), a.as_str(), b.as_str(), answer);
+    expect_played(
+        &rt,
+        rt.alloc(),
+        script.as_str(),
+        a.as_str(),
+        b.as_str(),
+        answer,
+    );
     Ok(())
 }
 
@@ -86,23 +114,51 @@ fn a_link_that_is_not_there_cannot_be_closed(rt: HostRuntime) -> Result<(), Fail
 fn a_faulty_text_is_played_to_its_fault(rt: HostRuntime) -> Result<(), Fail> {
     let a = text_of(rt.alloc(), HEAD_A, "u start; s STRT")?;
     let b = text_of(rt.alloc(), HEAD_B, "u start")?;
-    for line in ["a", "a sends", "b send ", "c send", "a damage 01 1", "a accept 0", "", "u start"] {
+    for line in [
+        "a",
+        "a sends",
+        "b send ",
+        "c send",
+        "a damage 01 1",
+        "a accept 0",
+        "",
+        "u start",
+    ] {
         let mut script = script_of(rt.alloc(), "a start; b start; a send")?;
         script.push_str(line)?;
         script.push_str("\n")?;
         let answer = faulty("script: line 5: syntax\n");
-        expect_played(&rt, rt.alloc(), script.as_str(), a.as_str(), b.as_str(), answer);
+        expect_played(
+            &rt,
+            rt.alloc(),
+            script.as_str(),
+            a.as_str(),
+            b.as_str(),
+            answer,
+        );
     }
     let mut script = script_of(rt.alloc(), "a start; b start; a send")?;
     script.push_str("b deliver")?;
     let answer = faulty("script: line 5: syntax\n");
-    expect_played(&rt, rt.alloc(), script.as_str(), a.as_str(), b.as_str(), answer);
+    expect_played(
+        &rt,
+        rt.alloc(),
+        script.as_str(),
+        a.as_str(),
+        b.as_str(),
+        answer,
+    );
     Ok(())
 }
 
 #[test]
 fn a_faulty_head_leaves_nothing(rt: HostRuntime) {
-    for script in ["", "ddplay 1 1.1 1.2", "ddplay 2 1.1 1.2\n", "ddcap 1 1.1 1.2\n"] {
+    for script in [
+        "",
+        "ddplay 1 1.1 1.2",
+        "ddplay 2 1.1 1.2\n",
+        "ddcap 1 1.1 1.2\n",
+    ] {
         let answer = faulty("script: line 1: syntax\n");
         expect_played(&rt, rt.alloc(), script, "", "", answer);
     }
@@ -117,10 +173,23 @@ fn every_beginning_that_ends_behind_a_line_is_played(rt: HostRuntime) -> Result<
         let mut given = Tally::new(Given::new(text.as_bytes(), NEVER, NEVER));
         let mut a = Tally::new(Kept::new(rt.alloc(), NEVER, NEVER));
         let mut b = Tally::new(Kept::new(rt.alloc(), NEVER, NEVER));
-        expect_printed(&rt, rt.alloc(), &mut given, &mut a, &mut b, played(said.as_str()));
+        expect_printed(
+            &rt,
+            rt.alloc(),
+            &mut given,
+            &mut a,
+            &mut b,
+            played(said.as_str()),
+        );
         let (a, b) = (a.into_inner(), b.into_inner());
-        assert!(rt; TEXT_A.as_bytes().starts_with(a.bytes.as_slice()), "a's capture of {steps}");
-        assert!(rt; TEXT_B.as_bytes().starts_with(b.bytes.as_slice()), "b's capture of {steps}");
+        assert!(rt;
+            TEXT_A.as_bytes().starts_with(a.bytes.as_slice()),
+            "a's capture of {steps}"
+        );
+        assert!(rt;
+            TEXT_B.as_bytes().starts_with(b.bytes.as_slice()),
+            "b's capture of {steps}"
+        );
     }
     Ok(())
 }
@@ -138,6 +207,9 @@ fn an_end_has_65535_addresses(rt: HostRuntime) -> Result<(), Fail> {
     let answer = faulty("script: line 65537: full\n");
     expect_printed(&rt, rt.alloc(), &mut given, &mut a, &mut b, answer);
     let a = a.into_inner();
-    assert!(rt; a.bytes.as_slice().ends_with(b"\nu open 65535\n"), "the last address");
+    assert!(rt;
+        a.bytes.as_slice().ends_with(b"\nu open 65535\n"),
+        "the last address"
+    );
     Ok(())
 }

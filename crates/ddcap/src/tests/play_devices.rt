@@ -33,8 +33,14 @@ fn a_failed_read_leaves_what_was_played(rt: HostRuntime) -> Result<(), Fail> {
             let answer = failed("script: read failed\n");
             expect_printed(&rt, rt.alloc(), &mut given, &mut a, &mut b, answer);
             let (a, b) = (a.into_inner(), b.into_inner());
-            assert!(rt; are_first_lines(a.bytes.as_slice(), TEXT_A), "a's capture at call {call}");
-            assert!(rt; are_first_lines(b.bytes.as_slice(), TEXT_B), "b's capture at call {call}");
+            assert!(rt;
+                are_first_lines(a.bytes.as_slice(), TEXT_A),
+                "a's capture at call {call}"
+            );
+            assert!(rt;
+                are_first_lines(b.bytes.as_slice(), TEXT_B),
+                "b's capture at call {call}"
+            );
             let begun = step == 1 && call > head || step != 1 && call > 0;
             assert_eq!(rt; a.bytes.is_empty(), !begun, "a's head at call {call}");
             assert_eq!(rt; b.bytes.is_empty(), !begun, "b's head at call {call}");
@@ -54,8 +60,14 @@ fn a_failed_write_leaves_beginnings(rt: HostRuntime) -> Result<(), Fail> {
             let answer = failed("a: write failed\n");
             expect_printed(&rt, rt.alloc(), &mut given, &mut a, &mut b, answer);
             let (a, b) = (a.into_inner(), b.into_inner());
-            assert!(rt; Some(a.bytes.as_slice()) == TEXT_A.as_bytes().get(..room), "a's capture in {room}");
-            assert!(rt; TEXT_B.as_bytes().starts_with(b.bytes.as_slice()), "b's capture where a's takes {room}");
+            assert!(rt;
+                Some(a.bytes.as_slice()) == TEXT_A.as_bytes().get(..room),
+                "a's capture in {room}"
+            );
+            assert!(rt;
+                TEXT_B.as_bytes().starts_with(b.bytes.as_slice()),
+                "b's capture where a's takes {room}"
+            );
         }
         for room in 0..TEXT_B.len() {
             let mut given = Tally::new(Given::new(script.as_bytes(), NEVER, NEVER));
@@ -64,8 +76,14 @@ fn a_failed_write_leaves_beginnings(rt: HostRuntime) -> Result<(), Fail> {
             let answer = failed("b: write failed\n");
             expect_printed(&rt, rt.alloc(), &mut given, &mut a, &mut b, answer);
             let (a, b) = (a.into_inner(), b.into_inner());
-            assert!(rt; TEXT_A.as_bytes().starts_with(a.bytes.as_slice()), "a's capture where b's takes {room}");
-            assert!(rt; Some(b.bytes.as_slice()) == TEXT_B.as_bytes().get(..room), "b's capture in {room}");
+            assert!(rt;
+                TEXT_A.as_bytes().starts_with(a.bytes.as_slice()),
+                "a's capture where b's takes {room}"
+            );
+            assert!(rt;
+                Some(b.bytes.as_slice()) == TEXT_B.as_bytes().get(..room),
+                "b's capture in {room}"
+            );
         }
     }
     Ok(())

@@ -9,9 +9,11 @@ use std::process::Abort;
 use std::test::Fail;
 use wire_base::Tally;
 
-const ONE_STARTS: &str = "a start; b start; a send; b deliver; b send; a deliver; a send; b deliver";
+const ONE_STARTS: &str =
+    "a start; b start; a send; b deliver; b send; a deliver; a send; b deliver";
 
-const BOTH_START: &str = "a start; b start; a send; b send; a deliver; b deliver; a send; b send; a deliver; b deliver";
+const BOTH_START: &str =
+    "a start; b start; a send; b send; a deliver; b deliver; a send; b send; a deliver; b deliver";
 
 const OPENED: &str = "a open; a send; b deliver; b accept 1; b send; a deliver; a send; b deliver";
 
@@ -57,7 +59,10 @@ fn expect_accepted(
     let mut shown_err = Tally::new(Shown::with_room(NEVER));
     let status = check_to(alloc, &mut a, &mut b, &mut shown_out, &mut shown_err);
     let shown_out = shown_out.into_inner();
-    assert!(rt; shown_out.text().starts_with("accepted\n"), "the verdict on {said}");
+    assert!(rt;
+        shown_out.text().starts_with("accepted\n"),
+        "the verdict on {said}"
+    );
     assert_eq!(rt; status, 0, "the status of {said}");
     Ok(())
 }

@@ -65,8 +65,14 @@ pub fn expect_played(
         expect_printed(rt, alloc, &mut given, &mut a, &mut b, answer);
         let (a, b) = (a.into_inner(), b.into_inner());
         let (out, err) = (answer.out, answer.err);
-        assert!(rt; a.bytes.as_slice() == text_a.as_bytes(), "a's capture, at {out}{err}");
-        assert!(rt; b.bytes.as_slice() == text_b.as_bytes(), "b's capture, at {out}{err}");
+        assert!(rt;
+            a.bytes.as_slice() == text_a.as_bytes(),
+            "a's capture, at {out}{err}"
+        );
+        assert!(rt;
+            b.bytes.as_slice() == text_b.as_bytes(),
+            "b's capture, at {out}{err}"
+        );
     }
 }
 

@@ -96,7 +96,13 @@ fn steps_are_played_to_the_end_or_to_a_fault(rt: HostRuntime) -> Result<(), Fail
     ];
     for (behind, answer) in rows {
         let text = joined(rt.alloc(), &[HEAD, STARTED, behind])?;
-        check_played(&rt, rt.alloc(), text.as_slice(), answer, (CAPTURE_A, CAPTURE_B));
+        check_played(
+            &rt,
+            rt.alloc(),
+            text.as_slice(),
+            answer,
+            (CAPTURE_A, CAPTURE_B),
+        );
     }
     let no_head = Err(PlayFault::Departs {
         kind: Departure::Syntax,
@@ -113,17 +119,31 @@ fn a_reader_and_a_writer_that_fail_are_told(rt: HostRuntime) -> Result<(), Fail>
     let mut a = Tally::new(Taken::new(usize::MAX, usize::MAX));
     let mut b = Tally::new(Taken::new(usize::MAX, usize::MAX));
     let played = play(rt.alloc(), &mut script, &mut a, &mut b);
-    assert_eq!(rt; played, Err(PlayFault::Read), "the read behind the last step");
+    assert_eq!(rt;
+        played,
+        Err(PlayFault::Read),
+        "the read behind the last step"
+    );
     assert!(rt; a.into_inner().text() == CAPTURE_A, "a's capture");
     for (room_a, room_b, side) in [(20, usize::MAX, Side::A), (usize::MAX, 20, Side::B)] {
         let mut script = Tally::new(Stepped::new(text.as_slice(), usize::MAX));
         let mut a = Tally::new(Taken::new(usize::MAX, room_a));
         let mut b = Tally::new(Taken::new(usize::MAX, room_b));
         let played = play(rt.alloc(), &mut script, &mut a, &mut b);
-        assert_eq!(rt; played, Err(PlayFault::Write { side }), "the write that fails");
+        assert_eq!(rt;
+            played,
+            Err(PlayFault::Write { side }),
+            "the write that fails"
+        );
         let (a, b) = (a.into_inner(), b.into_inner());
-        assert!(rt; CAPTURE_A.starts_with(a.text()), "a's capture where {side} fails");
-        assert!(rt; CAPTURE_B.starts_with(b.text()), "b's capture where {side} fails");
+        assert!(rt;
+            CAPTURE_A.starts_with(a.text()),
+            "a's capture where {side} fails"
+        );
+        assert!(rt;
+            CAPTURE_B.starts_with(b.text()),
+            "b's capture where {side} fails"
+        );
     }
     Ok(())
 }
