@@ -121,6 +121,12 @@ no_more s = s
 abbrev pub acts : (own far : ℕ) → (LinkEnd → LinkEnd) → KeptLinks → KeptLinks
 acts own far change s = with_end (ActedOn own far) s s (λ place link. changed place (change link) s)
 
+abbrev pub confirm_came : (own far : ℕ) → KeptLinks → KeptLinks
+confirm_came own far s =
+    with_end (CallingAt own) s
+    (with_end (TheLink own far) s s (λ place link. changed place (confirmed_again (is_running link.port.phase) link) s))
+    (λ place link. changed place (confirmed far link) s)
+
 abbrev pub message_came : NspValue → KeptLinks → KeptLinks
 -- CI: a new link, or by phase
 message_came (ConnectInitiate retransmitted src services info segsize user_data) s =
@@ -129,10 +135,7 @@ message_came (ConnectInitiate retransmitted src services info segsize user_data)
 message_came (ConnectAck dst) s = s
 message_came (NoOperation rest) s = s
 -- CC: the link in Calling; or the link, in RUN
-message_came (ConnectConfirm dst src services info segsize user_data) s =
-    with_end (CallingAt dst) s
-    (with_end (TheLink dst src) s s (λ place link. changed place (confirmed_again (is_running link.port.phase) link) s))
-    (λ place link. changed place (confirmed src link) s)
+message_came (ConnectConfirm dst src services info segsize user_data) s = confirm_came dst src s
 -- DI: the link ends; DC with its two addresses exchanged, with reason 42 where it was acted on, 41 where it was not
 message_came (DisconnectInitiate dst src reason user_data) s = ends_link dst src (confirming src dst 41 s) (confirming src dst 42) s
 -- DC: the link ends

@@ -67,3 +67,4 @@ pub mod KeptStation
 pub mod KeptLinks
 pub mod KeptPlay
 pub mod KeptPlayed
+pub mod KeptRun

@@ -5,3 +5,13 @@ pub mod TakeLaws
 pub mod LackLaws
 pub mod TextLaws
 pub mod SoFarLaws
+pub mod Giving
+pub mod Words
+pub mod Acknowledged
+pub mod Arrived
+pub mod Holding
+pub mod Searching
+pub mod Lengths
+pub mod Sides
+pub mod Bodies
+pub mod Delivered

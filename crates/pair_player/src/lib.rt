@@ -4,15 +4,33 @@
 //! never touches a file or a clock, nor what a step makes of the two ends.
 #![tactic(auto)]
 
+mod choice;
+mod debt;
+mod end;
+mod ends;
 mod entry;
 mod fault;
+mod held_packet;
 mod laws;
 mod limit;
+mod line;
+mod link_end;
+mod link_ends;
+mod link_owed;
+mod outstanding;
+mod owed;
+mod passes;
+mod piece;
+mod received;
 mod script_reader;
+mod station_end;
 mod step;
+mod turn;
+mod unsent;
 mod words;
 
-pub use fault::ScriptFault;
+pub use ends::Ends;
+pub use fault::{ScriptFault, StepFault};
 pub use laws::{known_script, one_script, one_script_departure, script_read_on};
 pub use limit::MAX_STEPS;
 pub use script_reader::ScriptReader;
