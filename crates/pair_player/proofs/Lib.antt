@@ -8,3 +8,13 @@ pub mod SoFarLaws
 pub mod OverLaws
 pub mod PlayLaws
 pub mod WholeLaws
+pub mod Giving
+pub mod Words
+pub mod Acknowledged
+pub mod Arrived
+pub mod Holding
+pub mod Searching
+pub mod Lengths
+pub mod Sides
+pub mod Bodies
+pub mod Delivered

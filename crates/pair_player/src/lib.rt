@@ -4,16 +4,32 @@
 //! never touches a file or a clock, nor what a step makes of the two ends.
 #![tactic(auto)]
 
+mod choice;
+mod debt;
+mod end;
 mod ends;
 mod entry;
 mod fault;
+mod held_packet;
 mod laws;
 mod limit;
+mod line;
+mod link_end;
+mod link_ends;
+mod link_owed;
+mod outstanding;
+mod owed;
+mod passes;
+mod piece;
 mod played;
 mod playing;
+mod received;
 mod script_reader;
+mod station_end;
 mod step;
 mod texts;
+mod turn;
+mod unsent;
 mod words;
 
 pub use ends::Ends;
