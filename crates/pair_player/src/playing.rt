@@ -1,6 +1,6 @@
 //! A script is read, its steps are made, and both captures are written.
 
-ghost use Rattle.std.specs.Prelude.{◌≡◌, ◌+◌, ◌^◌, ◌<◌, ◌≤◌, Some, Ok, IfOk, IfErr, OnOk, IsSomeAnd};
+ghost use Rattle.std.specs.Prelude.{◌≡◌, Some, Ok, IfOk, IfErr, IsSomeAnd};
 ghost use Rattle.wire_base.specs.Tally.{tally_faults, tally_lent};
 ghost use Rattle.wire_base.specs.declared.side.Side.TheVariants as of_side;
 ghost use Rattle.capture.specs.declared.format.Format.TheVariants as Layout;
@@ -10,7 +10,6 @@ ghost use Rattle.dna_model.specs.KeptPlayed.{new_pair};
 ghost use Rattle.dna_model.specs.Script.{ScriptStep as Line};
 ghost use Rattle.dna_model.specs.ScriptText.{IsStep};
 ghost use Rattle.pair_player.specs.Beginning.{HeadFault, fault_at, fault_of, is_failed_read};
-ghost use Rattle.pair_player.specs.Stepping.{units_passed};
 ghost use Rattle.pair_player.specs.Playing.{CountsReadsOf, CountsWritesOf, Plays, held};
 ghost use Rattle.pair_player.specs.Reader.{Opens};
 ghost use Rattle.pair_player.specs.Making.{StepsOrStops, standing};
@@ -103,11 +102,9 @@ fn begin<R: Read>(alloc: Global, script: &mut Tally<R>) -> Result<Begun, PlayFau
 
 // Makes the step that was read last: the lines of its records stand behind those of its side.
 fn make_step(lines: &ScriptReader, ends: &mut Ends, texts: &mut Texts) -> Result<(), StepFault>
-    requires step { IsSomeAnd lines.now.step IsStep }
-    requires count { units_passed ends.old < 2 ^ 63 }
-    ensures made { (step : Line) → lines.now.step ≡ Some step → StepsOrStops step
+    requires { IsSomeAnd lines.now.step IsStep }
+    ensures { (step : Line) → lines.now.step ≡ Some step → StepsOrStops step
         (standing ends.old texts.old.a.items texts.old.b.items) (standing ends.new texts.new.a.items texts.new.b.items) result }
-    ensures passed { OnOk result (units_passed ends.new ≤ units_passed ends.old + 1) }
 {
     let Some(step) = lines.step() else {
         unreachable!()

@@ -1,11 +1,9 @@
-use Rattle.std.proofs.Common.{◌+◌, ◌≤◌, ℕ, Err, Ok, sym, subst, ◌∙◌, arith}
+use Rattle.std.proofs.Common.{Err, Ok, ◌∙◌}
 use Rattle.wire_base.specs.Tally.{tally_faults, tally_lent}
 use Rattle.capture.specs.Lines.{to_come}
-use Rattle.dna_model.specs.KeptPlayed.{KeptPair}
 use Rattle.pair_player.specs.Beginning.{fault_of}
 use Rattle.pair_player.specs.Making.{standing}
 use Rattle.pair_player.specs.Playing.{held}
-use Rattle.pair_player.specs.Stepping.{units_passed}
 use Rattle.pair_player.specs.Waiting.{outlet}
 use Rattle.pair_player.proofs.PlayLaws.{at_end, at_fault, ended, fails, moved_on, some_step, step_on, stopped, under_way}
 use Rattle.pair_player.proofs.playing.play.Goals as goal
@@ -30,7 +28,6 @@ loop-steps-init g c =
       c.in-Ok.ensures.reads,
       passes.0.faults,
       passes.1.faults,
-      subst (λ (x : KeptPair). units_passed x ≤ 0) (sym c.in-Ok.ensures.ends) (omega arith),
     )
 
 pub returns-in-Err-write_full-clause-plays : goal.returns-in-Err-write_full-clause-plays
@@ -39,7 +36,7 @@ returns-in-Err-write_full-clause-plays g c =
     let after = to_come c.advance.new.self.unread (g.R.Read.remaining (tally_lent c.advance.new.reader)) in
     let advances = rw c.in-Ok-true.field-0-test at c.in-Ok-true.ensures.advances h.reading in
     let some = some_step c.advance.new.self.step _ after advances.0 in
-    let made = c.in-Ok-make_step.ensures.made some.0 some.1 in
+    let made = c.in-Ok-make_step.ensures some.0 some.1 in
     let on = step_on _ _ _ h some.0 c.advance.new.self after (standing c.make_step.new.ends c.make_step.new.texts.a.items c.make_step.new.texts.b.items) some.1 advances made in
     fails _ _ _ on c.in-Err-write_full.side (tally_faults c.loop-steps.a) (tally_faults c.loop-steps.b) (
       outlet c.write_full.new.self.a.items (g.A.Write.contents (tally_lent c.write_full.new.a)) (tally_faults c.write_full.new.a),
@@ -52,7 +49,7 @@ returns-in-Err-make_step-clause-plays g c =
     let after = to_come c.advance.new.self.unread (g.R.Read.remaining (tally_lent c.advance.new.reader)) in
     let advances = rw c.in-Ok-true.field-0-test at c.in-Ok-true.ensures.advances h.reading in
     let some = some_step c.advance.new.self.step _ after advances.0 in
-    let stops = c.in-Err-make_step.ensures.made some.0 some.1 in
+    let stops = c.in-Err-make_step.ensures some.0 some.1 in
     stopped _ _ _ h some.0 c.advance.new.self after (standing c.make_step.new.ends c.make_step.new.texts.a.items c.make_step.new.texts.b.items) c.in-Err-make_step.stop c.end.result
     (tally_faults c.loop-steps.a) (tally_faults c.loop-steps.b) (
       outlet c.end.new.texts.a.items (g.A.Write.contents (tally_lent c.end.new.a)) (tally_faults c.end.new.a),
@@ -87,14 +84,11 @@ loop-steps-preserved g c =
     let after = to_come c.advance.new.self.unread (g.R.Read.remaining (tally_lent c.advance.new.reader)) in
     let advances = rw c.in-Ok-true.field-0-test at c.in-Ok-true.ensures.advances h.reading in
     let some = some_step c.advance.new.self.step _ after advances.0 in
-    let made = c.in-Ok-make_step.ensures.made some.0 some.1 in
+    let made = c.in-Ok-make_step.ensures some.0 some.1 in
     let on = step_on _ _ _ h some.0 c.advance.new.self after (standing c.make_step.new.ends c.make_step.new.texts.a.items c.make_step.new.texts.b.items) some.1 advances made in
-    let passes = c.in_default-write_full.ensures in
-    let so_far = c.loop-steps.invariant.4 in
-    let passed : units_passed c.make_step.new.ends ≤ units_passed c.loop-steps.ends + 1 = c.in-Ok-make_step.ensures.passed in (
+    let passes = c.in_default-write_full.ensures in (
       moved_on _ _ _ on (held (g.A.Write.contents (tally_lent c.write_full.new.a)) (g.B.Write.contents (tally_lent c.write_full.new.b))) c.write_full.new.self.a.items c.write_full.new.self.b.items passes.0.over passes.1.over,
       c.in-Ok-true.ensures.reads ∙ c.loop-steps.invariant.1,
       passes.0.faults ∙ c.loop-steps.invariant.2,
       passes.1.faults ∙ c.loop-steps.invariant.3,
-      omega (arith, so_far, passed),
     )

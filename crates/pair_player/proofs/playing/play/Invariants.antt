@@ -1,7 +1,6 @@
-use Rattle.std.proofs.Common.{◌≡◌, ◌≤◌}
+use Rattle.std.proofs.Common.{◌≡◌}
 use Rattle.wire_base.specs.Tally.{tally_faults, tally_lent}
 use Rattle.capture.specs.Lines.{to_come}
-use Rattle.pair_player.specs.Stepping.{units_passed}
 use Rattle.pair_player.specs.Playing.{held}
 use Rattle.pair_player.specs.Making.{standing}
 use Rattle.pair_player.proofs.PlayLaws.{IsUnderWay, place}
@@ -15,4 +14,3 @@ invariant-loop-steps g l =
     × (tally_faults l.script ≡ tally_faults l.fn.script)
     × (tally_faults l.a ≡ tally_faults l.fn.a)
     × (tally_faults l.b ≡ tally_faults l.fn.b)
-    × (units_passed l.ends ≤ l.steps)
