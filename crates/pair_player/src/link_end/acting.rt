@@ -1,13 +1,12 @@
 //! What comes for a link.
 
-ghost use Rattle.std.specs.Prelude.{◌≡◌, ◌<◌, true, false, OnOk, OnErr};
+ghost use Rattle.std.specs.Prelude.{◌≡◌, ◌<◌, OnOk, OnErr};
 ghost use Rattle.std.specs.List.{AllByRecursion};
 ghost use Rattle.dna_packet.specs.AckWord.{IsAckWord};
 ghost use Rattle.dna_packet.specs.Nsp.{segment_view};
 ghost use Rattle.dna_model.specs.LinkTests.{is_running};
-ghost use Rattle.dna_model.specs.WireFlow.{acknowledged_by_all, segment_taken};
+ghost use Rattle.dna_model.specs.WireFlow.{segment_taken};
 ghost use Rattle.dna_model.specs.KeptLinks as kept;
-ghost use Rattle.pair_player.specs.Segments.{slice_view};
 
 use super::LinkEnd;
 use crate::piece::{GivenPiece, Piece};

@@ -206,21 +206,47 @@ impl<V: Window<GivenPiece, 4096> + Drop> LinkEnd<V> {
         )
     }
 
-    /// Its message of this kind was sent. A segment that was not given yet gets the next number; where its memory is refused, nothing
-    /// changes.
+    /// Its message of this kind, which it sends next, was sent. A segment that was not given yet gets the next number; where its memory
+    /// is refused, nothing changes.
+    #[tactic(auto, using(crate::proofs::Choosing::segments))]
     pub fn sent(&mut self, alloc: Global, turn: Turn) -> Result<(), AllocError>
-        requires { turn ≡ Turn.Segment → length self.old.variables.outstanding < 2047 ⊎ self.old.owed.ahead < length self.old.variables.outstanding }
-        ensures ok { OnOk result (self.new ≡ kept.turn_sent (turn_view turn) self.old) }
-        ensures err { OnErr result (self.new ≡ self.old) }
+        requires { turn_of self.old ≡ Some (turn_view turn) }
+        ensures { OnOk result (self.new ≡ kept.turn_sent (turn_view turn) self.old) }
     {
-        if let Turn::Segment = turn {
-            if self.owed.ahead() == self.outstanding.len() {
-                let piece = GivenPiece::copied(alloc, self.unsent.next())?;
-                self.outstanding.give(alloc, piece)?;
-                self.unsent.give();
-            }
-        }
+        self.give_by(alloc, turn)?;
         self.owed.sent(turn);
+        Ok(())
+    }
+
+    #[tactic(auto, using(crate::proofs::Choosing::segments))]
+    fn give_by(&mut self, alloc: Global, turn: Turn) -> Result<(), AllocError>
+        requires { turn_of self.old ≡ Some (turn_view turn) }
+        ensures given { OnOk result (self.new ≡ kept.gave_by (turn_view turn) self.old) }
+        ensures next { turn ≡ Turn.Segment → OnOk result (self.new.owed.ahead < length self.new.variables.outstanding) }
+    {
+        match turn {
+            Turn::Segment => self.give(alloc),
+            Turn::ConnectAck => Ok(()),
+            Turn::Initiate => Ok(()),
+            Turn::Confirm => Ok(()),
+            Turn::Disconnect => Ok(()),
+            Turn::DataAck => Ok(()),
+        }
+    }
+
+    // A segment that is not sent again is the next piece, which gets the next number.
+    #[tactic(auto, using(crate::proofs::Choosing::segments))]
+    fn give(&mut self, alloc: Global) -> Result<(), AllocError>
+        requires { has_segment self.old ≡ true }
+        ensures given { OnOk result (self.new ≡ kept.gave (slice_get self.old.variables.outstanding self.old.owed.ahead) self.old) }
+        ensures next { OnOk result (self.new.owed.ahead < length self.new.variables.outstanding) }
+    {
+        if self.owed.ahead() < self.outstanding.len() {
+            return Ok(());
+        }
+        let piece = GivenPiece::copied(alloc, self.unsent.next())?;
+        self.outstanding.give(alloc, piece)?;
+        self.unsent.give();
         Ok(())
     }
 }

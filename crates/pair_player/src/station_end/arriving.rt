@@ -1,13 +1,13 @@
 //! What comes to a station.
 
-ghost use Rattle.std.specs.Prelude.{◌≡◌, ◌&&◌, Some, None, fold};
+ghost use Rattle.std.specs.Prelude.{◌≡◌, ◌&&◌};
 ghost use Rattle.std.specs.Option.{option_map};
 ghost use Rattle.ddcmp_msg.specs.Message.{view};
 ghost use Rattle.ddcmp_msg.specs.Reading.{reading_view};
-ghost use Rattle.dna_model.specs.Table.{row};
 ghost use Rattle.dna_model.specs.WireBook.{with_next, wire_is_next, wire_responded};
-ghost use Rattle.dna_model.specs.Owed.{arrival_debt, can_take, data_debt, message_debt, rep_debt, damage_debt};
-ghost use Rattle.dna_model.specs.KeptStation.{after_arrival, came, can_keep, keeps, message_came};
+ghost use Rattle.dna_model.specs.Owed.{arrival_debt, can_take, message_debt, damage_debt};
+ghost use Rattle.dna_model.specs.Owed as owing;
+ghost use Rattle.dna_model.specs.KeptStation.{after_arrival, keeps, message_came};
 ghost use Rattle.pair_player.specs.Owing.{debt_view};
 
 use super::StationEnd;
@@ -186,7 +186,7 @@ impl<W: Window<HeldPacket, 256> + Drop> StationEnd<W> {
 
 // What data make a station owe: with the next number, ACK where they are kept, else NAK 8.
 fn data_debt(next: bool, kept: bool) -> Option<Debt>
-    ensures { option_map debt_view result ≡ data_debt next kept }
+    ensures { option_map debt_view result ≡ owing.data_debt next kept }
 {
     if !next {
         return None;
