@@ -1,21 +1,19 @@
 //! What a link sends next, how it is put together, and what sending leaves.
 
-ghost use Rattle.std.specs.Prelude.{◌≡◌, ◌+◌, ◌<◌, ◌≤◌, ◌&&◌, ◌⊎◌, true, false, length, nat_lt, slice_get, Some, None, IfOk, OnOk, OnErr};
+ghost use Rattle.std.specs.Prelude.{◌≡◌, ◌<◌, ◌≤◌, true, length, slice_get, OnOk, IfOk};
 ghost use Rattle.std.specs.Option.{option_map};
 ghost use Rattle.dna_packet.specs.Nsp.{nsp_bytes};
-ghost use Rattle.dna_model.specs.LinkTests.{is_running};
-ghost use Rattle.dna_model.specs.Flow.{wire};
-ghost use Rattle.dna_model.specs.NextSent.{has_new, has_repeat, has_segment, turn_of};
+ghost use Rattle.dna_model.specs.NextSent.{has_segment, turn_of};
 ghost use Rattle.dna_model.specs.Compose.{address, piece_to_send, turn_message};
 ghost use Rattle.dna_model.specs.KeptLinks as kept;
 ghost use Rattle.pair_player.specs.Owing.{turn_view};
 ghost use Rattle.pair_player.specs.Segments.{slice_view};
 
 use super::LinkEnd;
+use crate::passes::is_running;
 use crate::piece::{GivenPiece, PieceSlice};
 use crate::turn::Turn;
 use arrayvec::ArrayVec;
-use dna_model::Phase;
 use dna_packet::{
     AckQualifier, AckWord, ConnectAck, ConnectConfirm, ConnectInitiate, DataAck,
     DisconnectInitiate, Nsp, Segment, write_nsp,
@@ -66,15 +64,16 @@ impl<V: Window<GivenPiece, 4096> + Drop> LinkEnd<V> {
     fn has_segment(&self) -> bool
         ensures { result ≡ has_segment self.now }
     {
-        match self.port.phase {
-            Phase::Running => {
-                if self.owed.ahead() < self.outstanding.len() {
-                    return true;
-                }
-                self.outstanding.len() < REACH && self.unsent.has_more()
-            }
-            _ => false,
+        if !is_running(self.port.phase) {
+            return false;
         }
+        if self.owed.ahead() < self.outstanding.len() {
+            return true;
+        }
+        if self.outstanding.len() >= REACH {
+            return false;
+        }
+        self.unsent.has_more()
     }
 
     // The piece that goes next: one that is outstanding, as it was given, or the next one.

@@ -7,7 +7,7 @@ ghost use Rattle.ddcmp_msg.specs.Reading.{reading_view};
 ghost use Rattle.dna_model.specs.WireBook.{with_next, wire_is_next, wire_responded};
 ghost use Rattle.dna_model.specs.Owed.{arrival_debt, can_take, message_debt, damage_debt};
 ghost use Rattle.dna_model.specs.Owed as owing;
-ghost use Rattle.dna_model.specs.KeptStation.{after_arrival, keeps, message_came};
+ghost use Rattle.dna_model.specs.KeptStation.{after_arrival, came, keeps, message_came};
 ghost use Rattle.pair_player.specs.Owing.{debt_view};
 
 use super::StationEnd;
@@ -27,7 +27,7 @@ impl<W: Window<HeldPacket, 256> + Drop> StationEnd<W> {
         }
         match reading {
             Reading::Sound(message) => self.can_take(message),
-            _ => false,
+            Reading::HeaderBad | Reading::DataBad | Reading::Malformed(_) => false,
         }
     }
 
@@ -38,9 +38,7 @@ impl<W: Window<HeldPacket, 256> + Drop> StationEnd<W> {
     {
         let debt = self.arrival_debt(reading, kept);
         let before = self.state;
-        if let Reading::Sound(message) = reading {
-            self.take(message, kept);
-        }
+        self.come(reading, kept);
         self.settle(before);
         if let Some(debt) = debt {
             self.owed.owe(debt);
@@ -113,11 +111,20 @@ impl<W: Window<HeldPacket, 256> + Drop> StationEnd<W> {
     {
         match self.state {
             State::Running => Some(Debt::Nak(reason)),
-            _ => None,
+            State::Halted | State::Istrt | State::Astrt => None,
         }
     }
 
     // ---- what its row does
+
+    fn come(&mut self, reading: &Reading<'_>, kept: bool)
+        ensures { self.new ≡ record self.old { variables = came (reading_view reading.now) kept self.old.variables } }
+    {
+        match reading {
+            Reading::Sound(message) => self.take(message, kept),
+            Reading::HeaderBad | Reading::DataBad | Reading::Malformed(_) => {}
+        }
+    }
 
     fn take(&mut self, message: &Message<'_>, kept: bool)
         ensures { self.new ≡ record self.old { variables = message_came (view message.now) kept self.old.variables } }
