@@ -173,10 +173,12 @@ arrives m s = delivering_none (message_came m s)
 -- a segment that is not sent again is the next piece, which is given its number
 abbrev pub gave : Option Piece → LinkEnd → LinkEnd
 gave (Some again) link = link
-gave None link = record link { variables = record link.variables {
-  unsent = without_piece (next_piece link.variables.unsent) link.variables.unsent;
-  outstanding = link.variables.outstanding ++ next_piece link.variables.unsent ∷ [];
-} }
+gave None link = record link {
+  variables = record link.variables {
+    unsent = without_piece (next_piece link.variables.unsent) link.variables.unsent;
+    outstanding = link.variables.outstanding ++ next_piece link.variables.unsent ∷ [];
+  };
+}
 
 abbrev pub gave_by : Turn → LinkEnd → LinkEnd
 gave_by SegmentTurn link = gave (slice_get link.variables.outstanding link.owed.ahead) link

@@ -79,14 +79,14 @@ accepts e partner = answers e partner (answered Confirming ConfirmTurn) (events.
 abbrev pub rejects : KeptEnd → (partner : ℕ) → Result KeptStepped Stop
 rejects e partner = answers e partner (answered Disconnecting DisconnectTurn) (events.Reject partner)
 
--- a link in a phase of this kind
+-- a link in a phase of this kind; and a message that has a line
 abbrev pub if_so : Bool → Result KeptStepped Stop → Result KeptStepped Stop
 if_so true next = next
 if_so false next = Err BadStep
 
 abbrev pub hands_in : KeptEnd → (own : ℕ) → (message : List ℕ) → Result KeptStepped Stop
 hands_in e own message = with_end (LiveAt own) e.links (Err BadStep) (λ place link.
-    if_so (takes_messages link.port.phase) (made (events.In own message) (with_links (changed place (handed message link) e.links) e)))
+    if_so (takes_messages link.port.phase && nat_le (length message) MAX_MESSAGE) (made (events.In own message) (with_links (changed place (handed message link) e.links) e)))
 
 abbrev pub closes : KeptEnd → (own : ℕ) → Result KeptStepped Stop
 closes e own = with_end (LiveAt own) e.links (Err BadStep) (λ place link.
@@ -165,7 +165,7 @@ abbrev pub comes : KeptEnd → (buffer : Bool) → List ℕ → Result KeptStepp
 comes e buffer bytes = receives e bytes (reading bytes) (stations.keeps buffer (reading bytes) e.station)
 
 abbrev pub loses : KeptEnd → Result KeptStepped Stop
-loses e = silent (record e { passed = e.passed + 1 })
+loses e = if nat_le e.passed MAX_HINT then silent (record e { passed = e.passed + 1 }) else Err BadStep
 
 abbrev pub comes_damaged : KeptEnd → (place value : ℕ) → List ℕ → Result KeptStepped Stop
 comes_damaged e place value bytes = if is_damage place value bytes then comes e true (damaged place value bytes) else Err BadStep

@@ -5,7 +5,6 @@ use Rattle.wire_base.specs.declared.side.Side.TheVariants.{A, B}
 use Rattle.capture.specs.declared.record.Record.{Record}
 use Rattle.dna_model.specs.Script.{StepValue, ScriptStep, Script, Deliver, Refuse, Lose, Damage}
 use Rattle.dna_model.specs.Stepped.{Stop}
-use Rattle.dna_model.specs.Played.{head_a, head_b}
 use Rattle.dna_model.specs.Kept.{KeptEnd, new_kept_end}
 use Rattle.dna_model.specs.KeptPlay.{KeptStepped, kept_plays}
 

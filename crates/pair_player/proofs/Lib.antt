@@ -14,6 +14,8 @@ pub mod Acknowledged
 pub mod Arrived
 pub mod Holding
 pub mod Searching
+pub mod Choosing
+pub mod Change
 pub mod Lengths
 pub mod Sides
 pub mod Bodies

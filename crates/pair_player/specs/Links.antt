@@ -1,10 +1,9 @@
 -- What becomes of the links of an end, in the parts in which the code does it.
-use Rattle.std.specs.Prelude.{ℕ, Bool, true, false, Option, Some, None, List, [], slice_get, if◌then◌else◌}
-use Rattle.dna_model.specs.declared.port.LinkTest.{LinkTest}
+use Rattle.std.specs.Prelude.{ℕ, Option, Some, None}
 use Rattle.dna_model.specs.LinkOwed.{LinkOwed, retried}
 use Rattle.dna_model.specs.NextSent.{LinkEnd}
 use Rattle.dna_model.specs.Kept.{KeptLinks}
-use Rattle.dna_model.specs.KeptLinks.{with_end, changed}
+use Rattle.dna_model.specs.KeptLinks.{changed}
 
 -- ---- one link
 
@@ -16,12 +15,8 @@ with_change (Some change) link = Some (record link { owed = change link.owed })
 abbrev pub retried_end : LinkEnd → Option LinkEnd
 retried_end link = with_change (retried link.port.phase) link
 
--- ---- the first that passes
+-- ---- among the others
 
 abbrev pub changed_to : ℕ → Option LinkEnd → KeptLinks → Option KeptLinks
 changed_to place None s = None
 changed_to place (Some link) s = Some (changed place link s)
-
--- it changes, if it is so
-abbrev pub at_end : LinkTest → KeptLinks → (LinkEnd → Bool) → (LinkEnd → LinkEnd) → Option KeptLinks
-at_end test s is_so change = with_end test s None (λ place link. if is_so link then Some (changed place (change link) s) else None)

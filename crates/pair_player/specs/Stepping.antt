@@ -1,5 +1,5 @@
 -- What a contract says of a step: what it makes of an end, with the text of the lines that its records add; or why it is not made.
-use Rattle.std.specs.Prelude.{◌≡◌, ℕ, ◌+◌, ◌++◌, List, Option, Some, None, Result, Ok, Err}
+use Rattle.std.specs.Prelude.{◌≡◌, ℕ, ◌++◌, List, Option, Some, None, Result, Ok, Err}
 use Rattle.capture.specs.declared.hint.HintForm.TheVariants.{Number}
 use Rattle.capture.specs.Text.{record_lines}
 use Rattle.dna_model.specs.Stepped.{Stop}
@@ -42,7 +42,3 @@ abbrev pub Stopped : {M : Type 0} → Option M → StepFault → Type 0
 Stopped made BadStep = made ≡ None
 Stopped made Full = ⊥
 Stopped made OutOfMemory = Unit {0}
-
--- how many units came or were lost at both ends: at most one more after each step
-abbrev pub units_passed : KeptPair → ℕ
-units_passed pair = pair.a.passed + pair.b.passed

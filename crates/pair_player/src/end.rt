@@ -1,11 +1,9 @@
 //! One end of the line.
 
-ghost use Rattle.std.specs.Prelude.{◌≡◌, ◌+◌, ◌<◌, ◌^◌, ◌≤◌, [], Ok, Some, None, length, OnOk, IfOk, IfErr};
-ghost use Rattle.capture.specs.declared.limit.TheConstants.{MAX_LINK, MAX_MESSAGE};
-ghost use Rattle.dna_model.specs.declared.head.Head.{Head};
+ghost use Rattle.std.specs.Prelude.{◌≡◌, OnOk, IfOk, IfErr};
 ghost use Rattle.dna_model.specs.Kept.{new_kept_end};
 ghost use Rattle.dna_model.specs.KeptPlay as kept;
-ghost use Rattle.pair_player.specs.Stepping.{StopMeans, with_lines};
+ghost use Rattle.pair_player.specs.Stepping.{StopMeans};
 
 mod receiving;
 mod sending;
@@ -16,6 +14,7 @@ use crate::held_packet::HeldPacket;
 use crate::link_ends::LinkEnds;
 use crate::piece::GivenPiece;
 use crate::station_end::StationEnd;
+use capture::MAX_HINT;
 use dna_model::Head;
 use std::alloc::{AllocError, Global};
 use std::marker::Model;
@@ -56,12 +55,15 @@ impl<W: Window<HeldPacket, 256> + Drop, V: Window<GivenPiece, 4096> + Drop> End<
         })
     }
 
-    /// The next unit is lost.
-    pub fn lose(&mut self)
-        requires { self.old.passed < 2 ^ 63 }
-        ensures lost { kept.loses self.old ≡ kept.silent self.new }
-        ensures passed { self.new.passed ≡ self.old.passed + 1 }
+    /// The next unit is lost. `BadStep`: its number has no line in a capture.
+    pub fn lose(&mut self) -> Result<(), StepFault>
+        ensures ok { OnOk result (kept.loses self.old ≡ kept.silent self.new) }
+        ensures stop { IfErr result (λ fault. StopMeans (kept.loses self.old) fault) }
     {
+        if self.passed > MAX_HINT {
+            return Err(StepFault::BadStep);
+        }
         self.passed += 1;
+        Ok(())
     }
 }

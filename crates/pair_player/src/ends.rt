@@ -1,14 +1,12 @@
 //! Both ends, and the line between them.
 
-ghost use Rattle.std.specs.Prelude.{◌≡◌, ◌+◌, ◌++◌, ◌∷◌, ◌<◌, ◌≤◌, ◌^◌, [], true, false, Ok, Err, drop, length, OnOk, IfOk, IfErr};
-ghost use Rattle.capture.specs.declared.limit.TheConstants.{MAX_MESSAGE};
-ghost use Rattle.dna_model.specs.ScriptText.{IsStep, message_of};
+ghost use Rattle.std.specs.Prelude.{◌≡◌, [], true, false, Ok, Err, drop, OnOk, IfOk, IfErr};
 ghost use Rattle.dna_model.specs.Receipt.{damaged, is_damage};
 ghost use Rattle.dna_model.specs.KeptPlay.{kept_plays};
 ghost use Rattle.dna_model.specs.KeptPlay as kept;
 ghost use Rattle.dna_model.specs.KeptPlayed.{kept_plays_step, new_pair};
 ghost use Rattle.pair_player.specs.Step.{view, view_of_line};
-ghost use Rattle.pair_player.specs.Stepping.{StopMeans, sends, sides, units_passed, with_text, with_lines};
+ghost use Rattle.pair_player.specs.Stepping.{StopMeans, sends, sides, with_text, with_lines};
 
 use crate::end::End;
 use crate::fault::StepFault;
@@ -76,36 +74,27 @@ impl Ends {
     /// behind the text is of any use.
     #[tactic(auto, using(crate::proofs::Sides::both_sides))]
     pub fn play_step(&mut self, step: ScriptStep<'_>, text: &mut Vec<u8>) -> Result<(), StepFault>
-        requires fits { IsStep (view_of_line step) }
-        requires count { units_passed self.old < 2 ^ 63 }
         ensures ok { OnOk result (with_text text.old.items (kept_plays_step self.old (view_of_line step)) ≡ Ok (self.new, text.new.items)) }
         ensures stop { IfErr result (λ fault. StopMeans (kept_plays_step self.old (view_of_line step)) fault) }
-        ensures count { OnOk result (units_passed self.new ≤ units_passed self.old + 1) }
     {
         let alloc = self.alloc;
         match step.side {
-            Side::A => {
-                let ScriptStep { step, .. } = step;
-                step_of(
-                    alloc,
-                    &mut self.a,
-                    &mut self.to_a,
-                    &mut self.to_b,
-                    step,
-                    text,
-                )
-            }
-            Side::B => {
-                let ScriptStep { step, .. } = step;
-                step_of(
-                    alloc,
-                    &mut self.b,
-                    &mut self.to_b,
-                    &mut self.to_a,
-                    step,
-                    text,
-                )
-            }
+            Side::A => step_of(
+                alloc,
+                &mut self.a,
+                &mut self.to_a,
+                &mut self.to_b,
+                step.step,
+                text,
+            ),
+            Side::B => step_of(
+                alloc,
+                &mut self.b,
+                &mut self.to_b,
+                &mut self.to_a,
+                step.step,
+                text,
+            ),
         }
     }
 }
@@ -120,12 +109,9 @@ fn step_of(
     step: Step<'_>,
     text: &mut Vec<u8>,
 ) -> Result<(), StepFault>
-    requires short { length (message_of (view step)) ≤ MAX_MESSAGE }
-    requires count { end.old.passed < 2 ^ 63 }
     ensures ok { OnOk result (sides (view step) coming.old going.old text.old.items (kept_plays end.old coming.old (view step))
         ≡ Ok (end.new, coming.new, going.new, text.new.items)) }
     ensures stop { IfErr result (λ fault. StopMeans (kept_plays end.old coming.old (view step)) fault) }
-    ensures count { end.new.passed ≤ end.old.passed + 1 }
 {
     match step {
         Step::Start => end.start(text),
@@ -135,7 +121,7 @@ fn step_of(
         Step::Deliver => deliver(end, coming, true, text),
         Step::Refuse => deliver(end, coming, false, text),
         Step::Lose => lose(end, coming),
-        Step::Damage { place, value } => deliver_damaged(alloc, end, coming, (place, value), text),
+        Step::Damage { place, value } => deliver_damaged(alloc, end, coming, place, value, text),
         Step::Open => end.open(text),
         Step::Accept { partner } => end.accept(partner, text),
         Step::Reject { partner } => end.reject(partner, text),
@@ -149,7 +135,6 @@ fn step_of(
 fn send(end: &mut RingEnd, going: &mut Line, text: &mut Vec<u8>) -> Result<(), StepFault>
     ensures ok { OnOk result (sends going.old text.old.items (kept.sends end.old) ≡ Ok (end.new, going.new, text.new.items)) }
     ensures stop { IfErr result (λ fault. StopMeans (kept.sends end.old) fault) }
-    ensures count { end.new.passed ≡ end.old.passed }
 {
     let unit = end.send(text)?;
     match going.push(unit) {
@@ -168,7 +153,6 @@ fn deliver(
     ensures ok { OnOk result (with_lines text.old.items (kept.with_next coming.old (kept.comes end.old buffer)) ≡ Ok (end.new, [], text.new.items)) }
     ensures left { coming.new ≡ drop 1 coming.old }
     ensures stop { IfErr result (λ fault. StopMeans (kept.with_next coming.old (kept.comes end.old buffer)) fault) }
-    ensures count { end.new.passed ≤ end.old.passed + 1 }
 {
     let Some(unit) = coming.pop() else {
         return Err(StepFault::BadStep);
@@ -178,17 +162,14 @@ fn deliver(
 
 // The next unit on the line is lost.
 fn lose(end: &mut RingEnd, coming: &mut Line) -> Result<(), StepFault>
-    requires { end.old.passed < 2 ^ 63 }
     ensures ok { OnOk result (kept.with_next coming.old (λ bytes. kept.loses end.old) ≡ kept.silent end.new) }
     ensures left { coming.new ≡ drop 1 coming.old }
     ensures stop { IfErr result (λ fault. StopMeans (kept.with_next coming.old (λ bytes. kept.loses end.old)) fault) }
-    ensures count { end.new.passed ≤ end.old.passed + 1 }
 {
     let Some(_unit) = coming.pop() else {
         return Err(StepFault::BadStep);
     };
-    end.lose();
-    Ok(())
+    end.lose()
 }
 
 // The next unit on the line comes with the byte at a place, which is inside it, changed by a value from 1 to 255.
@@ -196,45 +177,46 @@ fn deliver_damaged(
     alloc: Global,
     end: &mut RingEnd,
     coming: &mut Line,
-    change: (u64, u64),
+    place: u64,
+    value: u64,
     text: &mut Vec<u8>,
 ) -> Result<(), StepFault>
-    ensures ok { OnOk result (with_lines text.old.items (kept.with_next coming.old (kept.comes_damaged end.old change.0 change.1))
+    ensures ok { OnOk result (with_lines text.old.items (kept.with_next coming.old (kept.comes_damaged end.old place value))
         ≡ Ok (end.new, [], text.new.items)) }
     ensures left { coming.new ≡ drop 1 coming.old }
-    ensures stop { IfErr result (λ fault. StopMeans (kept.with_next coming.old (kept.comes_damaged end.old change.0 change.1)) fault) }
-    ensures count { end.new.passed ≤ end.old.passed + 1 }
+    ensures stop { IfErr result (λ fault. StopMeans (kept.with_next coming.old (kept.comes_damaged end.old place value)) fault) }
 {
     let Some(unit) = coming.pop() else {
         return Err(StepFault::BadStep);
     };
-    match damaged(alloc, change, unit.as_slice()) {
-        Ok(bytes) => end.come(true, bytes.as_slice(), text),
-        Err(fault) => Err(fault),
-    }
-}
-
-// These bytes with one changed.
-fn damaged(alloc: Global, change: (u64, u64), bytes: &[u8]) -> Result<Vec<u8>, StepFault>
-    ensures ok { IfOk result (λ v. v.items ≡ damaged change.0 change.1 bytes.now) }
-    ensures is { OnOk result (is_damage change.0 change.1 bytes.now ≡ true) }
-    ensures bad { result ≡ Err StepFault.BadStep → is_damage change.0 change.1 bytes.now ≡ false }
-    ensures full { result ≡ Err StepFault.Full → ⊥ }
-{
-    let (place, value) = change;
-    if place >= bytes.len() as u64 {
+    if !is_inside(place, value, unit.as_slice()) {
         return Err(StepFault::BadStep);
     }
-    if value < 1 {
-        return Err(StepFault::BadStep);
-    }
-    if value > 255 {
-        return Err(StepFault::BadStep);
-    }
-    let Ok(mut damaged) = Vec::from_slice(alloc, bytes) else {
+    let Ok(bytes) = changed(alloc, place, value, unit.as_slice()) else {
         return Err(StepFault::OutOfMemory);
     };
-    let place = place as usize;
-    damaged[place] ^= value as u8;
-    Ok(damaged)
+    end.come(true, bytes.as_slice(), text)
+}
+
+// Whether the place is inside these bytes, and the value from 1 to 255.
+fn is_inside(place: u64, value: u64, bytes: &[u8]) -> bool
+    ensures { result ≡ is_damage place value bytes.now }
+{
+    if place >= bytes.len() as u64 {
+        return false;
+    }
+    if value < 1 {
+        return false;
+    }
+    value <= 255
+}
+
+// These bytes with the one at a place changed by a value, by exclusive or.
+fn changed(alloc: Global, place: u64, value: u64, bytes: &[u8]) -> Result<Vec<u8>, AllocError>
+    requires { is_damage place value bytes.now ≡ true }
+    ensures { IfOk result (λ v. v.items ≡ damaged place value bytes.now) }
+{
+    let mut copy = Vec::from_slice(alloc, bytes)?;
+    copy[place as usize] ^= value as u8;
+    Ok(copy)
 }

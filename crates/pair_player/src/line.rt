@@ -1,7 +1,6 @@
 //! The units on the line to one end.
 
-ghost use Rattle.std.specs.Prelude.{◌≡◌, ◌≤◌, ◌++◌, ◌∷◌, [], drop, length, Some, None, OnOk, IfSome};
-ghost use Rattle.std.specs.Option.{option_map};
+ghost use Rattle.std.specs.Prelude.{◌≡◌, ◌≤◌, ◌++◌, ◌∷◌, [], drop, length, OnOk};
 ghost use Rattle.capture.specs.declared.limit.TheConstants.{MAX_MESSAGE};
 ghost use Rattle.pair_player.specs.Line.{first_of};
 
@@ -11,11 +10,11 @@ use std::marker::Model;
 
 /// A unit that was sent, of at most 65,535 bytes.
 #[derive(Drop)]
-pub struct Unit {
+pub struct SentUnit {
     bytes: Vec<u8>,
 }
 
-impl Model for Unit {
+impl Model for SentUnit {
     ghost use Rattle.std.specs.Prelude.{◌≤◌, List, ℕ, length};
     ghost use Rattle.capture.specs.declared.limit.TheConstants.{MAX_MESSAGE};
 
@@ -26,13 +25,13 @@ impl Model for Unit {
     ghost invariant = { λ u. length u.bytes.items ≤ MAX_MESSAGE };
 }
 
-impl Unit {
+impl SentUnit {
     /// The unit of these bytes, in the memory that they have.
-    pub fn new(bytes: Vec<u8>) -> Unit
+    pub fn new(bytes: Vec<u8>) -> SentUnit
         requires { length bytes.items ≤ MAX_MESSAGE }
         ensures { result ≡ bytes.items }
     {
-        Unit { bytes }
+        SentUnit { bytes }
     }
 
     /// Its bytes.
@@ -48,7 +47,7 @@ impl Unit {
 /// The units that were sent to one end and neither came nor were lost, the oldest first. A contract sees it as the list of their bytes.
 #[derive(Drop)]
 pub struct Line {
-    units: VecDeque<Unit>,
+    units: VecDeque<SentUnit>,
 }
 
 impl Model for Line {
@@ -74,14 +73,14 @@ impl Line {
         requires { length unit.items ≤ MAX_MESSAGE }
         ensures { OnOk result (self.new ≡ self.old ++ unit.items ∷ []) }
     {
-        match self.units.push_back(Unit::new(unit)) {
+        match self.units.push_back(SentUnit::new(unit)) {
             Ok(()) => Ok(()),
             Err(_) => Err(AllocError),
         }
     }
 
     /// The next one leaves the line.
-    pub fn pop(&mut self) -> Option<Unit>
+    pub fn pop(&mut self) -> Option<SentUnit>
         ensures next { result ≡ first_of self.old }
         ensures left { self.new ≡ drop 1 self.old }
     {

@@ -1,11 +1,7 @@
 //! One link of an end: its variables and what it owes.
 
-ghost use Rattle.std.specs.Prelude.{◌≡◌, ◌+◌, ◌-◌, ◌<◌, ◌≤◌, ◌&&◌, ◌||◌, true, false, length, Some, None, IfOk, OnOk, OnErr, slice_get, option_copied};
-ghost use Rattle.std.specs.List.{AllByRecursion};
-ghost use Rattle.dna_packet.specs.AckWord.{IsAckWord};
-ghost use Rattle.dna_packet.specs.Nsp.{segment_view};
+ghost use Rattle.std.specs.Prelude.{◌≡◌, true, false, Some, None, OnOk, OnErr};
 ghost use Rattle.dna_model.specs.LinkOwed as model;
-ghost use Rattle.dna_model.specs.WireFlow.{acknowledged_by_all, segment_taken};
 ghost use Rattle.dna_model.specs.KeptLinks as kept;
 ghost use Rattle.pair_player.specs.Links.{retried_end};
 ghost use Rattle.pair_player.specs.Owing.{turn_view};
@@ -122,7 +118,7 @@ impl<V: Window<GivenPiece, 4096> + Drop> LinkEnd<V> {
     pub fn go_to(&mut self, phase: Phase)
         ensures { self.new ≡ kept.in_phase phase self.old }
     {
-        let stays = self.port.phase == phase;
+        let stays = is_same(self.port.phase, phase);
         self.port.phase = phase;
         self.owed.settle(stays);
     }
@@ -166,5 +162,18 @@ impl<V: Window<GivenPiece, 4096> + Drop> LinkEnd<V> {
             Phase::Called | Phase::Ended => return false,
         }
         true
+    }
+}
+
+fn is_same(one: Phase, other: Phase) -> bool
+    ensures { result ≡ model.same_phase one other }
+{
+    match one {
+        Phase::Calling => matches!(other, Phase::Calling),
+        Phase::Called => matches!(other, Phase::Called),
+        Phase::Confirming => matches!(other, Phase::Confirming),
+        Phase::Running => matches!(other, Phase::Running),
+        Phase::Disconnecting => matches!(other, Phase::Disconnecting),
+        Phase::Ended => matches!(other, Phase::Ended),
     }
 }

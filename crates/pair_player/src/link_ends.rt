@@ -49,9 +49,9 @@ impl<V: Window<GivenPiece, 4096> + Drop> LinkEnds<V> {
         }
     }
 
-    // The place of the first link that passes.
+    /// The place of the first link that passes, counted from 0.
     #[tactic(auto, using(crate::proofs::Searching::searches))]
-    fn find(&self, test: LinkTest) -> Option<usize>
+    pub fn find(&self, test: LinkTest) -> Option<usize>
         ensures place { result ≡ place_of test self.now.links }
         ensures within { IfSome result (λ place. place < length self.now.links) }
     {
@@ -71,8 +71,8 @@ impl<V: Window<GivenPiece, 4096> + Drop> LinkEnds<V> {
         self.links[place].port()
     }
 
-    // The link at this place.
-    fn link(&self, place: usize) -> Option<&LinkEnd<V>>
+    /// The link at this place.
+    pub fn link(&self, place: usize) -> Option<&LinkEnd<V>>
         ensures { option_copied result ≡ slice_get self.now.links place }
     {
         self.links.get(place)

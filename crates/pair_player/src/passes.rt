@@ -57,6 +57,13 @@ fn is_called(phase: Phase) -> bool
     matches!(phase, Phase::Called)
 }
 
+/// Whether a link is in RUN.
+pub fn is_running(phase: Phase) -> bool
+    ensures { result ≡ tests.is_running phase }
+{
+    matches!(phase, Phase::Running)
+}
+
 /// Whether both sides have agreed.
 pub fn is_connected(phase: Phase) -> bool
     ensures { result ≡ tests.is_connected phase }

@@ -1,29 +1,26 @@
 //! The station of an end: its variables and what it owes.
 
-ghost use Rattle.std.specs.Prelude.{◌≡◌, ◌+◌, ◌<◌, ◌≤◌, ◌==◌, ◌++◌, ◌∷◌, [], true, false, not, nat_lt, length, slice_get, option_copied, Some, None, IfOk, OnOk};
+ghost use Rattle.std.specs.Prelude.{◌≡◌, ◌+◌, ◌≤◌, nat_lt, length, Some, IfOk};
 ghost use Rattle.std.specs.Option.{option_map};
 ghost use Rattle.dna_model.specs.declared.state.StationEvent.TheVariants as events;
 ghost use Rattle.dna_model.specs.Station.{wire};
 ghost use Rattle.dna_model.specs.Table.{WINDOW};
-ghost use Rattle.dna_model.specs.WireStation.{no_numbers};
-ghost use Rattle.dna_model.specs.WireBook.{wire_is_new, wire_is_next, sends_packet};
-ghost use Rattle.dna_model.specs.Owed.{Debt, OwesStrt, all_acknowledged, still_owed, timer_debt, with_debt};
-ghost use Rattle.dna_model.specs.NextSent.{after_choice};
+ghost use Rattle.dna_model.specs.WireBook.{wire_is_new, wire_is_next};
+ghost use Rattle.dna_model.specs.Owed.{OwesStrt, all_acknowledged, same_state, still_owed, timer_debt};
 ghost use Rattle.dna_model.specs.Kept.{new_kept_station};
-ghost use Rattle.dna_model.specs.KeptStation.{after_event, becoming, owing};
-ghost use Rattle.pair_player.specs.Owing.{choice_view, debt_view};
+ghost use Rattle.dna_model.specs.KeptStation.{after_event, owing};
+ghost use Rattle.pair_player.specs.Owing.{debt_view};
 
 mod arriving;
 mod choosing;
 
-use crate::choice::Choice;
 use crate::debt::Debt;
 use crate::held_packet::HeldPacket;
 use crate::owed::Owed;
 use dna_model::State;
 use std::alloc::{AllocError, Global};
 use std::marker::Model;
-use wire_base::{PushFault, Seq, Window};
+use wire_base::{Seq, Window};
 
 /// How many packets may be unacknowledged.
 const MOST: u16 = 255;
@@ -138,7 +135,7 @@ impl<W: Window<HeldPacket, 256> + Drop> StationEnd<W> {
     fn settle(&mut self, before: State)
         ensures { self.new ≡ record self.old { owed = still_owed (record self.old.variables { state = before }) self.old.variables self.old.owed } }
     {
-        let stays = before == self.state;
+        let stays = is_same(before, self.state);
         let all_acknowledged = self.is_all_acknowledged();
         self.owed.settle(stays, all_acknowledged);
     }
@@ -179,5 +176,16 @@ impl<W: Window<HeldPacket, 256> + Drop> StationEnd<W> {
         ensures { result ≡ wire (self.now.variables.acknowledged + count) }
     {
         Seq::<256>::of(u64::from(self.held.first().value()) + count as u64).value() as u8
+    }
+}
+
+fn is_same(one: State, other: State) -> bool
+    ensures { result ≡ same_state one other }
+{
+    match one {
+        State::Halted => matches!(other, State::Halted),
+        State::Istrt => matches!(other, State::Istrt),
+        State::Astrt => matches!(other, State::Astrt),
+        State::Running => matches!(other, State::Running),
     }
 }

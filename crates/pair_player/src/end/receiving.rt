@@ -25,7 +25,6 @@ impl<W: Window<HeldPacket, 256> + Drop, V: Window<GivenPiece, 4096> + Drop> End<
         requires short { length bytes.now ≤ MAX_MESSAGE }
         ensures ok { OnOk result (with_lines text.old.items (kept.comes self.old buffer bytes.now) ≡ Ok (self.new, [], text.new.items)) }
         ensures stop { IfErr result (λ fault. StopMeans (kept.comes self.old buffer bytes.now) fault) }
-        ensures passed { self.new.passed ≤ self.old.passed + 1 }
     {
         if self.passed > MAX_HINT {
             return Err(StepFault::BadStep);
@@ -46,7 +45,6 @@ impl<W: Window<HeldPacket, 256> + Drop, V: Window<GivenPiece, 4096> + Drop> End<
     fn keep(&mut self, reading: &Reading<'_>, text: &mut Vec<u8>) -> Result<(), StepFault>
         ensures ok { OnOk result (arrives_as (carried true (reading_view reading.now)) text.old.items self.old.links ≡ Some (self.new.links, text.new.items)) }
         ensures rest { OnOk result (self.new ≡ record self.old { links = self.new.links }) }
-        ensures passed { self.new.passed ≡ self.old.passed }
         ensures stop { IfErr result (λ fault. Stopped (arrives_as (carried true (reading_view reading.now)) text.old.items self.old.links) fault) }
     {
         let Reading::Sound(Message::Data { body, .. }) = reading else {

@@ -5,7 +5,7 @@ ghost use Rattle.capture.specs.declared.limit.TheConstants.{MAX_MESSAGE};
 ghost use Rattle.dna_model.specs.KeptPlay as kept;
 ghost use Rattle.dna_model.specs.Table.{WINDOW};
 ghost use Rattle.dna_model.specs.WireBook.{wire_is_new};
-ghost use Rattle.dna_model.specs.NextSent.{SendNew};
+ghost use Rattle.dna_model.specs.NextSent.{SendNew, link_choice};
 ghost use Rattle.pair_player.specs.Composing.{is_new};
 ghost use Rattle.pair_player.specs.Owing.{choice_view, link_choice_view};
 ghost use Rattle.pair_player.specs.Stepping.{StopMeans, with_lines};
@@ -28,11 +28,11 @@ const FORWARD: u8 = 0;
 
 impl<W: Window<HeldPacket, 256> + Drop, V: Window<GivenPiece, 4096> + Drop> End<W, V> {
     /// Sends one unit, which is the answer. `BadStep`: it has none to send.
+    #[tactic(auto, using(crate::proofs::Choosing::chosen_packets))]
     pub fn send(&mut self, text: &mut Vec<u8>) -> Result<Vec<u8>, StepFault>
         ensures ok { IfOk result (λ unit. with_lines text.old.items (kept.sends self.old) ≡ Ok (self.new, unit.items ∷ [], text.new.items)) }
         ensures short { IfOk result (λ unit. length unit.items ≤ MAX_MESSAGE) }
         ensures stop { IfErr result (λ fault. StopMeans (kept.sends self.old) fault) }
-        ensures passed { self.new.passed ≡ self.old.passed }
     {
         let message = self.links.choice();
         match self.station.choice(message) {
@@ -49,7 +49,6 @@ impl<W: Window<HeldPacket, 256> + Drop, V: Window<GivenPiece, 4096> + Drop> End<
         ensures ok { IfOk result (λ unit. with_lines text.old.items (kept.sends_choice self.old (Some (choice_view choice))) ≡ Ok (self.new, unit.items ∷ [], text.new.items)) }
         ensures short { IfOk result (λ unit. length unit.items ≤ MAX_MESSAGE) }
         ensures stop { IfErr result (λ fault. StopMeans (kept.sends_choice self.old (Some (choice_view choice))) fault) }
-        ensures passed { self.new.passed ≡ self.old.passed }
     {
         let Some(message) = self.station.message(choice) else {
             return Err(StepFault::BadStep);
@@ -65,13 +64,13 @@ impl<W: Window<HeldPacket, 256> + Drop, V: Window<GivenPiece, 4096> + Drop> End<
     // A new packet with a message of the links.
     #[tactic(auto, using(crate::proofs::Lengths::lengths))]
     fn send_new(&mut self, message: LinkChoice, text: &mut Vec<u8>) -> Result<Vec<u8>, StepFault>
+        requires next { link_choice self.old.links.confirms self.old.links.links ≡ Some (link_choice_view message) }
         requires new { wire_is_new self.old.station.variables ≡ true }
         requires room { length self.old.station.variables.held < WINDOW }
         ensures ok { IfOk result (λ unit. with_lines text.old.items (kept.sends_choice self.old (Some (SendNew (link_choice_view message))))
             ≡ Ok (self.new, unit.items ∷ [], text.new.items)) }
         ensures short { IfOk result (λ unit. length unit.items ≤ MAX_MESSAGE) }
         ensures stop { IfErr result (λ fault. StopMeans (kept.sends_choice self.old (Some (SendNew (link_choice_view message)))) fault) }
-        ensures passed { self.new.passed ≡ self.old.passed }
     {
         let Ok(nsp) = self.links.message(message) else {
             return Err(StepFault::OutOfMemory);

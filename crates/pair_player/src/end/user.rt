@@ -11,10 +11,11 @@ ghost use Rattle.pair_player.specs.Stepping.{StopMeans, with_lines};
 use super::End;
 use crate::fault::StepFault;
 use crate::held_packet::HeldPacket;
+use crate::passes::{is_connected, takes_messages};
 use crate::piece::GivenPiece;
 use crate::turn::Turn;
-use capture::{Entry, MAX_LINK, put_line};
-use dna_model::{Phase, State};
+use capture::{Entry, MAX_LINK, MAX_MESSAGE, put_line};
+use dna_model::{LinkTest, Phase, State};
 use std::alloc::AllocError;
 use wire_base::Window;
 
@@ -23,22 +24,21 @@ impl<W: Window<HeldPacket, 256> + Drop, V: Window<GivenPiece, 4096> + Drop> End<
     pub fn start(&mut self, text: &mut Vec<u8>) -> Result<(), StepFault>
         ensures ok { OnOk result (with_lines text.old.items (kept.starts self.old) ≡ Ok (self.new, [], text.new.items)) }
         ensures stop { IfErr result (λ fault. StopMeans (kept.starts self.old) fault) }
-        ensures passed { self.new.passed ≡ self.old.passed }
     {
         match self.station.state() {
-            State::Halted => {}
-            _ => return Err(StepFault::BadStep),
+            State::Halted => {
+                put(text, Entry::Start, &[])?;
+                self.station.start();
+                Ok(())
+            }
+            State::Istrt | State::Astrt | State::Running => Err(StepFault::BadStep),
         }
-        put(text, Entry::Start, &[])?;
-        self.station.start();
-        Ok(())
     }
 
     /// The user halts the station.
     pub fn halt(&mut self, text: &mut Vec<u8>) -> Result<(), StepFault>
         ensures ok { OnOk result (with_lines text.old.items (kept.halts self.old) ≡ Ok (self.new, [], text.new.items)) }
         ensures stop { IfErr result (λ fault. StopMeans (kept.halts self.old) fault) }
-        ensures passed { self.new.passed ≡ self.old.passed }
     {
         put(text, Entry::Halt, &[])?;
         self.station.halt();
@@ -49,7 +49,6 @@ impl<W: Window<HeldPacket, 256> + Drop, V: Window<GivenPiece, 4096> + Drop> End<
     pub fn time_out(&mut self) -> Result<(), StepFault>
         ensures ok { OnOk result (kept.times_out self.old ≡ kept.silent self.new) }
         ensures stop { IfErr result (λ fault. StopMeans (kept.times_out self.old) fault) }
-        ensures passed { self.new.passed ≡ self.old.passed }
     {
         let Some(debt) = self.station.timer_debt() else {
             return Err(StepFault::BadStep);
@@ -74,7 +73,6 @@ impl<W: Window<HeldPacket, 256> + Drop, V: Window<GivenPiece, 4096> + Drop> End<
     pub fn open(&mut self, text: &mut Vec<u8>) -> Result<(), StepFault>
         ensures ok { OnOk result (with_lines text.old.items (kept.opens self.old) ≡ Ok (self.new, [], text.new.items)) }
         ensures stop { IfErr result (λ fault. StopMeans (kept.opens self.old) fault) }
-        ensures passed { self.new.passed ≡ self.old.passed }
     {
         let link = self.next_address()?;
         put(text, Entry::Open { link }, &[])?;
@@ -86,13 +84,16 @@ impl<W: Window<HeldPacket, 256> + Drop, V: Window<GivenPiece, 4096> + Drop> End<
     }
 
     /// The user accepts the call from this address: the link gets the next address, and owes CC.
+    #[tactic(auto, using(crate::proofs::Searching::found_ends))]
     pub fn accept(&mut self, partner: u16, text: &mut Vec<u8>) -> Result<(), StepFault>
         ensures ok { OnOk result (with_lines text.old.items (kept.accepts self.old partner) ≡ Ok (self.new, [], text.new.items)) }
         ensures stop { IfErr result (λ fault. StopMeans (kept.accepts self.old partner) fault) }
-        ensures passed { self.new.passed ≡ self.old.passed }
     {
-        let Some(place) = self.links.calling_from(partner) else {
+        let Some(place) = self.links.find(LinkTest::CalledBy { far: partner }) else {
             return Err(StepFault::BadStep);
+        };
+        let Some(_link) = self.links.link(place) else {
+            unreachable!();
         };
         let link = self.next_address()?;
         put(text, Entry::Accept { partner, link }, &[])?;
@@ -103,13 +104,16 @@ impl<W: Window<HeldPacket, 256> + Drop, V: Window<GivenPiece, 4096> + Drop> End<
     }
 
     /// The user rejects the call from this address: the link gets the next address, and owes DI.
+    #[tactic(auto, using(crate::proofs::Searching::found_ends))]
     pub fn reject(&mut self, partner: u16, text: &mut Vec<u8>) -> Result<(), StepFault>
         ensures ok { OnOk result (with_lines text.old.items (kept.rejects self.old partner) ≡ Ok (self.new, [], text.new.items)) }
         ensures stop { IfErr result (λ fault. StopMeans (kept.rejects self.old partner) fault) }
-        ensures passed { self.new.passed ≡ self.old.passed }
     {
-        let Some(place) = self.links.calling_from(partner) else {
+        let Some(place) = self.links.find(LinkTest::CalledBy { far: partner }) else {
             return Err(StepFault::BadStep);
+        };
+        let Some(_link) = self.links.link(place) else {
+            unreachable!();
         };
         let link = self.next_address()?;
         put(text, Entry::Reject { partner, link }, &[])?;
@@ -120,45 +124,66 @@ impl<W: Window<HeldPacket, 256> + Drop, V: Window<GivenPiece, 4096> + Drop> End<
     }
 
     /// The user hands in a message on the link with this address.
+    #[tactic(auto, using(crate::proofs::Searching::found_ends))]
     pub fn hand_in(
         &mut self,
         link: u16,
         message: &[u8],
         text: &mut Vec<u8>,
     ) -> Result<(), StepFault>
-        requires { length message.now ≤ MAX_MESSAGE }
         ensures ok { OnOk result (with_lines text.old.items (kept.hands_in self.old link message.now) ≡ Ok (self.new, [], text.new.items)) }
         ensures stop { IfErr result (λ fault. StopMeans (kept.hands_in self.old link message.now) fault) }
-        ensures passed { self.new.passed ≡ self.old.passed }
     {
-        let Ok(done) = self.links.hand_in(link, message) else {
-            return Err(StepFault::OutOfMemory);
+        let Some(place) = self.links.find(LinkTest::LiveAt { own: link }) else {
+            return Err(StepFault::BadStep);
         };
-        if !done {
+        let Some(found) = self.links.link(place) else {
+            unreachable!();
+        };
+        if !takes_messages(found.port().phase) {
             return Err(StepFault::BadStep);
         }
+        if message.len() > MAX_MESSAGE {
+            return Err(StepFault::BadStep);
+        }
+        let Ok(()) = self.links.hand_in_at(place, message) else {
+            return Err(StepFault::OutOfMemory);
+        };
         put(text, Entry::In { link }, message)
     }
 
     /// The user closes the link with this address.
+    #[tactic(auto, using(crate::proofs::Searching::found_ends))]
     pub fn close(&mut self, link: u16, text: &mut Vec<u8>) -> Result<(), StepFault>
         ensures ok { OnOk result (with_lines text.old.items (kept.closes self.old link) ≡ Ok (self.new, [], text.new.items)) }
         ensures stop { IfErr result (λ fault. StopMeans (kept.closes self.old link) fault) }
-        ensures passed { self.new.passed ≡ self.old.passed }
     {
-        if !self.links.close(link) {
+        let Some(place) = self.links.find(LinkTest::LiveAt { own: link }) else {
+            return Err(StepFault::BadStep);
+        };
+        let Some(found) = self.links.link(place) else {
+            unreachable!();
+        };
+        if !is_connected(found.port().phase) {
             return Err(StepFault::BadStep);
         }
+        self.links.close_at(place);
         put(text, Entry::Close { link }, &[])
     }
 
     /// The timer of the link with this address runs out.
+    #[tactic(auto, using(crate::proofs::Searching::found_ends))]
     pub fn retry(&mut self, link: u16) -> Result<(), StepFault>
         ensures ok { OnOk result (kept.retries self.old link ≡ kept.silent self.new) }
         ensures stop { IfErr result (λ fault. StopMeans (kept.retries self.old link) fault) }
-        ensures passed { self.new.passed ≡ self.old.passed }
     {
-        if !self.links.retry(link) {
+        let Some(place) = self.links.find(LinkTest::LiveAt { own: link }) else {
+            return Err(StepFault::BadStep);
+        };
+        let Some(_found) = self.links.link(place) else {
+            unreachable!();
+        };
+        if !self.links.retry_at(place) {
             return Err(StepFault::BadStep);
         }
         Ok(())

@@ -1,15 +1,15 @@
 //! What comes for a link.
 
-ghost use Rattle.std.specs.Prelude.{◌≡◌, ◌<◌, true, false, OnOk, OnErr};
+ghost use Rattle.std.specs.Prelude.{◌≡◌, ◌<◌, OnOk, OnErr};
 ghost use Rattle.std.specs.List.{AllByRecursion};
 ghost use Rattle.dna_packet.specs.AckWord.{IsAckWord};
 ghost use Rattle.dna_packet.specs.Nsp.{segment_view};
-ghost use Rattle.dna_model.specs.LinkTests.{is_running};
-ghost use Rattle.dna_model.specs.WireFlow.{acknowledged_by_all, segment_taken};
+ghost use Rattle.dna_model.specs.LinkTests as tests;
+ghost use Rattle.dna_model.specs.WireFlow.{segment_taken};
 ghost use Rattle.dna_model.specs.KeptLinks as kept;
-ghost use Rattle.pair_player.specs.Segments.{slice_view};
 
 use super::LinkEnd;
+use crate::passes::is_running;
 use crate::piece::{GivenPiece, Piece};
 use crate::turn::Turn;
 use dna_model::Phase;
@@ -28,7 +28,7 @@ impl<V: Window<GivenPiece, 4096> + Drop> LinkEnd<V> {
         match self.port.phase {
             Phase::Called => self.owed.owe(Turn::ConnectAck),
             Phase::Confirming => self.owed.owe(Turn::Confirm),
-            _ => {}
+            Phase::Calling | Phase::Running | Phase::Disconnecting | Phase::Ended => {}
         }
     }
 
@@ -43,9 +43,9 @@ impl<V: Window<GivenPiece, 4096> + Drop> LinkEnd<V> {
 
     /// A CC comes for it and is not acted on: in RUN it owes a data acknowledgement.
     pub fn confirm_again(&mut self)
-        ensures { self.new ≡ kept.confirmed_again (is_running self.old.port.phase) self.old }
+        ensures { self.new ≡ kept.confirmed_again (tests.is_running self.old.port.phase) self.old }
     {
-        if let Phase::Running = self.port.phase {
+        if is_running(self.port.phase) {
             self.owed.owe(Turn::DataAck);
         }
     }

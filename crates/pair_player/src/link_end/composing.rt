@@ -1,21 +1,19 @@
 //! What a link sends next, how it is put together, and what sending leaves.
 
-ghost use Rattle.std.specs.Prelude.{◌≡◌, ◌+◌, ◌<◌, ◌≤◌, ◌&&◌, ◌⊎◌, true, false, length, nat_lt, slice_get, Some, None, IfOk, OnOk, OnErr};
+ghost use Rattle.std.specs.Prelude.{◌≡◌, ◌<◌, ◌≤◌, true, length, slice_get, OnOk, IfOk};
 ghost use Rattle.std.specs.Option.{option_map};
 ghost use Rattle.dna_packet.specs.Nsp.{nsp_bytes};
-ghost use Rattle.dna_model.specs.LinkTests.{is_running};
-ghost use Rattle.dna_model.specs.Flow.{wire};
-ghost use Rattle.dna_model.specs.NextSent.{has_new, has_repeat, has_segment, turn_of};
+ghost use Rattle.dna_model.specs.NextSent.{has_segment, turn_of};
 ghost use Rattle.dna_model.specs.Compose.{address, piece_to_send, turn_message};
 ghost use Rattle.dna_model.specs.KeptLinks as kept;
 ghost use Rattle.pair_player.specs.Owing.{turn_view};
 ghost use Rattle.pair_player.specs.Segments.{slice_view};
 
 use super::LinkEnd;
+use crate::passes::is_running;
 use crate::piece::{GivenPiece, PieceSlice};
 use crate::turn::Turn;
 use arrayvec::ArrayVec;
-use dna_model::Phase;
 use dna_packet::{
     AckQualifier, AckWord, ConnectAck, ConnectConfirm, ConnectInitiate, DataAck,
     DisconnectInitiate, Nsp, Segment, write_nsp,
@@ -66,15 +64,16 @@ impl<V: Window<GivenPiece, 4096> + Drop> LinkEnd<V> {
     fn has_segment(&self) -> bool
         ensures { result ≡ has_segment self.now }
     {
-        match self.port.phase {
-            Phase::Running => {
-                if self.owed.ahead() < self.outstanding.len() {
-                    return true;
-                }
-                self.outstanding.len() < REACH && self.unsent.has_more()
-            }
-            _ => false,
+        if !is_running(self.port.phase) {
+            return false;
         }
+        if self.owed.ahead() < self.outstanding.len() {
+            return true;
+        }
+        if self.outstanding.len() >= REACH {
+            return false;
+        }
+        self.unsent.has_more()
     }
 
     // The piece that goes next: one that is outstanding, as it was given, or the next one.
@@ -206,21 +205,47 @@ impl<V: Window<GivenPiece, 4096> + Drop> LinkEnd<V> {
         )
     }
 
-    /// Its message of this kind was sent. A segment that was not given yet gets the next number; where its memory is refused, nothing
-    /// changes.
+    /// Its message of this kind, which it sends next, was sent. A segment that was not given yet gets the next number; where its memory
+    /// is refused, nothing changes.
+    #[tactic(auto, using(crate::proofs::Choosing::segments))]
     pub fn sent(&mut self, alloc: Global, turn: Turn) -> Result<(), AllocError>
-        requires { turn ≡ Turn.Segment → length self.old.variables.outstanding < 2047 ⊎ self.old.owed.ahead < length self.old.variables.outstanding }
-        ensures ok { OnOk result (self.new ≡ kept.turn_sent (turn_view turn) self.old) }
-        ensures err { OnErr result (self.new ≡ self.old) }
+        requires { turn_of self.old ≡ Some (turn_view turn) }
+        ensures { OnOk result (self.new ≡ kept.turn_sent (turn_view turn) self.old) }
     {
-        if let Turn::Segment = turn {
-            if self.owed.ahead() == self.outstanding.len() {
-                let piece = GivenPiece::copied(alloc, self.unsent.next())?;
-                self.outstanding.give(alloc, piece)?;
-                self.unsent.give();
-            }
-        }
+        self.give_by(alloc, turn)?;
         self.owed.sent(turn);
+        Ok(())
+    }
+
+    #[tactic(auto, using(crate::proofs::Choosing::segments))]
+    fn give_by(&mut self, alloc: Global, turn: Turn) -> Result<(), AllocError>
+        requires { turn_of self.old ≡ Some (turn_view turn) }
+        ensures given { OnOk result (self.new ≡ kept.gave_by (turn_view turn) self.old) }
+        ensures next { turn ≡ Turn.Segment → OnOk result (self.new.owed.ahead < length self.new.variables.outstanding) }
+    {
+        match turn {
+            Turn::Segment => self.give(alloc),
+            Turn::ConnectAck => Ok(()),
+            Turn::Initiate => Ok(()),
+            Turn::Confirm => Ok(()),
+            Turn::Disconnect => Ok(()),
+            Turn::DataAck => Ok(()),
+        }
+    }
+
+    // A segment that is not sent again is the next piece, which gets the next number.
+    #[tactic(auto, using(crate::proofs::Choosing::segments))]
+    fn give(&mut self, alloc: Global) -> Result<(), AllocError>
+        requires { has_segment self.old ≡ true }
+        ensures given { OnOk result (self.new ≡ kept.gave (slice_get self.old.variables.outstanding self.old.owed.ahead) self.old) }
+        ensures next { OnOk result (self.new.owed.ahead < length self.new.variables.outstanding) }
+    {
+        if self.owed.ahead() < self.outstanding.len() {
+            return Ok(());
+        }
+        let piece = GivenPiece::copied(alloc, self.unsent.next())?;
+        self.outstanding.give(alloc, piece)?;
+        self.unsent.give();
         Ok(())
     }
 }

@@ -1,14 +1,16 @@
 //! What comes for the links.
 
-ghost use Rattle.std.specs.Prelude.{◌≡◌, ◌<◌, ◌++◌, [], ◌∷◌, true, false, None, Some, length, slice_get, OnOk, IfOk, IfErr};
+ghost use Rattle.std.specs.Prelude.{◌≡◌, ◌<◌, true, false, Some, length, slice_get, OnOk, IfErr};
 ghost use Rattle.std.specs.List.{AllByRecursion};
 ghost use Rattle.dna_packet.specs.AckWord.{IsAckWord};
 ghost use Rattle.dna_packet.specs.Nsp.{segment_view};
 ghost use Rattle.dna_packet.specs.Nsp as nsp;
+ghost use Rattle.dna_model.specs.LinkTests.{is_running};
 ghost use Rattle.dna_model.specs.NextSent.{LinkEnd};
+ghost use Rattle.dna_model.specs.Kept.{KeptLinks};
 ghost use Rattle.dna_model.specs.KeptLinks.{arrives, message_came};
 ghost use Rattle.dna_model.specs.KeptLinks as kept;
-ghost use Rattle.pair_player.specs.Delivering.{delivers, delivers_at, WithUps};
+ghost use Rattle.pair_player.specs.Delivering.{delivers, delivers_at};
 ghost use Rattle.pair_player.specs.Stepping.{Stopped};
 
 use super::LinkEnds;

@@ -5,7 +5,7 @@ ghost use Rattle.std.specs.Option.{option_map};
 ghost use Rattle.dna_packet.specs.Nsp.{nsp_bytes};
 ghost use Rattle.dna_packet.specs.Nsp as nsp;
 ghost use Rattle.dna_model.specs.NextSent.{LinkEnd, first_turn, link_choice, turn_of};
-ghost use Rattle.dna_model.specs.Compose.{link_message, message_at};
+ghost use Rattle.dna_model.specs.Compose.{link_message};
 ghost use Rattle.dna_model.specs.KeptLinks.{after_sent};
 ghost use Rattle.dna_model.specs.KeptLinks as kept;
 ghost use Rattle.pair_player.specs.Owing.{link_choice_view, turn_view};
@@ -83,9 +83,10 @@ impl<V: Window<GivenPiece, 4096> + Drop> LinkEnds<V> {
         )
     }
 
-    /// The message of a choice was sent.
-    #[tactic(auto, using(crate::proofs::Searching::found_ends))]
+    /// The message of a choice, which is what they send next, was sent.
+    #[tactic(auto, using(crate::proofs::Choosing::chosen_turns))]
     pub fn sent(&mut self, choice: LinkChoice) -> Result<(), AllocError>
+        requires { link_choice self.old.confirms self.old.links ≡ Some (link_choice_view choice) }
         ensures { OnOk result (self.new ≡ after_sent (link_choice_view choice) self.old) }
     {
         match choice {
@@ -103,7 +104,8 @@ impl<V: Window<GivenPiece, 4096> + Drop> LinkEnds<V> {
     }
 
     fn sent_at(&mut self, place: usize, turn: Turn) -> Result<(), AllocError>
-        requires { place < length self.old.links }
+        requires within { place < length self.old.links }
+        requires next { (link : LinkEnd) → slice_get self.old.links place ≡ Some link → turn_of link ≡ Some (turn_view turn) }
         ensures { (link : LinkEnd) → slice_get self.old.links place ≡ Some link
             → OnOk result (self.new ≡ kept.changed place (kept.turn_sent (turn_view turn) link) self.old) }
     {

@@ -1,13 +1,13 @@
 //! What comes to a station.
 
-ghost use Rattle.std.specs.Prelude.{◌≡◌, ◌&&◌, Some, None, fold};
+ghost use Rattle.std.specs.Prelude.{◌≡◌, ◌&&◌};
 ghost use Rattle.std.specs.Option.{option_map};
 ghost use Rattle.ddcmp_msg.specs.Message.{view};
 ghost use Rattle.ddcmp_msg.specs.Reading.{reading_view};
-ghost use Rattle.dna_model.specs.Table.{row};
 ghost use Rattle.dna_model.specs.WireBook.{with_next, wire_is_next, wire_responded};
-ghost use Rattle.dna_model.specs.Owed.{arrival_debt, can_take, data_debt, message_debt, rep_debt, damage_debt};
-ghost use Rattle.dna_model.specs.KeptStation.{after_arrival, came, can_keep, keeps, message_came};
+ghost use Rattle.dna_model.specs.Owed.{arrival_debt, can_take, message_debt, damage_debt};
+ghost use Rattle.dna_model.specs.Owed as owing;
+ghost use Rattle.dna_model.specs.KeptStation.{after_arrival, came, keeps, message_came};
 ghost use Rattle.pair_player.specs.Owing.{debt_view};
 
 use super::StationEnd;
@@ -27,7 +27,7 @@ impl<W: Window<HeldPacket, 256> + Drop> StationEnd<W> {
         }
         match reading {
             Reading::Sound(message) => self.can_take(message),
-            _ => false,
+            Reading::HeaderBad | Reading::DataBad | Reading::Malformed(_) => false,
         }
     }
 
@@ -38,9 +38,7 @@ impl<W: Window<HeldPacket, 256> + Drop> StationEnd<W> {
     {
         let debt = self.arrival_debt(reading, kept);
         let before = self.state;
-        if let Reading::Sound(message) = reading {
-            self.take(message, kept);
-        }
+        self.come(reading, kept);
         self.settle(before);
         if let Some(debt) = debt {
             self.owed.owe(debt);
@@ -113,11 +111,20 @@ impl<W: Window<HeldPacket, 256> + Drop> StationEnd<W> {
     {
         match self.state {
             State::Running => Some(Debt::Nak(reason)),
-            _ => None,
+            State::Halted | State::Istrt | State::Astrt => None,
         }
     }
 
     // ---- what its row does
+
+    fn come(&mut self, reading: &Reading<'_>, kept: bool)
+        ensures { self.new ≡ record self.old { variables = came (reading_view reading.now) kept self.old.variables } }
+    {
+        match reading {
+            Reading::Sound(message) => self.take(message, kept),
+            Reading::HeaderBad | Reading::DataBad | Reading::Malformed(_) => {}
+        }
+    }
 
     fn take(&mut self, message: &Message<'_>, kept: bool)
         ensures { self.new ≡ record self.old { variables = message_came (view message.now) kept self.old.variables } }
@@ -186,7 +193,7 @@ impl<W: Window<HeldPacket, 256> + Drop> StationEnd<W> {
 
 // What data make a station owe: with the next number, ACK where they are kept, else NAK 8.
 fn data_debt(next: bool, kept: bool) -> Option<Debt>
-    ensures { option_map debt_view result ≡ data_debt next kept }
+    ensures { option_map debt_view result ≡ owing.data_debt next kept }
 {
     if !next {
         return None;

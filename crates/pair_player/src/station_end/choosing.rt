@@ -1,16 +1,16 @@
 //! What a station sends next, how it is put together, and what sending leaves.
 
-ghost use Rattle.std.specs.Prelude.{◌≡◌, ◌+◌, ◌<◌, ◌≤◌, ◌++◌, ◌∷◌, [], true, false, length, slice_get, option_copied, Some, None, IfOk, IfSome, OnOk, OnErr};
+ghost use Rattle.std.specs.Prelude.{◌≡◌, ◌<◌, ◌≤◌, true, length, slice_get, IfSome, OnOk};
 ghost use Rattle.std.specs.Option.{option_map};
-ghost use Rattle.ddcmp_msg.specs.Message.{view, IsInRange, Data, Ack};
+ghost use Rattle.ddcmp_msg.specs.Message.{view, IsInRange};
 ghost use Rattle.dna_model.specs.Table.{WINDOW};
 ghost use Rattle.dna_model.specs.WireBook.{wire_is_new};
-ghost use Rattle.dna_model.specs.NextSent.{after_choice, choice, choice_in, data_choice, new_packet, or_else};
+ghost use Rattle.dna_model.specs.NextSent.{choice, choice_in, data_choice};
 ghost use Rattle.dna_model.specs.NextSent as next;
-ghost use Rattle.dna_model.specs.Compose.{data_with, message_of, packet_again};
+ghost use Rattle.dna_model.specs.Compose.{data_with, packet_again};
 ghost use Rattle.dna_model.specs.KeptStation.{after_sent};
-ghost use Rattle.pair_player.specs.Owing.{choice_view, link_choice_view};
 ghost use Rattle.pair_player.specs.Composing.{without_links};
+ghost use Rattle.pair_player.specs.Owing.{choice_view, link_choice_view};
 
 use super::StationEnd;
 use crate::choice::{Choice, LinkChoice};
@@ -19,16 +19,6 @@ use ddcmp_msg::{Flags, Message};
 use dna_model::State;
 use std::alloc::AllocError;
 use wire_base::{PushFault, Window};
-
-const NO_FLAGS: Flags = Flags {
-    quick_sync: false,
-    select: false,
-};
-
-const START_FLAGS: Flags = Flags {
-    quick_sync: true,
-    select: true,
-};
 
 impl<W: Window<HeldPacket, 256> + Drop> StationEnd<W> {
     /// What is sent next, by what the station keeps and owes and by the next message of the links: in ISTRT STRT, in ASTRT STACK, if that
@@ -96,24 +86,28 @@ impl<W: Window<HeldPacket, 256> + Drop> StationEnd<W> {
         ensures fits { IfSome result (λ message. IsInRange (view message)) }
     {
         match choice {
-            Choice::Strt => Some(Message::Strt { flags: START_FLAGS }),
-            Choice::Stack => Some(Message::Stack { flags: START_FLAGS }),
+            Choice::Strt => Some(Message::Strt {
+                flags: Flags::from_byte(0xc0),
+            }),
+            Choice::Stack => Some(Message::Stack {
+                flags: Flags::from_byte(0xc0),
+            }),
             Choice::Nak(reason) => {
                 Some(Message::Nak {
-                    flags: NO_FLAGS,
+                    flags: Flags::from_byte(0),
                     reason,
                     resp: self.resp(),
                 })
             }
             Choice::Rep => {
                 Some(Message::Rep {
-                    flags: NO_FLAGS,
+                    flags: Flags::from_byte(0),
                     num: self.above_acknowledged(self.held.len()),
                 })
             }
             Choice::Ack => {
                 Some(Message::Ack {
-                    flags: NO_FLAGS,
+                    flags: Flags::from_byte(0),
                     resp: self.resp(),
                 })
             }
@@ -137,7 +131,7 @@ impl<W: Window<HeldPacket, 256> + Drop> StationEnd<W> {
         ensures { view result ≡ data_with self.now.variables body.now }
     {
         Message::Data {
-            flags: NO_FLAGS,
+            flags: Flags::from_byte(0),
             resp: self.resp(),
             num: self.above_acknowledged(1 + self.ahead),
             body,

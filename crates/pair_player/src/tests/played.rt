@@ -25,18 +25,21 @@ pub fn played(alloc: Global, lines: &[&[u8]]) -> Result<Played, Fail> {
         steps: 0,
         fault: None,
     };
-    while script.advance(&mut reader)? {
+    for _ in 0..u64::MAX {
+        if !script.advance(&mut reader)? {
+            return Ok(played);
+        }
         let Some(step) = script.step() else {
             return Ok(played);
         };
-        let mut lines = Vec::new(alloc);
-        if let Err(fault) = ends.play_step(step, &mut lines) {
+        let mut added = Vec::new(alloc);
+        if let Err(fault) = ends.play_step(step, &mut added) {
             played.fault = Some(fault);
             return Ok(played);
         }
         match step.side {
-            Side::A => played.of_a.extend_from_slice(lines.as_slice())?,
-            Side::B => played.of_b.extend_from_slice(lines.as_slice())?,
+            Side::A => played.of_a.extend_from_slice(added.as_slice())?,
+            Side::B => played.of_b.extend_from_slice(added.as_slice())?,
         }
         played.steps = played.steps.saturating_add(1);
     }

@@ -9,4 +9,4 @@ pub record AreBehind (own : ℕ) (old_text text : List ℕ) (old pieces : List (
   pub few : length pieces + turns ≤ most
 
 abbrev pub invariant-loop : goal.invariant-loop
-invariant-loop l = AreBehind l.own l.fn.text.items l.text.items l.fn.pieces l.pieces l.counter l.most
+invariant-loop l = AreBehind l.own l.initial.text.items l.text.items l.initial.pieces l.pieces l.counter l.most
