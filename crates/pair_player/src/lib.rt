@@ -1,7 +1,7 @@
-//! The script of a player: its head and its steps, read line by line.
+//! The player: a script is read line by line, its steps are made by two ends of a line, and the captures of both are written.
 //!
-//! The crate decides which bytes are a script, which steps they spell, and where and how a text departs from the format. It
-//! never touches a file or a clock, nor what a step makes of the two ends.
+//! The crate decides which bytes are a script, which steps they spell, where and how a text departs from the format, and what each
+//! step makes of the two ends. It never touches a file or a clock, nor a judge.
 #![tactic(auto)]
 
 mod choice;
