@@ -7,7 +7,6 @@ ghost use Rattle.ddcap.specs.Printed.{Writes, moved, stream_of};
 use crate::check::{print, print_out_of_memory};
 use crate::page::Page;
 use crate::text::{FAILED, FAULTY};
-use capture::Departure;
 use pair_player::{PlayFault, play};
 use std::alloc::Global;
 use std::io::{Read, Write};
