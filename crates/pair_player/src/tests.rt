@@ -10,5 +10,6 @@ mod reading;
 mod rows;
 mod scripted_example;
 mod station_owes;
+mod station_sends;
 mod stepped;
 mod steps;
