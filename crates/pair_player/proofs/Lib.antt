@@ -17,3 +17,4 @@ pub mod Lengths
 pub mod Sides
 pub mod Bodies
 pub mod Delivered
+pub mod Came

@@ -1,10 +1,13 @@
 //! What comes to an end.
 
-ghost use Rattle.std.specs.Prelude.{◌≡◌, ◌+◌, ◌++◌, ◌<◌, ◌≤◌, ◌^◌, [], true, false, Ok, Some, None, length, OnOk, IfOk, IfErr};
-ghost use Rattle.capture.specs.declared.limit.TheConstants.{MAX_HINT, MAX_MESSAGE};
-ghost use Rattle.ddcmp_msg.specs.Reading.{reading, reading_view};
-ghost use Rattle.dna_model.specs.KeptPlay as kept;
-ghost use Rattle.dna_model.specs.Receipt.{carried};
+ghost use Rattle.std.specs.Prelude.{◌≡◌, ◌≤◌, [], Ok, Some, length, OnOk, IfErr};
+ghost use Rattle.capture.specs.declared.limit.TheConstants.{MAX_MESSAGE};
+ghost use Rattle.ddcmp_msg.specs.Message.{view};
+ghost use Rattle.ddcmp_msg.specs.Reading.{reading_view};
+ghost use Rattle.dna_model.specs.Book as book;
+ghost use Rattle.dna_model.specs.Content.{content};
+ghost use Rattle.dna_model.specs.KeptPlay as steps;
+ghost use Rattle.dna_model.specs.Receipt.{carried, carried_in};
 ghost use Rattle.pair_player.specs.Delivering.{arrives_as};
 ghost use Rattle.pair_player.specs.Stepping.{StopMeans, Stopped, with_lines};
 
@@ -21,10 +24,11 @@ use wire_base::Window;
 impl<W: Window<HeldPacket, 256> + Drop, V: Window<GivenPiece, 4096> + Drop> End<W, V> {
     /// These bytes come off the line, and their packet is kept where there is a buffer and it can be taken. What is whole of a link then
     /// goes to its user at once.
+    #[tactic(auto, using(crate::proofs::Came::came))]
     pub fn come(&mut self, buffer: bool, bytes: &[u8], text: &mut Vec<u8>) -> Result<(), StepFault>
         requires short { length bytes.now ≤ MAX_MESSAGE }
-        ensures ok { OnOk result (with_lines text.old.items (kept.comes self.old buffer bytes.now) ≡ Ok (self.new, [], text.new.items)) }
-        ensures stop { IfErr result (λ fault. StopMeans (kept.comes self.old buffer bytes.now) fault) }
+        ensures ok { OnOk result (with_lines text.old.items (steps.comes self.old buffer bytes.now) ≡ Ok (self.new, [], text.new.items)) }
+        ensures stop { IfErr result (λ fault. StopMeans (steps.comes self.old buffer bytes.now) fault) }
     {
         if self.passed > MAX_HINT {
             return Err(StepFault::BadStep);
@@ -34,22 +38,40 @@ impl<W: Window<HeldPacket, 256> + Drop, V: Window<GivenPiece, 4096> + Drop> End<
         let hint = self.passed;
         put(text, Entry::Received { kept, hint }, bytes)?;
         self.station.arrive(&reading, kept);
-        if kept {
-            self.keep(&reading, text)?;
-        }
+        self.keep(&reading, kept, text)?;
         self.passed += 1;
         Ok(())
     }
 
     // The message of the links in a packet that is kept, if there is one, comes to them.
-    fn keep(&mut self, reading: &Reading<'_>, text: &mut Vec<u8>) -> Result<(), StepFault>
-        ensures ok { OnOk result (arrives_as (carried true (reading_view reading.now)) text.old.items self.old.links ≡ Some (self.new.links, text.new.items)) }
+    #[tactic(auto, using(crate::proofs::Came::came))]
+    fn keep(
+        &mut self,
+        reading: &Reading<'_>,
+        kept: bool,
+        text: &mut Vec<u8>,
+    ) -> Result<(), StepFault>
+        ensures ok { OnOk result (arrives_as (carried kept (reading_view reading.now)) text.old.items self.old.links ≡ Some (self.new.links, text.new.items)) }
         ensures rest { OnOk result (self.new ≡ record self.old { links = self.new.links }) }
-        ensures stop { IfErr result (λ fault. Stopped (arrives_as (carried true (reading_view reading.now)) text.old.items self.old.links) fault) }
+        ensures stop { IfErr result (λ fault. Stopped (arrives_as (carried kept (reading_view reading.now)) text.old.items self.old.links) fault) }
     {
-        let Reading::Sound(Message::Data { body, .. }) = reading else {
+        if !kept {
             return Ok(());
-        };
+        }
+        match reading {
+            Reading::Sound(message) => self.take_message(message, text),
+            Reading::HeaderBad | Reading::DataBad | Reading::Malformed(_) => Ok(()),
+        }
+    }
+
+    // The message of the links in the packet of a message, if there is one, comes to them.
+    #[tactic(auto, using(crate::proofs::Came::came))]
+    fn take_message(&mut self, message: &Message<'_>, text: &mut Vec<u8>) -> Result<(), StepFault>
+        ensures ok { OnOk result (arrives_as (carried_in (content (book.body_of (view message.now)))) text.old.items self.old.links ≡ Some (self.new.links, text.new.items)) }
+        ensures rest { OnOk result (self.new ≡ record self.old { links = self.new.links }) }
+        ensures stop { IfErr result (λ fault. Stopped (arrives_as (carried_in (content (book.body_of (view message.now)))) text.old.items self.old.links) fault) }
+    {
+        let body = body_of(message);
         let Ok(packet) = read_packet(body) else {
             return Ok(());
         };
@@ -63,5 +85,19 @@ impl<W: Window<HeldPacket, 256> + Drop, V: Window<GivenPiece, 4096> + Drop> End<
             Ok(message) => self.links.arrive(&message, text),
             Err(_) => Ok(()),
         }
+    }
+}
+
+// The data of a message, and none where it has none.
+fn body_of<'a>(message: &Message<'a>) -> &'a [u8]
+    ensures { result.now ≡ book.body_of (view message.now) }
+{
+    match message {
+        Message::Data { body, .. } => body,
+        Message::Ack { .. }
+        | Message::Nak { .. }
+        | Message::Rep { .. }
+        | Message::Strt { .. }
+        | Message::Stack { .. } => &[],
     }
 }
