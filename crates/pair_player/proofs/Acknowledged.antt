@@ -10,7 +10,7 @@ use Rattle.dna_model.specs.Pieces.{Piece}
 use Rattle.dna_model.specs.WireFlow.{LinkVariables, acknowledged_by_all, acknowledged_to as kept_to}
 use Rattle.pair_player.specs.Segments.{acknowledged_to}
 use Rattle.pair_player.specs.Segments.{acknowledged_word, acknowledged_words}
-use Rattle.pair_player.proofs.Words.{first_in_range, later_in_range}
+use Rattle.pair_player.proofs.AckWords.{first_in_range, later_in_range}
 
 module _ (words : List AckWord) (i : ℕ) (d : AckWord) (h : i < length words) (w : WindowView Piece) where
   opened : acknowledged_words (drop i words) w ≡ acknowledged_words (drop (i + 1) words) (acknowledged_word w (get_or words i d))

@@ -14,11 +14,19 @@ use Rattle.pair_player.specs.Delivering.{delivers_at}
 pub nothing_delivered : (own : ℕ) (text : List ℕ) (s : KeptLinks) → delivers_at own text (delivering_none s) ≡ Some (s, text)
 nothing_delivered own text s = ap (λ (t : List ℕ). Some (s, t)) (append-nil text)
 
+links_or : KeptLinks → Option (KeptLinks × List ℕ) → KeptLinks
+links_or k None = k
+links_or k (Some p) = p.0
+
+text_or : List ℕ → Option (KeptLinks × List ℕ) → List ℕ
+text_or x None = x
+text_or x (Some p) = p.1
+
 same_links : (k l : KeptLinks) (x y : List ℕ) → ◌≡◌ {A = Option (KeptLinks × List ℕ)} (Some (k, x)) (Some (l, y)) → k ≡ l
-same_links k l x y e = cc
+same_links k l x y e = ap (links_or k) e
 
 same_text : (k l : KeptLinks) (x y : List ℕ) → ◌≡◌ {A = Option (KeptLinks × List ℕ)} (Some (k, x)) (Some (l, y)) → x ≡ y
-same_text k l x y e = cc
+same_text k l x y e = ap (text_or x) e
 
 module _ (e : KeptEnd) (r : Record) (station : KeptStation) (own : ℕ) (d : Delivering) (text : List ℕ) where
   abbrev lines : List ℕ

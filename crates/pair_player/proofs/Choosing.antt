@@ -20,18 +20,22 @@ use Rattle.dna_model.specs.NextSent.{LinkEnd, LinkChoice, Confirms, OfLink, turn
 same_link : (m n : ℕ) (t u : Turn) → ◌≡◌ {A = Option LinkChoice} (Some (OfLink m t)) (Some (OfLink n u)) → (m ≡ n) × (t ≡ u)
 same_link m n t u e = (cc, cc)
 
-first_chosen : (number : ℕ) (links : List LinkEnd) (place : ℕ) (turn : Turn) → first_turn number links ≡ Some (OfLink place turn) →
-    (i : ℕ) × (place ≡ number + i) × ((link : LinkEnd) → slice_get links i ≡ Some link → turn_of link ≡ Some turn)
+-- what is chosen from this number on
+abbrev Chosen : ℕ → List LinkEnd → ℕ → Turn → Type 0
+Chosen number links place turn = (i : ℕ) × (place ≡ number + i) × ((link : LinkEnd) → slice_get links i ≡ Some link → turn_of link ≡ Some turn)
+
+chosen_by : (number : ℕ) (l : LinkEnd) (links : List LinkEnd) (place : ℕ) (turn : Turn) → (first_turn (number + 1) links ≡ Some (OfLink place turn) → Chosen (number + 1) links place turn) →
+    (o : Option Turn) → turn_of l ≡ o → turn_or_next number o (first_turn (number + 1) links) ≡ Some (OfLink place turn) → Chosen number (l ∷ links) place turn
+chosen_by number l links place turn later (Some t) is e =
+    let same = same_link number place t turn e in
+    (0, sym same.0 ∙ (omega arith), λ link at. (let here : l ≡ link = cc in ap turn_of (sym here) ∙ is ∙ ap Some same.1))
+chosen_by number l links place turn later None is e =
+    let next = later e in
+    (suc next.0, next.1 ∙ (omega arith), λ link at. next.2 link at)
+
+first_chosen : (number : ℕ) (links : List LinkEnd) (place : ℕ) (turn : Turn) → first_turn number links ≡ Some (OfLink place turn) → Chosen number links place turn
 first_chosen number [] place turn e = absurd cc
-first_chosen number (l ∷ links) place turn e = go (turn_of l) refl
-  where
-    go : (o : Option Turn) → turn_of l ≡ o → (i : ℕ) × (place ≡ number + i) × ((link : LinkEnd) → slice_get (l ∷ links) i ≡ Some link → turn_of link ≡ Some turn)
-    go (Some t) is =
-        let same = same_link number place t turn (sym (ap (λ (o : Option Turn). turn_or_next number o (first_turn (number + 1) links)) is) ∙ e) in
-        (0, (sym same.0 ∙ (omega arith), λ link at. (let here : l ≡ link = cc in ap turn_of (sym here) ∙ is ∙ ap Some same.1)))
-    go None is =
-        let later = first_chosen (number + 1) links place turn (sym (ap (λ (o : Option Turn). turn_or_next number o (first_turn (number + 1) links)) is) ∙ e) in
-        (suc later.0, (later.1 ∙ (omega arith), λ link at. later.2 link at))
+first_chosen number (l ∷ links) place turn e = chosen_by number l links place turn (first_chosen (number + 1) links place turn) (turn_of l) refl e
 
 pub chosen_turn : (confirms : List EndConfirm) (links : List LinkEnd) (place : ℕ) (turn : Turn) → link_choice confirms links ≡ Some (OfLink place turn) →
     (link : LinkEnd) → slice_get links place ≡ Some link → turn_of link ≡ Some turn

@@ -15,19 +15,21 @@ use Rattle.pair_player.specs.Delivering.{bodies, lines_of, up_line}
 nothing_whole : (begun : List ℕ) (pieces : List (Option Piece)) → next_message pieces ≡ None → (complete begun pieces ≡ []) × (in_whole_messages pieces ≡ 0)
 nothing_whole begun [] e = (refl, refl)
 nothing_whole begun (None ∷ later) e = (refl, refl)
-nothing_whole begun (Some p ∷ later) e = go p.ends refl (next_message later) refl
+nothing_whole begun (Some p ∷ later) e = go p.ends refl (next_message later) refl (nothing_whole (begun ++ p.body) later)
   where
-    go : (b : Bool) → p.ends ≡ b → (o : Option Whole) → next_message later ≡ o → (complete begun (Some p ∷ later) ≡ []) × (in_whole_messages (Some p ∷ later) ≡ 0)
-    go true ends o is =
+    go : (b : Bool) → p.ends ≡ b → (o : Option Whole) → next_message later ≡ o →
+        (next_message later ≡ None → (complete (begun ++ p.body) later ≡ []) × (in_whole_messages later ≡ 0)) →
+        (complete begun (Some p ∷ later) ≡ []) × (in_whole_messages (Some p ∷ later) ≡ 0)
+    go true ends o is rest =
         let whole : next_message (Some p ∷ later) ≡ Some (record { pieces = 1; message = p.body }) =
         ap (λ (b : Bool). cond b (Some (record { pieces = 1; message = p.body })) (with_piece p (next_message later))) ends in
         absurd cc
-    go false ends (Some w) is =
+    go false ends (Some w) is rest =
         let whole : next_message (Some p ∷ later) ≡ with_piece p (Some w) =
         ap (λ (b : Bool). cond b (Some (record { pieces = 1; message = p.body })) (with_piece p (next_message later))) ends ∙ ap (with_piece p) is in
         absurd cc
-    go false ends None is =
-        let n = nothing_whole (begun ++ p.body) later is in (
+    go false ends None is rest =
+        let n = rest is in (
           ap (λ (b : Bool). cond b ((begun ++ p.body) ∷ complete [] later) (complete (begun ++ p.body) later)) ends ∙ n.0,
           ap (λ (b : Bool). cond b (in_whole_messages later + 1) (one_more (in_whole_messages later))) ends ∙ ap one_more n.1,
         )
@@ -67,21 +69,22 @@ module _ (begun : List ℕ) (p : Piece) (later : List (Option Piece)) where
 first_whole : (begun : List ℕ) (pieces : List (Option Piece)) (w : Whole) → next_message pieces ≡ Some w → First begun pieces w
 first_whole begun [] w e = absurd cc
 first_whole begun (None ∷ later) w e = absurd cc
-first_whole begun (Some p ∷ later) w e = go p.ends refl (next_message later) refl
+first_whole begun (Some p ∷ later) w e = go p.ends refl (next_message later) refl (first_whole (begun ++ p.body) later)
   where
-    go : (b : Bool) → p.ends ≡ b → (o : Option Whole) → next_message later ≡ o → First begun (Some p ∷ later) w
-    go true ends o is =
+    go : (b : Bool) → p.ends ≡ b → (o : Option Whole) → next_message later ≡ o →
+        ((v : Whole) → next_message later ≡ Some v → First (begun ++ p.body) later v) → First begun (Some p ∷ later) w
+    go true ends o is rest =
         let same : record { pieces = 1; message = p.body } ≡ w = same_some _ w (sym (next_by begun p later true ends) ∙ e) in
         subst (First begun (Some p ∷ later)) same (record {
           messages = complete_by begun p later true ends ∙ ap (λ (l : List (Option Piece)). (begun ++ p.body) ∷ complete [] l) (sym (one_less 0 p later));
           count = count_by begun p later true ends ∙ (omega arith) ∙ ap (λ (l : List (Option Piece)). 1 + in_whole_messages l) (sym (one_less 0 p later));
           least = omega arith;
         })
-    go false ends None is =
+    go false ends None is rest =
         let none : next_message (Some p ∷ later) ≡ None = next_by begun p later false ends ∙ ap (with_piece p) is in
         absurd cc
-    go false ends (Some v) is =
-        let n = first_whole (begun ++ p.body) later v is in
+    go false ends (Some v) is rest =
+        let n = rest v is in
         let same : record { pieces = v.pieces + 1; message = p.body ++ v.message } ≡ w = same_some _ w (sym (next_by begun p later false ends ∙ ap (with_piece p) is) ∙ e) in
         subst (First begun (Some p ∷ later)) same (record {
           messages = complete_by begun p later false ends ∙ n.messages
@@ -96,7 +99,7 @@ first_whole begun (Some p ∷ later) w e = go p.ends refl (next_message later) r
 bodies_of_next : (pieces : List (Option Piece)) (w : Whole) → next_message pieces ≡ Some w → bodies (take w.pieces pieces) ≡ w.message
 bodies_of_next [] w e = absurd cc
 bodies_of_next (None ∷ later) w e = absurd cc
-bodies_of_next (Some p ∷ later) w e = go p.ends refl (next_message later) refl
+bodies_of_next (Some p ∷ later) w e = go p.ends refl (next_message later) refl (bodies_of_next later)
   where
     taken : (n : ℕ) → bodies (take (n + 1) (Some p ∷ later)) ≡ p.body ++ bodies (take n later)
     taken n = ap (λ (k : ℕ). bodies (take k (Some p ∷ later))) (add-one n)
@@ -104,17 +107,18 @@ bodies_of_next (Some p ∷ later) w e = go p.ends refl (next_message later) refl
     nothing_behind : p.body ++ bodies (take 0 later) ≡ p.body
     nothing_behind = append-nil p.body
 
-    go : (b : Bool) → p.ends ≡ b → (o : Option Whole) → next_message later ≡ o → bodies (take w.pieces (Some p ∷ later)) ≡ w.message
-    go true ends o is =
+    go : (b : Bool) → p.ends ≡ b → (o : Option Whole) → next_message later ≡ o →
+        ((v : Whole) → next_message later ≡ Some v → bodies (take v.pieces later) ≡ v.message) → bodies (take w.pieces (Some p ∷ later)) ≡ w.message
+    go true ends o is rest =
         let same : record { pieces = 1; message = p.body } ≡ w = same_some _ w (sym (next_by [] p later true ends) ∙ e) in
         subst (λ (v : Whole). bodies (take v.pieces (Some p ∷ later)) ≡ v.message) same nothing_behind
-    go false ends None is =
+    go false ends None is rest =
         let none : next_message (Some p ∷ later) ≡ None = next_by [] p later false ends ∙ ap (with_piece p) is in
         absurd cc
-    go false ends (Some v) is =
+    go false ends (Some v) is rest =
         let same : record { pieces = v.pieces + 1; message = p.body ++ v.message } ≡ w = same_some _ w (sym (next_by [] p later false ends ∙ ap (with_piece p) is) ∙ e) in
         subst (λ (u : Whole). bodies (take u.pieces (Some p ∷ later)) ≡ u.message) same
-        (taken v.pieces ∙ ap (λ (xs : List ℕ). p.body ++ xs) (bodies_of_next later v is))
+        (taken v.pieces ∙ ap (λ (xs : List ℕ). p.body ++ xs) (rest v is))
 
 module _ (own : ℕ) (text : List ℕ) (pieces : List (Option Piece)) (count : ℕ) (next : next_count pieces ≡ Some count) where
   there : (w : Whole) × (next_message pieces ≡ Some w) × (w.pieces ≡ count)

@@ -1,10 +1,9 @@
 -- The next piece of what was handed in, and what it leaves.
 use Rattle.std.proofs.Common.{◌≡◌, ℕ, ◌+◌, ◌≤◌, ◌<◌, List, length, take, drop, refl, ap, sym, ◌∙◌, arith, length-take}
-use Rattle.std.proofs.lemmas.List.{drop-drop}
-use Rattle.std.proofs.Math.ListN.{take_of_length-le}
+use Rattle.std.proofs.lemmas.List.{drop-drop, take_all}
 
 pub all_taken : (rest : List ℕ) → length rest ≤ 512 → take 512 rest ≡ rest
-all_taken rest h = take_of_length-le rest h
+all_taken rest h = take_all 512 rest h
 
 pub dropped_on : (given : ℕ) (first : List ℕ) → 512 < length (drop given first) →
     drop (length (take 512 (drop given first))) (drop given first) ≡ drop (given + 512) first

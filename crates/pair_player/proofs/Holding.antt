@@ -4,6 +4,7 @@ use Rattle.std.specs.Prelude.{nat_le}
 use Rattle.dna_packet.specs.Nsp.{SegmentValue}
 use Rattle.dna_model.specs.Flow.{REACH, wire, distance}
 use Rattle.dna_model.specs.Pieces.{Piece, piece_of, in_order}
+use Rattle.dna_model.specs.NextSent.{LinkEnd}
 use Rattle.dna_model.specs.WireFlow.{LinkVariables, with_pieces, with_segment, segment_taken, held}
 use Rattle.pair_player.specs.Segments.{is_missing_at}
 use Rattle.pair_player.proofs.Arrived.{hold_there}
@@ -24,5 +25,9 @@ kept_there above p k h there =
 
 pub held_there : (above : ℕ) (s : SegmentValue) (k : LinkVariables) → above ≡ distance k.received s.number → k.received < 4096 → is_missing_at (in_order k.pieces + above - 1) k.pieces ≡ false → segment_taken s k ≡ k
 held_there above s k is h there = ap (λ (n : ℕ). with_segment n (piece_of s) k) (sym is) ∙ kept_there above (piece_of s) k h there
+
+pub unheld : (above : ℕ) (s : SegmentValue) (l : LinkEnd) → above ≡ distance l.variables.received s.number → l.variables.received < 4096 →
+    is_missing_at (in_order l.variables.pieces + above - 1) l.variables.pieces ≡ false → record l { variables = segment_taken s l.variables } ≡ l
+unheld above s l is h there = ap (λ (k : LinkVariables). record l { variables = k }) (held_there above s l.variables is h there)
 
 pub ruleset holding = (held_there)

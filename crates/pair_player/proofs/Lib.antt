@@ -6,8 +6,9 @@ pub mod LackLaws
 pub mod TextLaws
 pub mod SoFarLaws
 pub mod Giving
-pub mod Words
+pub mod AckWords
 pub mod Acknowledged
+pub mod Acting
 pub mod Arrived
 pub mod Holding
 pub mod Searching

@@ -1,5 +1,5 @@
 -- A search among the links, one after the other, and what is found.
-use Rattle.std.proofs.Common.{◌≡◌, ℕ, suc, zero, ◌+◌, ◌<◌, ◌≤◌, Bool, true, false, cond, Option, Some, None, List, [], ◌∷◌, length, drop, refl, sym, ap, ◌∙◌, arith}
+use Rattle.std.proofs.Common.{◌≡◌, ℕ, suc, zero, ◌+◌, ◌<◌, ◌≤◌, Bool, true, false, cond, Option, Some, None, List, [], ◌∷◌, length, drop, refl, sym, ap, ◌∙◌, arith, add-one}
 use Rattle.std.specs.Prelude.{slice_get}
 use Rattle.std.specs.List.{position_from}
 use Rattle.std.specs.Option.{option_map}
@@ -19,11 +19,14 @@ use Rattle.pair_player.specs.Owing.{turn_view}
 abbrev pub rest_from : LinkTest → ℕ → List LinkEnd → Option ℕ
 rest_from test place links = position_from (λ (l : LinkEnd). passes test l.port) place links
 
+opened_on : (i : ℕ) (links : List LinkEnd) (link : LinkEnd) → slice_get links i ≡ Some link → drop i links ≡ link ∷ drop (suc i) links
+opened_on zero [] link e = absurd cc
+opened_on zero (l ∷ links) link e = cc
+opened_on (suc i) [] link e = absurd cc
+opened_on (suc i) (l ∷ links) link e = opened_on i links link e
+
 opened : (i : ℕ) (links : List LinkEnd) (link : LinkEnd) → slice_get links i ≡ Some link → drop i links ≡ link ∷ drop (i + 1) links
-opened zero [] link e = absurd cc
-opened zero (l ∷ links) link e = cc
-opened (suc i) [] link e = absurd cc
-opened (suc i) (l ∷ links) link e = opened i links link e
+opened i links link e = opened_on i links link e ∙ ap (λ (n : ℕ). link ∷ drop n links) (sym (add-one i))
 
 there : (i : ℕ) (links : List LinkEnd) → i < length links → (link : LinkEnd) × (slice_get links i ≡ Some link)
 there i [] h = absurd (omega (arith, h))

@@ -7,6 +7,7 @@ use Rattle.pair_player.specs.declared.debt.Debt as rust
 use Rattle.pair_player.specs.declared.debt.Debt.TheVariants as debts
 use Rattle.pair_player.specs.declared.turn.Turn.{Turn}
 use Rattle.pair_player.specs.declared.turn.Turn.TheVariants as turns
+use Rattle.pair_player.specs.declared.choice.EndConfirm.{EndConfirm}
 use Rattle.pair_player.specs.declared.choice.LinkChoice.{LinkChoice}
 use Rattle.pair_player.specs.declared.choice.LinkChoice.TheVariants as link_choices
 use Rattle.pair_player.specs.declared.choice.Choice.{Choice}
@@ -27,8 +28,11 @@ turn_view turns.Disconnect = model.DisconnectTurn
 turn_view turns.DataAck = model.DataAckTurn
 turn_view turns.Segment = model.SegmentTurn
 
+abbrev pub confirm_view : EndConfirm → model.EndConfirm
+confirm_view confirm = record { dst = confirm.dst; src = confirm.src; reason = confirm.reason }
+
 abbrev pub link_choice_view : LinkChoice → next.LinkChoice
-link_choice_view (link_choices.Confirms confirm) = next.Confirms confirm
+link_choice_view (link_choices.Confirms confirm) = next.Confirms (confirm_view confirm)
 link_choice_view (link_choices.OfLink place turn) = next.OfLink place (turn_view turn)
 
 abbrev pub choice_view : Choice → next.Choice

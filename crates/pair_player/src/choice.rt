@@ -2,26 +2,17 @@
 
 use crate::turn::Turn;
 use ddcmp_msg::NakReason;
-use std::marker::Model;
 
 /// The two addresses and the reason of a DC.
-#[derive(Clone, Copy)]
+#[derive(Clone, Copy, Debug, PartialEq, Eq)]
 pub struct EndConfirm {
     pub dst: u16,
     pub src: u16,
     pub reason: u16,
 }
 
-impl Model for EndConfirm {
-    ghost use Rattle.dna_model.specs.LinkOwed.{EndConfirm};
-
-    ghost Value = { EndConfirm };
-
-    ghost view = { λ c. record { dst = c.dst; src = c.src; reason = c.reason } };
-}
-
 /// The next message of the links.
-#[derive(Clone, Copy)]
+#[derive(Clone, Copy, Debug, PartialEq, Eq)]
 pub enum LinkChoice {
     /// The oldest DC that is owed.
     Confirms(EndConfirm),
@@ -30,7 +21,7 @@ pub enum LinkChoice {
 }
 
 /// The next unit.
-#[derive(Clone, Copy)]
+#[derive(Clone, Copy, Debug, PartialEq, Eq)]
 pub enum Choice {
     Strt,
     Stack,

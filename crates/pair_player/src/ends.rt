@@ -74,8 +74,8 @@ impl Ends {
     /// behind the text is of any use.
     #[tactic(auto, using(crate::proofs::Sides::both_sides))]
     pub fn play_step(&mut self, step: ScriptStep<'_>, text: &mut Vec<u8>) -> Result<(), StepFault>
-        ensures ok { OnOk result (with_text text.old.items (kept_plays_step self.old (view_of_line step)) ≡ Ok (self.new, text.new.items)) }
-        ensures stop { IfErr result (λ fault. StopMeans (kept_plays_step self.old (view_of_line step)) fault) }
+        ensures ok { OnOk result (with_text text.old.items (kept_plays_step self.old (view_of_line step.entry)) ≡ Ok (self.new, text.new.items)) }
+        ensures stop { IfErr result (λ fault. StopMeans (kept_plays_step self.old (view_of_line step.entry)) fault) }
     {
         let alloc = self.alloc;
         match step.side {
@@ -109,9 +109,9 @@ fn step_of(
     step: Step<'_>,
     text: &mut Vec<u8>,
 ) -> Result<(), StepFault>
-    ensures ok { OnOk result (sides (view step) coming.old going.old text.old.items (kept_plays end.old coming.old (view step))
+    ensures ok { OnOk result (sides (view step.entry) coming.old going.old text.old.items (kept_plays end.old coming.old (view step.entry))
         ≡ Ok (end.new, coming.new, going.new, text.new.items)) }
-    ensures stop { IfErr result (λ fault. StopMeans (kept_plays end.old coming.old (view step)) fault) }
+    ensures stop { IfErr result (λ fault. StopMeans (kept_plays end.old coming.old (view step.entry)) fault) }
 {
     match step {
         Step::Start => end.start(text),

@@ -19,6 +19,7 @@ mod link_ends;
 mod link_owed;
 mod outstanding;
 mod owed;
+mod owed_confirm;
 mod passes;
 mod piece;
 mod received;

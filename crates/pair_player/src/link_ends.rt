@@ -1,7 +1,7 @@
 //! The links of an end.
 
 ghost use Rattle.std.specs.Prelude.{◌≡◌, ◌<◌, true, false, None, Some, length, slice_get, option_copied, OnOk, IfSome};
-ghost use Rattle.dna_model.specs.NextSent.{LinkEnd};
+ghost use Rattle.dna_model.specs.NextSent.{LinkEnd as KeptLink};
 ghost use Rattle.dna_model.specs.Kept.{no_kept_links};
 ghost use Rattle.dna_model.specs.KeptLinks.{place_of};
 ghost use Rattle.dna_model.specs.KeptLinks as kept;
@@ -10,8 +10,8 @@ mod arriving;
 mod composing;
 mod user;
 
-use crate::choice::EndConfirm;
 use crate::link_end::LinkEnd;
+use crate::owed_confirm::OwedConfirm;
 use crate::passes::passes;
 use crate::piece::GivenPiece;
 use dna_model::{LinkTest, Port};
@@ -25,7 +25,7 @@ use wire_base::Window;
 #[derive(Drop)]
 pub struct LinkEnds<V: Window<GivenPiece, 4096> + Drop> {
     links: Vec<LinkEnd<V>>,
-    confirms: VecDeque<EndConfirm>,
+    confirms: VecDeque<OwedConfirm>,
     alloc: Global,
 }
 
@@ -66,7 +66,7 @@ impl<V: Window<GivenPiece, 4096> + Drop> LinkEnds<V> {
     // What look-ups know of the link at this place.
     fn port_at(&self, place: usize) -> Port
         requires { place < length self.now.links }
-        ensures { (link : LinkEnd) → slice_get self.now.links place ≡ Some link → result ≡ link.port }
+        ensures { (link : KeptLink) → slice_get self.now.links place ≡ Some link → result ≡ link.port }
     {
         self.links[place].port()
     }

@@ -36,6 +36,16 @@ impl Model for LinkOwed {
       initiated = o.initiated;
       ahead = o.ahead;
     } };
+
+    ghost inverse = { λ o. record {
+      connect_ack = o.connect_ack;
+      initiate = o.initiate;
+      confirm = o.confirm;
+      disconnect = o.disconnect;
+      data_ack = o.data_ack;
+      initiated = o.initiated;
+      ahead = o.ahead;
+    } };
 }
 
 impl LinkOwed {

@@ -40,6 +40,17 @@ impl Model for Owed {
       rep_response = o.rep_response;
       no_buffer = o.no_buffer;
     } };
+
+    ghost inverse = { λ o. record {
+      strt = o.strt;
+      stack = o.stack;
+      ack = o.ack;
+      rep = o.rep;
+      header_check = o.header_check;
+      data_check = o.data_check;
+      rep_response = o.rep_response;
+      no_buffer = o.no_buffer;
+    } };
 }
 
 impl Owed {

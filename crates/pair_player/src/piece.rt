@@ -85,8 +85,8 @@ impl Model for GivenPiece {
 impl GivenPiece {
     /// A copy of this piece. `AllocError` where there is no memory for it.
     pub fn copied(alloc: Global, piece: PieceSlice<'_>) -> Result<GivenPiece, AllocError>
-        requires { length piece.body.now ≤ 512 }
-        ensures { IfOk result (λ copy. copy ≡ slice_view piece) }
+        requires { length piece.entry.body.now ≤ 512 }
+        ensures { IfOk result (λ copy. copy ≡ slice_view piece.entry) }
     {
         let body = Copied::of(alloc, piece.body)?;
         Ok(GivenPiece {

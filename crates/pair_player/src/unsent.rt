@@ -103,6 +103,7 @@ impl Unsent {
 }
 
 // The next piece of a message of which this is left, and which a segment has begun or has not.
+#[tactic(auto, using(crate::proofs::Giving::giving))]
 fn piece_with(begun: bool, rest: &[u8]) -> PieceSlice<'_>
     ensures piece { slice_view result ≡ compose.piece_with begun rest.now }
     ensures short { length result.body.now ≤ 512 }

@@ -7,6 +7,7 @@ ghost use Rattle.dna_packet.specs.Nsp.{segment_view};
 ghost use Rattle.dna_model.specs.LinkTests as tests;
 ghost use Rattle.dna_model.specs.WireFlow.{segment_taken};
 ghost use Rattle.dna_model.specs.KeptLinks as kept;
+ghost use Rattle.pair_player.specs.Links.{acknowledged};
 
 use super::LinkEnd;
 use crate::passes::is_running;
@@ -58,13 +59,22 @@ impl<V: Window<GivenPiece, 4096> + Drop> LinkEnd<V> {
     }
 
     /// Acknowledgement words come: it runs, and what they acknowledge is no longer among the segments sent in this go. Takes no memory.
-    #[tactic(auto, using(crate::proofs::Acknowledged::acknowledged))]
+    #[tactic(auto, using(crate::proofs::Acting::acting))]
     pub fn take_acks(&mut self, words: &[AckWord])
         requires { AllByRecursion IsAckWord words.now }
         ensures { self.new ≡ kept.took_acks words.now self.old }
     {
-        let before = self.outstanding.acknowledged();
+        self.acknowledge(words);
         self.go_to(Phase::Running);
+    }
+
+    // What the words acknowledge is no longer outstanding, nor among the segments sent in this go.
+    #[tactic(auto, using(crate::proofs::Acknowledged::acknowledged))]
+    fn acknowledge(&mut self, words: &[AckWord])
+        requires { AllByRecursion IsAckWord words.now }
+        ensures { self.new ≡ acknowledged words.now self.old }
+    {
+        let before = self.outstanding.acknowledged();
         self.outstanding.acknowledge_all(words);
         let count = usize::from(Seq::distance(before, self.outstanding.acknowledged()));
         self.owed.lower(count);
@@ -72,6 +82,7 @@ impl<V: Window<GivenPiece, 4096> + Drop> LinkEnd<V> {
 
     /// A segment comes: it runs, takes the words, holds the piece if that is missing and at most 2,047 above the highest received without
     /// a gap, and owes a data acknowledgement. Where memory is refused, nothing changes.
+    #[tactic(auto, using(crate::proofs::Acting::acting))]
     pub fn take_segment(&mut self, alloc: Global, segment: &Segment<'_>) -> Result<(), AllocError>
         requires acks { AllByRecursion IsAckWord segment.now.acks.items }
         requires number { segment.now.number < 4096 }

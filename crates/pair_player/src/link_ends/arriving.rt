@@ -6,7 +6,7 @@ ghost use Rattle.dna_packet.specs.AckWord.{IsAckWord};
 ghost use Rattle.dna_packet.specs.Nsp.{segment_view};
 ghost use Rattle.dna_packet.specs.Nsp as nsp;
 ghost use Rattle.dna_model.specs.LinkTests.{is_running};
-ghost use Rattle.dna_model.specs.NextSent.{LinkEnd};
+ghost use Rattle.dna_model.specs.NextSent.{LinkEnd as KeptLink};
 ghost use Rattle.dna_model.specs.Kept.{KeptLinks};
 ghost use Rattle.dna_model.specs.KeptLinks.{arrives, message_came};
 ghost use Rattle.dna_model.specs.KeptLinks as kept;
@@ -17,6 +17,7 @@ use super::LinkEnds;
 use crate::choice::EndConfirm;
 use crate::fault::StepFault;
 use crate::link_end::LinkEnd;
+use crate::owed_confirm::OwedConfirm;
 use crate::piece::GivenPiece;
 use dna_model::LinkTest;
 use dna_packet::{AckWord, ConnectConfirm, ConnectInitiate, Nsp, Segment};
@@ -97,7 +98,7 @@ impl<V: Window<GivenPiece, 4096> + Drop> LinkEnds<V> {
 
     fn call_again_at(&mut self, place: usize)
         requires { place < length self.old.links }
-        ensures { (link : LinkEnd) → slice_get self.old.links place ≡ Some link
+        ensures { (link : KeptLink) → slice_get self.old.links place ≡ Some link
             → self.new ≡ kept.changed place (kept.called_again link.port.phase link) self.old }
     {
         self.links[place].call_again();
@@ -126,14 +127,14 @@ impl<V: Window<GivenPiece, 4096> + Drop> LinkEnds<V> {
 
     fn confirm_at(&mut self, place: usize, far: u16)
         requires { place < length self.old.links }
-        ensures { (link : LinkEnd) → slice_get self.old.links place ≡ Some link → self.new ≡ kept.changed place (kept.confirmed far link) self.old }
+        ensures { (link : KeptLink) → slice_get self.old.links place ≡ Some link → self.new ≡ kept.changed place (kept.confirmed far link) self.old }
     {
         self.links[place].confirm(far);
     }
 
     fn confirm_again_at(&mut self, place: usize)
         requires { place < length self.old.links }
-        ensures { (link : LinkEnd) → slice_get self.old.links place ≡ Some link
+        ensures { (link : KeptLink) → slice_get self.old.links place ≡ Some link
             → self.new ≡ kept.changed place (kept.confirmed_again (is_running link.port.phase) link) self.old }
     {
         self.links[place].confirm_again();
@@ -149,11 +150,12 @@ impl<V: Window<GivenPiece, 4096> + Drop> LinkEnds<V> {
         } else {
             NO_LINK
         };
-        match self.confirms.push_back(EndConfirm {
+        let confirm = EndConfirm {
             dst: far,
             src: own,
             reason,
-        }) {
+        };
+        match self.confirms.push_back(OwedConfirm::new(confirm)) {
             Ok(()) => Ok(()),
             Err(_) => Err(AllocError),
         }
@@ -199,7 +201,7 @@ impl<V: Window<GivenPiece, 4096> + Drop> LinkEnds<V> {
 
     fn act_at(&mut self, place: usize)
         requires { place < length self.old.links }
-        ensures { (link : LinkEnd) → slice_get self.old.links place ≡ Some link
+        ensures { (link : KeptLink) → slice_get self.old.links place ≡ Some link
             → self.new ≡ kept.changed place (kept.acted_on link.variables link) self.old }
     {
         self.links[place].act();
@@ -223,7 +225,7 @@ impl<V: Window<GivenPiece, 4096> + Drop> LinkEnds<V> {
     fn take_acks_at(&mut self, place: usize, words: &[AckWord])
         requires within { place < length self.old.links }
         requires acks { AllByRecursion IsAckWord words.now }
-        ensures { (link : LinkEnd) → slice_get self.old.links place ≡ Some link
+        ensures { (link : KeptLink) → slice_get self.old.links place ≡ Some link
             → self.new ≡ kept.changed place (kept.took_acks words.now link) self.old }
     {
         self.links[place].take_acks(words);
@@ -261,9 +263,9 @@ impl<V: Window<GivenPiece, 4096> + Drop> LinkEnds<V> {
         requires within { place < length self.old.links }
         requires acks { AllByRecursion IsAckWord segment.now.acks.items }
         requires number { segment.now.number < 4096 }
-        ensures ok { (link : LinkEnd) → slice_get self.old.links place ≡ Some link → OnOk result (delivers_at segment.now.dstaddr text.old.items
+        ensures ok { (link : KeptLink) → slice_get self.old.links place ≡ Some link → OnOk result (delivers_at segment.now.dstaddr text.old.items
             (kept.delivering_at place (kept.took_segment (segment_view segment.now) link) self.old) ≡ Some (self.new, text.new.items)) }
-        ensures stop { (link : LinkEnd) → slice_get self.old.links place ≡ Some link → IfErr result (λ fault. Stopped (delivers_at segment.now.dstaddr
+        ensures stop { (link : KeptLink) → slice_get self.old.links place ≡ Some link → IfErr result (λ fault. Stopped (delivers_at segment.now.dstaddr
             text.old.items (kept.delivering_at place (kept.took_segment (segment_view segment.now) link) self.old)) fault) }
     {
         let alloc = self.alloc;

@@ -4,7 +4,7 @@ ghost use Rattle.std.specs.Prelude.{◌≡◌, ◌<◌, ◌≤◌, [], ◌∷◌
 ghost use Rattle.std.specs.Option.{option_map};
 ghost use Rattle.dna_packet.specs.Nsp.{nsp_bytes};
 ghost use Rattle.dna_packet.specs.Nsp as nsp;
-ghost use Rattle.dna_model.specs.NextSent.{LinkEnd, first_turn, link_choice, turn_of};
+ghost use Rattle.dna_model.specs.NextSent.{LinkEnd as KeptLink, first_turn, link_choice, turn_of};
 ghost use Rattle.dna_model.specs.Compose.{link_message};
 ghost use Rattle.dna_model.specs.KeptLinks.{after_sent};
 ghost use Rattle.dna_model.specs.KeptLinks as kept;
@@ -24,7 +24,7 @@ impl<V: Window<GivenPiece, 4096> + Drop> LinkEnds<V> {
         ensures choice { option_map link_choice_view result ≡ link_choice self.now.confirms self.now.links }
     {
         match self.confirms.front() {
-            Some(confirm) => Some(LinkChoice::Confirms(*confirm)),
+            Some(confirm) => Some(LinkChoice::Confirms(confirm.get())),
             None => self.first_turn(),
         }
     }
@@ -43,7 +43,7 @@ impl<V: Window<GivenPiece, 4096> + Drop> LinkEnds<V> {
 
     fn turn_at(&self, place: usize) -> Option<Turn>
         requires { place < length self.now.links }
-        ensures { (link : LinkEnd) → slice_get self.now.links place ≡ Some link → option_map turn_view result ≡ turn_of link }
+        ensures { (link : KeptLink) → slice_get self.now.links place ≡ Some link → option_map turn_view result ≡ turn_of link }
     {
         self.links[place].turn()
     }
@@ -105,8 +105,8 @@ impl<V: Window<GivenPiece, 4096> + Drop> LinkEnds<V> {
 
     fn sent_at(&mut self, place: usize, turn: Turn) -> Result<(), AllocError>
         requires within { place < length self.old.links }
-        requires next { (link : LinkEnd) → slice_get self.old.links place ≡ Some link → turn_of link ≡ Some (turn_view turn) }
-        ensures { (link : LinkEnd) → slice_get self.old.links place ≡ Some link
+        requires next { (link : KeptLink) → slice_get self.old.links place ≡ Some link → turn_of link ≡ Some (turn_view turn) }
+        ensures { (link : KeptLink) → slice_get self.old.links place ≡ Some link
             → OnOk result (self.new ≡ kept.changed place (kept.turn_sent (turn_view turn) link) self.old) }
     {
         self.links[place].sent(self.alloc, turn)
