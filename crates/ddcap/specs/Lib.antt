@@ -2,3 +2,5 @@ pub mod Printed
 pub mod Block
 pub mod Shown
 pub mod Showing
+pub mod Conversion
+pub mod Playing

@@ -8,6 +8,7 @@ mod StationRows
 -- a pair for each rule of the station
 mod PairUnits
 mod PairRowsUser
+mod PairRowsNoise
 mod PairRowsSending
 mod PairRowsHalted
 mod PairRowsIstrt
@@ -155,6 +156,7 @@ mod PlayRowsStation
 mod PlayRowsSteps
 mod PlayRowsLinks
 mod PlayRowsLinkTurns
+mod KeptTimers
 mod PlayRowsBounds
 mod PlayRowsScripts
 mod PlayRowsText
