@@ -5,8 +5,10 @@ pub mod BytesLaws
 pub mod DigitsLaws
 pub mod Shown
 pub mod EventLaws
+pub mod HintLaws
 pub mod RecordLaws
 pub mod HeadLaws
+pub mod FormatRows
 pub mod BlockLaws
 pub mod LineLaws
 pub mod SeekLaws
@@ -15,3 +17,4 @@ pub mod RangeLaws
 pub mod LackLaws
 pub mod TextLaws
 pub mod SoFarLaws
+pub mod ConvertLaws

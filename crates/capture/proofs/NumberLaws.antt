@@ -18,25 +18,25 @@ use Rattle.capture.proofs.PartLaws.{HasNo}
 own : IsNumeralModel (λ ds. all_ascii_digits ds ≡ true) (digits_value 10)
 own = numerals_by_value (λ ds. all_ascii_digits ds ≡ true) tells_all_ascii_digits
 
-limit_fits : 10 ^ 18 < 2 ^ 64
+limit_fits : 10 ^ 19 < 2 ^ 64
 limit_fits = lit< tt
 
 -- the parts of the test
 pub record IsNumber (text : List ℕ) : Type 0 where
   pub digits : AllDigits 10 text
   pub some : 0 < length text
-  pub short : length text ≤ 18
+  pub short : length text ≤ 19
   pub lead : get_or text 0 0 ≡ 48 → length text ≡ 1
 
 number_parts : (text : List ℕ) → is_number text ≡ true → IsNumber text
 number_parts text h =
-    let a = and_parts (all_ascii_digits text && ltb 0 (length text) && leb (length text) 18) (not (eqb (get_or text 0 0) 48) || eqb (length text) 1) h in
-    let b = and_parts (all_ascii_digits text && ltb 0 (length text)) (leb (length text) 18) a.0 in
+    let a = and_parts (all_ascii_digits text && ltb 0 (length text) && leb (length text) 19) (not (eqb (get_or text 0 0) 48) || eqb (length text) 1) h in
+    let b = and_parts (all_ascii_digits text && ltb 0 (length text)) (leb (length text) 19) a.0 in
     let d = and_parts (all_ascii_digits text) (ltb 0 (length text)) b.0 in
     record {
       digits = own.to text d.0;
       some = ltb-true 0 (length text) d.1;
-      short = leb-true (length text) 18 b.1;
+      short = leb-true (length text) 19 b.1;
       lead = λ zeroed. elim (or_cases (not (eqb (get_or text 0 0) 48)) (eqb (length text) 1) a.1) [
         | inl other ↦ absurd (let f : eqb (get_or text 0 0) 48 ≡ false = not-true _ other in let t : eqb (get_or text 0 0) 48 ≡ true = eq-eqb _ _ zeroed in cc)
         | inr single ↦ eqb-true _ _ single
@@ -65,11 +65,11 @@ pub number_above : (most value : ℕ) (text : List ℕ) → IsNumber text → va
 unfolding number_at
 number_above most value text h e large = rw (number_tested text h, ← e, lt-leb value most large) refl
 
--- at most 18 digits are worth less than a word holds
-pub digits_fit : (digits : List ℕ) → AllDigits 10 digits → length digits ≤ 17 → digits_value 10 digits < 10 ^ 17
+-- at most 19 digits are worth less than a word holds
+pub digits_fit : (digits : List ℕ) → AllDigits 10 digits → length digits ≤ 18 → digits_value 10 digits < 10 ^ 18
 digits_fit digits h short =
     let below = digits_value-lt 10 digits h in
-    let power : 10 ^ length digits ≤ 10 ^ 17 = pow-le-pow_right {n = 10} (lit< tt) short in
+    let power : 10 ^ length digits ≤ 10 ^ 18 = pow-le-pow_right {n = 10} (lit< tt) short in
     omega arith
 
 -- a text with something other than a digit is no number
@@ -92,17 +92,17 @@ read_more value i text h lt good =
       worth = sym (digits_value_more 10 text i lt ∙ rw (← h.worth, value_is) refl);
     }
 
-pub read_fits : (value i : ℕ) (text : List ℕ) → HasRead value (take i text) → i < length text → length text ≤ 18 → value < 10 ^ 17
+pub read_fits : (value i : ℕ) (text : List ℕ) → HasRead value (take i text) → i < length text → length text ≤ 19 → value < 10 ^ 18
 read_fits value i text h lt short =
     let below = digits_fit (take i text) h.each (omega (arith, length-take i text)) in
     let worth = h.worth in
     omega arith
 
 -- the whole text was read
-pub number_read : (value : ℕ) (text : List ℕ) → HasRead value text → 0 < length text → length text ≤ 18 → (get_or text 0 0 ≡ 48 → length text ≡ 1) → IsNumber text
+pub number_read : (value : ℕ) (text : List ℕ) → HasRead value text → 0 < length text → length text ≤ 19 → (get_or text 0 0 ≡ 48 → length text ≡ 1) → IsNumber text
 number_read value text h some short lead = record { digits = h.each; some = some; short = short; lead = lead }
 
-pub number_takes : (most : ℕ) (text : List ℕ) (n : ℕ) → most < 10 ^ 18 → number_at most text ≡ Some n → (text ≡ decimal n) × (n ≤ most)
+pub number_takes : (most : ℕ) (text : List ℕ) (n : ℕ) → most < 10 ^ 19 → number_at most text ≡ Some n → (text ≡ decimal n) × (n ≤ most)
 unfolding number_at
 number_takes most text n fits e =
     let c = cond_some (is_number text && leb (digits_value 10 text) most) (digits_value 10 text) n e in
@@ -114,27 +114,27 @@ number_takes most text n fits e =
     let spelled = decimal-digits_value own text (own.from text h.digits) h.some h.lead (omega arith) in
     (sym spelled ∙ ap decimal value, omega arith)
 
-decimal_is_number : (n : ℕ) → n < 10 ^ 18 → IsNumber (decimal n)
+decimal_is_number : (n : ℕ) → n < 10 ^ 19 → IsNumber (decimal n)
 decimal_is_number n fits =
     let whole = limit_fits in
     let word : n < 2 ^ 64 = omega arith in
     record {
       digits = own.to (decimal n) (digits_decimal own n word);
       some = decimal_nonempty n word;
-      short = length-decimal-le 18 n (lit< tt) fits word;
+      short = length-decimal-le 19 n (lit< tt) fits word;
       lead = λ zeroed. elim (cases_eq n 0) [
         | inl none ↦ ap (λ (k : ℕ). length (decimal k)) none ∙ ap length (decimal_digit 0 (lit< tt))
         | inr some ↦ let first = first_decimal n (omega arith) word in absurd (omega arith)
       ];
     }
 
-pub number_again : (most n : ℕ) → most < 10 ^ 18 → n ≤ most → number_at most (decimal n) ≡ Some n
+pub number_again : (most n : ℕ) → most < 10 ^ 19 → n ≤ most → number_at most (decimal n) ≡ Some n
 number_again most n fits small =
     let whole = limit_fits in
     let word : n < 2 ^ 64 = omega arith in
     sym (number_some most n (decimal n) (decimal_is_number n (omega arith)) (sym (digits_value-decimal own n word)) small)
 
-pub positive_takes : (most : ℕ) (text : List ℕ) (n : ℕ) → most < 10 ^ 18 → positive_at most text ≡ Some n → (text ≡ decimal n) × (n ≤ most) × (1 ≤ n)
+pub positive_takes : (most : ℕ) (text : List ℕ) (n : ℕ) → most < 10 ^ 19 → positive_at most text ≡ Some n → (text ≡ decimal n) × (n ≤ most) × (1 ≤ n)
 unfolding positive_at
 positive_takes most text n fits e = goes (number_at most text) (λ m f. number_takes most text m fits f) e
   where
@@ -147,7 +147,7 @@ positive_takes most text n fits e = goes (number_at most text) (λ m f. number_t
         let same : m ≡ n = c.1 in
         (p.0 ∙ ap decimal same, omega arith, omega arith)
 
-pub positive_again : (most n : ℕ) → most < 10 ^ 18 → n ≤ most → 1 ≤ n → positive_at most (decimal n) ≡ Some n
+pub positive_again : (most n : ℕ) → most < 10 ^ 19 → n ≤ most → 1 ≤ n → positive_at most (decimal n) ≡ Some n
 unfolding positive_at
 positive_again most n fits small some = rw (number_again most n fits small, lt-ltb 0 n some) refl
 

@@ -1,13 +1,16 @@
 -- What has a line: numbers in their ranges, and no more bytes than a line may hold.
-use Rattle.std.specs.Prelude.{◌≡◌, ℕ, ◌/◌, ◌%◌, ◌≤◌, ◌++◌, List, [], length}
+use Rattle.std.specs.Prelude.{◌≡◌, ℕ, ◌/◌, ◌%◌, ◌≤◌, List, [], length}
 use Rattle.std.specs.List.{AllByRecursion}
 use Rattle.hex.specs.Hex.{IsBytes}
-use Rattle.capture.specs.declared.limit.TheConstants.{MAX_HINT, MAX_LINK, MAX_UNIT, MAX_MESSAGE, MAX_RECORDS}
+use Rattle.capture.specs.declared.limit.TheConstants.{MAX_HINT, MAX_MARK, MAX_LINK, MAX_UNIT, MAX_MESSAGE, MAX_RECORDS}
 use Rattle.capture.specs.declared.event.Event.{Event}
 use Rattle.capture.specs.declared.event.Event.TheVariants.{Start, Halt, Open, Accept, Reject, In, Up, Close}
 use Rattle.capture.specs.declared.record.Record.{Record}
 use Rattle.capture.specs.declared.record.Record.TheVariants.{Sent, Received, User}
-use Rattle.capture.specs.Text.{head_line, record_lines}
+use Rattle.capture.specs.declared.hint.HintForm.{HintForm}
+use Rattle.capture.specs.declared.hint.HintForm.TheVariants.{Number, Distance}
+use Rattle.capture.specs.declared.format.Format.{Format}
+use Rattle.capture.specs.Text.{capture_text}
 
 -- the address of a link
 pub record IsLink (link : ℕ) : Type 0 where
@@ -80,6 +83,11 @@ pub record IsEvent (event : Event) : Type 0 where
   pub bytes : IsBytes (event_bytes event)
   pub short : length (event_bytes event) ≤ MAX_MESSAGE
 
+-- a mark is one more than some hint, or 0
+abbrev pub FormFits : HintForm → Type 0
+FormFits Number = Unit {0}
+FormFits (Distance mark) = mark ≤ MAX_MARK
+
 -- a head, and records that a text may hold
 pub record IsCapture (own peer : ℕ) (records : List Record) : Type 0 where
   pub own_fits : IsNode own
@@ -87,7 +95,12 @@ pub record IsCapture (own peer : ℕ) (records : List Record) : Type 0 where
   pub each : AllByRecursion IsRecord records
   pub few : length records ≤ MAX_RECORDS
 
--- these bytes are the text of this head and these records
-pub record IsText (own peer : ℕ) (records : List Record) (bytes : List ℕ) : Type 0 where
+-- these bytes are the text of this head and these records, in this format
+pub record IsTextIn (format : Format) (own peer : ℕ) (records : List Record) (bytes : List ℕ) : Type 0 where
   pub fits : IsCapture own peer records
-  pub spelled : bytes ≡ head_line own peer ++ record_lines records
+  pub spelled : bytes ≡ capture_text format own peer records
+
+-- they are, in one of the formats
+pub record IsText (own peer : ℕ) (records : List Record) (bytes : List ℕ) : Type 0 where
+  pub format : Format
+  pub is_text : IsTextIn format own peer records bytes

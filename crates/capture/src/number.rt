@@ -4,12 +4,12 @@ ghost use Rattle.std.specs.Prelude.{◌≡◌, ◌≤◌, IfSome};
 ghost use Rattle.capture.specs.Reading.{number_at, positive_at};
 
 /// The number that the text spells, if it is at most `most`: decimal digits, at least 1 and at most
-/// 18, without a leading zero. `0`, `7` and `120` are numbers; `07`, `+7` and an empty text are none.
+/// 19, without a leading zero. `0`, `7` and `120` are numbers; `07`, `+7` and an empty text are none.
 pub fn number_of(text: &[u8], most: u64) -> Option<u64>
     ensures value { result ≡ number_at most text.now }
     ensures most { IfSome result (λ number. number ≤ most) }
 {
-    if text.is_empty() || text.len() > 18 {
+    if text.is_empty() || text.len() > 19 {
         return None;
     }
     if text[0] == b'0' && text.len() != 1 {

@@ -1,5 +1,7 @@
 //! Tests of what no contract says: the rows of the format from outside, and devices that fail.
 
+mod converting;
+mod distances;
 mod limits;
 mod reading;
 mod rows;

@@ -145,7 +145,7 @@ fn a_fault_stands_behind_the_lines_before_it(rt: HostRuntime) -> Result<(), Fail
     let rows = [
         ("", "", "a: line 1: syntax\n"),
         ("ddcap 1 1.1 1.2", "", "a: line 1: syntax\n"),
-        ("ddcap 2 1.1 1.2\nu start\n", "", "a: line 1: syntax\n"),
+        ("ddcap 3 1.1 1.2\nu start\n", "", "a: line 1: syntax\n"),
         ("ddcap 1 1.1 1.2\nu starts\n", "", "a: line 2: syntax\n"),
         ("ddcap 1 1.1 1.2\nu start", "", "a: line 2: syntax\n"),
         (
