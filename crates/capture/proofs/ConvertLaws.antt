@@ -84,6 +84,7 @@ second_space from hint kept bytes line letter rest e none fits small is =
 pub other_text : (from to : HintForm) (entry : Entry) (bytes : List ℕ) → ((kept : Bool) (hint : ℕ) → entry ≡ entries.Received kept hint → ⊥) → record_text from (record_with entry bytes) ≡ record_text to (record_with entry bytes)
 other_text from to entries.Sent bytes h = refl
 other_text from to (entries.Received kept hint) bytes h = absurd (h kept hint refl)
+other_text from to entries.Noise bytes h = refl
 other_text from to entries.Start bytes h = refl
 other_text from to entries.Halt bytes h = refl
 other_text from to (entries.Open link) bytes h = refl

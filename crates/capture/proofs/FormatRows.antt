@@ -5,8 +5,9 @@ use Rattle.std.specs.Fmt.{decimal}
 use Rattle.hex.specs.Hex.{encode_with}
 use Rattle.capture.specs.declared.event.Event.TheVariants.{Start}
 use Rattle.capture.specs.declared.record.Record.{Record}
-use Rattle.capture.specs.declared.record.Record.TheVariants.{Sent, Received, User}
+use Rattle.capture.specs.declared.record.Record.TheVariants.{Sent, Received, Noise, User}
 use Rattle.capture.specs.declared.fault.Departure.TheVariants.{Syntax}
+use Rattle.capture.specs.declared.hint.HintForm.{HintForm}
 use Rattle.capture.specs.declared.hint.HintForm.TheVariants.{Number, Distance}
 use Rattle.capture.specs.declared.format.Format.TheVariants.{One, Two}
 use Rattle.capture.specs.Text.{address_text, capture_text, ended, form_behind, record_text, spaced}
@@ -72,6 +73,22 @@ mark_goes_back = refl
 
 numbers_stay : form_behind Number (Received 5 true [] ∷ []) ≡ Number
 numbers_stay = refl
+
+-- ---- noise: the same line in both formats, and it leaves the mark
+
+noise_has_one_line : (form : HintForm) → record_text form (Noise []) ≡ codes "n -"
+noise_has_one_line form = refl
+
+noise_is_read : (form : HintForm) → record_at form (codes "n -") ≡ Ok (Noise [])
+unfolding record_at bytes_at any_bytes_at
+noise_is_read form = refl
+
+noise_leaves_the_mark : form_behind (Distance 0) (Received 5 true [] ∷ Noise [] ∷ []) ≡ Distance 6
+noise_leaves_the_mark = refl
+
+noise_with_a_hint : record_at Number (codes "n 0 -") ≡ Err Syntax
+unfolding record_at bytes_at any_bytes_at pairs_at
+noise_with_a_hint = refl
 
 -- ---- faulty distances
 

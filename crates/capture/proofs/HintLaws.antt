@@ -10,7 +10,7 @@ use Rattle.capture.specs.declared.limit.TheConstants.{MAX_HINT, MAX_MARK}
 use Rattle.capture.specs.declared.hint.HintForm.{HintForm}
 use Rattle.capture.specs.declared.hint.HintForm.TheVariants.{Number, Distance}
 use Rattle.capture.specs.declared.record.Record.{Record}
-use Rattle.capture.specs.declared.record.Record.TheVariants.{Sent, Received, User}
+use Rattle.capture.specs.declared.record.Record.TheVariants.{Sent, Received, Noise, User}
 use Rattle.capture.specs.Text.{hint_text, form_after}
 use Rattle.capture.specs.Range.{FormFits, NumbersFit}
 use Rattle.capture.specs.Reading.{after, hint_at, hint_above, hint_below, number_at, or_else, positive_at}
@@ -107,4 +107,5 @@ pub form_fits : (form : HintForm) (r : Record) → FormFits form → NumbersFit 
 form_fits Number r fits numbers = tt
 form_fits (Distance mark) (Sent bytes) fits numbers = fits
 form_fits (Distance mark) (Received hint kept bytes) fits numbers = omega (arith, numbers)
+form_fits (Distance mark) (Noise bytes) fits numbers = fits
 form_fits (Distance mark) (User event) fits numbers = fits

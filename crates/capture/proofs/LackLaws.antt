@@ -12,7 +12,7 @@ use Rattle.capture.specs.declared.limit.TheConstants.{MAX_HINT, MAX_LINE, MAX_UN
 use Rattle.capture.specs.declared.event.Event.{Event}
 use Rattle.capture.specs.declared.event.Event.TheVariants.{Start, Halt, Open, Accept, Reject, In, Up, Close}
 use Rattle.capture.specs.declared.record.Record.{Record}
-use Rattle.capture.specs.declared.record.Record.TheVariants.{Sent, Received, User}
+use Rattle.capture.specs.declared.record.Record.TheVariants.{Sent, Received, Noise, User}
 use Rattle.capture.specs.declared.hint.HintForm.{HintForm}
 use Rattle.capture.specs.declared.format.Format.{Format}
 use Rattle.capture.specs.declared.format.Format.TheVariants.{One, Two}
@@ -51,6 +51,7 @@ pub record_lacks : (form : HintForm) (r : Record) → FormFits form → HasSpell
 record_lacks form (Sent bytes) fits h = HasNo-append 10 (codes "s ") (bytes_text bytes) (lacks 10 (codes "s ") refl) (bytes_lack 10 bytes (lit< tt) h.bytes)
 record_lacks form (Received hint false bytes) fits h = HasNo-append 10 (codes "r ") (spaced (hint_text form hint) (bytes_text bytes)) (lacks 10 (codes "r ") refl) (spaced_lacks (hint_text form hint) (bytes_text bytes) (hint_lacks form 10 hint (lit< tt) fits h.numbers) (bytes_lack 10 bytes (lit< tt) h.bytes))
 record_lacks form (Received hint true bytes) fits h = HasNo-append 10 (codes "k ") (spaced (hint_text form hint) (bytes_text bytes)) (lacks 10 (codes "k ") refl) (spaced_lacks (hint_text form hint) (bytes_text bytes) (hint_lacks form 10 hint (lit< tt) fits h.numbers) (bytes_lack 10 bytes (lit< tt) h.bytes))
+record_lacks form (Noise bytes) fits h = HasNo-append 10 (codes "n ") (bytes_text bytes) (lacks 10 (codes "n ") refl) (bytes_lack 10 bytes (lit< tt) h.bytes)
 record_lacks form (User event) fits h = HasNo-append 10 (codes "u ") (event_text event) (lacks 10 (codes "u ") refl) (event_lacks event h.numbers h.bytes)
 
 format_lacks : (format : Format) → HasNo 10 (format_text format)
@@ -89,6 +90,7 @@ pub record_short : (form : HintForm) (r : Record) → FormFits form → IsRecord
 record_short form (Sent bytes) fits h = let n = bytes_short MAX_UNIT bytes (omega arith) h.short in omega arith
 record_short form (Received hint false bytes) fits h = let n = spaced_short (hint_text form hint) (bytes_text bytes) 20 32786 (hint_short form hint fits h.spelling.numbers) (bytes_short MAX_UNIT bytes (omega arith) h.short) in omega arith
 record_short form (Received hint true bytes) fits h = let n = spaced_short (hint_text form hint) (bytes_text bytes) 20 32786 (hint_short form hint fits h.spelling.numbers) (bytes_short MAX_UNIT bytes (omega arith) h.short) in omega arith
+record_short form (Noise bytes) fits h = let n = bytes_short MAX_UNIT bytes (omega arith) h.short in omega arith
 record_short form (User event) fits h = let n = event_short event h.spelling.numbers h.short in omega arith
 
 pub address_short : (address : ℕ) → IsNode address → length (address_text address) ≤ 7

@@ -5,7 +5,7 @@ use Rattle.std.proofs.lemmas.Bool.{le-leb, lt-leb}
 use Rattle.hex.specs.Hex.{IsBytes}
 use Rattle.capture.specs.declared.limit.TheConstants.{MAX_HINT, MAX_UNIT, MAX_MESSAGE}
 use Rattle.capture.specs.declared.record.Record.{Record}
-use Rattle.capture.specs.declared.record.Record.TheVariants.{Sent, Received, User}
+use Rattle.capture.specs.declared.record.Record.TheVariants.{Sent, Received, Noise, User}
 use Rattle.capture.specs.declared.hint.HintForm.{HintForm}
 use Rattle.capture.specs.declared.fault.Departure.TheVariants.{TooLong}
 use Rattle.capture.specs.Text.{spaced, bytes_text, hint_text, record_text}
@@ -77,17 +77,22 @@ record_shows form text fits =
     (shows_or_else (IsRecordOf form text) (IsLongRecordOf form text) (after (codes "k ") text) _ _
     (λ rest e. shows_weaker (IsReceiptOf form true rest) (IsLongReceiptOf form true rest) (IsRecordOf form text) (IsLongRecordOf form text) (receipt_at form true rest) (receipt_shows form true rest fits)
     (received_kept form text rest (after_takes (codes "k ") text rest e)) (long_kept form text rest (after_takes (codes "k ") text rest e)))
+    (shows_or_else (IsRecordOf form text) (IsLongRecordOf form text) (after (codes "n ") text) _ _
+    (λ rest e. shows_map (IsBytesOf MAX_UNIT rest) (IsLongOf MAX_UNIT rest) (IsRecordOf form text) (IsLongRecordOf form text) (λ bytes. Noise bytes) (bytes_at MAX_UNIT rest) (bytes_shows MAX_UNIT rest)
+    (λ bytes h. (after_takes (codes "n ") text rest e ∙ ap (λ (t : List ℕ). codes "n " ++ t) h.0, tt, h.1, h.2))
+    (λ bytes h. (after_takes (codes "n ") text rest e ∙ ap (λ (t : List ℕ). codes "n " ++ t) h.0, tt, h.1, h.2)))
     (shows_or_else (IsRecordOf form text) (IsLongRecordOf form text) (after (codes "u ") text) _ _
     (λ rest e. shows_map (IsEventOf rest) (IsLongEventOf rest) (IsRecordOf form text) (IsLongRecordOf form text) (λ event. User event) (event_at rest) (event_shows rest)
     (λ event h. (after_takes (codes "u ") text rest e ∙ ap (λ (t : List ℕ). codes "u " ++ t) h.0, h.1, h.2, h.3))
     (λ event h. (after_takes (codes "u ") text rest e ∙ ap (λ (t : List ℕ). codes "u " ++ t) h.0, h.1, h.2, h.3)))
-    tt)))
+    tt))))
 
 pub record_again : (form : HintForm) (r : Record) → FormFits form → HasSpelling r → record_at form (record_text form r) ≡ limited (most_bytes r) (record_bytes r) r
 unfolding record_at
 record_again form (Sent bytes) fits h = rw (bytes_again MAX_UNIT bytes h.bytes) (limited_then MAX_UNIT bytes bytes (λ b. Sent b))
 record_again form (Received hint false bytes) fits h = receipt_again form false hint bytes fits h.numbers h.bytes
 record_again form (Received hint true bytes) fits h = receipt_again form true hint bytes fits h.numbers h.bytes
+record_again form (Noise bytes) fits h = rw (bytes_again MAX_UNIT bytes h.bytes) (limited_then MAX_UNIT bytes bytes (λ b. Noise b))
 record_again form (User event) fits h = rw (event_again event h.numbers h.bytes) (limited_then MAX_MESSAGE (event_bytes event) event (λ e. User e))
 
 -- a record that has a line is read from it

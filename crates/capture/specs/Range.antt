@@ -6,7 +6,7 @@ use Rattle.capture.specs.declared.limit.TheConstants.{MAX_HINT, MAX_MARK, MAX_LI
 use Rattle.capture.specs.declared.event.Event.{Event}
 use Rattle.capture.specs.declared.event.Event.TheVariants.{Start, Halt, Open, Accept, Reject, In, Up, Close}
 use Rattle.capture.specs.declared.record.Record.{Record}
-use Rattle.capture.specs.declared.record.Record.TheVariants.{Sent, Received, User}
+use Rattle.capture.specs.declared.record.Record.TheVariants.{Sent, Received, Noise, User}
 use Rattle.capture.specs.declared.hint.HintForm.{HintForm}
 use Rattle.capture.specs.declared.hint.HintForm.TheVariants.{Number, Distance}
 use Rattle.capture.specs.declared.format.Format.{Format}
@@ -49,18 +49,21 @@ event_bytes (Close link) = []
 abbrev pub NumbersFit : Record → Type 0
 NumbersFit (Sent bytes) = Unit {0}
 NumbersFit (Received hint kept bytes) = hint ≤ MAX_HINT
+NumbersFit (Noise bytes) = Unit {0}
 NumbersFit (User event) = EventNumbersFit event
 
--- the unit or the message of a record
+-- the unit, the noise or the message of a record
 abbrev pub record_bytes : Record → List ℕ
 record_bytes (Sent bytes) = bytes
 record_bytes (Received hint kept bytes) = bytes
+record_bytes (Noise bytes) = bytes
 record_bytes (User event) = event_bytes event
 
 -- how many bytes the line of a record may hold
 abbrev pub most_bytes : Record → ℕ
 most_bytes (Sent bytes) = MAX_UNIT
 most_bytes (Received hint kept bytes) = MAX_UNIT
+most_bytes (Noise bytes) = MAX_UNIT
 most_bytes (User event) = MAX_MESSAGE
 
 -- a record that a line could spell, were BYTES of any length allowed

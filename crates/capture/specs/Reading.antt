@@ -8,7 +8,7 @@ use Rattle.capture.specs.declared.limit.TheConstants.{MAX_HINT, MAX_LINK, MAX_UN
 use Rattle.capture.specs.declared.event.Event.{Event}
 use Rattle.capture.specs.declared.event.Event.TheVariants.{Start, Halt, Open, Accept, Reject, In, Up, Close}
 use Rattle.capture.specs.declared.record.Record.{Record}
-use Rattle.capture.specs.declared.record.Record.TheVariants.{Sent, Received, User}
+use Rattle.capture.specs.declared.record.Record.TheVariants.{Sent, Received, Noise, User}
 use Rattle.capture.specs.declared.hint.HintForm.{HintForm}
 use Rattle.capture.specs.declared.hint.HintForm.TheVariants.{Number, Distance}
 use Rattle.capture.specs.declared.format.Format.{Format}
@@ -164,8 +164,9 @@ record_at form text =
     or_else (after (codes "s ") text) (λ rest. bytes_at MAX_UNIT rest >>= λ bytes. Ok (Sent bytes))
     (or_else (after (codes "r ") text) (λ rest. receipt_at form false rest)
     (or_else (after (codes "k ") text) (λ rest. receipt_at form true rest)
+    (or_else (after (codes "n ") text) (λ rest. bytes_at MAX_UNIT rest >>= λ bytes. Ok (Noise bytes))
     (or_else (after (codes "u ") text) (λ rest. event_at rest >>= λ event. Ok (User event))
-    (Err Syntax))))
+    (Err Syntax)))))
 
 -- the two addresses of a head
 unfoldable pub nodes_at : List ℕ → Option (ℕ × ℕ)

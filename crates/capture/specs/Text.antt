@@ -5,7 +5,7 @@ use Rattle.hex.specs.Hex.{encode_lower}
 use Rattle.capture.specs.declared.event.Event.{Event}
 use Rattle.capture.specs.declared.event.Event.TheVariants.{Start, Halt, Open, Accept, Reject, In, Up, Close}
 use Rattle.capture.specs.declared.record.Record.{Record}
-use Rattle.capture.specs.declared.record.Record.TheVariants.{Sent, Received, User}
+use Rattle.capture.specs.declared.record.Record.TheVariants.{Sent, Received, Noise, User}
 use Rattle.capture.specs.declared.hint.HintForm.{HintForm}
 use Rattle.capture.specs.declared.hint.HintForm.TheVariants.{Number, Distance}
 use Rattle.capture.specs.declared.format.Format.{Format}
@@ -45,6 +45,7 @@ abbrev pub record_text : HintForm → Record → List ℕ
 record_text form (Sent bytes) = codes "s " ++ bytes_text bytes
 record_text form (Received hint false bytes) = codes "r " ++ spaced (hint_text form hint) (bytes_text bytes)
 record_text form (Received hint true bytes) = codes "k " ++ spaced (hint_text form hint) (bytes_text bytes)
+record_text form (Noise bytes) = codes "n " ++ bytes_text bytes
 record_text form (User event) = codes "u " ++ event_text event
 
 -- the head's first words
@@ -87,6 +88,7 @@ first_form Two = Distance 0
 abbrev pub mark_after : ℕ → Record → ℕ
 mark_after mark (Sent bytes) = mark
 mark_after mark (Received hint kept bytes) = hint + 1
+mark_after mark (Noise bytes) = mark
 mark_after mark (User event) = mark
 
 abbrev pub form_after : HintForm → Record → HintForm

@@ -67,8 +67,9 @@ fn next_mark(mark: u64, entry: Entry) -> u64
 {
     match entry {
         Entry::Received { kept: _, hint } => hint + 1,
-        Entry::Sent | Entry::Start | Entry::Halt | Entry::Open { .. } | Entry::Close { .. } => mark,
-        Entry::Accept { .. } | Entry::Reject { .. } | Entry::In { .. } | Entry::Up { .. } => mark,
+        Entry::Sent | Entry::Noise | Entry::Start | Entry::Halt => mark,
+        Entry::Open { .. } | Entry::Close { .. } | Entry::Accept { .. } => mark,
+        Entry::Reject { .. } | Entry::In { .. } | Entry::Up { .. } => mark,
     }
 }
 
@@ -79,6 +80,6 @@ pub fn next_mark_of(mark: u64, record: &Record) -> u64
 {
     match record {
         Record::Received { hint, .. } => *hint + 1,
-        Record::Sent(_) | Record::User(_) => mark,
+        Record::Sent(_) | Record::Noise(_) | Record::User(_) => mark,
     }
 }

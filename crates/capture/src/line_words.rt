@@ -164,6 +164,10 @@ pub fn put_record(line: &mut Vec<u8>, form: HintForm, record: &Record) -> Result
             line.extend_from_slice(b"k ")?;
             put_receipt(line, form, *hint, bytes.as_slice())
         }
+        Record::Noise(bytes) => {
+            line.extend_from_slice(b"n ")?;
+            put_bytes(line, bytes.as_slice())
+        }
         Record::User(event) => {
             line.extend_from_slice(b"u ")?;
             put_event(line, event)

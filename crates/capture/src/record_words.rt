@@ -76,6 +76,9 @@ pub fn entry_of(form: HintForm, line: &[u8]) -> Option<(Entry, &[u8])>
     if let Some(rest) = after(line, b"k ") {
         return receipt_of(form, true, rest);
     }
+    if let Some(rest) = after(line, b"n ") {
+        return Some((Entry::Noise, rest));
+    }
     if let Some(rest) = after(line, b"u ") {
         return event_of(rest);
     }

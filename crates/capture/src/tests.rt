@@ -3,6 +3,7 @@
 mod converting;
 mod distances;
 mod limits;
+mod noise;
 mod reading;
 mod rows;
 mod stepped;

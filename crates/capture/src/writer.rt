@@ -167,7 +167,7 @@ fn bytes_len(record: &Record) -> usize
     ensures { result ≡ length (record_bytes «record».now) }
 {
     match record {
-        Record::Sent(bytes) | Record::Received { bytes, .. } => bytes.len(),
+        Record::Sent(bytes) | Record::Received { bytes, .. } | Record::Noise(bytes) => bytes.len(),
         Record::User(Event::In { bytes, .. } | Event::Up { bytes, .. }) => bytes.len(),
         Record::User(_) => 0,
     }

@@ -7,6 +7,7 @@ mod convert_devices;
 mod devices;
 mod limits;
 mod link_pairs;
+mod noise;
 mod pair;
 mod pair_lists;
 mod reasons;

@@ -10,7 +10,7 @@ use Rattle.capture.specs.declared.event.Event.{Event}
 use Rattle.capture.specs.declared.event.Event.TheVariants as events
 use Rattle.capture.specs.declared.limit.TheConstants.{MAX_MESSAGE}
 use Rattle.capture.specs.declared.record.Record.{Record}
-use Rattle.capture.specs.declared.record.Record.TheVariants.{Sent, Received, User}
+use Rattle.capture.specs.declared.record.Record.TheVariants.{Sent, Received, Noise, User}
 use Rattle.capture.specs.Range.{IsLink, IsRecord}
 use Rattle.dna_model.specs.Delivery.{BeginsWith}
 use Rattle.dna_model.specs.Pieces.{Piece}
@@ -81,6 +81,7 @@ record_lined : (r : Record) → IsRecord r → EventsLined (link_events (r ∷ [
 record_lined (User event) h = event_lined event h
 record_lined (Sent bytes) h = tt
 record_lined (Received hint kept bytes) h = tt
+record_lined (Noise bytes) h = tt
 
 pub events_lined : (records : List Record) → AllByRecursion IsRecord records → EventsLined (link_events records)
 events_lined [] h = tt

@@ -8,6 +8,7 @@ mod StationRows
 -- a pair for each rule of the station
 mod PairUnits
 mod PairRowsUser
+mod PairRowsNoise
 mod PairRowsSending
 mod PairRowsHalted
 mod PairRowsIstrt
