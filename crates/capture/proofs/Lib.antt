@@ -3,9 +3,11 @@ pub mod NumberLaws
 pub mod AddressLaws
 pub mod BytesLaws
 pub mod DigitsLaws
+pub mod SpelledLaws
 pub mod Shown
 pub mod EventLaws
 pub mod HintLaws
+pub mod NumberedLaws
 pub mod RecordLaws
 pub mod HeadLaws
 pub mod FormatRows

@@ -1,19 +1,22 @@
 -- Numbers: what is read is the number's one spelling, and its spelling is read.
-use Rattle.std.proofs.Common.{◌≡◌, ℕ, ◌+◌, ◌-◌, ◌*◌, ◌^◌, ◌<◌, ◌≤◌, true, false, cond, eqb, ltb, leb, not, ◌&&◌, ◌||◌, List, [], ◌∷◌, length, get_or, take, Option, Some, None, refl, sym, ap, ◌∙◌, inl, inr, arith, lit<}
+use Rattle.std.proofs.Common.{◌≡◌, ℕ, suc, ◌+◌, ◌-◌, ◌*◌, ◌^◌, ◌<◌, ◌≤◌, true, false, cond, eqb, ltb, leb, not, ◌&&◌, ◌||◌, List, [], ◌∷◌, ◌++◌, length, get_or, take, drop, Option, Some, None, refl, sym, ap, ap₂, subst, ◌∙◌, inl, inr, arith, lit<}
 use Rattle.std.specs.Str.{all_ascii_digits}
 use Rattle.std.specs.Str.Parse.{digits_value, AllDigits}
 use Rattle.std.specs.Fmt.{decimal}
 use Rattle.std.specs.Prelude.{option_and_then}
+use Rattle.std.specs.Option.{option_map}
 use Rattle.std.specs.Char.{is_ascii_digit, digit_value}
-use Rattle.std.proofs.lemmas.List.{length-take}
+use Rattle.std.proofs.Math.Seq.{drop-cons}
+use Rattle.std.proofs.lemmas.List.{length-take, get_or-take, take-append-drop}
 use Rattle.std.proofs.lemmas.Bool.{and_parts, and_from, or_cases, or_left, or_right, ltb-true, leb-true, eqb-true, lt-ltb, le-leb, lt-leb, eq-eqb, ne_eqb, false_from_ne_true, not-true, not_from_false, cases_eq}
 use Rattle.std.proofs.lemmas.Option.{cond_some}
 use Rattle.std.proofs.lemmas.Str.Parse.{IsNumeralModel, numerals_by_value, tells_all_ascii_digits, digit_from_value, digit_at}
 use Rattle.std.proofs.lemmas.Fmt.{digits_decimal, digits_value-decimal, decimal-digits_value, length-decimal-le, decimal_nonempty, first_decimal, decimal_digit}
 use Rattle.std.proofs.lemmas.Int.Digits.{digits_value-lt, digits_value_more, digits_more}
 use Rattle.std.proofs.Math.Nat.{pow-le-pow_right}
-use Rattle.capture.specs.Reading.{is_number, number_at, positive_at}
-use Rattle.capture.proofs.PartLaws.{HasNo}
+use Rattle.capture.specs.Reading.{cut_at, is_number, number_at, positive_at}
+use Rattle.capture.specs.Worded.{numbered}
+use Rattle.capture.proofs.PartLaws.{HasNo, cut_again}
 
 own : IsNumeralModel (λ ds. all_ascii_digits ds ≡ true) (digits_value 10)
 own = numerals_by_value (λ ds. all_ascii_digits ds ≡ true) tells_all_ascii_digits
@@ -98,6 +101,12 @@ read_fits value i text h lt short =
     let worth = h.worth in
     omega arith
 
+pub read_small : (value i : ℕ) (text : List ℕ) → HasRead value (take i text) → i ≤ 18 → value < 10 ^ 18
+read_small value i text h short =
+    let below = digits_fit (take i text) h.each (omega (arith, length-take i text)) in
+    let worth = h.worth in
+    omega arith
+
 -- the whole text was read
 pub number_read : (value : ℕ) (text : List ℕ) → HasRead value text → 0 < length text → length text ≤ 19 → (get_or text 0 0 ≡ 48 → length text ≡ 1) → IsNumber text
 number_read value text h some short lead = record { digits = h.each; some = some; short = short; lead = lead }
@@ -160,3 +169,24 @@ digits_lack mark (c ∷ ds) low h =
 
 pub decimal_lacks : (mark n : ℕ) → mark < 48 → n < 2 ^ 64 → HasNo mark (decimal n)
 decimal_lacks mark n low fits = digits_lack mark (decimal n) low (own.to (decimal n) (digits_decimal own n fits))
+
+-- ---- a number before a space
+
+-- its first digit
+pub first_read : (text : List ℕ) → 0 < length text → is_ascii_digit (get_or text 0 0) ≡ true → HasRead (get_or text 0 0 - 48) (take 1 text)
+first_read text some good =
+    let same : 0 * 10 + (get_or text 0 0 - 48) ≡ get_or text 0 0 - 48 = omega arith in
+    subst (λ (value : ℕ). HasRead value (take 1 text)) same (read_more 0 0 text (record { each = tt; worth = refl }) some good)
+
+-- all digits were read as far as a space
+pub number_stands : (most value : ℕ) (text : List ℕ) (at : ℕ) → HasRead value (take at text) → 1 ≤ at → at ≤ 18 → at < length text → get_or text at 0 ≡ 32
+    → (get_or text 0 0 ≡ 48 → ⊥) → value ≤ most → Some (value, drop (at + 1) text) ≡ numbered most (cut_at 32 text)
+number_stands most value text at read some short lt space lead small =
+    let long : length (take at text) ≡ at = omega (arith, length-take at text) in
+    let next : suc at ≡ at + 1 = omega arith in
+    let rest : drop at text ≡ 32 ∷ drop (at + 1) text = drop-cons text at 0 lt ∙ ap₂ (λ (b k : ℕ). b ∷ drop k text) space next in
+    let whole : text ≡ take at text ++ 32 ∷ drop (at + 1) text = sym (take-append-drop at text) ∙ ap (λ (t : List ℕ). take at text ++ t) rest in
+    let cut = ap (cut_at 32) whole ∙ cut_again 32 (take at text) (drop (at + 1) text) (digits_lack 32 (take at text) (lit< tt) read.each) in
+    let first = get_or-take at text 0 0 some in
+    let is = number_read value (take at text) read (omega arith) (omega arith) (λ zeroed. absurd (lead (sym first ∙ zeroed))) in
+    sym (ap (numbered most) cut ∙ ap (option_map (λ (number : ℕ). (number, drop (at + 1) text))) (sym (number_some most value (take at text) is read.worth small)))

@@ -14,3 +14,4 @@ pub mod Paged
 pub mod Converting
 pub mod Entries
 pub mod Worded
+pub mod Spelled

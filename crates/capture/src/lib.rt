@@ -27,6 +27,7 @@ mod reader;
 mod record;
 mod record_words;
 mod so_far;
+mod spelling;
 mod writer;
 
 pub use address::{address_of, is_node};

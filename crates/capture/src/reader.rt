@@ -18,6 +18,7 @@ use crate::line_reader::LineReader;
 use crate::phase::Phase;
 use crate::record::Record;
 use crate::record_words::{head_of, line_into, record_of};
+use crate::spelling::Spelling;
 use std::alloc::Global;
 use std::io::Read;
 use std::marker::Model;
@@ -42,6 +43,7 @@ pub struct CaptureReader {
     peer: u16,
     form: HintForm,
     phase: Phase,
+    spelling: Spelling,
     // What `advance` read last: that many bytes at the front.
     room: Vec<u8>,
     len: usize,
@@ -95,6 +97,7 @@ fn take_record<R: Read>(
 #[inline(always)]
 fn take_entry<R: Read>(
     form: HintForm,
+    spelling: &Spelling,
     lines: &mut LineReader,
     room: &mut [u8],
     reader: &mut Tally<R>,
@@ -115,7 +118,7 @@ fn take_entry<R: Read>(
 {
     let number = lines.taken() + 1;
     match lines.next(MAX_RECORDS + 1, reader) {
-        Ok(Some(len)) => match line_into(form, lines.line(len), room) {
+        Ok(Some(len)) => match line_into(form, spelling, lines.line(len), room) {
             Ok(entry) => {
                 lines.skip(len);
                 Ok(Some(entry))
@@ -159,6 +162,7 @@ impl CaptureReader {
                         peer,
                         form: format.first_form(),
                         phase: Phase::Reading,
+                        spelling: Spelling::new(),
                         room,
                         len: 0,
                     })
@@ -212,7 +216,13 @@ impl CaptureReader {
             Phase::Ended => return Ok(None),
             Phase::Failed => return Err(CaptureFault::Failed),
         }
-        match take_entry(self.form, &mut self.lines, &mut self.room, reader) {
+        match take_entry(
+            self.form,
+            &self.spelling,
+            &mut self.lines,
+            &mut self.room,
+            reader,
+        ) {
             Ok(Some((entry, len))) => {
                 self.len = len;
                 self.form = self.form.after(entry);

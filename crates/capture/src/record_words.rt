@@ -9,16 +9,17 @@ ghost use Rattle.capture.specs.Entries.{parted, told};
 
 use crate::address::address_of;
 use crate::bytes::Bytes;
-use crate::digits::{bytes_into, bytes_of};
+use crate::digits::{bytes_by, bytes_of};
 use crate::entry::Entry;
 use crate::event_words::event_of;
 use crate::fault::{Departure, PartFault};
 use crate::format::Format;
 use crate::hint::HintForm;
 use crate::limit::MAX_HINT;
-use crate::number::{number_of, positive_of};
+use crate::number::{number_before, number_of, positive_of};
 use crate::part::{after, cut_at};
 use crate::record::Record;
+use crate::spelling::Spelling;
 use std::alloc::Global;
 
 #[tactic(auto, unfolding(crate::specs::Reading::hint_at))]
@@ -50,8 +51,32 @@ fn hint_by_distance(mark: u64, text: &[u8]) -> Option<u64>
     Some(hint)
 }
 
-#[tactic(auto, unfolding(crate::specs::Reading::receipt_at))]
+#[inline(always)]
 fn receipt_of(form: HintForm, kept: bool, text: &[u8]) -> Option<(Entry, &[u8])>
+    requires { FormFits form }
+    ensures { receipt_at form kept text.now ≡ told (option_map (λ parts. (parts.0, parts.1.now)) result) }
+{
+    match form {
+        HintForm::Number => receipt_by_number(kept, text),
+        HintForm::Distance { .. } => match receipt_by_distance(form, kept, text) {
+            Some((entry, bytes)) => Some((entry, bytes)),
+            None => None,
+        },
+    }
+}
+
+#[inline(always)]
+fn receipt_by_number(kept: bool, text: &[u8]) -> Option<(Entry, &[u8])>
+    ensures { receipt_at HintForm.Number kept text.now ≡ told (option_map (λ parts. (parts.0, parts.1.now)) result) }
+{
+    match number_before(text, MAX_HINT) {
+        Some((hint, bytes)) => Some((Entry::Received { kept, hint }, bytes)),
+        None => None,
+    }
+}
+
+#[tactic(auto, unfolding(crate::specs::Reading::receipt_at))]
+fn receipt_by_distance(form: HintForm, kept: bool, text: &[u8]) -> Option<(Entry, &[u8])>
     requires { FormFits form }
     ensures { receipt_at form kept text.now ≡ told (option_map (λ parts. (parts.0, parts.1.now)) result) }
 {
@@ -107,7 +132,12 @@ pub fn record_of(alloc: Global, form: HintForm, line: &[u8]) -> Result<Record, P
 
 /// Reads the line's record in two parts: its entry, and its bytes, which are written to the front of the room, with how many they
 /// are. The line is given without its LF. It departs as for [`record_of`]. Takes no memory.
-pub fn line_into(form: HintForm, line: &[u8], room: &mut [u8]) -> Result<(Entry, usize), Departure>
+pub fn line_into(
+    form: HintForm,
+    spelling: &Spelling,
+    line: &[u8],
+    room: &mut [u8],
+) -> Result<(Entry, usize), Departure>
     requires form { FormFits form }
     requires room { length room.old ≡ MAX_MESSAGE }
     ensures record { record_at form line.now ≡ parted room.new result }
@@ -120,7 +150,7 @@ pub fn line_into(form: HintForm, line: &[u8], room: &mut [u8]) -> Result<(Entry,
     let Some(most) = entry.limit() else {
         return Ok((entry, 0));
     };
-    let len = bytes_into(text, most, room)?;
+    let len = bytes_by(Some(spelling), text, most, room)?;
     Ok((entry, len))
 }
 
