@@ -156,6 +156,7 @@ mod PlayRowsStation
 mod PlayRowsSteps
 mod PlayRowsLinks
 mod PlayRowsLinkTurns
+mod KeptTimers
 mod PlayRowsBounds
 mod PlayRowsScripts
 mod PlayRowsText

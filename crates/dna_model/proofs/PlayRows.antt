@@ -12,6 +12,8 @@ use Rattle.dna_model.specs.Player.{end_step}
 use Rattle.dna_model.specs.Stepped.{BadStep}
 use Rattle.dna_model.specs.Play.{plays}
 use Rattle.dna_model.specs.Played.{plays_step}
+use Rattle.dna_model.specs.KeptPlay.{kept_plays}
+use Rattle.dna_model.specs.KeptPlayed.{kept_plays_step}
 use Rattle.dna_model.proofs.PlayRowSteps.{a, b, s, r, k, IsPlayed, Captures, StopsAt}
 use Rattle.dna_model.proofs.LayersRows.{player_example_a, player_example_b}
 
@@ -38,8 +40,8 @@ example_b =
     s (codes "81090001010153800201040204002401002cd5") ∷ []
 
 scripted_example : IsPlayed example (Captures example_a example_b)
-unfolding reading spelling is_good check_of after_byte shift end_step plays plays_step
-scripted_example = refl
+unfolding reading spelling is_good check_of after_byte shift end_step plays plays_step kept_plays kept_plays_step
+scripted_example = (refl, refl)
 
 -- they are the captures of a run
 same_as_the_run_of_a : example_a ≡ player_example_a
@@ -64,5 +66,5 @@ abbrev closes_instead_b : List Record
 closes_instead_b = User event.Start ∷ r 1 (codes "0506c00000017595") ∷ s (codes "0507c00000014855") ∷ r 2 (codes "050100000001fc55") ∷ []
 
 closed_before_the_answer : IsPlayed closes_instead (StopsAt 11 BadStep closes_instead_a closes_instead_b)
-unfolding reading spelling is_good check_of after_byte shift end_step plays plays_step
-closed_before_the_answer = refl
+unfolding reading spelling is_good check_of after_byte shift end_step plays plays_step kept_plays kept_plays_step
+closed_before_the_answer = (refl, refl)

@@ -64,19 +64,20 @@ fn faulty_distances(rt: HostRuntime) -> Result<(), Fail> {
 fn hint_of(record: &Record) -> Option<u64> {
     match record {
         Record::Received { hint, .. } => Some(*hint),
-        Record::Sent(_) | Record::User(_) => None,
+        Record::Sent(_) | Record::Noise(_) | Record::User(_) => None,
     }
 }
 
 #[test]
 fn each_receipt_moves_the_mark_and_nothing_else_does(rt: HostRuntime) -> Result<(), Fail> {
     let text =
-        b"ddcap 2 1.2 1.1\nu start\nr 1 05\ns 05\nk 0 05\nu up 1 05\nr -2 05\nr -1 05\nk 5 05\n";
+        b"ddcap 2 1.2 1.1\nu start\nr 1 05\ns 05\nk 0 05\nu up 1 05\nn 05\nr -2 05\nr -1 05\nk 5 05\n";
     let hints = [
         None,
         Some(1u64),
         None,
         Some(2),
+        None,
         None,
         Some(1),
         Some(1),
