@@ -142,6 +142,7 @@ mod SidesLined
 mod SentLined
 mod PlayedFacts
 mod ComesStage
+mod NoiseStage
 mod StepPasses
 mod StepStages
 mod PlayedStages

@@ -3,7 +3,7 @@ use Rattle.std.proofs.Common.{◌≡◌, ℕ, ◌+◌, ◌-◌, ◌*◌, true, f
 use Rattle.std.specs.Prelude.{nat_lt, if◌then◌else◌}
 use Rattle.wire_base.specs.declared.side.Side.TheVariants.{A, B}
 use Rattle.capture.specs.declared.record.Record.{Record}
-use Rattle.capture.specs.declared.record.Record.TheVariants.{Sent, Received}
+use Rattle.capture.specs.declared.record.Record.TheVariants.{Sent, Received, Noise}
 use Rattle.dna_model.specs.Script.{StepValue, ScriptStep, Script, Start, Send, Deliver, Open, Accept, Reject}
 use Rattle.dna_model.specs.Stepped.{Stop, BadStep}
 use Rattle.dna_model.specs.Played.{Played, Stopped, plays_all, play}
@@ -39,6 +39,9 @@ r hint digits = Received hint false (hex digits)
 
 abbrev pub k : ℕ → List ℕ → Record
 k hint digits = Received hint true (hex digits)
+
+abbrev pub n : List ℕ → Record
+n digits = Noise (hex digits)
 
 -- What becomes of a script: its captures; or how many of its steps are made, why the next one is not, and the captures of those before it
 pub data Becomes : Type 0 where

@@ -4,14 +4,14 @@ use Rattle.std.specs.Prelude.{codes}
 use Rattle.wire_base.specs.BlockCheck.{is_good, check_of, after_byte, shift}
 use Rattle.ddcmp_msg.specs.Reading.{reading}
 use Rattle.ddcmp_msg.specs.Spelling.{spelling}
-use Rattle.dna_model.specs.Script.{Start, Halt, Timer, Send, Deliver, Refuse, Lose, Damage, Open}
+use Rattle.dna_model.specs.Script.{Start, Halt, Timer, Send, Deliver, Refuse, Lose, Damage, Noise, Open}
 use Rattle.dna_model.specs.Player.{end_step}
 use Rattle.dna_model.specs.Stepped.{BadStep}
 use Rattle.dna_model.specs.Play.{plays}
 use Rattle.dna_model.specs.Played.{plays_step}
 use Rattle.dna_model.specs.KeptPlay.{kept_plays}
 use Rattle.dna_model.specs.KeptPlayed.{kept_plays_step}
-use Rattle.dna_model.proofs.PlayRowSteps.{a, b, s, IsBad, ASends, BSends, Adds, Captures, StopsAt, running, called}
+use Rattle.dna_model.proofs.PlayRowSteps.{a, b, s, r, n, hex, IsBad, ASends, BSends, Adds, Captures, StopsAt, running, called}
 
 -- a start
 start_owes_strt : ASends (a Start ∷ []) (codes "0506c00000017595")
@@ -117,6 +117,25 @@ other_rep_brings_nak = (refl, refl)
 bad_header_brings_nak : BSends (running ++ a Open ∷ a Send ∷ b (Damage 0 132) ∷ []) (codes "050201000001b9a9")
 unfolding reading spelling is_good check_of after_byte shift end_step plays plays_step kept_plays kept_plays_step
 bad_header_brings_nak = (refl, refl)
+
+-- noise with a bad header, and with bad data
+noise_brings_nak : BSends (running ++ b (Noise []) ∷ []) (codes "050201000001b9a9")
+unfolding reading spelling is_good check_of after_byte shift end_step plays plays_step kept_plays kept_plays_step
+noise_brings_nak = (refl, refl)
+
+noise_of_data_brings_nak : BSends (running ++ b (Noise (hex (codes "810100000101e381"))) ∷ []) (codes "050202000001b9ed")
+unfolding reading spelling is_good check_of after_byte shift end_step plays plays_step kept_plays kept_plays_step
+noise_of_data_brings_nak = (refl, refl)
+
+-- only in RUNNING
+noise_in_astrt_brings_nothing : IsBad (a Start ∷ b Start ∷ a Send ∷ b Deliver ∷ b Send ∷ b (Noise []) ∷ []) (b Send)
+unfolding reading spelling is_good check_of after_byte shift end_step plays plays_step kept_plays kept_plays_step
+noise_in_astrt_brings_nothing = (refl, refl)
+
+-- it leaves the next unit on the line
+noise_leaves_the_line : Adds (a Start ∷ b Start ∷ a Send ∷ []) (b (Noise []) ∷ b Deliver ∷ []) (Captures [] (n [] ∷ r 0 (codes "0506c00000017595") ∷ []))
+unfolding reading spelling is_good check_of after_byte shift end_step plays plays_step kept_plays kept_plays_step
+noise_leaves_the_line = (refl, refl)
 
 -- bad data
 bad_data_bring_nak : BSends (running ++ a Open ∷ a Send ∷ b (Damage 9 1) ∷ []) (codes "050202000001b9ed")

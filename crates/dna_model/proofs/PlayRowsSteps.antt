@@ -6,7 +6,7 @@ use Rattle.ddcmp_msg.specs.Reading.{reading}
 use Rattle.ddcmp_msg.specs.Spelling.{spelling}
 use Rattle.capture.specs.declared.record.Record.TheVariants.{User}
 use Rattle.capture.specs.declared.event.Event.TheVariants as event
-use Rattle.dna_model.specs.Script.{Start, Halt, Send, Deliver, Refuse, Lose, Damage, Open, Accept, Reject, In, Close, Retry}
+use Rattle.dna_model.specs.Script.{Start, Halt, Send, Deliver, Refuse, Lose, Damage, Noise, Open, Accept, Reject, In, Close, Retry}
 use Rattle.dna_model.specs.Player.{end_step}
 use Rattle.dna_model.specs.Play.{plays}
 use Rattle.dna_model.specs.Played.{plays_step}
@@ -143,3 +143,12 @@ retries_an_ended_link = (refl, refl)
 addresses_in_order : Adds (running ++ b Open ∷ a Open ∷ a Open ∷ a Send ∷ a Send ∷ b Deliver ∷ b Deliver ∷ []) (b (Accept 2) ∷ b (Reject 1) ∷ b Open ∷ []) (Captures [] (User (event.Accept 2 2) ∷ User (event.Reject 1 3) ∷ User (event.Open 4) ∷ []))
 unfolding reading spelling is_good check_of after_byte shift end_step plays plays_step kept_plays kept_plays_step
 addresses_in_order = (refl, refl)
+
+-- what a block check does not show to be damaged
+sound_noise : IsBad running (b (Noise (hex (codes "0506c00000017595"))))
+unfolding reading spelling is_good check_of after_byte shift end_step plays plays_step kept_plays kept_plays_step
+sound_noise = (refl, refl)
+
+malformed_noise : IsBad running (b (Noise (hex (codes "0000000000000000"))))
+unfolding reading spelling is_good check_of after_byte shift end_step plays plays_step kept_plays kept_plays_step
+malformed_noise = (refl, refl)

@@ -2,14 +2,15 @@
 -- no number of it is true, and no record is judged.
 use Rattle.std.specs.Prelude.{ℕ, ◌+◌, Bool, true, false, nat_lt, nat_le, ◌&&◌, if◌then◌else◌, Option, Some, None, List, [], ◌∷◌, length, map, Result, Ok, Err}
 use Rattle.ddcmp_msg.specs.Message.{MessageValue}
-use Rattle.ddcmp_msg.specs.Reading.{ReadingValue, reading}
+use Rattle.ddcmp_msg.specs.Reading.{ReadingValue, reading, HeaderBad, DataBad}
 use Rattle.ddcmp_msg.specs.Spelling.{spelling}
 use Rattle.dna_packet.specs.Nsp.{NspValue, DataSegment}
-use Rattle.capture.specs.declared.limit.TheConstants.{MAX_HINT, MAX_LINK, MAX_MESSAGE}
+use Rattle.capture.specs.declared.limit.TheConstants.{MAX_HINT, MAX_LINK, MAX_UNIT, MAX_MESSAGE}
 use Rattle.capture.specs.declared.event.Event.{Event}
 use Rattle.capture.specs.declared.event.Event.TheVariants as events
 use Rattle.capture.specs.declared.record.Record.{Record}
 use Rattle.capture.specs.declared.record.Record.TheVariants.{Sent, Received, User}
+use Rattle.capture.specs.declared.record.Record.TheVariants as recorded
 use Rattle.dna_model.specs.declared.state.StationEvent.{StationEvent}
 use Rattle.dna_model.specs.declared.state.StationEvent.TheVariants as station_events
 use Rattle.dna_model.specs.declared.refusal.StationRefusal.{StationRefusal}
@@ -17,7 +18,7 @@ use Rattle.dna_model.specs.declared.port.Phase.TheVariants.{Confirming, Disconne
 use Rattle.dna_model.specs.declared.port.LinkTest.TheVariants.{LiveAt, CalledBy}
 use Rattle.dna_model.specs.Table.{user_refusal}
 use Rattle.dna_model.specs.LinkTests.{is_connected, takes_messages}
-use Rattle.dna_model.specs.Script.{StepValue, Start, Halt, Timer, Send, Deliver, Refuse, Lose, Damage, Open, Accept, Reject, In, Close, Retry}
+use Rattle.dna_model.specs.Script.{StepValue, Start, Halt, Timer, Send, Deliver, Refuse, Lose, Damage, Noise, Open, Accept, Reject, In, Close, Retry}
 use Rattle.dna_model.specs.Owed.{Debt, OwesStrt, timer_debt}
 use Rattle.dna_model.specs.LinkOwed.{LinkOwed, Turn, ConfirmTurn, DisconnectTurn, retried}
 use Rattle.dna_model.specs.NextSent.{LinkEnd, Choice, SendNew, link_choice, choice}
@@ -170,6 +171,19 @@ loses e = if nat_le e.passed MAX_HINT then silent (record e { passed = e.passed 
 abbrev pub comes_damaged : KeptEnd → (place value : ℕ) → List ℕ → Result KeptStepped Stop
 comes_damaged e place value bytes = if is_damage place value bytes then comes e true (damaged place value bytes) else Err BadStep
 
+-- bytes that nobody sent
+abbrev pub heard : KeptEnd → List ℕ → ReadingValue → Result KeptStepped Stop
+heard e bytes read = Ok (record { end = with_station (stations.after_arrival read false e.station) e; sent = []; records = recorded.Noise bytes ∷ [] })
+
+-- a block check shows that they are damaged, else it can't; and they have a line
+abbrev pub hears_as : KeptEnd → List ℕ → ReadingValue → Result KeptStepped Stop
+hears_as e bytes HeaderBad = heard e bytes HeaderBad
+hears_as e bytes DataBad = heard e bytes DataBad
+hears_as e bytes read = Err BadStep
+
+abbrev pub hears : KeptEnd → List ℕ → ReadingValue → Result KeptStepped Stop
+hears e bytes read = if_so (nat_le (length bytes) MAX_UNIT) (hears_as e bytes read)
+
 -- the next unit on the line, else it can't
 abbrev pub with_next : List (List ℕ) → (List ℕ → Result KeptStepped Stop) → Result KeptStepped Stop
 with_next [] next = Err BadStep
@@ -186,6 +200,7 @@ kept_plays e coming Deliver = with_next coming (comes e true)
 kept_plays e coming Refuse = with_next coming (comes e false)
 kept_plays e coming Lose = with_next coming (λ bytes. loses e)
 kept_plays e coming (Damage place value) = with_next coming (comes_damaged e place value)
+kept_plays e coming (Noise bytes) = hears e bytes (reading bytes)
 kept_plays e coming Open = opens e
 kept_plays e coming (Accept partner) = accepts e partner
 kept_plays e coming (Reject partner) = rejects e partner
