@@ -15,7 +15,7 @@ use Rattle.dna_model.specs.KeptPlay.{KeptStepped, kept_plays, with_next, loses}
 use Rattle.dna_model.specs.KeptPlay as keeping
 use Rattle.dna_model.specs.KeptRun.{bytes_of, kept_stepped, IsKept}
 
-none_behind : (units : List LayersUnit) → drop (length units) (bytes_of units) ≡ []
+pub none_behind : (units : List LayersUnit) → drop (length units) (bytes_of units) ≡ []
 none_behind [] = refl
 none_behind (unit ∷ units) = none_behind units
 
@@ -41,7 +41,8 @@ kept_on None next = Err BadStep
 kept_on (Some unit) next = next unit.bytes
 
 -- it is the first of what is on the line
-pub next_on_line : (passed : ℕ) (units : List LayersUnit) (next : List ℕ → Result KeptStepped Stop) → with_next (drop passed (bytes_of units)) next ≡ kept_on (slice_get units passed) next
+pub next_on_line : (passed : ℕ) (units : List LayersUnit) (next : List ℕ → Result KeptStepped Stop) →
+    with_next (drop passed (bytes_of units)) next ≡ kept_on (slice_get units passed) next
 next_on_line zero [] next = refl
 next_on_line (suc passed) [] next = refl
 next_on_line zero (unit ∷ units) next = refl

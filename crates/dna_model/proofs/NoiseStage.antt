@@ -51,14 +51,13 @@ module _ (own other : PlayHalf) where
   is_noise bytes half e = noise_by bytes half (reading bytes) refl (makes_tells own other (Noise bytes) half e).1
 
   -- what is damaged is heard
-  made_with : (bytes : List ℕ) (half : PlayHalf) → has_line (Noise bytes) ≡ true → advance end_step own other (Noise bytes) ≡ Made half →
-      (half : PlayHalf) × (makes own other (Noise bytes) ≡ Some half)
-  made_with bytes half lined e =
-      (half, ap (λ (b : Bool). cond b (made_half (advance end_step own other (Noise bytes))) None) lined ∙ ap made_half e)
+  pub left_makes : (bytes : List ℕ) (half : PlayHalf) → has_line (Noise bytes) ≡ true → advance end_step own other (Noise bytes) ≡ Made half →
+      makes own other (Noise bytes) ≡ Some half
+  left_makes bytes half lined e = ap (λ (b : Bool). cond b (made_half (advance end_step own other (Noise bytes))) None) lined ∙ ap made_half e
 
   pub noise_made : (bytes : List ℕ) → has_line (Noise bytes) ≡ true → IsNoise bytes → (half : PlayHalf) × (makes own other (Noise bytes) ≡ Some half)
-  noise_made bytes lined (inl e) = made_with bytes (damage_left HeaderBad) lined (header_heard bytes e)
-  noise_made bytes lined (inr e) = made_with bytes (damage_left DataBad) lined (data_heard bytes e)
+  noise_made bytes lined (inl e) = (damage_left HeaderBad, left_makes bytes (damage_left HeaderBad) lined (header_heard bytes e))
+  noise_made bytes lined (inr e) = (damage_left DataBad, left_makes bytes (damage_left DataBad) lined (data_heard bytes e))
 
 -- ---- the end after it
 
