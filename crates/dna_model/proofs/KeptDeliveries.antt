@@ -125,12 +125,12 @@ gets_made other address number (message ∷ later) e records l o lined there own
     let more = records ++ up_record address message ∷ [] in
     let still : Counted left.links e.links_owed = counted ∙ sym (length-set s.links number k) in
     ap (λ (o : Option PlayHalf). with_half o (λ half. gets_all (map (λ (message : List ℕ). events.Up address message) later) other
-        (record { end = after_record e half; records = records ++ up_record address message ∷ [] })))
-        (up_made e.half other address message left lined.0 d.does)
+    (record { end = after_record e half; records = records ++ up_record address message ∷ [] })))
+    (up_made e.half other address message left lined.0 d.does)
     ∙ ap (λ (x : End). gets_all (map (λ (message : List ℕ). events.Up address message) later) other (record { end = x; records = more }))
-        (up_end e number l k o there owes counted rep refl refl)
+    (up_end e number l k o there owes counted rep refl refl)
     ∙ gets_made other address number later (with_links e left) more k o lined.1 (set_same s.links number l k there) owns
-        d.others.only d.next.left owes still rep
+    d.others.only d.next.left owes still rep
     ∙ ap₂ (λ (all : List Record) (links : Links). Ok (got_with all e links)) (append_assoc records (up_record address message ∷ []) (ups address later))
-        (ap (λ (all : List (LinkOf TrueFlow)). record s { links = all }) (set-set s.links number k (with_flow (flow_got k.flow later) k))
-        ∙ ap (λ (f : TrueFlow). changed number (with_flow f l) s) (more_got l.flow message later d.next.w d.next.is))
+    (ap (λ (all : List (LinkOf TrueFlow)). record s { links = all }) (set-set s.links number k (with_flow (flow_got k.flow later) k))
+    ∙ ap (λ (f : TrueFlow). changed number (with_flow f l) s) (more_got l.flow message later d.next.w d.next.is))

@@ -184,8 +184,8 @@ module _ (own : End) (other : PlayHalf) (counted : Counted (links_of own.half).l
             ap₂ kept_links (set-set s.links n k got) owed_is
             ∙ live_set s.links owed n l o found.there owes (acted_on_lives segment.dstaddr segment.srcaddr l.port found.passed) got left_owes refl
             ∙ ap (λ (pieces : List (Option Piece)). of_links.changed (place_among s.links owed n)
-                (record (end_of k left_owes) { variables = record (variables_of k) { pieces = pieces } }) live)
-                (sym (drop-drop (in_whole_messages (variables_of k).pieces) k.flow.passed k.flow.received))
+            (record (end_of k left_owes) { variables = record (variables_of k) { pieces = pieces } }) live)
+            (sym (drop-drop (in_whole_messages (variables_of k).pieces) k.flow.passed k.flow.received))
             ∙ sym (ap (λ (d : Delivering). d.links) as_kept)
 
         segment_found : Got (after x) (Some (DataSegment segment))
@@ -193,8 +193,8 @@ module _ (own : End) (other : PlayHalf) (counted : Counted (links_of own.half).l
           final = changed n got x;
           gets = ap (λ (list : List Event). gets_all list other (record { end = after x; records = records })) (with_found x test n k [] up_events still_found)
               ∙ gets_made other segment.dstaddr n (complete [] (variables_of k).pieces) (after x) records k left_owes (lined n k still_found) there at_own only refl
-                  (ap (λ (w : LinksOwed). slice_get w.links n) owed_is ∙ set_same owed.links n o left_owes owes)
-                  (ap (λ (w : LinksOwed). length w.links) owed_is ∙ length-set owed.links n left_owes ∙ counted ∙ sym (length-set s.links n k)) rep
+              (ap (λ (w : LinksOwed). slice_get w.links n) owed_is ∙ set_same owed.links n o left_owes owes)
+              (ap (λ (w : LinksOwed). length w.links) owed_is ∙ length-set owed.links n left_owes ∙ counted ∙ sym (length-set s.links n k)) rep
               ∙ ap (λ (d : Delivering). Ok (record { end = with_links (after x) (changed n got x); records = records ++ ups segment.dstaddr d.messages })) (sym as_kept);
           links = got_links;
           short = ap (λ (d : Delivering). all_short d.messages) as_kept ∙ lined_short segment.dstaddr (complete [] (variables_of k).pieces) (lined n k still_found);

@@ -111,7 +111,7 @@ module _ (s : Links) (others : LinkList) (most : ℕ) (addressed : AreAddressed 
       answers true_flows phase partner address s ≡ Ok (changed number (users.answered true_flows phase address link) s)
   answer_goes phase partner address number link found less =
       with_found s (CalledBy partner) number link (Err NoLink) (λ number link. gives true_flows address s
-          (changed number (users.answered true_flows phase address link) (freed true_flows address s))) found
+      (changed number (users.answered true_flows phase address link) (freed true_flows address s))) found
       ∙ with_free address (changed number (users.answered true_flows phase address link) (freed true_flows address s)) less
       ∙ ap (λ (x : Links). Ok (changed number (users.answered true_flows phase address link) x)) (freed_same s others most addressed address less)
 
@@ -142,7 +142,7 @@ pub in_goes : (s : Links) (address : ℕ) (message : List ℕ) (number : ℕ) (l
     links_user s (In address message) ≡ Ok (changed number (with_flow (true_flows.hands_in message link.flow) link) s)
 in_goes s address message number link found may =
     with_found s (LiveAt address) number link (Err NoLink) (λ number link. check (takes_messages link.port.phase) LinkState
-        (Ok (changed number (with_flow (true_flows.hands_in message link.flow) link) s))) found
+    (Ok (changed number (with_flow (true_flows.hands_in message link.flow) link) s))) found
     ∙ ap (λ (b : Bool). check b LinkState (Ok (changed number (with_flow (true_flows.hands_in message link.flow) link) s))) may
 
 pub in_taken : (s : Links) (address : ℕ) (message : List ℕ) (number : ℕ) (link : LinkOf TrueFlow) → IsFound (LiveAt address) s number link →
@@ -156,7 +156,7 @@ pub close_goes : (s : Links) (address number : ℕ) (link : LinkOf TrueFlow) →
     is_connected link.port.phase ≡ true → links_user s (Close address) ≡ Ok (changed number (in_phase Disconnecting link) s)
 close_goes s address number link found may =
     with_found s (LiveAt address) number link (Err NoLink) (λ number link. check (is_connected link.port.phase) LinkState
-        (Ok (changed number (in_phase Disconnecting link) s))) found
+    (Ok (changed number (in_phase Disconnecting link) s))) found
     ∙ ap (λ (b : Bool). check b LinkState (Ok (changed number (in_phase Disconnecting link) s))) may
 
 pub close_taken : (s : Links) (address number : ℕ) (link : LinkOf TrueFlow) → IsFound (LiveAt address) s number link →
