@@ -4,7 +4,7 @@ use Rattle.std.specs.Prelude.{MatchBool}
 use Rattle.std.specs.List.{between}
 use Rattle.std.specs.Io.KnownBytes.{Consumes, IsAtEnd}
 use Rattle.std.proofs.lemmas.Slice.{between_is}
-use Rattle.std.proofs.lemmas.List.{take_at, drop_at, take-append-le, drop-append-le, drop-drop, length-take-le, length-append, length-drop, get_or-drop, nil_from_length}
+use Rattle.std.proofs.lemmas.List.{take_at, drop_at, drop-take, take-take, take-append-le, drop-append-le, drop-drop, length-take, length-take-le, length-append, length-drop, get_or-drop, nil_from_length}
 use Rattle.std.proofs.lemmas.Bool.{eqb-true, eqb-false, cases_Bool}
 use Rattle.std.proofs.Math.Seq.{take-add}
 use borrow.Rule.Slice.PartMut.{post_of}
@@ -14,6 +14,15 @@ use Rattle.capture.specs.Lines.{ReadsAhead, FindsLf}
 pub between-skipped : (start end count : ℕ) (items : List ℕ) → between (start + count) end items ≡ drop count (between start end items)
 between-skipped start end count items =
     between_is items (start + count) end ∙ sym (ap (drop count) (between_is items start end) ∙ drop-drop count start (take end items))
+
+-- a line at the front
+pub between-line : (start end len : ℕ) (items : List ℕ) → start ≤ end → len < length (between start end items) → between start (start + len) items ≡ take len (between start end items)
+between-line start end len items order within =
+    let size = ap length (between_is items start end) in
+    let enough : start + len ≤ end = omega (arith, size, length-drop start (take end items), length-take end items) in
+    let whole : start + (end - start) ≡ end = omega arith in
+    let ahead = between_is items start end ∙ ap (λ (n : ℕ). drop start (take n items)) (sym whole) ∙ drop-take start (end - start) items in
+    between_is items start (start + len) ∙ drop-take start len items ∙ sym (ap (take len) ahead ∙ take-take len (end - start) (drop start items) (omega arith))
 
 take-seam : (front back : List ℕ) (e n : ℕ) → length front ≡ e → take (e + n) (front ++ back) ≡ front ++ take n back
 take-seam front back e n same = take-add e n (front ++ back) ∙ rw (take_at front back e same, drop_at front back e same) refl

@@ -3,7 +3,7 @@ use Rattle.std.proofs.Common.{◌≡◌, ◌≢◌, ℕ, zero, suc, ◌+◌, ◌
 use Rattle.std.specs.Prelude.{codes}
 use Rattle.std.specs.List.{list_all}
 use Rattle.std.specs.Str.{bytes_eq}
-use Rattle.std.proofs.lemmas.Bool.{cases_Bool, and_parts, and_from, and_right, cases_lt, eqb-true, leb-true, leb-false, cond_both}
+use Rattle.std.proofs.lemmas.Bool.{cases_Bool, and_parts, and_from, and_right, cases_lt, eqb-true, ltb-true, leb-true, leb-false, cond_both}
 use Rattle.std.proofs.lemmas.Option.{same_Some}
 use Rattle.std.proofs.lemmas.Slice.Eq.{bytes_eq-Decides}
 use Rattle.hex.specs.Hex.{IsBytes, decode_of, decode_pairs, hex_digit_value, value_at, pair_value, digit_or_error, encode_lower, encode_with, lower_digits}
@@ -44,6 +44,10 @@ glyph_at v lt = eqb-true _ _ (all_below-at (λ k. eqb (get_or lower_digits k 0) 
 lower_at : (v : ℕ) → v < 16 → is_lower (get_or lower_digits v 0) ≡ true
 unfolding all_below
 lower_at v lt = all_below-at (λ k. is_lower (get_or lower_digits k 0)) 16 v refl lt
+
+pub digit_small : (v : ℕ) → v < 16 → get_or lower_digits v 0 < 256
+unfolding all_below
+digit_small v lt = ltb-true _ _ (all_below-at (λ k. ltb (get_or lower_digits k 0) 256) 16 v refl lt)
 
 above_mark_at : (mark v : ℕ) → mark < 48 → v < 16 → get_or lower_digits v 0 ≢ mark
 above_mark_at mark v low lt e = grind (arith, glyph_at v lt)

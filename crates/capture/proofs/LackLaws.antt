@@ -12,16 +12,17 @@ use Rattle.capture.specs.declared.limit.TheConstants.{MAX_HINT, MAX_LINE, MAX_UN
 use Rattle.capture.specs.declared.event.Event.{Event}
 use Rattle.capture.specs.declared.event.Event.TheVariants.{Start, Halt, Open, Accept, Reject, In, Up, Close}
 use Rattle.capture.specs.declared.record.Record.{Record}
-use Rattle.capture.specs.declared.record.Record.TheVariants.{Sent, Received, User}
+use Rattle.capture.specs.declared.record.Record.TheVariants.{Sent, Received, Noise, User}
 use Rattle.capture.specs.declared.hint.HintForm.{HintForm}
-use Rattle.capture.specs.declared.hint.HintForm.TheVariants.{Number}
-use Rattle.capture.specs.Text.{spaced, bytes_text, hint_text, address_text, event_text, record_text, head_text}
-use Rattle.capture.specs.Range.{IsLink, IsNode, EventNumbersFit, event_bytes, HasSpelling, IsRecord}
+use Rattle.capture.specs.declared.format.Format.{Format}
+use Rattle.capture.specs.declared.format.Format.TheVariants.{One, Two}
+use Rattle.capture.specs.Text.{spaced, bytes_text, hint_text, address_text, event_text, record_text, format_text, head_text}
+use Rattle.capture.specs.Range.{FormFits, IsLink, IsNode, EventNumbersFit, event_bytes, HasSpelling, IsRecord}
 use Rattle.capture.proofs.PartLaws.{HasNo, HasNo-append}
 use Rattle.capture.proofs.NumberLaws.{decimal_lacks}
 use Rattle.capture.proofs.AddressLaws.{address_lacks}
 use Rattle.capture.proofs.BytesLaws.{bytes_lack}
-use Rattle.capture.proofs.RecordLaws.{hint_lacks}
+use Rattle.capture.proofs.HintLaws.{hint_lacks, hint_short}
 
 -- by a test that computes
 pub lacks : (mark : ℕ) (text : List ℕ) → list_all (λ b. not (eqb b mark)) text ≡ true → HasNo mark text
@@ -46,14 +47,19 @@ event_lacks (In link bytes) h fits = HasNo-append 10 (codes "in ") (spaced (deci
 event_lacks (Up link bytes) h fits = HasNo-append 10 (codes "up ") (spaced (decimal link) (bytes_text bytes)) (lacks 10 (codes "up ") refl) (spaced_lacks (decimal link) (bytes_text bytes) (link_lacks link h) (bytes_lack 10 bytes (lit< tt) fits))
 event_lacks (Close link) h fits = HasNo-append 10 (codes "close ") (decimal link) (lacks 10 (codes "close ") refl) (link_lacks link h)
 
-pub record_lacks : (form : HintForm) (r : Record) → HasSpelling r → HasNo 10 (record_text form r)
-record_lacks form (Sent bytes) h = HasNo-append 10 (codes "s ") (bytes_text bytes) (lacks 10 (codes "s ") refl) (bytes_lack 10 bytes (lit< tt) h.bytes)
-record_lacks form (Received hint false bytes) h = HasNo-append 10 (codes "r ") (spaced (hint_text form hint) (bytes_text bytes)) (lacks 10 (codes "r ") refl) (spaced_lacks (hint_text form hint) (bytes_text bytes) (hint_lacks form 10 hint (lit< tt) h.numbers) (bytes_lack 10 bytes (lit< tt) h.bytes))
-record_lacks form (Received hint true bytes) h = HasNo-append 10 (codes "k ") (spaced (hint_text form hint) (bytes_text bytes)) (lacks 10 (codes "k ") refl) (spaced_lacks (hint_text form hint) (bytes_text bytes) (hint_lacks form 10 hint (lit< tt) h.numbers) (bytes_lack 10 bytes (lit< tt) h.bytes))
-record_lacks form (User event) h = HasNo-append 10 (codes "u ") (event_text event) (lacks 10 (codes "u ") refl) (event_lacks event h.numbers h.bytes)
+pub record_lacks : (form : HintForm) (r : Record) → FormFits form → HasSpelling r → HasNo 10 (record_text form r)
+record_lacks form (Sent bytes) fits h = HasNo-append 10 (codes "s ") (bytes_text bytes) (lacks 10 (codes "s ") refl) (bytes_lack 10 bytes (lit< tt) h.bytes)
+record_lacks form (Received hint false bytes) fits h = HasNo-append 10 (codes "r ") (spaced (hint_text form hint) (bytes_text bytes)) (lacks 10 (codes "r ") refl) (spaced_lacks (hint_text form hint) (bytes_text bytes) (hint_lacks form 10 hint (lit< tt) fits h.numbers) (bytes_lack 10 bytes (lit< tt) h.bytes))
+record_lacks form (Received hint true bytes) fits h = HasNo-append 10 (codes "k ") (spaced (hint_text form hint) (bytes_text bytes)) (lacks 10 (codes "k ") refl) (spaced_lacks (hint_text form hint) (bytes_text bytes) (hint_lacks form 10 hint (lit< tt) fits h.numbers) (bytes_lack 10 bytes (lit< tt) h.bytes))
+record_lacks form (Noise bytes) fits h = HasNo-append 10 (codes "n ") (bytes_text bytes) (lacks 10 (codes "n ") refl) (bytes_lack 10 bytes (lit< tt) h.bytes)
+record_lacks form (User event) fits h = HasNo-append 10 (codes "u ") (event_text event) (lacks 10 (codes "u ") refl) (event_lacks event h.numbers h.bytes)
 
-pub head_lacks : (own peer : ℕ) → IsNode own → IsNode peer → HasNo 10 (head_text own peer)
-head_lacks own peer p q = HasNo-append 10 (codes "ddcap 1 ") (spaced (address_text own) (address_text peer)) (lacks 10 (codes "ddcap 1 ") refl) (spaced_lacks (address_text own) (address_text peer) (address_lacks 10 own (lit< tt) p) (address_lacks 10 peer (lit< tt) q))
+format_lacks : (format : Format) → HasNo 10 (format_text format)
+format_lacks One = lacks 10 (codes "ddcap 1 ") refl
+format_lacks Two = lacks 10 (codes "ddcap 2 ") refl
+
+pub head_lacks : (format : Format) (own peer : ℕ) → IsNode own → IsNode peer → HasNo 10 (head_text format own peer)
+head_lacks format own peer p q = HasNo-append 10 (format_text format) (spaced (address_text own) (address_text peer)) (format_lacks format) (spaced_lacks (address_text own) (address_text peer) (address_lacks 10 own (lit< tt) p) (address_lacks 10 peer (lit< tt) q))
 
 -- ---- lengths
 
@@ -70,9 +76,6 @@ bytes_short most (b ∷ bytes) some h = let len = length-encode_with lower_digit
 pub spaced_short : (a b : List ℕ) (m n : ℕ) → length a ≤ m → length b ≤ n → length (spaced a b) ≤ m + n + 1
 spaced_short a b m n p q = omega (arith, length-append a (32 ∷ b))
 
-hint_short : (form : HintForm) (hint : ℕ) → hint ≤ MAX_HINT → length (hint_text form hint) ≤ 19
-hint_short Number hint small = let short = length-decimal-le 18 hint (lit< tt) (omega arith) (omega arith) in omega arith
-
 event_short : (e : Event) → EventNumbersFit e → length (event_bytes e) ≤ MAX_MESSAGE → length (event_text e) ≤ 131079
 event_short Start h short = omega arith
 event_short Halt h short = omega arith
@@ -83,11 +86,12 @@ event_short (In link bytes) h short = let n = spaced_short (decimal link) (bytes
 event_short (Up link bytes) h short = let n = spaced_short (decimal link) (bytes_text bytes) 5 131070 (link_short link h) (bytes_short MAX_MESSAGE bytes (omega arith) short) in omega arith
 event_short (Close link) h short = let n = link_short link h in omega arith
 
-pub record_short : (form : HintForm) (r : Record) → IsRecord r → length (record_text form r) ≤ MAX_LINE
-record_short form (Sent bytes) h = let n = bytes_short MAX_UNIT bytes (omega arith) h.short in omega arith
-record_short form (Received hint false bytes) h = let n = spaced_short (hint_text form hint) (bytes_text bytes) 19 32786 (hint_short form hint h.spelling.numbers) (bytes_short MAX_UNIT bytes (omega arith) h.short) in omega arith
-record_short form (Received hint true bytes) h = let n = spaced_short (hint_text form hint) (bytes_text bytes) 19 32786 (hint_short form hint h.spelling.numbers) (bytes_short MAX_UNIT bytes (omega arith) h.short) in omega arith
-record_short form (User event) h = let n = event_short event h.spelling.numbers h.short in omega arith
+pub record_short : (form : HintForm) (r : Record) → FormFits form → IsRecord r → length (record_text form r) ≤ MAX_LINE
+record_short form (Sent bytes) fits h = let n = bytes_short MAX_UNIT bytes (omega arith) h.short in omega arith
+record_short form (Received hint false bytes) fits h = let n = spaced_short (hint_text form hint) (bytes_text bytes) 20 32786 (hint_short form hint fits h.spelling.numbers) (bytes_short MAX_UNIT bytes (omega arith) h.short) in omega arith
+record_short form (Received hint true bytes) fits h = let n = spaced_short (hint_text form hint) (bytes_text bytes) 20 32786 (hint_short form hint fits h.spelling.numbers) (bytes_short MAX_UNIT bytes (omega arith) h.short) in omega arith
+record_short form (Noise bytes) fits h = let n = bytes_short MAX_UNIT bytes (omega arith) h.short in omega arith
+record_short form (User event) fits h = let n = event_short event h.spelling.numbers h.short in omega arith
 
 pub address_short : (address : ℕ) → IsNode address → length (address_text address) ≤ 7
 address_short address h =
@@ -95,5 +99,11 @@ address_short address h =
     let node = length-decimal-le 4 (address % 1024) (lit< tt) (omega arith) (omega arith) in
     omega (arith, length-append (decimal (address / 1024)) (46 ∷ decimal (address % 1024)))
 
-pub head_short : (own peer : ℕ) → IsNode own → IsNode peer → length (head_text own peer) ≤ MAX_LINE
-head_short own peer p q = let n = spaced_short (address_text own) (address_text peer) 7 7 (address_short own p) (address_short peer q) in omega arith
+format_short : (format : Format) → length (format_text format) ≡ 8
+format_short One = refl
+format_short Two = refl
+
+pub head_short : (format : Format) (own peer : ℕ) → IsNode own → IsNode peer → length (head_text format own peer) ≤ MAX_LINE
+head_short format own peer p q =
+    let n = spaced_short (address_text own) (address_text peer) 7 7 (address_short own p) (address_short peer q) in
+    omega (arith, format_short format, length-append (format_text format) (spaced (address_text own) (address_text peer)))

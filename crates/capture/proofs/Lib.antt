@@ -3,10 +3,14 @@ pub mod NumberLaws
 pub mod AddressLaws
 pub mod BytesLaws
 pub mod DigitsLaws
+pub mod SpelledLaws
 pub mod Shown
 pub mod EventLaws
+pub mod HintLaws
+pub mod NumberedLaws
 pub mod RecordLaws
 pub mod HeadLaws
+pub mod FormatRows
 pub mod BlockLaws
 pub mod LineLaws
 pub mod SeekLaws
@@ -15,3 +19,4 @@ pub mod RangeLaws
 pub mod LackLaws
 pub mod TextLaws
 pub mod SoFarLaws
+pub mod ConvertLaws

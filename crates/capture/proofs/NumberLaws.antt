@@ -1,42 +1,45 @@
 -- Numbers: what is read is the number's one spelling, and its spelling is read.
-use Rattle.std.proofs.Common.{◌≡◌, ℕ, ◌+◌, ◌-◌, ◌*◌, ◌^◌, ◌<◌, ◌≤◌, true, false, cond, eqb, ltb, leb, not, ◌&&◌, ◌||◌, List, [], ◌∷◌, length, get_or, take, Option, Some, None, refl, sym, ap, ◌∙◌, inl, inr, arith, lit<}
+use Rattle.std.proofs.Common.{◌≡◌, ℕ, suc, ◌+◌, ◌-◌, ◌*◌, ◌^◌, ◌<◌, ◌≤◌, true, false, cond, eqb, ltb, leb, not, ◌&&◌, ◌||◌, List, [], ◌∷◌, ◌++◌, length, get_or, take, drop, Option, Some, None, refl, sym, ap, ap₂, subst, ◌∙◌, inl, inr, arith, lit<}
 use Rattle.std.specs.Str.{all_ascii_digits}
 use Rattle.std.specs.Str.Parse.{digits_value, AllDigits}
 use Rattle.std.specs.Fmt.{decimal}
 use Rattle.std.specs.Prelude.{option_and_then}
+use Rattle.std.specs.Option.{option_map}
 use Rattle.std.specs.Char.{is_ascii_digit, digit_value}
-use Rattle.std.proofs.lemmas.List.{length-take}
+use Rattle.std.proofs.Math.Seq.{drop-cons}
+use Rattle.std.proofs.lemmas.List.{length-take, get_or-take, take-append-drop}
 use Rattle.std.proofs.lemmas.Bool.{and_parts, and_from, or_cases, or_left, or_right, ltb-true, leb-true, eqb-true, lt-ltb, le-leb, lt-leb, eq-eqb, ne_eqb, false_from_ne_true, not-true, not_from_false, cases_eq}
 use Rattle.std.proofs.lemmas.Option.{cond_some}
 use Rattle.std.proofs.lemmas.Str.Parse.{IsNumeralModel, numerals_by_value, tells_all_ascii_digits, digit_from_value, digit_at}
 use Rattle.std.proofs.lemmas.Fmt.{digits_decimal, digits_value-decimal, decimal-digits_value, length-decimal-le, decimal_nonempty, first_decimal, decimal_digit}
 use Rattle.std.proofs.lemmas.Int.Digits.{digits_value-lt, digits_value_more, digits_more}
 use Rattle.std.proofs.Math.Nat.{pow-le-pow_right}
-use Rattle.capture.specs.Reading.{is_number, number_at, positive_at}
-use Rattle.capture.proofs.PartLaws.{HasNo}
+use Rattle.capture.specs.Reading.{cut_at, is_number, number_at, positive_at}
+use Rattle.capture.specs.Worded.{numbered}
+use Rattle.capture.proofs.PartLaws.{HasNo, cut_again}
 
 own : IsNumeralModel (λ ds. all_ascii_digits ds ≡ true) (digits_value 10)
 own = numerals_by_value (λ ds. all_ascii_digits ds ≡ true) tells_all_ascii_digits
 
-limit_fits : 10 ^ 18 < 2 ^ 64
+limit_fits : 10 ^ 19 < 2 ^ 64
 limit_fits = lit< tt
 
 -- the parts of the test
 pub record IsNumber (text : List ℕ) : Type 0 where
   pub digits : AllDigits 10 text
   pub some : 0 < length text
-  pub short : length text ≤ 18
+  pub short : length text ≤ 19
   pub lead : get_or text 0 0 ≡ 48 → length text ≡ 1
 
 number_parts : (text : List ℕ) → is_number text ≡ true → IsNumber text
 number_parts text h =
-    let a = and_parts (all_ascii_digits text && ltb 0 (length text) && leb (length text) 18) (not (eqb (get_or text 0 0) 48) || eqb (length text) 1) h in
-    let b = and_parts (all_ascii_digits text && ltb 0 (length text)) (leb (length text) 18) a.0 in
+    let a = and_parts (all_ascii_digits text && ltb 0 (length text) && leb (length text) 19) (not (eqb (get_or text 0 0) 48) || eqb (length text) 1) h in
+    let b = and_parts (all_ascii_digits text && ltb 0 (length text)) (leb (length text) 19) a.0 in
     let d = and_parts (all_ascii_digits text) (ltb 0 (length text)) b.0 in
     record {
       digits = own.to text d.0;
       some = ltb-true 0 (length text) d.1;
-      short = leb-true (length text) 18 b.1;
+      short = leb-true (length text) 19 b.1;
       lead = λ zeroed. elim (or_cases (not (eqb (get_or text 0 0) 48)) (eqb (length text) 1) a.1) [
         | inl other ↦ absurd (let f : eqb (get_or text 0 0) 48 ≡ false = not-true _ other in let t : eqb (get_or text 0 0) 48 ≡ true = eq-eqb _ _ zeroed in cc)
         | inr single ↦ eqb-true _ _ single
@@ -65,11 +68,11 @@ pub number_above : (most value : ℕ) (text : List ℕ) → IsNumber text → va
 unfolding number_at
 number_above most value text h e large = rw (number_tested text h, ← e, lt-leb value most large) refl
 
--- at most 18 digits are worth less than a word holds
-pub digits_fit : (digits : List ℕ) → AllDigits 10 digits → length digits ≤ 17 → digits_value 10 digits < 10 ^ 17
+-- at most 19 digits are worth less than a word holds
+pub digits_fit : (digits : List ℕ) → AllDigits 10 digits → length digits ≤ 18 → digits_value 10 digits < 10 ^ 18
 digits_fit digits h short =
     let below = digits_value-lt 10 digits h in
-    let power : 10 ^ length digits ≤ 10 ^ 17 = pow-le-pow_right {n = 10} (lit< tt) short in
+    let power : 10 ^ length digits ≤ 10 ^ 18 = pow-le-pow_right {n = 10} (lit< tt) short in
     omega arith
 
 -- a text with something other than a digit is no number
@@ -92,17 +95,23 @@ read_more value i text h lt good =
       worth = sym (digits_value_more 10 text i lt ∙ rw (← h.worth, value_is) refl);
     }
 
-pub read_fits : (value i : ℕ) (text : List ℕ) → HasRead value (take i text) → i < length text → length text ≤ 18 → value < 10 ^ 17
+pub read_fits : (value i : ℕ) (text : List ℕ) → HasRead value (take i text) → i < length text → length text ≤ 19 → value < 10 ^ 18
 read_fits value i text h lt short =
     let below = digits_fit (take i text) h.each (omega (arith, length-take i text)) in
     let worth = h.worth in
     omega arith
 
+pub read_small : (value i : ℕ) (text : List ℕ) → HasRead value (take i text) → i ≤ 18 → value < 10 ^ 18
+read_small value i text h short =
+    let below = digits_fit (take i text) h.each (omega (arith, length-take i text)) in
+    let worth = h.worth in
+    omega arith
+
 -- the whole text was read
-pub number_read : (value : ℕ) (text : List ℕ) → HasRead value text → 0 < length text → length text ≤ 18 → (get_or text 0 0 ≡ 48 → length text ≡ 1) → IsNumber text
+pub number_read : (value : ℕ) (text : List ℕ) → HasRead value text → 0 < length text → length text ≤ 19 → (get_or text 0 0 ≡ 48 → length text ≡ 1) → IsNumber text
 number_read value text h some short lead = record { digits = h.each; some = some; short = short; lead = lead }
 
-pub number_takes : (most : ℕ) (text : List ℕ) (n : ℕ) → most < 10 ^ 18 → number_at most text ≡ Some n → (text ≡ decimal n) × (n ≤ most)
+pub number_takes : (most : ℕ) (text : List ℕ) (n : ℕ) → most < 10 ^ 19 → number_at most text ≡ Some n → (text ≡ decimal n) × (n ≤ most)
 unfolding number_at
 number_takes most text n fits e =
     let c = cond_some (is_number text && leb (digits_value 10 text) most) (digits_value 10 text) n e in
@@ -114,27 +123,27 @@ number_takes most text n fits e =
     let spelled = decimal-digits_value own text (own.from text h.digits) h.some h.lead (omega arith) in
     (sym spelled ∙ ap decimal value, omega arith)
 
-decimal_is_number : (n : ℕ) → n < 10 ^ 18 → IsNumber (decimal n)
+decimal_is_number : (n : ℕ) → n < 10 ^ 19 → IsNumber (decimal n)
 decimal_is_number n fits =
     let whole = limit_fits in
     let word : n < 2 ^ 64 = omega arith in
     record {
       digits = own.to (decimal n) (digits_decimal own n word);
       some = decimal_nonempty n word;
-      short = length-decimal-le 18 n (lit< tt) fits word;
+      short = length-decimal-le 19 n (lit< tt) fits word;
       lead = λ zeroed. elim (cases_eq n 0) [
         | inl none ↦ ap (λ (k : ℕ). length (decimal k)) none ∙ ap length (decimal_digit 0 (lit< tt))
         | inr some ↦ let first = first_decimal n (omega arith) word in absurd (omega arith)
       ];
     }
 
-pub number_again : (most n : ℕ) → most < 10 ^ 18 → n ≤ most → number_at most (decimal n) ≡ Some n
+pub number_again : (most n : ℕ) → most < 10 ^ 19 → n ≤ most → number_at most (decimal n) ≡ Some n
 number_again most n fits small =
     let whole = limit_fits in
     let word : n < 2 ^ 64 = omega arith in
     sym (number_some most n (decimal n) (decimal_is_number n (omega arith)) (sym (digits_value-decimal own n word)) small)
 
-pub positive_takes : (most : ℕ) (text : List ℕ) (n : ℕ) → most < 10 ^ 18 → positive_at most text ≡ Some n → (text ≡ decimal n) × (n ≤ most) × (1 ≤ n)
+pub positive_takes : (most : ℕ) (text : List ℕ) (n : ℕ) → most < 10 ^ 19 → positive_at most text ≡ Some n → (text ≡ decimal n) × (n ≤ most) × (1 ≤ n)
 unfolding positive_at
 positive_takes most text n fits e = goes (number_at most text) (λ m f. number_takes most text m fits f) e
   where
@@ -147,7 +156,7 @@ positive_takes most text n fits e = goes (number_at most text) (λ m f. number_t
         let same : m ≡ n = c.1 in
         (p.0 ∙ ap decimal same, omega arith, omega arith)
 
-pub positive_again : (most n : ℕ) → most < 10 ^ 18 → n ≤ most → 1 ≤ n → positive_at most (decimal n) ≡ Some n
+pub positive_again : (most n : ℕ) → most < 10 ^ 19 → n ≤ most → 1 ≤ n → positive_at most (decimal n) ≡ Some n
 unfolding positive_at
 positive_again most n fits small some = rw (number_again most n fits small, lt-ltb 0 n some) refl
 
@@ -160,3 +169,24 @@ digits_lack mark (c ∷ ds) low h =
 
 pub decimal_lacks : (mark n : ℕ) → mark < 48 → n < 2 ^ 64 → HasNo mark (decimal n)
 decimal_lacks mark n low fits = digits_lack mark (decimal n) low (own.to (decimal n) (digits_decimal own n fits))
+
+-- ---- a number before a space
+
+-- its first digit
+pub first_read : (text : List ℕ) → 0 < length text → is_ascii_digit (get_or text 0 0) ≡ true → HasRead (get_or text 0 0 - 48) (take 1 text)
+first_read text some good =
+    let same : 0 * 10 + (get_or text 0 0 - 48) ≡ get_or text 0 0 - 48 = omega arith in
+    subst (λ (value : ℕ). HasRead value (take 1 text)) same (read_more 0 0 text (record { each = tt; worth = refl }) some good)
+
+-- all digits were read as far as a space
+pub number_stands : (most value : ℕ) (text : List ℕ) (at : ℕ) → HasRead value (take at text) → 1 ≤ at → at ≤ 18 → at < length text → get_or text at 0 ≡ 32
+    → (get_or text 0 0 ≡ 48 → ⊥) → value ≤ most → Some (value, drop (at + 1) text) ≡ numbered most (cut_at 32 text)
+number_stands most value text at read some short lt space lead small =
+    let long : length (take at text) ≡ at = omega (arith, length-take at text) in
+    let next : suc at ≡ at + 1 = omega arith in
+    let rest : drop at text ≡ 32 ∷ drop (at + 1) text = drop-cons text at 0 lt ∙ ap₂ (λ (b k : ℕ). b ∷ drop k text) space next in
+    let whole : text ≡ take at text ++ 32 ∷ drop (at + 1) text = sym (take-append-drop at text) ∙ ap (λ (t : List ℕ). take at text ++ t) rest in
+    let cut = ap (cut_at 32) whole ∙ cut_again 32 (take at text) (drop (at + 1) text) (digits_lack 32 (take at text) (lit< tt) read.each) in
+    let first = get_or-take at text 0 0 some in
+    let is = number_read value (take at text) read (omega arith) (omega arith) (λ zeroed. absurd (lead (sym first ∙ zeroed))) in
+    sym (ap (numbered most) cut ∙ ap (option_map (λ (number : ℕ). (number, drop (at + 1) text))) (sym (number_some most value (take at text) is read.worth small)))

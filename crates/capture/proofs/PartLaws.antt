@@ -49,7 +49,7 @@ pub cut_again : (mark : ℕ) (a b : List ℕ) → HasNo mark a → cut_at mark (
 cut_again mark [] b h = rw (eq-eqb mark mark refl) refl
 cut_again mark (x ∷ a) b h = rw (ne_eqb x mark h.0, cut_again mark a b h.1) refl
 
-map_some : {A B : Type 0} (f : A → B) (o : Option A) (y : B) → option_map f o ≡ Some y → (x : A) × (o ≡ Some x) × (f x ≡ y)
+pub map_some : {A B : Type 0} (f : A → B) (o : Option A) (y : B) → option_map f o ≡ Some y → (x : A) × (o ≡ Some x) × (f x ≡ y)
 map_some f None y e = absurd cc
 map_some f (Some x) y e = (x, refl, same_Some (f x) y e)
 

@@ -7,7 +7,7 @@ use Rattle.capture.specs.declared.limit.TheConstants.{MAX_HINT, MAX_UNIT, MAX_ME
 use Rattle.capture.specs.declared.event.Event.{Event}
 use Rattle.capture.specs.declared.event.Event.TheVariants.{In, Up}
 use Rattle.capture.specs.declared.record.Record.{Record}
-use Rattle.capture.specs.declared.record.Record.TheVariants.{Sent, Received}
+use Rattle.capture.specs.declared.record.Record.TheVariants.{Sent, Received, Noise}
 use Rattle.capture.specs.Range.{IsEvent, IsRecord}
 
 length_tested : (slice bytes : List ℕ) (most : ℕ) → slice ≡ bytes → IsTrue (leb (length slice) most) → length bytes ≤ most
@@ -32,6 +32,10 @@ message_tested event slice bytes link (inr is) e fits some small = rw is (up_tes
 
 pub sent_tested : (r : Record) (slice bytes : List ℕ) → r ≡ Sent bytes → slice ≡ bytes → IsBytes bytes → IsTrue (leb (length slice) MAX_UNIT) ↔ IsRecord r
 sent_tested r slice bytes is e fits =
+    rw is (λ t. record { spelling = record { numbers = tt; bytes = fits }; short = length_tested slice bytes MAX_UNIT e t }, λ h. length_test slice bytes MAX_UNIT e h.short)
+
+pub noise_tested : (r : Record) (slice bytes : List ℕ) → r ≡ Noise bytes → slice ≡ bytes → IsBytes bytes → IsTrue (leb (length slice) MAX_UNIT) ↔ IsRecord r
+noise_tested r slice bytes is e fits =
     rw is (λ t. record { spelling = record { numbers = tt; bytes = fits }; short = length_tested slice bytes MAX_UNIT e t }, λ h. length_test slice bytes MAX_UNIT e h.short)
 
 pub received_tested : (r : Record) (slice bytes : List ℕ) (hint : ℕ) (kept : Bool) → r ≡ Received hint kept bytes → slice ≡ bytes → IsBytes bytes → hint ≤ MAX_HINT → IsTrue (leb (length slice) MAX_UNIT) ↔ IsRecord r

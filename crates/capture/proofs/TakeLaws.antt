@@ -7,10 +7,11 @@ use Rattle.std.proofs.lemmas.List.{append_assoc}
 use Rattle.capture.specs.declared.limit.TheConstants.{MAX_RECORDS}
 use Rattle.capture.specs.declared.fault.Departure.{Departure}
 use Rattle.capture.specs.declared.fault.Departure.TheVariants.{Syntax, TooLong, TooMany}
-use Rattle.capture.specs.declared.hint.HintForm.TheVariants.{Number}
+use Rattle.capture.specs.declared.hint.HintForm.{HintForm}
+use Rattle.capture.specs.declared.format.Format.{Format}
 use Rattle.capture.specs.declared.record.Record.{Record}
 use Rattle.capture.specs.Text.{record_text, ended}
-use Rattle.capture.specs.Range.{IsRecord, record_bytes, most_bytes}
+use Rattle.capture.specs.Range.{FormFits, IsRecord, record_bytes, most_bytes}
 use Rattle.capture.specs.Departing.{first_line, IsWhole, LineDeparts, WordsDepart, RecordDeparts, HeadWordsDepart, HeadDeparts}
 use Rattle.capture.specs.Reading.{record_at, head_at}
 use Rattle.capture.proofs.BytesLaws.{limited}
@@ -46,11 +47,11 @@ whole-append unread rest whole =
 
 -- ---- its words
 
-record_from : (text : List ℕ) (r : Record) → IsRecordOf Number text r → IsRecord r × (text ≡ record_text Number r)
-record_from text r h = (record { spelling = record { numbers = h.1; bytes = h.2 }; short = h.3 }, h.0)
+record_from : (form : HintForm) (text : List ℕ) (r : Record) → IsRecordOf form text r → IsRecord r × (text ≡ record_text form r)
+record_from form text r h = (record { spelling = record { numbers = h.1; bytes = h.2 }; short = h.3 }, h.0)
 
-pub record_ok : (text : List ℕ) (r : Record) → record_at Number text ≡ Ok r → IsRecord r × (text ≡ record_text Number r)
-record_ok text r e = record_from text r (subst (Shows (IsRecordOf Number text) (IsLongRecordOf Number text)) e (record_shows Number text))
+pub record_ok : (form : HintForm) (text : List ℕ) (r : Record) → FormFits form → record_at form text ≡ Ok r → IsRecord r × (text ≡ record_text form r)
+record_ok form text r fits e = record_from form text r (subst (Shows (IsRecordOf form text) (IsLongRecordOf form text)) e (record_shows form text fits))
 
 -- neither `Ok` nor `TooLong` is `Syntax`
 limited_apart : (most : ℕ) (bytes : List ℕ) (r : Record) → limited most bytes r ≡ Err Syntax → ⊥
@@ -60,34 +61,34 @@ limited_apart most bytes r e = by_test (leb (length bytes) most) e
     by_test true h = cc
     by_test false h = cc
 
-pub words_depart : (kind : Departure) (text : List ℕ) → record_at Number text ≡ Err kind → WordsDepart kind text
-words_depart Syntax text e = λ r h spelled. limited_apart (most_bytes r) (record_bytes r) r (sym (record_again Number r h) ∙ ap (record_at Number) (sym spelled) ∙ e)
-words_depart TooLong text e =
-    let shown = subst (Shows (IsRecordOf Number text) (IsLongRecordOf Number text)) e (record_shows Number text) in
+pub words_depart : (form : HintForm) (kind : Departure) (text : List ℕ) → FormFits form → record_at form text ≡ Err kind → WordsDepart form kind text
+words_depart form Syntax text fits e = λ r h spelled. limited_apart (most_bytes r) (record_bytes r) r (sym (record_again form r fits h) ∙ ap (record_at form) (sym spelled) ∙ e)
+words_depart form TooLong text fits e =
+    let shown = subst (Shows (IsRecordOf form text) (IsLongRecordOf form text)) e (record_shows form text fits) in
     long_from shown.0 shown.1
   where
-    long_from : (r : Record) → IsLongRecordOf Number text r → WordsDepart TooLong text
+    long_from : (r : Record) → IsLongRecordOf form text r → WordsDepart form TooLong text
     long_from r h = (r, record { numbers = h.1; bytes = h.2 }, (λ short. let long = h.3 in absurd (omega arith)), h.0)
-words_depart TooMany text e = subst (Shows (IsRecordOf Number text) (IsLongRecordOf Number text)) e (record_shows Number text)
+words_depart form TooMany text fits e = subst (Shows (IsRecordOf form text) (IsLongRecordOf form text)) e (record_shows form text fits)
 
 -- ---- departures of what was to come
 
-pub record_departs : (kind : Departure) (unread : List ℕ) (len taken : ℕ) (before after : Option (List ℕ)) → taken < MAX_RECORDS + 1 → 1 ≤ taken → IsWhole unread → len ≡ length (first_line unread)
-    → Keeps before (prepend_known unread after) → record_at Number (take len unread) ≡ Err kind → IfSome before (RecordDeparts (taken - 1) kind)
-record_departs kind unread len taken before after lt some whole e kept read =
-    let departs = words_depart kind (first_line unread) (ap (record_at Number) (sym (line_is unread len whole e)) ∙ read) in
-    if_known before after unread (RecordDeparts (taken - 1) kind) kept (λ rest.
+pub record_departs : (form : HintForm) (kind : Departure) (unread : List ℕ) (len taken : ℕ) (before after : Option (List ℕ)) → FormFits form → taken < MAX_RECORDS + 1 → 1 ≤ taken → IsWhole unread → len ≡ length (first_line unread)
+    → Keeps before (prepend_known unread after) → record_at form (take len unread) ≡ Err kind → IfSome before (RecordDeparts form (taken - 1) kind)
+record_departs form kind unread len taken before after fits lt some whole e kept read =
+    let departs = words_depart form kind (first_line unread) fits (ap (record_at form) (sym (line_is unread len whole e)) ∙ read) in
+    if_known before after unread (RecordDeparts form (taken - 1) kind) kept (λ rest.
     let same = whole-append unread rest whole in
-    inr (omega arith, same.0, subst (WordsDepart kind) (sym same.1) departs))
+    inr (omega arith, same.0, subst (WordsDepart form kind) (sym same.1) departs))
 
-pub line_departs : (kind : Departure) (taken : ℕ) (bytes : List ℕ) → 1 ≤ taken → LineDeparts (MAX_RECORDS + 1) taken kind bytes → RecordDeparts (taken - 1) kind bytes
-line_departs TooMany taken bytes some h = let le = h.0 in inl (omega arith, h.1)
-line_departs TooLong taken bytes some h = let lt = h.0 in inl (omega arith, h.1)
-line_departs Syntax taken bytes some h = let lt = h.0 in inl (omega arith, h.1, h.2, h.3)
+pub line_departs : (form : HintForm) (kind : Departure) (taken : ℕ) (bytes : List ℕ) → 1 ≤ taken → LineDeparts (MAX_RECORDS + 1) taken kind bytes → RecordDeparts form (taken - 1) kind bytes
+line_departs form TooMany taken bytes some h = let le = h.0 in inl (omega arith, h.1)
+line_departs form TooLong taken bytes some h = let lt = h.0 in inl (omega arith, h.1)
+line_departs form Syntax taken bytes some h = let lt = h.0 in inl (omega arith, h.1, h.2, h.3)
 
-pub lines_depart : (kind : Departure) (taken : ℕ) (before : Option (List ℕ)) → 1 ≤ taken → IfSome before (LineDeparts (MAX_RECORDS + 1) taken kind) → IfSome before (RecordDeparts (taken - 1) kind)
-lines_depart kind taken None some h = tt
-lines_depart kind taken (Some bytes) some h = line_departs kind taken bytes some h
+pub lines_depart : (form : HintForm) (kind : Departure) (taken : ℕ) (before : Option (List ℕ)) → 1 ≤ taken → IfSome before (LineDeparts (MAX_RECORDS + 1) taken kind) → IfSome before (RecordDeparts form (taken - 1) kind)
+lines_depart form kind taken None some h = tt
+lines_depart form kind taken (Some bytes) some h = line_departs form kind taken bytes some h
 
 -- ---- the head
 
@@ -104,7 +105,7 @@ pub no_head : (unread : List ℕ) (len : ℕ) (before after : Option (List ℕ))
     → head_at (take len unread) ≡ None → IfSome before (HeadDeparts Syntax)
 no_head unread len before after whole e kept read =
     let none : head_at (first_line unread) ≡ None = ap head_at (sym (line_is unread len whole e)) ∙ read in
-    let departs : HeadWordsDepart Syntax (first_line unread) = λ own peer p q spelled. absurd (let some : None ≡ Some (own, peer) = sym none ∙ ap head_at spelled ∙ head_again own peer p q in cc) in
+    let departs : HeadWordsDepart Syntax (first_line unread) = λ format own peer p q spelled. absurd (let some : None ≡ Some (format, own, peer) = sym none ∙ ap head_at spelled ∙ head_again format own peer p q in cc) in
     if_known before after unread (HeadDeparts Syntax) kept (λ rest.
     let same = whole-append unread rest whole in
     inr (same.0, subst (HeadWordsDepart Syntax) (sym same.1) departs))

@@ -4,7 +4,8 @@ use Rattle.capture.specs.declared.limit.TheConstants.{MAX_LINE, MAX_RECORDS}
 use Rattle.capture.specs.declared.fault.Departure.{Departure}
 use Rattle.capture.specs.declared.fault.Departure.TheVariants.{Syntax, TooLong, TooMany}
 use Rattle.capture.specs.declared.record.Record.{Record}
-use Rattle.capture.specs.declared.hint.HintForm.TheVariants.{Number}
+use Rattle.capture.specs.declared.hint.HintForm.{HintForm}
+use Rattle.capture.specs.declared.format.Format.{Format}
 use Rattle.capture.specs.Text.{record_text, head_text}
 use Rattle.capture.specs.Range.{IsNode, IsShort, HasSpelling}
 
@@ -30,23 +31,23 @@ LineDeparts most taken TooMany bytes = (most ≤ taken) × (bytes ≢ [])
 LineDeparts most taken TooLong bytes = (taken < most) × (MAX_LINE < length (first_line bytes))
 LineDeparts most taken Syntax bytes = (taken < most) × (bytes ≢ []) × (length (first_line bytes) ≤ MAX_LINE) × (has_lf bytes ≡ false)
 
--- The words of a line depart: they are no record's, of any length of BYTES; or they are a record's but for too long a BYTES.
-abbrev pub WordsDepart : Departure → List ℕ → Type 0
-WordsDepart TooMany line = ⊥
-WordsDepart TooLong line = (r : Record) × HasSpelling r × ¬ (IsShort r) × (line ≡ record_text Number r)
-WordsDepart Syntax line = (r : Record) → HasSpelling r → line ≡ record_text Number r → ⊥
+-- The words of a line depart: they are no record's with such a hint, of any length of BYTES; or they are a record's but for too long a BYTES.
+abbrev pub WordsDepart : HintForm → Departure → List ℕ → Type 0
+WordsDepart form TooMany line = ⊥
+WordsDepart form TooLong line = (r : Record) × HasSpelling r × ¬ (IsShort r) × (line ≡ record_text form r)
+WordsDepart form Syntax line = (r : Record) → HasSpelling r → line ≡ record_text form r → ⊥
 
--- The first line of what is to come departs, after this many records.
-abbrev pub RecordDeparts : ℕ → Departure → List ℕ → Type 0
-RecordDeparts records kind bytes =
+-- The first line of what is to come departs, after this many records, where a hint has this form.
+abbrev pub RecordDeparts : HintForm → ℕ → Departure → List ℕ → Type 0
+RecordDeparts form records kind bytes =
     LineDeparts MAX_RECORDS records kind bytes
-    ⊎ ((records < MAX_RECORDS) × IsWhole bytes × WordsDepart kind (first_line bytes))
+    ⊎ ((records < MAX_RECORDS) × IsWhole bytes × WordsDepart form kind (first_line bytes))
 
--- The words of a head depart: they are no head's.
+-- The words of a head depart: they are no head's, in either format.
 abbrev pub HeadWordsDepart : Departure → List ℕ → Type 0
 HeadWordsDepart TooMany line = ⊥
 HeadWordsDepart TooLong line = ⊥
-HeadWordsDepart Syntax line = (own peer : ℕ) → IsNode own → IsNode peer → line ≡ head_text own peer → ⊥
+HeadWordsDepart Syntax line = (format : Format) (own peer : ℕ) → IsNode own → IsNode peer → line ≡ head_text format own peer → ⊥
 
 -- The first line of a text departs from a head: it is too long; or without its LF, as in a text with no line; or no head's.
 abbrev pub HeadDeparts : Departure → List ℕ → Type 0

@@ -5,7 +5,7 @@ use Rattle.capture.specs.declared.entry.Entry.{Entry}
 use Rattle.capture.specs.declared.entry.Entry.TheVariants as entries
 use Rattle.capture.specs.declared.event.Event.TheVariants as events
 use Rattle.capture.specs.declared.record.Record.{Record}
-use Rattle.capture.specs.declared.record.Record.TheVariants.{Sent, Received, User}
+use Rattle.capture.specs.declared.record.Record.TheVariants.{Sent, Received, Noise, User}
 use Rattle.capture.specs.declared.fault.CaptureFault.{CaptureFault}
 use Rattle.capture.specs.declared.fault.Departure.{Departure}
 use Rattle.capture.specs.declared.fault.Departure.TheVariants.{Syntax}
@@ -15,6 +15,7 @@ use Rattle.capture.specs.Reading.{◌>>=◌, bytes_at}
 abbrev pub record_with : Entry → List ℕ → Record
 record_with entries.Sent bytes = Sent bytes
 record_with (entries.Received kept hint) bytes = Received hint kept bytes
+record_with entries.Noise bytes = Noise bytes
 record_with entries.Start bytes = User events.Start
 record_with entries.Halt bytes = User events.Halt
 record_with (entries.Open link) bytes = User (events.Open link)
@@ -28,6 +29,7 @@ record_with (entries.Close link) bytes = User (events.Close link)
 abbrev pub limit_of : Entry → Option ℕ
 limit_of entries.Sent = Some MAX_UNIT
 limit_of (entries.Received kept hint) = Some MAX_UNIT
+limit_of entries.Noise = Some MAX_UNIT
 limit_of entries.Start = None
 limit_of entries.Halt = None
 limit_of (entries.Open link) = None

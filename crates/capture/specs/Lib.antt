@@ -9,5 +9,9 @@ pub mod Reader
 pub mod SoFar
 pub mod Captured
 pub mod Writing
+pub mod PageBlock
+pub mod Paged
+pub mod Converting
 pub mod Entries
 pub mod Worded
+pub mod Spelled

@@ -5,10 +5,11 @@ use Rattle.capture.specs.declared.fault.LineFault.{LineFault}
 use Rattle.capture.specs.declared.fault.LineFault.TheVariants.{Departs, Read}
 use Rattle.capture.specs.Departing.{first_line, IsWhole, LineDeparts}
 
--- how many lines were taken, and the bytes that were read ahead
+-- how many lines were taken, the bytes that were read ahead, and the line that was taken last
 pub record LineState : Type 0 where
   pub taken : ℕ
   pub unread : List ℕ
+  pub last : List ℕ
 
 -- what is to come: what was read ahead, and then what the reader has left
 abbrev pub to_come : List ℕ → Option (List ℕ) → Option (List ℕ)

@@ -1,13 +1,16 @@
 -- What has a line: numbers in their ranges, and no more bytes than a line may hold.
-use Rattle.std.specs.Prelude.{◌≡◌, ℕ, ◌/◌, ◌%◌, ◌≤◌, ◌++◌, List, [], length}
+use Rattle.std.specs.Prelude.{◌≡◌, ℕ, ◌/◌, ◌%◌, ◌≤◌, List, [], length}
 use Rattle.std.specs.List.{AllByRecursion}
 use Rattle.hex.specs.Hex.{IsBytes}
-use Rattle.capture.specs.declared.limit.TheConstants.{MAX_HINT, MAX_LINK, MAX_UNIT, MAX_MESSAGE, MAX_RECORDS}
+use Rattle.capture.specs.declared.limit.TheConstants.{MAX_HINT, MAX_MARK, MAX_LINK, MAX_UNIT, MAX_MESSAGE, MAX_RECORDS}
 use Rattle.capture.specs.declared.event.Event.{Event}
 use Rattle.capture.specs.declared.event.Event.TheVariants.{Start, Halt, Open, Accept, Reject, In, Up, Close}
 use Rattle.capture.specs.declared.record.Record.{Record}
-use Rattle.capture.specs.declared.record.Record.TheVariants.{Sent, Received, User}
-use Rattle.capture.specs.Text.{head_line, record_lines}
+use Rattle.capture.specs.declared.record.Record.TheVariants.{Sent, Received, Noise, User}
+use Rattle.capture.specs.declared.hint.HintForm.{HintForm}
+use Rattle.capture.specs.declared.hint.HintForm.TheVariants.{Number, Distance}
+use Rattle.capture.specs.declared.format.Format.{Format}
+use Rattle.capture.specs.Text.{capture_text}
 
 -- the address of a link
 pub record IsLink (link : ℕ) : Type 0 where
@@ -46,18 +49,21 @@ event_bytes (Close link) = []
 abbrev pub NumbersFit : Record → Type 0
 NumbersFit (Sent bytes) = Unit {0}
 NumbersFit (Received hint kept bytes) = hint ≤ MAX_HINT
+NumbersFit (Noise bytes) = Unit {0}
 NumbersFit (User event) = EventNumbersFit event
 
--- the unit or the message of a record
+-- the unit, the noise or the message of a record
 abbrev pub record_bytes : Record → List ℕ
 record_bytes (Sent bytes) = bytes
 record_bytes (Received hint kept bytes) = bytes
+record_bytes (Noise bytes) = bytes
 record_bytes (User event) = event_bytes event
 
 -- how many bytes the line of a record may hold
 abbrev pub most_bytes : Record → ℕ
 most_bytes (Sent bytes) = MAX_UNIT
 most_bytes (Received hint kept bytes) = MAX_UNIT
+most_bytes (Noise bytes) = MAX_UNIT
 most_bytes (User event) = MAX_MESSAGE
 
 -- a record that a line could spell, were BYTES of any length allowed
@@ -80,6 +86,11 @@ pub record IsEvent (event : Event) : Type 0 where
   pub bytes : IsBytes (event_bytes event)
   pub short : length (event_bytes event) ≤ MAX_MESSAGE
 
+-- a mark is one more than some hint, or 0
+abbrev pub FormFits : HintForm → Type 0
+FormFits Number = Unit {0}
+FormFits (Distance mark) = mark ≤ MAX_MARK
+
 -- a head, and records that a text may hold
 pub record IsCapture (own peer : ℕ) (records : List Record) : Type 0 where
   pub own_fits : IsNode own
@@ -87,7 +98,12 @@ pub record IsCapture (own peer : ℕ) (records : List Record) : Type 0 where
   pub each : AllByRecursion IsRecord records
   pub few : length records ≤ MAX_RECORDS
 
--- these bytes are the text of this head and these records
-pub record IsText (own peer : ℕ) (records : List Record) (bytes : List ℕ) : Type 0 where
+-- these bytes are the text of this head and these records, in this format
+pub record IsTextIn (format : Format) (own peer : ℕ) (records : List Record) (bytes : List ℕ) : Type 0 where
   pub fits : IsCapture own peer records
-  pub spelled : bytes ≡ head_line own peer ++ record_lines records
+  pub spelled : bytes ≡ capture_text format own peer records
+
+-- they are, in one of the formats
+pub record IsText (own peer : ℕ) (records : List Record) (bytes : List ℕ) : Type 0 where
+  pub format : Format
+  pub is_text : IsTextIn format own peer records bytes

@@ -8,18 +8,22 @@ use Rattle.capture.specs.declared.fault.CaptureFault.TheVariants.{Departs, Read,
 use Rattle.capture.specs.declared.phase.Phase.{Phase}
 use Rattle.capture.specs.declared.phase.Phase.TheVariants as phases
 use Rattle.capture.specs.declared.record.Record.{Record}
-use Rattle.capture.specs.Text.{head_line, record_line}
+use Rattle.capture.specs.declared.hint.HintForm.{HintForm}
+use Rattle.capture.specs.Text.{head_line, record_line, first_form, form_after, format_of}
 use Rattle.capture.specs.Range.{IsNode, IsRecord}
 use Rattle.capture.specs.Departing.{HeadDeparts, RecordDeparts}
-use Rattle.capture.specs.Lines.{LineState, to_come}
+use Rattle.capture.specs.Lines.{to_come}
 
--- the head, the count of records so far, whether more may come, the bytes read ahead, and those of the record that `advance` read last
+-- the head, the form of the next hint, the count of records so far, whether more may come, the bytes read ahead, and the line and the bytes of
+-- the record that `advance` read last
 pub record CaptureState : Type 0 where
   pub own : ℕ
   pub peer : ℕ
+  pub form : HintForm
   pub records : ℕ
   pub phase : Phase
   pub unread : List ℕ
+  pub line : List ℕ
   pub bytes : List ℕ
 
 -- A fault names the line at hand, by its number, and says how the first line of what was to come departs.
@@ -33,21 +37,29 @@ FaultShows departs number before Failed = ⊥
 abbrev pub Opens : Option (List ℕ) → Option (List ℕ) → Result CaptureState CaptureFault → Type 0
 Opens before after (Ok state) =
     IsNode state.own × IsNode state.peer × (state.records ≡ 0) × (state.phase ≡ phases.Reading)
-    × Consumes before (to_come state.unread after) (head_line state.own state.peer)
+    × Consumes before (to_come state.unread after) (head_line (format_of state.form) state.own state.peer)
+    × (state.form ≡ first_form (format_of state.form))
 Opens before after (Err fault) = FaultShows HeadDeparts 1 before fault
 
+-- so many lines were taken, and the next hint has this form
+pub record Turn : Type 0 where
+  pub form : HintForm
+  pub taken : ℕ
+
 -- The lines taken and the bytes to come, before and after one record's turn.
-abbrev pub TakesRecord : LineState → LineState → Option (List ℕ) → Option (List ℕ) → Result (Option Record) CaptureFault → Type 0
-TakesRecord old new before after (Ok (Some r)) =
-    IsRecord r × (old.taken ≤ MAX_RECORDS) × (new.taken ≡ old.taken + 1) × Consumes before after (record_line r)
-TakesRecord old new before after (Ok None) = IsAtEnd before × (new.taken ≡ old.taken)
-TakesRecord old new before after (Err fault) = FaultShows (RecordDeparts (old.taken - 1)) (old.taken + 1) before fault × (new.taken ≡ old.taken)
+abbrev pub TakesRecord : Turn → ℕ → Option (List ℕ) → Option (List ℕ) → Result (Option Record) CaptureFault → Type 0
+TakesRecord turn taken before after (Ok (Some r)) =
+    IsRecord r × (turn.taken ≤ MAX_RECORDS) × (taken ≡ turn.taken + 1) × Consumes before after (record_line turn.form r)
+TakesRecord turn taken before after (Ok None) = IsAtEnd before × (taken ≡ turn.taken)
+TakesRecord turn taken before after (Err fault) =
+    FaultShows (RecordDeparts turn.form (turn.taken - 1)) (turn.taken + 1) before fault × (taken ≡ turn.taken)
 
 -- What `next` gives while more may come: a record, whose line was the first of what was to come; the end, where
 -- nothing was to come; or a fault of the line at hand.
 abbrev pub NextGives : CaptureState → CaptureState → Option (List ℕ) → Option (List ℕ) → Result (Option Record) CaptureFault → Type 0
 NextGives old new before after (Ok (Some r)) =
-    IsRecord r × (old.records < MAX_RECORDS) × (new.records ≡ old.records + 1) × (new.phase ≡ phases.Reading) × Consumes before after (record_line r)
-NextGives old new before after (Ok None) = IsAtEnd before × (new.records ≡ old.records) × (new.phase ≡ phases.Ended)
+    IsRecord r × (old.records < MAX_RECORDS) × (new.records ≡ old.records + 1) × (new.phase ≡ phases.Reading) × Consumes before after (record_line old.form r)
+    × (new.form ≡ form_after old.form r)
+NextGives old new before after (Ok None) = IsAtEnd before × (new.records ≡ old.records) × (new.phase ≡ phases.Ended) × (new.form ≡ old.form)
 NextGives old new before after (Err fault) =
-    FaultShows (RecordDeparts old.records) (old.records + 2) before fault × (new.records ≡ old.records) × (new.phase ≡ phases.Failed)
+    FaultShows (RecordDeparts old.form old.records) (old.records + 2) before fault × (new.records ≡ old.records) × (new.phase ≡ phases.Failed)

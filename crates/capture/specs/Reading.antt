@@ -1,5 +1,5 @@
 -- Reading the words of a line from left to right, with the first departure that is met.
-use Rattle.std.specs.Prelude.{◌≡◌, ℕ, ◌+◌, ◌*◌, ◌==◌, ◌&&◌, ◌||◌, nat_le, nat_lt, not, Bool, true, false, if◌then◌else◌, List, [], ◌∷◌, length, codes, Option, Some, None, option_and_then, option_map, Result, Ok, Err, slice_index}
+use Rattle.std.specs.Prelude.{◌≡◌, ℕ, ◌+◌, ◌-◌, ◌*◌, ◌==◌, ◌&&◌, ◌||◌, nat_le, nat_lt, not, Bool, true, false, if◌then◌else◌, List, [], ◌∷◌, length, codes, Option, Some, None, option_and_then, option_map, Result, Ok, Err, slice_index}
 use Rattle.std.specs.Str.{all_ascii_digits, bytes_eq}
 use Rattle.std.specs.Str.Parse.{digits_value}
 use Rattle.std.specs.List.{list_all}
@@ -8,9 +8,12 @@ use Rattle.capture.specs.declared.limit.TheConstants.{MAX_HINT, MAX_LINK, MAX_UN
 use Rattle.capture.specs.declared.event.Event.{Event}
 use Rattle.capture.specs.declared.event.Event.TheVariants.{Start, Halt, Open, Accept, Reject, In, Up, Close}
 use Rattle.capture.specs.declared.record.Record.{Record}
-use Rattle.capture.specs.declared.record.Record.TheVariants.{Sent, Received, User}
+use Rattle.capture.specs.declared.record.Record.TheVariants.{Sent, Received, Noise, User}
 use Rattle.capture.specs.declared.hint.HintForm.{HintForm}
-use Rattle.capture.specs.declared.hint.HintForm.TheVariants.{Number}
+use Rattle.capture.specs.declared.hint.HintForm.TheVariants.{Number, Distance}
+use Rattle.capture.specs.declared.format.Format.{Format}
+use Rattle.capture.specs.declared.format.Format.TheVariants.{One, Two}
+use Rattle.capture.specs.Text.{format_text}
 use Rattle.capture.specs.declared.fault.Departure.{Departure}
 use Rattle.capture.specs.declared.fault.Departure.TheVariants.{Syntax, TooLong}
 use Rattle.capture.specs.declared.fault.PartFault.{PartFault}
@@ -49,9 +52,9 @@ abbrev pub cut_at : ℕ → List ℕ → Option (List ℕ × List ℕ)
 cut_at mark [] = None
 cut_at mark (b ∷ text) = if b == mark then Some ([], text) else option_map (with_first b) (cut_at mark text)
 
--- decimal digits without a leading zero, at most 18
+-- decimal digits without a leading zero, at most 19
 abbrev pub is_number : List ℕ → Bool
-is_number text = all_ascii_digits text && nat_lt 0 (length text) && nat_le (length text) 18 && (not (slice_index text 0 == 48) || length text == 1)
+is_number text = all_ascii_digits text && nat_lt 0 (length text) && nat_le (length text) 19 && (not (slice_index text 0 == 48) || length text == 1)
 
 -- a number of at most `most`
 unfoldable pub number_at : ℕ → List ℕ → Option ℕ
@@ -95,9 +98,23 @@ bytes_at most text = do
   bytes ← must (any_bytes_at text)
   if nat_le (length bytes) most then Ok bytes else Err TooLong
 
+-- what is read where there is something, or else the rest of the cases
+abbrev pub or_else : {A B : Type 0} → Option A → (A → B) → B → B
+or_else (Some x) read others = read x
+or_else None read others = others
+
+-- a hint at the mark or above it, by its distance
+unfoldable pub hint_above : ℕ → List ℕ → Option ℕ
+hint_above mark text = option_and_then (λ distance. if nat_le (mark + distance) MAX_HINT then Some (mark + distance) else None) (number_at MAX_HINT text)
+
+-- a hint below the mark, by its distance
+unfoldable pub hint_below : ℕ → List ℕ → Option ℕ
+hint_below mark text = option_map (λ distance. mark - distance) (positive_at mark text)
+
 -- a hint
 unfoldable pub hint_at : HintForm → List ℕ → Option ℕ
 hint_at Number text = number_at MAX_HINT text
+hint_at (Distance mark) text = or_else (after (codes "-") text) (hint_below mark) (hint_above mark text)
 
 -- two link addresses
 unfoldable pub links_at : List ℕ → Result (ℕ × ℕ) Departure
@@ -123,11 +140,6 @@ receipt_at form kept text = do
   bytes ← bytes_at MAX_UNIT parts.1
   Ok (Received hint kept bytes)
 
--- what is read where there is something, or else the rest of the cases
-abbrev pub or_else : {A B : Type 0} → Option A → (A → B) → B → B
-or_else (Some x) read others = read x
-or_else None read others = others
-
 -- an event of a link that carries no message
 unfoldable pub link_event_at : List ℕ → Result Event Departure
 link_event_at text =
@@ -152,13 +164,25 @@ record_at form text =
     or_else (after (codes "s ") text) (λ rest. bytes_at MAX_UNIT rest >>= λ bytes. Ok (Sent bytes))
     (or_else (after (codes "r ") text) (λ rest. receipt_at form false rest)
     (or_else (after (codes "k ") text) (λ rest. receipt_at form true rest)
+    (or_else (after (codes "n ") text) (λ rest. bytes_at MAX_UNIT rest >>= λ bytes. Ok (Noise bytes))
     (or_else (after (codes "u ") text) (λ rest. event_at rest >>= λ event. Ok (User event))
-    (Err Syntax))))
+    (Err Syntax)))))
 
--- the head
-unfoldable pub head_at : List ℕ → Option (ℕ × ℕ)
-head_at text = option_and_then (λ rest.
+-- the two addresses of a head
+unfoldable pub nodes_at : List ℕ → Option (ℕ × ℕ)
+nodes_at text =
     option_and_then (λ parts.
     option_and_then (λ own.
     option_and_then (λ peer. Some (own, peer))
-    (address_at parts.1)) (address_at parts.0)) (cut_at 32 rest)) (after (codes "ddcap 1 ") text)
+    (address_at parts.1)) (address_at parts.0)) (cut_at 32 text)
+
+-- a head of this format
+abbrev pub headed : Format → List ℕ → Option (Format × ℕ × ℕ)
+headed format text = option_map (λ nodes. (format, nodes.0, nodes.1)) (nodes_at text)
+
+-- the head
+unfoldable pub head_at : List ℕ → Option (Format × ℕ × ℕ)
+head_at text =
+    or_else (after (format_text One) text) (headed One)
+    (or_else (after (format_text Two) text) (headed Two)
+    None)

@@ -3,7 +3,8 @@ use Rattle.std.specs.Prelude.{◌≡◌, ℕ, ◌+◌, List, [], ◌++◌, lengt
 use Rattle.std.specs.Io.KnownBytes.{Consumes}
 use Rattle.capture.specs.declared.fault.Departure.{Departure}
 use Rattle.capture.specs.declared.record.Record.{Record}
-use Rattle.capture.specs.Text.{head_line, record_lines}
+use Rattle.capture.specs.declared.hint.HintForm.{HintForm}
+use Rattle.capture.specs.Text.{capture_text, first_form, form_behind, format_of}
 use Rattle.capture.specs.Range.{IsCapture}
 use Rattle.capture.specs.Departing.{HeadDeparts, RecordDeparts}
 
@@ -16,20 +17,22 @@ abbrev pub coming : Behind → Option (List ℕ)
 coming (ToCome bytes) = bytes
 coming TheEnd = Some []
 
--- A head, the records that were read behind it, and what stands behind these
+-- A head, the records that were read behind it, and what stands behind these: with the form of its first hint
 pub record ReadSoFar : Type 0 where
+  pub form : HintForm
   pub own : ℕ
   pub peer : ℕ
   pub records : List Record
   pub behind : Behind
 
-abbrev pub so_far : ℕ → ℕ → List Record → Behind → ReadSoFar
-so_far own peer records behind = record { own = own; peer = peer; records = records; behind = behind }
+abbrev pub so_far : HintForm → ℕ → ℕ → List Record → Behind → ReadSoFar
+so_far form own peer records behind = record { form = form; own = own; peer = peer; records = records; behind = behind }
 
 -- The text begins so, and goes on with what is to come, if anything is.
 pub record IsReadSoFar (text : Option (List ℕ)) (read : ReadSoFar) : Type 0 where
   pub fits : IsCapture read.own read.peer read.records
-  pub begins : Consumes text (coming read.behind) (head_line read.own read.peer ++ record_lines read.records)
+  pub begins : Consumes text (coming read.behind) (capture_text (format_of read.form) read.own read.peer read.records)
+  pub form_is : read.form ≡ form_behind (first_form (format_of read.form)) read.records
 
 -- all records of a capture that begins with these, and has no more where its text has ended
 abbrev pub GoesOnBy : Behind → List Record → List Record → Type 0
@@ -41,7 +44,7 @@ GoesOn read all = GoesOnBy read.behind read.records all
 
 -- The line behind what was read is this one, counted from the head's, which is 1; and it departs in this way.
 pub record DepartsBehind (read : ReadSoFar) (kind : Departure) (line : ℕ) : Type 0 where
-  pub departs : IfSome (coming read.behind) (RecordDeparts (length read.records) kind)
+  pub departs : IfSome (coming read.behind) (RecordDeparts read.form (length read.records) kind)
   pub line_is : line ≡ length read.records + 2
 
 -- The head's line departs in this way.

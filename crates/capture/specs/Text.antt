@@ -1,14 +1,15 @@
--- The text of a capture, format 1: each line's words, and the lines one after another.
-use Rattle.std.specs.Prelude.{ℕ, ◌/◌, ◌%◌, true, false, List, [], ◌∷◌, ◌++◌, codes}
+-- The text of a capture, in each format: each line's words, and the lines one after another.
+use Rattle.std.specs.Prelude.{ℕ, ◌+◌, ◌-◌, ◌/◌, ◌%◌, nat_le, true, false, if◌then◌else◌, List, [], ◌∷◌, ◌++◌, codes}
 use Rattle.std.specs.Fmt.{decimal}
-use Rattle.std.specs.List.{flat_map}
 use Rattle.hex.specs.Hex.{encode_lower}
 use Rattle.capture.specs.declared.event.Event.{Event}
 use Rattle.capture.specs.declared.event.Event.TheVariants.{Start, Halt, Open, Accept, Reject, In, Up, Close}
 use Rattle.capture.specs.declared.record.Record.{Record}
-use Rattle.capture.specs.declared.record.Record.TheVariants.{Sent, Received, User}
+use Rattle.capture.specs.declared.record.Record.TheVariants.{Sent, Received, Noise, User}
 use Rattle.capture.specs.declared.hint.HintForm.{HintForm}
-use Rattle.capture.specs.declared.hint.HintForm.TheVariants.{Number}
+use Rattle.capture.specs.declared.hint.HintForm.TheVariants.{Number, Distance}
+use Rattle.capture.specs.declared.format.Format.{Format}
+use Rattle.capture.specs.declared.format.Format.TheVariants.{One, Two}
 
 -- BYTES: `-` for no bytes, else two digits for each, 0 to 9 and a to f
 abbrev pub bytes_text : List ℕ → List ℕ
@@ -19,9 +20,10 @@ bytes_text (b ∷ bs) = encode_lower (b ∷ bs)
 abbrev pub address_text : ℕ → List ℕ
 address_text address = decimal (address / 1024) ++ 46 ∷ decimal (address % 1024)
 
--- the hint of a receipt
+-- the hint of a receipt: its number; or its distance from the mark, with `-` before it where it lies below
 abbrev pub hint_text : HintForm → ℕ → List ℕ
 hint_text Number hint = decimal hint
+hint_text (Distance mark) hint = if nat_le mark hint then decimal (hint - mark) else 45 ∷ decimal (mark - hint)
 
 -- two parts with one space between them
 abbrev pub spaced : List ℕ → List ℕ → List ℕ
@@ -43,22 +45,65 @@ abbrev pub record_text : HintForm → Record → List ℕ
 record_text form (Sent bytes) = codes "s " ++ bytes_text bytes
 record_text form (Received hint false bytes) = codes "r " ++ spaced (hint_text form hint) (bytes_text bytes)
 record_text form (Received hint true bytes) = codes "k " ++ spaced (hint_text form hint) (bytes_text bytes)
+record_text form (Noise bytes) = codes "n " ++ bytes_text bytes
 record_text form (User event) = codes "u " ++ event_text event
 
+-- the head's first words
+abbrev pub format_text : Format → List ℕ
+format_text One = codes "ddcap 1 "
+format_text Two = codes "ddcap 2 "
+
 -- the head, without its LF
-abbrev pub head_text : ℕ → ℕ → List ℕ
-head_text own peer = codes "ddcap 1 " ++ spaced (address_text own) (address_text peer)
+abbrev pub head_text : Format → ℕ → ℕ → List ℕ
+head_text format own peer = format_text format ++ spaced (address_text own) (address_text peer)
 
 -- a line is its text and one LF
 abbrev pub ended : List ℕ → List ℕ
 ended text = text ++ 10 ∷ []
 
-abbrev pub head_line : ℕ → ℕ → List ℕ
-head_line own peer = ended (head_text own peer)
+abbrev pub head_line : Format → ℕ → ℕ → List ℕ
+head_line format own peer = ended (head_text format own peer)
 
-abbrev pub record_line : Record → List ℕ
-record_line r = ended (record_text Number r)
+abbrev pub record_line : HintForm → Record → List ℕ
+record_line form r = ended (record_text form r)
+
+-- ---- the form of the hints, from line to line
+
+-- each format's number
+abbrev pub format_number : Format → ℕ
+format_number One = 1
+format_number Two = 2
+
+-- the format that has such hints
+abbrev pub format_of : HintForm → Format
+format_of Number = One
+format_of (Distance mark) = Two
+
+-- in format 2 the mark is 0 at first
+abbrev pub first_form : Format → HintForm
+first_form One = Number
+first_form Two = Distance 0
+
+-- the mark behind a record's line: one more than the hint of a receipt, wherever that lies; other lines leave it
+abbrev pub mark_after : ℕ → Record → ℕ
+mark_after mark (Sent bytes) = mark
+mark_after mark (Received hint kept bytes) = hint + 1
+mark_after mark (Noise bytes) = mark
+mark_after mark (User event) = mark
+
+abbrev pub form_after : HintForm → Record → HintForm
+form_after Number r = Number
+form_after (Distance mark) r = Distance (mark_after mark r)
+
+abbrev pub form_behind : HintForm → List Record → HintForm
+form_behind form [] = form
+form_behind form (r ∷ rs) = form_behind (form_after form r) rs
 
 -- the lines of records, one after another
-abbrev pub record_lines : List Record → List ℕ
-record_lines rs = flat_map record_line rs
+abbrev pub record_lines : HintForm → List Record → List ℕ
+record_lines form [] = []
+record_lines form (r ∷ rs) = record_line form r ++ record_lines (form_after form r) rs
+
+-- the whole text of a head and records
+abbrev pub capture_text : Format → ℕ → ℕ → List Record → List ℕ
+capture_text format own peer rs = head_line format own peer ++ record_lines (first_form format) rs

@@ -1,4 +1,4 @@
--- What a fault of writing a line says.
+-- What a fault of writing a line says; without one no call failed.
 use Rattle.std.specs.Prelude.{◌≡◌, ℕ, List, Option, Result, Ok, Err}
 use Rattle.std.specs.Io.KnownBytes.{Keeps}
 use Rattle.wire_base.specs.Tally.{AppendsBeginning, CountedFault}
@@ -12,5 +12,5 @@ FaultMeans old new faults faults' line Write = AppendsBeginning old new line × 
 FaultMeans old new faults faults' line OutOfMemory = Keeps old new × (faults' ≡ faults)
 
 abbrev pub WriteMeans : {A : Type 0} → Option (List ℕ) → Option (List ℕ) → ℕ → ℕ → List ℕ → Result A WriteFault → Type 0
-WriteMeans old new faults faults' line (Ok x) = Unit {0}
+WriteMeans old new faults faults' line (Ok x) = faults' ≡ faults
 WriteMeans old new faults faults' line (Err fault) = FaultMeans old new faults faults' line fault

@@ -10,57 +10,109 @@ ghost use Rattle.capture.specs.Reading.{Gives, bytes_at, is_digit, pairs_at};
 
 use crate::bytes::Bytes;
 use crate::fault::{Departure, PartFault};
+use crate::spelling::{Spelling, two_digits};
 use std::alloc::Global;
 
 // As many bytes of a long text are spelled again at a time.
 const BLOCK: usize = 128;
 
-// As many bytes at most are spelled in pieces of eight: a unit that carries no data, or little.
+// As many bytes at most are told by the spelling of each: a unit that carries no data, or little.
 const FEW: usize = 32;
 
 const EIGHT: usize = 8;
 
-// What the digits are as bytes, if they are pairs of digits 0 to 9 and a to f: a digit's low four bits, and 9 more for a
-// letter, which has bit 6. Of another text it answers what it likes, since what it answers is spelled again.
+// What the digits are as bytes, if they are pairs of digits 0 to 9 and a to f. Of another text it answers what it likes, since
+// what it answers is compared with the text.
 fn guess(text: &[u8], bytes: &mut [u8])
     requires { length text.now ≡ 2 * length bytes.old }
     ensures { length bytes.new ≡ length bytes.old }
 {
-    for i in 0..bytes.len() {
-        let digits = u16::from_le_bytes([text[2 * i], text[2 * i + 1]]);
-        let values = (digits & 0x0f0f).wrapping_add(((digits >> 6) & 0x0101).wrapping_mul(9));
-        bytes[i] = ((values.wrapping_shl(4) | (values >> 8)) & 0xff) as u8;
+    if bytes.len() <= FEW {
+        guess_few(text, bytes);
+    } else {
+        guess_each(text, bytes);
     }
 }
 
-// Whether the text is how `hex` spells these bytes.
-fn spells(bytes: &[u8], text: &[u8]) -> bool
+// The same of few bytes, eight at a time.
+fn guess_few(text: &[u8], bytes: &mut [u8])
+    requires { length text.now ≡ 2 * length bytes.old }
+    ensures { length bytes.new ≡ length bytes.old }
+{
+    for block in 0..bytes.len() / EIGHT {
+        let at = block * EIGHT;
+        guess_eight(&text[2 * at..2 * (at + EIGHT)], &mut bytes[at..at + EIGHT]);
+    }
+    let whole = bytes.len() / EIGHT * EIGHT;
+    guess_each(&text[2 * whole..], &mut bytes[whole..]);
+}
+
+// The same of eight bytes. All digits are read before a byte is written, and the bytes are written one by one: so all eight are
+// guessed at once.
+#[inline(always)]
+fn guess_eight(text: &[u8], bytes: &mut [u8])
+    requires digits { length text.now ≡ 2 * EIGHT }
+    requires eight { length bytes.old ≡ EIGHT }
+    ensures { length bytes.new ≡ EIGHT }
+{
+    let mut eight = [0u8; EIGHT];
+    for i in 0..EIGHT {
+        eight[i] = guess_byte(text[2 * i], text[2 * i + 1]);
+    }
+    for i in 0..EIGHT {
+        bytes[i] = eight[i];
+    }
+}
+
+// The same, a byte at a time.
+#[inline(always)]
+fn guess_each(text: &[u8], bytes: &mut [u8])
+    requires { length text.now ≡ 2 * length bytes.old }
+    ensures { length bytes.new ≡ length bytes.old }
+{
+    for i in 0..bytes.len() {
+        bytes[i] = guess_byte(text[2 * i], text[2 * i + 1]);
+    }
+}
+
+// What two digits are as a byte: a digit's low four bits, and 9 more for a letter, which has bit 6.
+#[inline(always)]
+fn guess_byte(high: u8, low: u8) -> u8 {
+    let digits = u16::from_le_bytes([high, low]);
+    let values = (digits & 0x0f0f).wrapping_add(((digits >> 6) & 0x0101).wrapping_mul(9));
+    ((values.wrapping_shl(4) | (values >> 8)) & 0xff) as u8
+}
+
+// Whether the text is how `hex` spells these bytes; few are told by the spelling of each, if there is one.
+fn spells(spelling: Option<&Spelling>, bytes: &[u8], text: &[u8]) -> bool
     requires { length text.now ≡ 2 * length bytes.now }
     ensures value { IsTrue result ↔ (encode_lower bytes.now ≡ text.now) }
     ensures bytes { IsBytes bytes.now }
 {
-    if bytes.len() <= FEW {
-        return spells_few(bytes, text);
+    if bytes.len() > FEW {
+        return spells_many(bytes, text);
     }
-    spells_many(bytes, text)
+    match spelling {
+        Some(spelling) => spells_few(spelling, bytes, text),
+        None => spells_many(bytes, text),
+    }
 }
 
 // The same of few bytes.
-fn spells_few(bytes: &[u8], text: &[u8]) -> bool
+fn spells_few(spelling: &Spelling, bytes: &[u8], text: &[u8]) -> bool
     requires { length text.now ≡ 2 * length bytes.now }
     ensures value { IsTrue result ↔ (encode_lower bytes.now ≡ text.now) }
     ensures bytes { IsBytes bytes.now }
 {
     let whole = bytes.len() / EIGHT * EIGHT;
-    if !spells_eights(&bytes[..whole], &text[..2 * whole]) {
+    if !spells_eights(spelling, &bytes[..whole], &text[..2 * whole]) {
         return false;
     }
-    spells_singly(&bytes[whole..], &text[2 * whole..])
+    spells_singly(spelling, &bytes[whole..], &text[2 * whole..])
 }
 
-// The same, eight bytes at a time: with a number that is known beforehand no loop is left, and what they are spelled as never
-// goes through memory.
-fn spells_eights(bytes: &[u8], text: &[u8]) -> bool
+// The same, eight bytes at a time: with a number that is known beforehand no loop is left.
+fn spells_eights(spelling: &Spelling, bytes: &[u8], text: &[u8]) -> bool
     requires eights { length bytes.now % EIGHT ≡ 0 }
     requires twice { length text.now ≡ 2 * length bytes.now }
     ensures value { IsTrue result ↔ (encode_lower bytes.now ≡ text.now) }
@@ -69,7 +121,7 @@ fn spells_eights(bytes: &[u8], text: &[u8]) -> bool
     let mut done = 0;
     while done < bytes.len() {
         let end = done + EIGHT;
-        if !spells_singly(&bytes[done..end], &text[2 * done..2 * end]) {
+        if !spells_singly(spelling, &bytes[done..end], &text[2 * done..2 * end]) {
             return false;
         }
         done = end;
@@ -77,26 +129,21 @@ fn spells_eights(bytes: &[u8], text: &[u8]) -> bool
     true
 }
 
-// The same, a byte at a time.
+// The same, a byte at a time: its two digits are compared at once.
 #[inline(always)]
-fn spells_singly(bytes: &[u8], text: &[u8]) -> bool
+fn spells_singly(spelling: &Spelling, bytes: &[u8], text: &[u8]) -> bool
     requires { length text.now ≡ 2 * length bytes.now }
     ensures value { IsTrue result ↔ (encode_lower bytes.now ≡ text.now) }
     ensures bytes { IsBytes bytes.now }
 {
     let mut done = 0;
     while done < bytes.len() {
-        let end = done + 1;
-        let mut two = [0u8; 2];
-        let spelled = &mut two[..];
-        match hex::encode_to_slice(&bytes[done..end], spelled) {
-            Ok(()) => {}
-            Err(_) => unreachable!(),
-        }
-        if &text[2 * done..2 * end] != &*spelled {
+        let spelled = spelling.of(bytes[done]);
+        let written = two_digits(text, 2 * done);
+        if written != spelled {
             return false;
         }
-        done = end;
+        done += 1;
     }
     true
 }
@@ -139,13 +186,13 @@ fn are_digits(text: &[u8]) -> bool
 
 // Reads pairs of digits 0 to 9 and a to f. The bytes are guessed, and where the text is not how they are spelled, it is
 // no such pairs.
-fn pairs_into(text: &[u8], bytes: &mut [u8]) -> bool
+fn pairs_into(spelling: Option<&Spelling>, text: &[u8], bytes: &mut [u8]) -> bool
     requires long { length text.now ≡ 2 * length bytes.old }
     requires some { 0 < length bytes.old }
     ensures { pairs_at text.now ≡ (if result then Some bytes.new else None) }
 {
     guess(text, bytes);
-    if spells(bytes, text) {
+    if spells(spelling, bytes, text) {
         return true;
     }
     if !are_digits(text) {
@@ -173,8 +220,23 @@ pub fn bytes_of(alloc: Global, text: &[u8], most: usize) -> Result<Bytes, PartFa
 
 /// Writes the bytes that the text spells, at most `most`, to the front of the room, which has room for them, and answers how many they are. It spells
 /// and departs as for [`bytes_of`]; a departure may leave anything in the room. Takes no memory.
-#[tactic(auto, unfolding(crate::specs::Reading::bytes_at, crate::specs::Reading::any_bytes_at))]
 pub fn bytes_into(text: &[u8], most: usize, room: &mut [u8]) -> Result<usize, Departure>
+    requires { min most (length text.now / 2) ≤ length room.old }
+    ensures bytes { bytes_at most text.now ≡ front_of room.new result }
+    ensures len { IfOk result (λ len. (len ≤ most) × (len ≡ length text.now / 2)) }
+    ensures room { length room.new ≡ length room.old }
+{
+    bytes_by(None, text, most, room)
+}
+
+/// The same; the digits of few bytes are told by how each is spelled, if that is there.
+#[tactic(auto, unfolding(crate::specs::Reading::bytes_at, crate::specs::Reading::any_bytes_at))]
+pub(crate) fn bytes_by(
+    spelling: Option<&Spelling>,
+    text: &[u8],
+    most: usize,
+    room: &mut [u8],
+) -> Result<usize, Departure>
     requires { min most (length text.now / 2) ≤ length room.old }
     ensures bytes { bytes_at most text.now ≡ front_of room.new result }
     ensures len { IfOk result (λ len. (len ≤ most) × (len ≡ length text.now / 2)) }
@@ -193,7 +255,7 @@ pub fn bytes_into(text: &[u8], most: usize, room: &mut [u8]) -> Result<usize, De
     if len > most {
         return Err(long_departure(most, text));
     }
-    if !pairs_into(text, &mut room[..len]) {
+    if !pairs_into(spelling, text, &mut room[..len]) {
         return Err(Departure::Syntax);
     }
     Ok(len)

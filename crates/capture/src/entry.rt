@@ -16,6 +16,8 @@ pub enum Entry {
     Sent,
     /// The bytes came for the unit of this hint, and the packet in it was kept, or not.
     Received { kept: bool, hint: u64 },
+    /// The bytes came, and nobody sent them.
+    Noise,
     /// The station was started.
     Start,
     /// The station was halted.
@@ -40,7 +42,7 @@ impl Entry {
         ensures { result ≡ limit_of self }
     {
         match self {
-            Entry::Sent | Entry::Received { .. } => Some(MAX_UNIT),
+            Entry::Sent | Entry::Received { .. } | Entry::Noise => Some(MAX_UNIT),
             Entry::In { .. } | Entry::Up { .. } => Some(MAX_MESSAGE),
             Entry::Start | Entry::Halt | Entry::Open { .. } | Entry::Accept { .. } => None,
             Entry::Reject { .. } | Entry::Close { .. } => None,
@@ -54,6 +56,7 @@ impl Entry {
         match self {
             Entry::Sent => Record::Sent(bytes),
             Entry::Received { kept, hint } => Record::Received { hint, kept, bytes },
+            Entry::Noise => Record::Noise(bytes),
             Entry::Start => Record::User(Event::Start),
             Entry::Halt => Record::User(Event::Halt),
             Entry::Open { link } => Record::User(Event::Open { link }),

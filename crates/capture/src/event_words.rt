@@ -1,14 +1,15 @@
 //! Reading the words of an event.
 
-ghost use Rattle.std.specs.Prelude.{◌≡◌};
+ghost use Rattle.std.specs.Prelude.{◌≡◌, ◌≤◌, Some};
+ghost use Rattle.capture.specs.declared.limit.TheConstants.{MAX_LINK};
 ghost use Rattle.std.specs.Option.{option_map};
 ghost use Rattle.capture.specs.Reading.{must, positive_at, event_at, link_event_at, links_at, message_at};
 ghost use Rattle.capture.specs.Entries.{told};
-ghost use Rattle.capture.specs.Worded.{as_record, messaged};
+ghost use Rattle.capture.specs.Worded.{as_record, linked, messaged};
 
 use crate::entry::Entry;
 use crate::limit::MAX_LINK;
-use crate::number::positive_of;
+use crate::number::{number_before, positive_of};
 use crate::part::{after, cut_at};
 
 /// The address of a link that the text spells, from 1 to 65,535. `1` and `65535` are addresses; `0`, `65536` and `01` are none.
@@ -33,13 +34,26 @@ fn links_of(text: &[u8]) -> Option<(u16, u16)>
 
 /// The address of a link and the text of a message, as they stand behind `in ` in a line, with one space between them. What the
 /// text of the message spells is not looked at: `7 -` and `7 x` are both a link and a text, `0 -` and `7` are none.
-#[tactic(auto, unfolding(crate::specs::Reading::message_at))]
+#[inline(always)]
 pub fn message_of(text: &[u8]) -> Option<(u16, &[u8])>
     ensures { message_at text.now ≡ messaged (option_map (λ parts. (parts.0, parts.1.now)) result) }
 {
-    let (link, bytes) = cut_at(text, b' ')?;
-    let link = link_of(link)?;
-    Some((link, bytes))
+    match number_before(text, MAX_LINK) {
+        Some((link, bytes)) => of_link(link, bytes),
+        None => None,
+    }
+}
+
+// Both, unless the address is 0.
+#[inline(always)]
+fn of_link(link: u64, bytes: &[u8]) -> Option<(u16, &[u8])>
+    requires { link ≤ MAX_LINK }
+    ensures { option_map (λ parts. (parts.0, parts.1.now)) result ≡ linked (Some (link, bytes.now)) }
+{
+    if link == 0 {
+        return None;
+    }
+    Some((link as u16, bytes))
 }
 
 #[tactic(auto, unfolding(crate::specs::Reading::link_event_at))]

@@ -92,3 +92,17 @@ pub enum WriteFault {
     #[error("out of memory")]
     OutOfMemory,
 }
+
+/// Why a text was not converted to its end.
+#[derive(Clone, Copy, Debug, PartialEq, Eq, Error)]
+pub enum ConvertFault {
+    /// The text is faulty, or its reader failed: all before that was written. The fault is `Departs` or `Read`.
+    #[error("{0}")]
+    Capture(CaptureFault),
+    /// The writer failed; it has a beginning of what was to be written.
+    #[error("write failed")]
+    Write,
+    /// There was no memory; nothing was written.
+    #[error("out of memory")]
+    OutOfMemory,
+}

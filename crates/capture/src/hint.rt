@@ -1,8 +1,85 @@
 //! How a line spells the hint of a receipt.
 
-/// The form of the hints in a text.
+ghost use Rattle.std.specs.Prelude.{◌≡◌, ℕ, [], List};
+ghost use Rattle.capture.specs.Entries.{record_with};
+ghost use Rattle.capture.specs.Range.{NumbersFit};
+ghost use Rattle.capture.specs.Text.{form_after, format_of, mark_after};
+
+use crate::entry::Entry;
+use crate::format::Format;
+use crate::record::Record;
+
+/// The form of the next hint in a text.
 #[derive(Clone, Copy, Debug, PartialEq, Eq)]
 pub enum HintForm {
     /// The hint itself, as a decimal number: format 1.
     Number,
+    /// Its distance from the mark, as a decimal number with `-` before it where the hint is below the mark: format 2. The
+    /// mark is 0 at first and one more than the hint of the last receipt, wherever that lay: at most
+    /// 1,000,000,000,000,000,000.
+    Distance { mark: u64 },
+}
+
+impl HintForm {
+    /// The format that has such hints. Takes no memory.
+    pub fn format(self) -> Format
+        ensures { result ≡ format_of self }
+    {
+        match self {
+            HintForm::Number => Format::One,
+            HintForm::Distance { mark: _ } => Format::Two,
+        }
+    }
+
+    /// The form behind the line of a record of this entry. Takes no memory.
+    #[inline(always)]
+    pub fn after(self, entry: Entry) -> HintForm
+        requires { NumbersFit (record_with entry []) }
+        ensures { (bytes : List ℕ) → result ≡ form_after self (record_with entry bytes) }
+    {
+        match self {
+            HintForm::Number => HintForm::Number,
+            HintForm::Distance { mark } => HintForm::Distance {
+                mark: next_mark(mark, entry),
+            },
+        }
+    }
+
+    /// The form behind the record's line. Takes no memory.
+    pub fn after_record(self, record: &Record) -> HintForm
+        requires { NumbersFit «record».now }
+        ensures { result ≡ form_after self «record».now }
+    {
+        match self {
+            HintForm::Number => HintForm::Number,
+            HintForm::Distance { mark } => HintForm::Distance {
+                mark: next_mark_of(mark, record),
+            },
+        }
+    }
+}
+
+// The mark behind the line of a record of this entry.
+#[inline(always)]
+fn next_mark(mark: u64, entry: Entry) -> u64
+    requires { NumbersFit (record_with entry []) }
+    ensures { (bytes : List ℕ) → result ≡ mark_after mark (record_with entry bytes) }
+{
+    match entry {
+        Entry::Received { kept: _, hint } => hint + 1,
+        Entry::Sent | Entry::Noise | Entry::Start | Entry::Halt => mark,
+        Entry::Open { .. } | Entry::Close { .. } | Entry::Accept { .. } => mark,
+        Entry::Reject { .. } | Entry::In { .. } | Entry::Up { .. } => mark,
+    }
+}
+
+/// The mark behind the record's line. Takes no memory.
+pub fn next_mark_of(mark: u64, record: &Record) -> u64
+    requires { NumbersFit «record».now }
+    ensures { result ≡ mark_after mark «record».now }
+{
+    match record {
+        Record::Received { hint, .. } => *hint + 1,
+        Record::Sent(_) | Record::Noise(_) | Record::User(_) => mark,
+    }
 }

@@ -1,4 +1,4 @@
-//! The text of a capture, format 1: read and written line by line.
+//! The text of a capture, in either format: read and written line by line.
 //!
 //! The crate decides which bytes are a capture, which head and records they spell, and where and how
 //! a text departs from the format. It never touches a file or a clock, nor what a record means: what a
@@ -7,39 +7,49 @@
 
 mod address;
 mod bytes;
+mod converting;
 mod digits;
 mod entry;
+mod entry_line;
 mod event;
 mod event_words;
 mod fault;
+mod format;
 mod hint;
 mod laws;
 mod limit;
 mod line_reader;
 mod line_words;
 mod number;
+mod page;
 mod part;
 mod phase;
 mod reader;
 mod record;
 mod record_words;
 mod so_far;
+mod spelling;
 mod writer;
 
 pub use address::{address_of, is_node};
 pub use bytes::Bytes;
+pub use converting::convert;
 pub use digits::{bytes_into, bytes_of};
 pub use entry::Entry;
+pub use entry_line::put_line;
 pub use event::Event;
 pub use event_words::{link_of, message_of};
-pub use fault::{CaptureFault, Departure, LineFault, PartFault, WriteFault};
+pub use fault::{CaptureFault, ConvertFault, Departure, LineFault, PartFault, WriteFault};
+pub use format::Format;
 pub use hint::HintForm;
 pub use laws::{
-    begun_list, no_end_departs, no_head_begins_another, no_head_departs, no_line_begins_another,
-    no_line_departs, one_departure, one_head_and_list, one_head_departure, written_is_read,
+    begun_list, converted_back, converted_is_same, no_end_departs, no_head_begins_another,
+    no_head_departs, no_line_begins_another, no_line_departs, one_departure, one_head_and_list,
+    one_head_departure, written_is_read,
 };
-pub use limit::{MAX_HINT, MAX_LINE, MAX_LINK, MAX_MESSAGE, MAX_RECORDS, MAX_UNIT};
+pub use limit::{MAX_HINT, MAX_LINE, MAX_LINK, MAX_MARK, MAX_MESSAGE, MAX_RECORDS, MAX_UNIT};
 pub use line_reader::LineReader;
+pub use line_words::put_head;
 pub use number::{number_of, positive_of};
 pub use part::{after, cut_at};
 pub use phase::Phase;
@@ -47,7 +57,7 @@ pub use reader::CaptureReader;
 pub use record::Record;
 pub use record_words::{head_of, record_of};
 pub use so_far::{text_read_on, whole_text};
-pub use writer::{write_head, write_record};
+pub use writer::{write_head, write_head_2, write_record, write_record_2};
 
 #[cfg(test)]
 mod tests;

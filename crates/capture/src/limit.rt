@@ -9,6 +9,9 @@ pub const MAX_RECORDS: u64 = 1_000_000_000_000;
 /// The greatest hint of a receipt.
 pub const MAX_HINT: u64 = 999_999_999_999_999_999;
 
+/// The greatest mark: one more than the greatest hint.
+pub const MAX_MARK: u64 = 1_000_000_000_000_000_000;
+
 /// The greatest address of a link; the least is 1.
 pub const MAX_LINK: u64 = 65_535;
 

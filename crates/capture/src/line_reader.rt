@@ -24,14 +24,16 @@ const BLOCK: usize = 262_144;
 /// Reads a text line by line from a reader that each call is lent, the same throughout.
 ///
 /// It asks the reader for large blocks and takes memory only when it is made. A line is first found,
-/// by `next`, then seen, by `line`, and then left behind, by `skip`. A contract sees how many lines
-/// were left behind, and the bytes that were read ahead.
+/// by `next`, then seen, by `line`, and then left behind, by `skip`; until the next call of `next` it is still seen, by `last`. A
+/// contract sees how many lines were left behind, the bytes that were read ahead, and the line that was left behind last.
 #[derive(Drop)]
 pub struct LineReader {
     block: Vec<u8>,
     start: usize,
     end: usize,
     taken: u64,
+    last: usize,
+    last_end: usize,
 }
 
 impl Model for LineReader {
@@ -59,6 +61,8 @@ impl LineReader {
             start: 0,
             end: 0,
             taken: 0,
+            last: 0,
+            last_end: 0,
         })
     }
 
@@ -83,14 +87,24 @@ impl LineReader {
         &self.unread()[..len]
     }
 
+    /// The line that was left behind last; after a call of `next` it may be any bytes.
+    pub fn last(&self) -> &[u8]
+        ensures { result.now ≡ self.now.last }
+    {
+        &self.block[self.last..self.last_end]
+    }
+
     /// Leaves a line of `len` bytes and its LF behind.
     pub fn skip(&mut self, len: usize)
         requires whole { len < length self.old.unread }
         requires few { self.old.taken + 1 < 2 ^ 64 }
         ensures unread { self.new.unread ≡ drop (len + 1) self.old.unread }
         ensures taken { self.new.taken ≡ self.old.taken + 1 }
+        ensures last { self.new.last ≡ take len self.old.unread }
     {
         let start = self.start;
+        self.last = start;
+        self.last_end = start + len;
         self.start = start + len + 1;
         self.taken += 1;
     }

@@ -4,16 +4,17 @@ ghost use Rattle.std.specs.Prelude.{◌≡◌, ◌≤◌, ◌++◌, length, OnOk
 ghost use Rattle.std.specs.Fmt.{decimal};
 ghost use Rattle.hex.specs.Hex.{encode_lower};
 ghost use Rattle.capture.specs.declared.limit.TheConstants.{MAX_MESSAGE};
-ghost use Rattle.capture.specs.Text.{address_text, bytes_text, event_text, head_text, hint_text, record_text, spaced};
+ghost use Rattle.capture.specs.Text.{address_text, bytes_text, event_text, format_text, head_text, hint_text, record_text, spaced};
 ghost use Rattle.capture.specs.Range.{IsEvent, IsRecord};
 
 use crate::event::Event;
+use crate::format::Format;
 use crate::hint::HintForm;
 use crate::record::Record;
 use itoa::Buffer;
 use std::alloc::AllocError;
 
-fn put_number(line: &mut Vec<u8>, number: u64) -> Result<(), AllocError>
+pub(crate) fn put_number(line: &mut Vec<u8>, number: u64) -> Result<(), AllocError>
     ensures { OnOk result (line.new.items ≡ line.old.items ++ decimal number) }
 {
     let mut buffer = Buffer::new();
@@ -25,7 +26,18 @@ fn put_hint(line: &mut Vec<u8>, form: HintForm, hint: u64) -> Result<(), AllocEr
 {
     match form {
         HintForm::Number => put_number(line, hint),
+        HintForm::Distance { mark } => put_distance(line, mark, hint),
     }
+}
+
+fn put_distance(line: &mut Vec<u8>, mark: u64, hint: u64) -> Result<(), AllocError>
+    ensures { OnOk result (line.new.items ≡ line.old.items ++ hint_text (HintForm.Distance mark) hint) }
+{
+    if mark <= hint {
+        return put_number(line, hint - mark);
+    }
+    line.push(b'-')?;
+    put_number(line, mark - hint)
 }
 
 fn put_address(line: &mut Vec<u8>, address: u16) -> Result<(), AllocError>
@@ -36,7 +48,7 @@ fn put_address(line: &mut Vec<u8>, address: u16) -> Result<(), AllocError>
     put_number(line, u64::from(address % 1024))
 }
 
-fn put_bytes(line: &mut Vec<u8>, bytes: &[u8]) -> Result<(), AllocError>
+pub(crate) fn put_bytes(line: &mut Vec<u8>, bytes: &[u8]) -> Result<(), AllocError>
     requires { length bytes.now ≤ MAX_MESSAGE }
     ensures { OnOk result (line.new.items ≡ line.old.items ++ bytes_text bytes.now) }
 {
@@ -61,7 +73,7 @@ fn put_digits(line: &mut Vec<u8>, bytes: &[u8]) -> Result<(), AllocError>
     }
 }
 
-fn put_links(line: &mut Vec<u8>, partner: u16, link: u16) -> Result<(), AllocError>
+pub(crate) fn put_links(line: &mut Vec<u8>, partner: u16, link: u16) -> Result<(), AllocError>
     ensures { OnOk result (line.new.items ≡ line.old.items ++ spaced (decimal partner) (decimal link)) }
 {
     put_number(line, u64::from(partner))?;
@@ -69,7 +81,7 @@ fn put_links(line: &mut Vec<u8>, partner: u16, link: u16) -> Result<(), AllocErr
     put_number(line, u64::from(link))
 }
 
-fn put_message(line: &mut Vec<u8>, link: u16, bytes: &[u8]) -> Result<(), AllocError>
+pub(crate) fn put_message(line: &mut Vec<u8>, link: u16, bytes: &[u8]) -> Result<(), AllocError>
     requires { length bytes.now ≤ MAX_MESSAGE }
     ensures { OnOk result (line.new.items ≡ line.old.items ++ spaced (decimal link) (bytes_text bytes.now)) }
 {
@@ -78,7 +90,7 @@ fn put_message(line: &mut Vec<u8>, link: u16, bytes: &[u8]) -> Result<(), AllocE
     put_bytes(line, bytes)
 }
 
-fn put_receipt(
+pub(crate) fn put_receipt(
     line: &mut Vec<u8>,
     form: HintForm,
     hint: u64,
@@ -152,6 +164,10 @@ pub fn put_record(line: &mut Vec<u8>, form: HintForm, record: &Record) -> Result
             line.extend_from_slice(b"k ")?;
             put_receipt(line, form, *hint, bytes.as_slice())
         }
+        Record::Noise(bytes) => {
+            line.extend_from_slice(b"n ")?;
+            put_bytes(line, bytes.as_slice())
+        }
         Record::User(event) => {
             line.extend_from_slice(b"u ")?;
             put_event(line, event)
@@ -159,11 +175,20 @@ pub fn put_record(line: &mut Vec<u8>, form: HintForm, record: &Record) -> Result
     }
 }
 
-/// Puts the words of the head, without its LF, at the end. An `Err` may leave some of them.
-pub fn put_head(line: &mut Vec<u8>, own: u16, peer: u16) -> Result<(), AllocError>
-    ensures { OnOk result (line.new.items ≡ line.old.items ++ head_text own peer) }
+fn put_format(line: &mut Vec<u8>, format: Format) -> Result<(), AllocError>
+    ensures { OnOk result (line.new.items ≡ line.old.items ++ format_text format) }
 {
-    line.extend_from_slice(b"ddcap 1 ")?;
+    match format {
+        Format::One => line.extend_from_slice(b"ddcap 1 "),
+        Format::Two => line.extend_from_slice(b"ddcap 2 "),
+    }
+}
+
+/// Puts the words of the head, without its LF, at the end. An `Err` may leave some of them.
+pub fn put_head(line: &mut Vec<u8>, format: Format, own: u16, peer: u16) -> Result<(), AllocError>
+    ensures { OnOk result (line.new.items ≡ line.old.items ++ head_text format own peer) }
+{
+    put_format(line, format)?;
     put_address(line, own)?;
     line.push(b' ')?;
     put_address(line, peer)

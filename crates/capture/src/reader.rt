@@ -1,12 +1,14 @@
 //! Reading a capture, record by record.
 
-ghost use Rattle.std.specs.Prelude.{◌≡◌, ◌≤◌, ◌+◌, length, Ok, Err, None, IfOk, IfSome};
+ghost use Rattle.std.specs.Prelude.{◌≡◌, ◌≤◌, ◌+◌, length, take, Ok, Err, None, IfOk, IfSome};
 ghost use Rattle.wire_base.specs.Tally.{tally_faults, tally_lent};
 ghost use Rattle.capture.specs.declared.limit.TheConstants.{MAX_MESSAGE, MAX_RECORDS};
 ghost use Rattle.capture.specs.Lines.{to_come};
-ghost use Rattle.capture.specs.Entries.{recorded, recorded_in};
+ghost use Rattle.capture.specs.Entries.{record_with, recorded, recorded_in};
 ghost use Rattle.capture.specs.Faulty.{CountsReads, is_failed_read};
+ghost use Rattle.capture.specs.Range.{FormFits};
 ghost use Rattle.capture.specs.Reader.{NextGives, Opens, TakesRecord};
+ghost use Rattle.capture.specs.Text.{format_number, format_of, record_text};
 
 use crate::entry::Entry;
 use crate::fault::{CaptureFault, Departure, LineFault, PartFault};
@@ -16,6 +18,7 @@ use crate::line_reader::LineReader;
 use crate::phase::Phase;
 use crate::record::Record;
 use crate::record_words::{head_of, line_into, record_of};
+use crate::spelling::Spelling;
 use std::alloc::Global;
 use std::io::Read;
 use std::marker::Model;
@@ -38,7 +41,9 @@ pub struct CaptureReader {
     lines: LineReader,
     own: u16,
     peer: u16,
+    form: HintForm,
     phase: Phase,
+    spelling: Spelling,
     // What `advance` read last: that many bytes at the front.
     room: Vec<u8>,
     len: usize,
@@ -60,19 +65,21 @@ impl Model for CaptureReader {
 #[inline(always)]
 fn take_record<R: Read>(
     alloc: Global,
+    form: HintForm,
     lines: &mut LineReader,
     reader: &mut Tally<R>,
 ) -> Result<Option<Record>, CaptureFault>
+    requires form { FormFits form }
     requires head { 1 ≤ lines.old.taken }
     requires few { lines.old.taken ≤ MAX_RECORDS + 1 }
-    ensures takes { TakesRecord lines.old lines.new
+    ensures takes { TakesRecord (record { form = form; taken = lines.old.taken }) lines.new.taken
         (to_come lines.old.unread (R.remaining (tally_lent reader.old)))
         (to_come lines.new.unread (R.remaining (tally_lent reader.new))) result }
     ensures reads { CountsReads (is_failed_read result) (tally_faults reader.old) (tally_faults reader.new) }
 {
     let number = lines.taken() + 1;
     match lines.next(MAX_RECORDS + 1, reader) {
-        Ok(Some(len)) => match record_of(alloc, HintForm::Number, lines.line(len)) {
+        Ok(Some(len)) => match record_of(alloc, form, lines.line(len)) {
             Ok(record) => {
                 lines.skip(len);
                 Ok(Some(record))
@@ -89,24 +96,29 @@ fn take_record<R: Read>(
 // One record's turn, with its bytes at the front of the room: how many they are beside its entry.
 #[inline(always)]
 fn take_entry<R: Read>(
+    form: HintForm,
+    spelling: &Spelling,
     lines: &mut LineReader,
     room: &mut [u8],
     reader: &mut Tally<R>,
 ) -> Result<Option<(Entry, usize)>, CaptureFault>
+    requires form { FormFits form }
     requires head { 1 ≤ lines.old.taken }
     requires few { lines.old.taken ≤ MAX_RECORDS + 1 }
     requires room { length room.old ≡ MAX_MESSAGE }
-    ensures takes { TakesRecord lines.old lines.new
+    ensures takes { TakesRecord (record { form = form; taken = lines.old.taken }) lines.new.taken
         (to_come lines.old.unread (R.remaining (tally_lent reader.old)))
         (to_come lines.new.unread (R.remaining (tally_lent reader.new))) (recorded_in room.new result) }
     ensures room { length room.new ≡ MAX_MESSAGE }
     ensures len { IfOk result (λ taken. IfSome taken (λ entry. entry.1 ≤ MAX_MESSAGE)) }
+    ensures line { IfOk result (λ taken. IfSome taken (λ entry.
+        lines.new.last ≡ record_text form (record_with entry.0 (take entry.1 room.new)))) }
     ensures memory { result ≡ Err CaptureFault.OutOfMemory → ⊥ }
     ensures reads { CountsReads (is_failed_read result) (tally_faults reader.old) (tally_faults reader.new) }
 {
     let number = lines.taken() + 1;
     match lines.next(MAX_RECORDS + 1, reader) {
-        Ok(Some(len)) => match line_into(HintForm::Number, lines.line(len), room) {
+        Ok(Some(len)) => match line_into(form, spelling, lines.line(len), room) {
             Ok(entry) => {
                 lines.skip(len);
                 Ok(Some(entry))
@@ -120,7 +132,7 @@ fn take_entry<R: Read>(
 }
 
 impl CaptureReader {
-    /// Reads the head, `ddcap 1 OWN PEER`.
+    /// Reads the head, `ddcap 1 OWN PEER` or `ddcap 2 OWN PEER`.
     ///
     /// Faults: `Departs` at line 1, with `TooLong` where more than 131,081 bytes stand before the first
     /// LF or the end, and with `Syntax` where the first line has no LF, as in an empty text, or is no
@@ -138,7 +150,7 @@ impl CaptureReader {
         };
         match lines.next(1, reader) {
             Ok(Some(len)) => match head_of(lines.line(len)) {
-                Some((own, peer)) => {
+                Some((format, own, peer)) => {
                     lines.skip(len);
                     let Ok(room) = vec![in alloc; 0u8; MAX_MESSAGE] else {
                         return Err(CaptureFault::OutOfMemory);
@@ -148,7 +160,9 @@ impl CaptureReader {
                         lines,
                         own,
                         peer,
+                        form: format.first_form(),
                         phase: Phase::Reading,
+                        spelling: Spelling::new(),
                         room,
                         len: 0,
                     })
@@ -168,6 +182,13 @@ impl CaptureReader {
         self.own
     }
 
+    /// The number of the format that the head names: 1 or 2. Takes no memory.
+    pub fn format(&self) -> u8
+        ensures { result ≡ format_number (format_of self.now.form) }
+    {
+        self.form.format().number()
+    }
+
     /// The address of the node at the other end of the line. Takes no memory.
     pub fn peer(&self) -> u16
         ensures { result ≡ self.now.peer }
@@ -175,8 +196,8 @@ impl CaptureReader {
         self.peer
     }
 
-    /// Reads the next record as [`next`](CaptureReader::next) does, but keeps its bytes, which `bytes` lends until the next call,
-    /// and answers the rest. It takes no memory, and so never answers `OutOfMemory`.
+    /// Reads the next record as [`next`](CaptureReader::next) does, but keeps its bytes and its line, which `bytes` and `line` lend until the
+    /// next call, and answers the rest. It takes no memory, and so never answers `OutOfMemory`.
     #[inline(always)]
     pub fn advance<R: Read>(&mut self, reader: &mut Tally<R>) -> Result<Option<Entry>, CaptureFault>
         ensures gives { self.old.phase ≡ Phase.Reading → NextGives self.old self.new
@@ -184,7 +205,9 @@ impl CaptureReader {
             (to_come self.new.unread (R.remaining (tally_lent reader.new))) (recorded self.new.bytes result) }
         ensures ended { self.old.phase ≡ Phase.Ended → (result ≡ Ok None) × (self.new ≡ self.old) }
         ensures failed { self.old.phase ≡ Phase.Failed → (result ≡ Err CaptureFault.Failed) × (self.new ≡ self.old) }
-        ensures head { (self.new.own ≡ self.old.own) × (self.new.peer ≡ self.old.peer) }
+        ensures head { (self.new.own ≡ self.old.own) × (self.new.peer ≡ self.old.peer) × (format_of self.new.form ≡ format_of self.old.form) }
+        ensures line { IfOk result (λ next. IfSome next (λ entry.
+            self.new.line ≡ record_text self.old.form (record_with entry self.new.bytes))) }
         ensures memory { result ≡ Err CaptureFault.OutOfMemory → ⊥ }
         ensures reads { CountsReads (is_failed_read result) (tally_faults reader.old) (tally_faults reader.new) }
     {
@@ -193,9 +216,16 @@ impl CaptureReader {
             Phase::Ended => return Ok(None),
             Phase::Failed => return Err(CaptureFault::Failed),
         }
-        match take_entry(&mut self.lines, &mut self.room, reader) {
+        match take_entry(
+            self.form,
+            &self.spelling,
+            &mut self.lines,
+            &mut self.room,
+            reader,
+        ) {
             Ok(Some((entry, len))) => {
                 self.len = len;
+                self.form = self.form.after(entry);
                 Ok(Some(entry))
             }
             Ok(None) => {
@@ -214,6 +244,13 @@ impl CaptureReader {
         self.alloc
     }
 
+    /// The line of the record that `advance` read last, without its LF. Takes no memory.
+    pub fn line(&self) -> &[u8]
+        ensures { result.now ≡ self.now.line }
+    {
+        self.lines.last()
+    }
+
     /// The bytes of the record that `advance` read last. Takes no memory.
     pub fn bytes(&self) -> &[u8]
         ensures { result.now ≡ self.now.bytes }
@@ -226,7 +263,7 @@ impl CaptureReader {
     /// Record i, counted from 0, stands on line i + 2. `Departs` names that line, with the first of
     /// these kinds: `TooMany` after 1,000,000,000,000 records, whatever the line holds; `TooLong` at
     /// more than 131,081 bytes before its LF or the end; `Syntax` where it has no LF; `Syntax` where
-    /// it is no record's; `TooLong` where it is one but for too many bytes. `OutOfMemory` comes where
+    /// it is no record's, in the format of the head; `TooLong` where it is one but for too many bytes. `OutOfMemory` comes where
     /// there is no memory for the bytes of the record, and `Read` where a call of the reader failed;
     /// at any other answer its count of them stands as it stood.
     #[inline(always)]
@@ -236,7 +273,7 @@ impl CaptureReader {
             (to_come self.new.unread (R.remaining (tally_lent reader.new))) result }
         ensures ended { self.old.phase ≡ Phase.Ended → (result ≡ Ok None) × (self.new ≡ self.old) }
         ensures failed { self.old.phase ≡ Phase.Failed → (result ≡ Err CaptureFault.Failed) × (self.new ≡ self.old) }
-        ensures head { (self.new.own ≡ self.old.own) × (self.new.peer ≡ self.old.peer) }
+        ensures head { (self.new.own ≡ self.old.own) × (self.new.peer ≡ self.old.peer) × (format_of self.new.form ≡ format_of self.old.form) }
         ensures reads { CountsReads (is_failed_read result) (tally_faults reader.old) (tally_faults reader.new) }
     {
         match self.phase {
@@ -245,8 +282,11 @@ impl CaptureReader {
             Phase::Failed => return Err(CaptureFault::Failed),
         }
         let alloc = self.alloc;
-        match take_record(alloc, &mut self.lines, reader) {
-            Ok(Some(record)) => Ok(Some(record)),
+        match take_record(alloc, self.form, &mut self.lines, reader) {
+            Ok(Some(record)) => {
+                self.form = self.form.after_record(&record);
+                Ok(Some(record))
+            }
             Ok(None) => {
                 self.phase = Phase::Ended;
                 Ok(None)

@@ -19,6 +19,8 @@ pub enum Record {
         /// The bytes as they came.
         bytes: Bytes,
     },
+    /// These bytes came, at most 16,393, and nobody sent them.
+    Noise(Bytes),
     /// The node's user did something, or got something.
     User(Event),
 }
@@ -28,7 +30,7 @@ impl Record {
     ghost use Rattle.capture.specs.Range.{IsRecord};
 
     /// Whether the record has a line: its hint is at most 999,999,999,999,999,999, its unit has at
-    /// most 16,393 bytes, and its event is in range. Takes no memory.
+    /// most 16,393 bytes, its noise as many, and its event is in range. Takes no memory.
     pub fn in_range(&self) -> bool
         ensures { IsTrue result ↔ IsRecord self.now }
     {
@@ -39,6 +41,7 @@ impl Record {
                 kept: _,
                 bytes,
             } => { *hint <= MAX_HINT && bytes.as_slice().len() <= MAX_UNIT }
+            Record::Noise(bytes) => bytes.as_slice().len() <= MAX_UNIT,
             Record::User(event) => event.in_range(),
         }
     }

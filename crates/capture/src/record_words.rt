@@ -1,36 +1,83 @@
 //! Reading the words of a record's line, and of the head.
 
 ghost use Rattle.std.specs.Prelude.{◌≡◌, ◌≤◌, length, true, false, IfOk, IfSome};
-ghost use Rattle.capture.specs.Reading.{Gives, hint_at, receipt_at, record_at, head_at};
-ghost use Rattle.capture.specs.Range.{IsNode};
-ghost use Rattle.capture.specs.declared.limit.TheConstants.{MAX_MESSAGE};
+ghost use Rattle.capture.specs.Reading.{Gives, hint_at, nodes_at, receipt_at, record_at, head_at};
+ghost use Rattle.capture.specs.Range.{FormFits, IsNode};
+ghost use Rattle.capture.specs.declared.limit.TheConstants.{MAX_MARK, MAX_MESSAGE};
 ghost use Rattle.std.specs.Option.{option_map};
 ghost use Rattle.capture.specs.Entries.{parted, told};
 
 use crate::address::address_of;
 use crate::bytes::Bytes;
-use crate::digits::{bytes_into, bytes_of};
+use crate::digits::{bytes_by, bytes_of};
 use crate::entry::Entry;
 use crate::event_words::event_of;
 use crate::fault::{Departure, PartFault};
+use crate::format::Format;
 use crate::hint::HintForm;
 use crate::limit::MAX_HINT;
-use crate::number::number_of;
+use crate::number::{number_before, number_of, positive_of};
 use crate::part::{after, cut_at};
 use crate::record::Record;
+use crate::spelling::Spelling;
 use std::alloc::Global;
 
 #[tactic(auto, unfolding(crate::specs::Reading::hint_at))]
+#[inline(always)]
 fn hint_of(form: HintForm, text: &[u8]) -> Option<u64>
+    requires { FormFits form }
     ensures { result ≡ hint_at form text.now }
 {
     match form {
         HintForm::Number => number_of(text, MAX_HINT),
+        HintForm::Distance { mark } => hint_by_distance(mark, text),
+    }
+}
+
+// The hint at this distance from the mark.
+#[tactic(auto, unfolding(crate::specs::Reading::hint_at, crate::specs::Reading::hint_above, crate::specs::Reading::hint_below))]
+fn hint_by_distance(mark: u64, text: &[u8]) -> Option<u64>
+    requires { mark ≤ MAX_MARK }
+    ensures { result ≡ hint_at (HintForm.Distance mark) text.now }
+{
+    if let Some(rest) = after(text, b"-") {
+        let distance = positive_of(rest, mark)?;
+        return Some(mark - distance);
+    }
+    let hint = mark + number_of(text, MAX_HINT)?;
+    if hint > MAX_HINT {
+        return None;
+    }
+    Some(hint)
+}
+
+#[inline(always)]
+fn receipt_of(form: HintForm, kept: bool, text: &[u8]) -> Option<(Entry, &[u8])>
+    requires { FormFits form }
+    ensures { receipt_at form kept text.now ≡ told (option_map (λ parts. (parts.0, parts.1.now)) result) }
+{
+    match form {
+        HintForm::Number => receipt_by_number(kept, text),
+        HintForm::Distance { .. } => match receipt_by_distance(form, kept, text) {
+            Some((entry, bytes)) => Some((entry, bytes)),
+            None => None,
+        },
+    }
+}
+
+#[inline(always)]
+fn receipt_by_number(kept: bool, text: &[u8]) -> Option<(Entry, &[u8])>
+    ensures { receipt_at HintForm.Number kept text.now ≡ told (option_map (λ parts. (parts.0, parts.1.now)) result) }
+{
+    match number_before(text, MAX_HINT) {
+        Some((hint, bytes)) => Some((Entry::Received { kept, hint }, bytes)),
+        None => None,
     }
 }
 
 #[tactic(auto, unfolding(crate::specs::Reading::receipt_at))]
-fn receipt_of(form: HintForm, kept: bool, text: &[u8]) -> Option<(Entry, &[u8])>
+fn receipt_by_distance(form: HintForm, kept: bool, text: &[u8]) -> Option<(Entry, &[u8])>
+    requires { FormFits form }
     ensures { receipt_at form kept text.now ≡ told (option_map (λ parts. (parts.0, parts.1.now)) result) }
 {
     let (hint, bytes) = cut_at(text, b' ')?;
@@ -42,6 +89,7 @@ fn receipt_of(form: HintForm, kept: bool, text: &[u8]) -> Option<(Entry, &[u8])>
 /// is given without its LF.
 #[tactic(auto, unfolding(crate::specs::Reading::record_at))]
 pub fn entry_of(form: HintForm, line: &[u8]) -> Option<(Entry, &[u8])>
+    requires { FormFits form }
     ensures { record_at form line.now ≡ told (option_map (λ parts. (parts.0, parts.1.now)) result) }
 {
     if let Some(rest) = after(line, b"s ") {
@@ -53,6 +101,9 @@ pub fn entry_of(form: HintForm, line: &[u8]) -> Option<(Entry, &[u8])>
     if let Some(rest) = after(line, b"k ") {
         return receipt_of(form, true, rest);
     }
+    if let Some(rest) = after(line, b"n ") {
+        return Some((Entry::Noise, rest));
+    }
     if let Some(rest) = after(line, b"u ") {
         return event_of(rest);
     }
@@ -62,9 +113,11 @@ pub fn entry_of(form: HintForm, line: &[u8]) -> Option<(Entry, &[u8])>
 /// The record that the line spells; the line is given without its LF.
 ///
 /// Faults: `Departs(Syntax)` where it spells none; `Departs(TooLong)` where it would but for too
-/// many bytes; `OutOfMemory`. `r 0 -` is a record, `r 01 -` is none.
+/// many bytes; `OutOfMemory`. `r 0 -` is a record, `r 01 -` is none; where a hint is a distance, so is `r -1 -`, as far as
+/// the mark reaches, and `r -0 -` is none.
 #[inline(always)]
 pub fn record_of(alloc: Global, form: HintForm, line: &[u8]) -> Result<Record, PartFault>
+    requires { FormFits form }
     ensures { Gives result (record_at form line.now) }
 {
     let Some((entry, text)) = entry_of(form, line) else {
@@ -79,8 +132,14 @@ pub fn record_of(alloc: Global, form: HintForm, line: &[u8]) -> Result<Record, P
 
 /// Reads the line's record in two parts: its entry, and its bytes, which are written to the front of the room, with how many they
 /// are. The line is given without its LF. It departs as for [`record_of`]. Takes no memory.
-pub fn line_into(form: HintForm, line: &[u8], room: &mut [u8]) -> Result<(Entry, usize), Departure>
-    requires { length room.old ≡ MAX_MESSAGE }
+pub fn line_into(
+    form: HintForm,
+    spelling: &Spelling,
+    line: &[u8],
+    room: &mut [u8],
+) -> Result<(Entry, usize), Departure>
+    requires form { FormFits form }
+    requires room { length room.old ≡ MAX_MESSAGE }
     ensures record { record_at form line.now ≡ parted room.new result }
     ensures len { IfOk result (λ parts. parts.1 ≤ MAX_MESSAGE) }
     ensures room { length room.new ≡ MAX_MESSAGE }
@@ -91,18 +150,32 @@ pub fn line_into(form: HintForm, line: &[u8], room: &mut [u8]) -> Result<(Entry,
     let Some(most) = entry.limit() else {
         return Ok((entry, 0));
     };
-    let len = bytes_into(text, most, room)?;
+    let len = bytes_by(Some(spelling), text, most, room)?;
     Ok((entry, len))
 }
 
-/// The own node's address and its peer's, as the head spells them; the line is given without its LF.
-#[tactic(auto, unfolding(crate::specs::Reading::head_at))]
-pub fn head_of(line: &[u8]) -> Option<(u16, u16)>
-    ensures { result ≡ head_at line.now }
+#[tactic(auto, unfolding(crate::specs::Reading::nodes_at))]
+fn nodes_of(text: &[u8]) -> Option<(u16, u16)>
+    ensures { result ≡ nodes_at text.now }
 {
-    let rest = after(line, b"ddcap 1 ")?;
-    let (own, peer) = cut_at(rest, b' ')?;
+    let (own, peer) = cut_at(text, b' ')?;
     let own = address_of(own)?;
     let peer = address_of(peer)?;
     Some((own, peer))
+}
+
+/// The format, the own node's address and its peer's, as the head spells them; the line is given without its LF.
+#[tactic(auto, unfolding(crate::specs::Reading::head_at))]
+pub fn head_of(line: &[u8]) -> Option<(Format, u16, u16)>
+    ensures { result ≡ head_at line.now }
+{
+    if let Some(rest) = after(line, b"ddcap 1 ") {
+        let (own, peer) = nodes_of(rest)?;
+        return Some((Format::One, own, peer));
+    }
+    if let Some(rest) = after(line, b"ddcap 2 ") {
+        let (own, peer) = nodes_of(rest)?;
+        return Some((Format::Two, own, peer));
+    }
+    None
 }

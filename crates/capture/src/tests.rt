@@ -1,6 +1,9 @@
 //! Tests of what no contract says: the rows of the format from outside, and devices that fail.
 
+mod converting;
+mod distances;
 mod limits;
+mod noise;
 mod reading;
 mod rows;
 mod stepped;

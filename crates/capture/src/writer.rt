@@ -3,14 +3,15 @@
 ghost use Rattle.std.specs.Prelude.{◌≡◌, ◌≤◌, Err, length, IfOk, OnOk};
 ghost use Rattle.std.specs.Io.KnownBytes.{Appends};
 ghost use Rattle.wire_base.specs.Tally.{tally_faults, tally_lent};
-ghost use Rattle.capture.specs.declared.limit.TheConstants.{MAX_MESSAGE};
-ghost use Rattle.capture.specs.Text.{head_line, record_line};
+ghost use Rattle.capture.specs.declared.limit.TheConstants.{MAX_MARK, MAX_MESSAGE};
+ghost use Rattle.capture.specs.Text.{head_line, mark_after, record_line};
 ghost use Rattle.capture.specs.Range.{IsNode, IsRecord, record_bytes};
 ghost use Rattle.capture.specs.Writing.{WriteMeans};
 
 use crate::event::Event;
 use crate::fault::WriteFault;
-use crate::hint::HintForm;
+use crate::format::Format;
+use crate::hint::{HintForm, next_mark_of};
 use crate::line_words::{put_head, put_record};
 use crate::record::Record;
 use std::alloc::{AllocError, Global};
@@ -33,11 +34,47 @@ pub fn write_head<W: Write>(
 ) -> Result<(), WriteFault>
     requires own { IsNode own }
     requires peer { IsNode peer }
-    ensures ok { OnOk result (Appends (W.contents (tally_lent writer.old)) (W.contents (tally_lent writer.new)) (head_line own peer)) }
+    ensures ok { OnOk result (Appends (W.contents (tally_lent writer.old)) (W.contents (tally_lent writer.new)) (head_line Format.One own peer)) }
     ensures fault { WriteMeans (W.contents (tally_lent writer.old)) (W.contents (tally_lent writer.new))
-        (tally_faults writer.old) (tally_faults writer.new) (head_line own peer) result }
+        (tally_faults writer.old) (tally_faults writer.new) (head_line Format.One own peer) result }
 {
-    let Ok(line) = head_words(alloc, own, peer) else {
+    write_head_in(alloc, Format::One, own, peer, writer)
+}
+
+/// Writes the head `ddcap 2 OWN PEER`, in one piece.
+///
+/// `Write`: the writer failed in this call, and has a beginning of the line that is not all of it.
+/// `OutOfMemory`: there is no memory for the line, and the writer was not called.
+pub fn write_head_2<W: Write>(
+    alloc: Global,
+    own: u16,
+    peer: u16,
+    writer: &mut Tally<W>,
+) -> Result<(), WriteFault>
+    requires own { IsNode own }
+    requires peer { IsNode peer }
+    ensures ok { OnOk result (Appends (W.contents (tally_lent writer.old)) (W.contents (tally_lent writer.new)) (head_line Format.Two own peer)) }
+    ensures fault { WriteMeans (W.contents (tally_lent writer.old)) (W.contents (tally_lent writer.new))
+        (tally_faults writer.old) (tally_faults writer.new) (head_line Format.Two own peer) result }
+{
+    write_head_in(alloc, Format::Two, own, peer, writer)
+}
+
+/// Writes the head in this format, in one piece. Its faults are those of [`write_head`].
+pub fn write_head_in<W: Write>(
+    alloc: Global,
+    format: Format,
+    own: u16,
+    peer: u16,
+    writer: &mut Tally<W>,
+) -> Result<(), WriteFault>
+    requires own { IsNode own }
+    requires peer { IsNode peer }
+    ensures ok { OnOk result (Appends (W.contents (tally_lent writer.old)) (W.contents (tally_lent writer.new)) (head_line format own peer)) }
+    ensures fault { WriteMeans (W.contents (tally_lent writer.old)) (W.contents (tally_lent writer.new))
+        (tally_faults writer.old) (tally_faults writer.new) (head_line format own peer) result }
+{
+    let Ok(line) = head_words(alloc, format, own, peer) else {
         return Err(WriteFault::OutOfMemory);
     };
     match write_whole(writer, line.as_slice()) {
@@ -46,11 +83,11 @@ pub fn write_head<W: Write>(
     }
 }
 
-fn head_words(alloc: Global, own: u16, peer: u16) -> Result<Vec<u8>, AllocError>
-    ensures { IfOk result (λ line. line.items ≡ head_line own peer) }
+fn head_words(alloc: Global, format: Format, own: u16, peer: u16) -> Result<Vec<u8>, AllocError>
+    ensures { IfOk result (λ line. line.items ≡ head_line format own peer) }
 {
     let mut line = Vec::with_capacity(alloc, WORDS)?;
-    put_head(&mut line, own, peer)?;
+    put_head(&mut line, format, own, peer)?;
     line.push(b'\n')?;
     Ok(line)
 }
@@ -65,11 +102,49 @@ pub fn write_record<W: Write>(
     writer: &mut Tally<W>,
 ) -> Result<(), WriteFault>
     requires { IsRecord «record».now }
-    ensures ok { OnOk result (Appends (W.contents (tally_lent writer.old)) (W.contents (tally_lent writer.new)) (record_line «record».now)) }
+    ensures ok { OnOk result (Appends (W.contents (tally_lent writer.old)) (W.contents (tally_lent writer.new)) (record_line HintForm.Number «record».now)) }
     ensures fault { WriteMeans (W.contents (tally_lent writer.old)) (W.contents (tally_lent writer.new))
-        (tally_faults writer.old) (tally_faults writer.new) (record_line «record».now) result }
+        (tally_faults writer.old) (tally_faults writer.new) (record_line HintForm.Number «record».now) result }
 {
-    let Ok(line) = record_words(alloc, record) else {
+    write_record_in(alloc, HintForm::Number, record, writer)
+}
+
+/// Writes the record's line in format 2, in one piece, and answers the mark behind it. The mark before the first record is 0;
+/// it is at most 1,000,000,000,000,000,000.
+///
+/// `Write`: the writer failed in this call, and has a beginning of the line that is not all of it.
+/// `OutOfMemory`: there is no memory for the line, and the writer was not called.
+pub fn write_record_2<W: Write>(
+    alloc: Global,
+    mark: u64,
+    record: &Record,
+    writer: &mut Tally<W>,
+) -> Result<u64, WriteFault>
+    requires mark { mark ≤ MAX_MARK }
+    requires record { IsRecord «record».now }
+    ensures ok { OnOk result (Appends (W.contents (tally_lent writer.old)) (W.contents (tally_lent writer.new)) (record_line (HintForm.Distance mark) «record».now)) }
+    ensures mark { IfOk result (λ after. after ≡ mark_after mark «record».now) }
+    ensures fault { WriteMeans (W.contents (tally_lent writer.old)) (W.contents (tally_lent writer.new))
+        (tally_faults writer.old) (tally_faults writer.new) (record_line (HintForm.Distance mark) «record».now) result }
+{
+    match write_record_in(alloc, HintForm::Distance { mark }, record, writer) {
+        Ok(()) => Ok(next_mark_of(mark, record)),
+        Err(fault) => Err(fault),
+    }
+}
+
+fn write_record_in<W: Write>(
+    alloc: Global,
+    form: HintForm,
+    record: &Record,
+    writer: &mut Tally<W>,
+) -> Result<(), WriteFault>
+    requires { IsRecord «record».now }
+    ensures ok { OnOk result (Appends (W.contents (tally_lent writer.old)) (W.contents (tally_lent writer.new)) (record_line form «record».now)) }
+    ensures fault { WriteMeans (W.contents (tally_lent writer.old)) (W.contents (tally_lent writer.new))
+        (tally_faults writer.old) (tally_faults writer.new) (record_line form «record».now) result }
+{
+    let Ok(line) = record_words(alloc, form, record) else {
         return Err(WriteFault::OutOfMemory);
     };
     match write_whole(writer, line.as_slice()) {
@@ -78,12 +153,12 @@ pub fn write_record<W: Write>(
     }
 }
 
-fn record_words(alloc: Global, record: &Record) -> Result<Vec<u8>, AllocError>
+fn record_words(alloc: Global, form: HintForm, record: &Record) -> Result<Vec<u8>, AllocError>
     requires { IsRecord «record».now }
-    ensures { IfOk result (λ line. line.items ≡ record_line «record».now) }
+    ensures { IfOk result (λ line. line.items ≡ record_line form «record».now) }
 {
     let mut line = Vec::with_capacity(alloc, WORDS + 2 * bytes_len(record))?;
-    put_record(&mut line, HintForm::Number, record)?;
+    put_record(&mut line, form, record)?;
     line.push(b'\n')?;
     Ok(line)
 }
@@ -92,7 +167,7 @@ fn bytes_len(record: &Record) -> usize
     ensures { result ≡ length (record_bytes «record».now) }
 {
     match record {
-        Record::Sent(bytes) | Record::Received { bytes, .. } => bytes.len(),
+        Record::Sent(bytes) | Record::Received { bytes, .. } | Record::Noise(bytes) => bytes.len(),
         Record::User(Event::In { bytes, .. } | Event::Up { bytes, .. }) => bytes.len(),
         Record::User(_) => 0,
     }

@@ -10,7 +10,8 @@ use Rattle.capture.specs.declared.fault.CaptureFault.TheVariants.{Departs, Read,
 use Rattle.capture.specs.declared.limit.TheConstants.{MAX_RECORDS}
 use Rattle.capture.specs.declared.phase.Phase.TheVariants.{Reading}
 use Rattle.capture.specs.declared.record.Record.{Record}
-use Rattle.capture.specs.Text.{record_line}
+use Rattle.capture.specs.declared.hint.HintForm.{HintForm}
+use Rattle.capture.specs.Text.{form_after, record_line}
 use Rattle.capture.specs.Range.{IsRecord}
 use Rattle.capture.specs.Departing.{HeadDeparts, RecordDeparts}
 use Rattle.capture.specs.Lines.{to_come}
@@ -52,14 +53,15 @@ some_on a b c xs ys first second =
 
 -- the laws of a text that is read on
 pub record GrowingLaws : Type 0 where
-  pub opened : (text left : Option (List ℕ)) (state : CaptureState) → Opens text left (Ok state) → IsReadSoFar text (so_far state.own state.peer [] (ToCome (to_come state.unread left)))
-  pub one_more : (text before after : Option (List ℕ)) (own peer : ℕ) (rs : List Record) (r : Record) → IsReadSoFar text (so_far own peer rs (ToCome before)) → length rs < MAX_RECORDS → IsRecord r → Consumes before after (record_line r) → IsReadSoFar text (so_far own peer (rs ++ r ∷ []) (ToCome after))
-  pub ended : (text before : Option (List ℕ)) (own peer : ℕ) (rs : List Record) → IsReadSoFar text (so_far own peer rs (ToCome before)) → IsAtEnd before → IsReadSoFar text (so_far own peer rs TheEnd)
+  pub opened : (text left : Option (List ℕ)) (state : CaptureState) → Opens text left (Ok state) → IsReadSoFar text (so_far state.form state.own state.peer [] (ToCome (to_come state.unread left)))
+  pub one_more : (text before after : Option (List ℕ)) (form : HintForm) (own peer : ℕ) (rs : List Record) (r : Record) → IsReadSoFar text (so_far form own peer rs (ToCome before)) → length rs < MAX_RECORDS → IsRecord r → Consumes before after (record_line form r)
+      → IsReadSoFar text (so_far (form_after form r) own peer (rs ++ r ∷ []) (ToCome after))
+  pub ended : (text before : Option (List ℕ)) (form : HintForm) (own peer : ℕ) (rs : List Record) → IsReadSoFar text (so_far form own peer rs (ToCome before)) → IsAtEnd before → IsReadSoFar text (so_far form own peer rs TheEnd)
 
 -- a reader in this state has read so many records of the text; a part of their lines was written, and the rest waits on the page
 pub record HasListed (text come : Option (List ℕ)) (capture : CaptureState) (number : ℕ) (out : Moved) (page : List ℕ) : Type 0 where
   pub records : List Record
-  pub read : IsReadSoFar text (so_far capture.own capture.peer records (ToCome come))
+  pub read : IsReadSoFar text (so_far capture.form capture.own capture.peer records (ToCome come))
   pub count : length records ≡ number
   pub counted : capture.records ≡ number
   pub reading : capture.phase ≡ Reading
@@ -89,7 +91,7 @@ listed_on laws text before after old new number out_old out out' page kept page'
     let counted = h.counted in
     let few = gives.1 in
     let same : 0 + length h.records ≡ number = omega arith in
-    let read : IsReadSoFar text (so_far new.own new.peer (h.records ++ r ∷ []) (ToCome after)) = rw (own, peer) (laws.one_more text before after old.own old.peer h.records r h.read (omega arith) gives.0 gives.4) in
+    let read : IsReadSoFar text (so_far new.form new.own new.peer (h.records ++ r ∷ []) (ToCome after)) = rw (own, peer, gives.5) (laws.one_more text before after old.form old.own old.peer h.records r h.read (omega arith) gives.0 gives.4) in
     let count_on : length (h.records ++ r ∷ []) ≡ number + 1 = omega (arith, length-append h.records (r ∷ [])) in
     let counted_on : new.records ≡ number + 1 = gives.2 ∙ ap (λ n. n + 1) counted in
     let lines : shown_lines 0 (h.records ++ r ∷ []) ≡ (h.written ++ page) ++ shown_line number r =
@@ -122,7 +124,7 @@ listed_on laws text before after old new number out_old out out' page kept page'
 module _ (text before : Option (List ℕ)) (capture : CaptureState) (number : ℕ) (out : Moved) (page : List ℕ) (h : HasListed text before capture number out page) where
   -- what was read by then
   abbrev has_read : HasRead text h.records
-  has_read = record { own = capture.own; peer = capture.peer; come = before; read = h.read }
+  has_read = record { form = capture.form; own = capture.own; peer = capture.peer; come = before; read = h.read }
 
   pub all_lines : (out' : Stream) → WritesAll out.new out' page → WritesAll out.old out' (shown_lines 0 h.records)
   all_lines out' all = subst (WritesAll out.old out') (sym h.lines) (all_on out.old out.new out' h.written page h.on_out all)
@@ -131,15 +133,15 @@ module _ (text before : Option (List ℕ)) (capture : CaptureState) (number : �
   some_lines out' some = subst (WritesSome out.old out') (sym h.lines) (some_on out.old out.new out' h.written page h.on_out some)
 
   pub read_all : (laws : GrowingLaws) → IsAtEnd before → HasReadAll text h.records
-  read_all laws end = record { own = capture.own; peer = capture.peer; read = laws.ended text before capture.own capture.peer h.records h.read end }
+  read_all laws end = record { form = capture.form; own = capture.own; peer = capture.peer; read = laws.ended text before capture.form capture.own capture.peer h.records h.read end }
 
-  pub read_to_fault : (fault : CaptureFault) → FaultShows (RecordDeparts capture.records) (capture.records + 2) before fault → IsReadTo (Faulty fault) text h.records
+  pub read_to_fault : (fault : CaptureFault) → FaultShows (RecordDeparts capture.form capture.records) (capture.records + 2) before fault → IsReadTo (Faulty fault) text h.records
   read_to_fault (Departs kind line) shows =
       let same = h.counted ∙ sym h.count in
       inr (
         has_read,
         record {
-          departs = subst (λ (n : ℕ). IfSome before (RecordDeparts n kind)) same shows.1;
+          departs = subst (λ (n : ℕ). IfSome before (RecordDeparts capture.form n kind)) same shows.1;
           line_is = shows.0 ∙ ap (λ n. n + 2) same;
         },
       )

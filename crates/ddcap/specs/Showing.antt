@@ -6,6 +6,7 @@ use Rattle.wire_base.specs.declared.side.Side.TheVariants.{A}
 use Rattle.capture.specs.declared.fault.CaptureFault.{CaptureFault}
 use Rattle.capture.specs.declared.fault.CaptureFault.TheVariants.{Departs, Read, OutOfMemory, Failed}
 use Rattle.capture.specs.declared.fault.Departure.{Departure}
+use Rattle.capture.specs.declared.hint.HintForm.{HintForm}
 use Rattle.capture.specs.declared.record.Record.{Record}
 use Rattle.capture.specs.Faulty.{CountsReads, is_read_fault}
 use Rattle.capture.specs.SoFar.{ToCome, TheEnd, so_far, IsReadSoFar, DepartsBehind, HeadDepartsAt}
@@ -20,22 +21,24 @@ use Rattle.ddcap.specs.Shown.{shown_lines}
 
 -- a head and these records were read of the text
 pub record HasRead (text : Option (List ℕ)) (records : List Record) : Type 0 where
+  pub form : HintForm
   pub own : ℕ
   pub peer : ℕ
   pub come : Option (List ℕ)
-  pub read : IsReadSoFar text (so_far own peer records (ToCome come))
+  pub read : IsReadSoFar text (so_far form own peer records (ToCome come))
 
 -- they are all of the text's
 pub record HasReadAll (text : Option (List ℕ)) (records : List Record) : Type 0 where
+  pub form : HintForm
   pub own : ℕ
   pub peer : ℕ
-  pub read : IsReadSoFar text (so_far own peer records TheEnd)
+  pub read : IsReadSoFar text (so_far form own peer records TheEnd)
 
 -- the head's line departs, before any record; or the line behind these records
 abbrev pub IsFaultyBehind : Option (List ℕ) → List Record → Departure → ℕ → Type 0
 IsFaultyBehind text records kind line =
     ((records ≡ []) × HeadDepartsAt text kind line)
-    ⊎ ((h : HasRead text records) × DepartsBehind (so_far h.own h.peer records (ToCome h.come)) kind line)
+    ⊎ ((h : HasRead text records) × DepartsBehind (so_far h.form h.own h.peer records (ToCome h.come)) kind line)
 
 -- nothing was read, or a head and these records
 abbrev pub HasBegun : Option (List ℕ) → List Record → Type 0

@@ -3,7 +3,7 @@ use Rattle.std.specs.Prelude.{ℕ, ◌+◌, Bool, true, false, List, [], ◌∷�
 use Rattle.std.specs.Fmt.{decimal}
 use Rattle.capture.specs.Text.{event_text, spaced}
 use Rattle.capture.specs.declared.record.Record.{Record}
-use Rattle.capture.specs.declared.record.Record.TheVariants.{Sent, Received, User}
+use Rattle.capture.specs.declared.record.Record.TheVariants.{Sent, Received, Noise, User}
 use Rattle.ddcmp_msg.specs.declared.flags.Flags.{Flags}
 use Rattle.ddcmp_msg.specs.Message.{MessageValue, Data, Ack, Nak, Rep, Strt, Stack, reason_number}
 use Rattle.ddcmp_msg.specs.Reading.{ReadingValue, Sound, HeaderBad, DataBad, Malformed, departure_number, reading}
@@ -50,6 +50,7 @@ abbrev pub record_words : Record → List ℕ
 record_words (Sent bytes) = codes "sent " ++ unit_words bytes
 record_words (Received hint false bytes) = codes "received " ++ spaced (decimal hint) (unit_words bytes)
 record_words (Received hint true bytes) = codes "kept " ++ spaced (decimal hint) (unit_words bytes)
+record_words (Noise bytes) = codes "noise " ++ unit_words bytes
 record_words (User event) = codes "user " ++ event_text event
 
 -- a record's line: its number, its words and an LF

@@ -1,12 +1,13 @@
 //! `ddcap` judges whether two text captures of one DDCMP line, between two DECnet Phase IV end nodes, are together a run of
-//! the protocols, and prints the verdict; or it shows what one capture says. It reads the files that it is given and writes to
-//! its two streams alone; it never touches a line, a clock or another file.
+//! the protocols, and prints the verdict; or it shows what one capture says, or writes it in another format. It reads the files
+//! that it is given, and writes the one that it is told to and its two streams; it never touches a line, a clock or another file.
 #![tactic(auto)]
 
 use std::process::ExitCode;
 use wire_base::Tally;
 
 mod check;
+mod convert;
 mod page;
 mod run;
 mod show;

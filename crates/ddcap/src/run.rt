@@ -4,9 +4,11 @@ ghost use Rattle.std.specs.IoError.{error_kind};
 ghost use Rattle.ddcap.specs.Printed.{Writes, not_opened_says, stream_of, words_fault_status, words_fault_text};
 
 use crate::check::{check_to, print, print_out_of_memory};
+use crate::convert::convert_to;
 use crate::show::show_to;
 use crate::text::FAILED;
 use crate::words::{Task, WordsFault, task_of};
+use capture::Format;
 use std::alloc::Global;
 use std::io::{self, ErrorKind, Write};
 use std::rt::{Env, Files};
@@ -29,6 +31,7 @@ pub fn run<R: Env + Files + AllocGlobal, O: Write, E: Write>(
     match task_of(rt.alloc(), words.as_slice()) {
         Ok(Task::Check { a, b }) => check_files(rt, a, b, out, err),
         Ok(Task::Show { a }) => show_file(rt, a, out, err),
+        Ok(Task::Convert { to, a, b }) => convert_file(rt, to, a, b, out, err),
         Err(fault) => print_words_fault(err, fault),
     }
 }
@@ -92,6 +95,29 @@ fn show_file<R: Files + AllocGlobal, O: Write, E: Write>(
     };
     let mut a = Tally::new(file);
     show_to(rt.alloc(), &mut a, out, err)
+}
+
+/// Opens the one file, creates or empties the other, and writes into it what the first one holds, in this format. The first that
+/// can't be opened ends it.
+fn convert_file<R: Files + AllocGlobal, O: Write, E: Write>(
+    rt: &R,
+    to: Format,
+    path_a: &str,
+    path_b: &str,
+    out: &mut Tally<O>,
+    err: &mut Tally<E>,
+) -> u8 {
+    let file_a = match fs::open(rt, path_a) {
+        Ok(file) => file,
+        Err(error) => return print_not_opened(err, Side::A, &error),
+    };
+    let file_b = match fs::create(rt, path_b) {
+        Ok(file) => file,
+        Err(error) => return print_not_opened(err, Side::B, &error),
+    };
+    let mut src = Tally::new(file_a);
+    let mut dest = Tally::new(file_b);
+    convert_to(rt.alloc(), to.number(), &mut src, &mut dest, out, err)
 }
 
 /// Prints that a side's file can't be opened, or that memory was wanting for it, and answers the status.

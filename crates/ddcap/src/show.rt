@@ -120,8 +120,8 @@ fn write_page<W: Write>(page: &mut Page, out: &mut Tally<W>) -> Result<(), Write
     }
 }
 
-// Prints a text's fault, which is put together on the page, and answers its status.
-fn print_fault<W: Write>(page: &mut Page, err: &mut Tally<W>, fault: CaptureFault) -> u8
+/// Prints a text's fault, which is put together on the page, and answers its status: 2 for a faulty line, else 3.
+pub fn print_fault<W: Write>(page: &mut Page, err: &mut Tally<W>, fault: CaptureFault) -> u8
     requires { fault ≢ CaptureFault.Failed }
     ensures { Writes (stream_of W.contents err.old) (stream_of W.contents err.new)
         (shown_fault fault) (shown_fault_status fault) result }

@@ -50,6 +50,10 @@ fn put_entry(page: &mut Page, entry: Entry, bytes: &[u8])
             page.put(b" kept ");
             put_receipt(page, hint, bytes);
         }
+        Entry::Noise => {
+            page.put(b" noise ");
+            put_unit(page, bytes);
+        }
         Entry::Start => page.put(b" user start"),
         Entry::Halt => page.put(b" user halt"),
         Entry::Open { link } => put_field(page, b" user open ", u64::from(link)),

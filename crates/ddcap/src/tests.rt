@@ -1,9 +1,13 @@
 //! Tests of what no contract says: the worked rows of the protocols from outside, words, and devices that fail.
 
 mod contradictory;
+mod conversion;
+mod convert;
+mod convert_devices;
 mod devices;
 mod limits;
 mod link_pairs;
+mod noise;
 mod pair;
 mod pair_lists;
 mod reasons;

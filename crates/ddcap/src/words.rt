@@ -1,7 +1,8 @@
 //! The words that the program is given.
 
+use capture::Format;
 use clap::error::ErrorKind;
-use clap::{Arg, Command};
+use clap::{Arg, ArgMatches, Command};
 use std::alloc::{AllocError, Global};
 use std::convert::AsStr;
 
@@ -12,6 +13,8 @@ pub enum Task<'a> {
     Check { a: &'a str, b: &'a str },
     /// To show the records of the capture in a file.
     Show { a: &'a str },
+    /// To write the capture in the file `a` in this format, into the file `b`.
+    Convert { to: Format, a: &'a str, b: &'a str },
 }
 
 /// Why the words ask for nothing.
@@ -38,6 +41,7 @@ pub fn task_of<'a, S: AsStr>(alloc: Global, words: &'a [S]) -> Result<Task<'a>, 
                 Some(a) => Ok(Task::Show { a }),
                 None => Err(WordsFault::BadWords),
             },
+            Some(("convert", found)) => conversion_of(found),
             _ => Err(WordsFault::BadWords),
         },
         Err(error) => match error.kind() {
@@ -47,12 +51,37 @@ pub fn task_of<'a, S: AsStr>(alloc: Global, words: &'a [S]) -> Result<Task<'a>, 
     }
 }
 
+/// The conversion that the words behind `convert` ask for: the format's number has one spelling.
+fn conversion_of<'a>(found: &ArgMatches<'a>) -> Result<Task<'a>, WordsFault> {
+    let (Some(number), Some(a), Some(b)) = (
+        found.get_str("N"),
+        found.get_str("IN"),
+        found.get_str("OUT"),
+    ) else {
+        return Err(WordsFault::BadWords);
+    };
+    match number {
+        "1" => Ok(Task::Convert {
+            to: Format::One,
+            a,
+            b,
+        }),
+        "2" => Ok(Task::Convert {
+            to: Format::Two,
+            a,
+            b,
+        }),
+        _ => Err(WordsFault::BadWords),
+    }
+}
+
 fn program<'a>(alloc: Global) -> Result<Command<'a>, AllocError> {
     Command::new(alloc, "ddcap")
         .disable_help_subcommand(true)
         .subcommand_required(true)
         .subcommand(check(alloc)?)?
-        .subcommand(show(alloc)?)
+        .subcommand(show(alloc)?)?
+        .subcommand(convert(alloc)?)
 }
 
 /// `check A B`
@@ -65,4 +94,12 @@ fn check<'a>(alloc: Global) -> Result<Command<'a>, AllocError> {
 /// `show A`
 fn show<'a>(alloc: Global) -> Result<Command<'a>, AllocError> {
     Command::new(alloc, "show").arg(Arg::new(alloc, "A").required(true))
+}
+
+/// `convert N IN OUT`
+fn convert<'a>(alloc: Global) -> Result<Command<'a>, AllocError> {
+    Command::new(alloc, "convert")
+        .arg(Arg::new(alloc, "N").required(true))?
+        .arg(Arg::new(alloc, "IN").required(true))?
+        .arg(Arg::new(alloc, "OUT").required(true))
 }

@@ -30,7 +30,7 @@ set_bytes (b ∷ bytes) (suc place) y small all zero = all 0
 set_bytes (b ∷ bytes) (suc place) y small all (suc i) = set_bytes bytes place y small (λ j. all (suc j)) i
 
 -- a record that has a line and is made
-made_is : (own other : PlayHalf) (bytes : List ℕ) (hint : ℕ) (kept : Bool) (half : PlayHalf) → has_line (Received hint kept bytes) ≡ true →
+pub made_is : (own other : PlayHalf) (bytes : List ℕ) (hint : ℕ) (kept : Bool) (half : PlayHalf) → has_line (Received hint kept bytes) ≡ true →
     advance end_step own other (Received hint kept bytes) ≡ Made half → makes own other (Received hint kept bytes) ≡ Some half
 unfolding end_step
 made_is own other bytes hint kept half lined is =
@@ -52,7 +52,7 @@ module _ (own other : End) (h : Stage own) (theirs : Stage other) (later : Later
       (made_is own.half other.half bytes own.passed kept half lined is) Nothing)
       (quiet own (Received own.passed kept bytes) refl refl)) o
 
-  unit_line : (kept : Bool) → has_line (Received own.passed kept unit.bytes) ≡ true
+  pub unit_line : (kept : Bool) → has_line (Received own.passed kept unit.bytes) ≡ true
   unit_line kept = let l = facts.lined own.passed unit there in
       line_tested (Received own.passed kept unit.bytes) (record { spelling = record { numbers = few; bytes = l.spelling.bytes }; short = l.short })
 
@@ -63,7 +63,7 @@ module _ (own other : End) (h : Stage own) (theirs : Stage other) (later : Later
       (from_here own other later h theirs facts unit there) buffer (unit_line kept)
       (clear unit.bytes kept (carried kept (reading unit.bytes)) (unit_line kept))
 
-  damaged_line : (place value : ℕ) → is_damage place value unit.bytes ≡ true →
+  pub damaged_line : (place value : ℕ) → is_damage place value unit.bytes ≡ true →
       has_line (Received own.passed false (damaged place value unit.bytes)) ≡ true
   damaged_line place value is =
       let l = facts.lined own.passed unit there in

@@ -42,7 +42,7 @@ up_stage e other h facts address message half is =
     (of_links.Up address message) m.left tt tt h.few m.does_it)
 
 -- the same bytes leave the same half
-same_half : (x y : PlayHalf) → ◌≡◌ {A = Outcome LayersNode LayersUnit StepRefusal} (Made x) (Made y) → x ≡ y
+pub same_half : (x y : PlayHalf) → ◌≡◌ {A = Outcome LayersNode LayersUnit StepRefusal} (Made x) (Made y) → x ≡ y
 same_half x y e = cc
 
 module _ (own other : End) (later : Later own other) where

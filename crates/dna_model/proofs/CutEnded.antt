@@ -9,7 +9,7 @@ use Rattle.dna_model.specs.WireFlow as kept
 use Rattle.dna_model.specs.CutFlow.{cut}
 
 -- the pieces in whole messages are those of the next message, and those in whole messages behind it
-abbrev Splits : List (Option Piece) → Option Whole → Type 0
+abbrev pub Splits : List (Option Piece) → Option Whole → Type 0
 Splits ps None = in_whole_messages ps ≡ 0
 Splits ps (Some w) = (1 ≤ w.pieces) × (in_whole_messages ps ≡ w.pieces + in_whole_messages (drop w.pieces ps))
 
@@ -49,7 +49,7 @@ as_split : (p : Piece) (xs : List (Option Piece)) (o : Option Whole) → SplitsA
 as_split p xs None split = split
 as_split p xs (Some w) split = split
 
-splits : (xs : List (Option Piece)) → Splits xs (next_message xs)
+pub splits : (xs : List (Option Piece)) → Splits xs (next_message xs)
 splits [] = refl
 splits (None ∷ xs) = refl
 splits (Some p ∷ xs) = as_split p xs (next_message (Some p ∷ xs)) (splits_first p.ends p xs (splits xs))

@@ -17,7 +17,7 @@ use Rattle.dna_model.specs.Book.{ArrivalValue, HeaderBad, DataBad, Sound}
 use Rattle.dna_model.specs.StationBook.{after_sending, arrival_refusal, after_arrival}
 use Rattle.dna_model.specs.Line.{SentUnit}
 use Rattle.dna_model.specs.Node.{Node}
-use Rattle.dna_model.proofs.Happens.{Happens, Nothing, UserEvent, Sending, Receipt, ComesOf, Itself, BadHeader, BadData}
+use Rattle.dna_model.proofs.Happens.{Happens, Nothing, UserEvent, Sending, Receipt, Counted, Unheard, ComesOf, Itself, BadHeader, BadData}
 use Rattle.dna_model.proofs.StationBounds.{IsSound}
 use Rattle.dna_model.proofs.Effects.{Stays, sending_stays}
 use Rattle.dna_model.proofs.DeliveredSteps.{TookBy, Took, arrival_took, unkept}
@@ -80,6 +80,8 @@ receipt_taken s hint kept bytes unit DataBad reads BadData allowed took = as_del
 module _ (own other : Half Node SentUnit) (h : IsSound own.state own.sent other.sent) (theirs : IsSound other.state other.sent own.sent) where
   record_taken : (r : Record) (left : Half Node SentUnit) → Happens judged own other r left → taken_by_period left.state.station ≡ delivered_by (taken_by_period own.state.station) r
   record_taken r left (Nothing event none) = ap (λ (b : Bool). with_period b (taken_by_period own.state.station)) (sym none)
+  record_taken r left (Counted bytes reason) = refl
+  record_taken r left (Unheard bytes) = refl
   record_taken r left (UserEvent Start allowed) = map-append taken (periods own.state.station) (past (after_event own.state.station Start) ∷ [])
   record_taken r left (UserEvent Halt allowed) = refl
   record_taken r left (Sending bytes m read allowed) = sending_taken own.state.station m

@@ -10,10 +10,10 @@ use Rattle.dna_model.specs.Station.{Station, PastPeriod, new_station, past}
 use Rattle.dna_model.specs.Delivery.{periods, BeginsWith, IsDelivered, DeliversFrom}
 use Rattle.dna_model.specs.Rules.{judged}
 use Rattle.dna_model.specs.Truth.{Truth}
-use Rattle.dna_model.specs.StationBook.{after_arrival}
+use Rattle.dna_model.specs.StationBook.{station_book, after_arrival}
 use Rattle.dna_model.specs.Line.{SentUnit}
 use Rattle.dna_model.specs.Node.{Node}
-use Rattle.dna_model.proofs.Happens.{Happens, Nothing, UserEvent, Sending, Receipt}
+use Rattle.dna_model.proofs.Happens.{Happens, Nothing, UserEvent, Sending, Receipt, Counted, Unheard}
 use Rattle.dna_model.proofs.NumberedSteps.{each_pushed}
 use Rattle.dna_model.proofs.StationBounds.{IsSound}
 use Rattle.dna_model.proofs.Delivered.{GrowTo, begins_same, grow_present, IsOffered, offered_grown, begins_next}
@@ -86,6 +86,12 @@ module _ (own other : Half Node SentUnit) (h : IsSound own.state own.sent other.
     (o : Offers own.state.station own.sent) (p : Offers other.state.station other.sent) (d : Delivers own.state.station (periods other.state.station)) where
   pub left_by : (r : Record) (left : Half Node SentUnit) → Happens judged own other r left → Left own left other
   left_by r left (Nothing event none) = record { offers = o; delivers = d; grows = grow_present own.state.station own.state.station refl (begins_same own.state.station.packets) }
+  left_by r left (Counted bytes reason) = record {
+    offers = record { count = o.count; taken_count = o.taken_count; offered = o.offered };
+    delivers = record { earlier = d.earlier; present = d.present };
+    grows = grow_present own.state.station (station_book.counts reason own.state.station) refl (begins_same own.state.station.packets);
+  }
+  left_by r left (Unheard bytes) = record { offers = o; delivers = d; grows = grow_present own.state.station own.state.station refl (begins_same own.state.station.packets) }
   left_by r left (UserEvent event allowed) = record {
     offers = event_offers own.state.station own.sent event o;
     delivers = event_delivers own.state.station (periods other.state.station) event d;

@@ -10,7 +10,7 @@ use Rattle.capture.specs.declared.event.Event.{Event}
 use Rattle.capture.specs.declared.event.Event.TheVariants as events
 use Rattle.capture.specs.declared.limit.TheConstants.{MAX_MESSAGE}
 use Rattle.capture.specs.declared.record.Record.{Record}
-use Rattle.capture.specs.declared.record.Record.TheVariants.{Sent, Received, User}
+use Rattle.capture.specs.declared.record.Record.TheVariants.{Sent, Received, Noise, User}
 use Rattle.capture.specs.Range.{IsLink, IsRecord}
 use Rattle.dna_model.specs.Delivery.{BeginsWith}
 use Rattle.dna_model.specs.Pieces.{Piece}
@@ -24,7 +24,7 @@ use Rattle.dna_model.specs.Receipt.{complete}
 use Rattle.dna_model.proofs.LinkReads.{given_again, HoldsAt}
 use Rattle.dna_model.proofs.LinkPieces.{IsPassed, delivered_is, passed_delivered, passed_begins}
 use Rattle.dna_model.proofs.PlayLines.{line_tested}
-use Rattle.dna_model.proofs.UpsFollow.{AllLined, delivers_next}
+use Rattle.dna_model.proofs.UpsFollow.{AllLined, delivering, delivers_next}
 
 -- ---- messages and addresses of records
 
@@ -81,6 +81,7 @@ record_lined : (r : Record) → IsRecord r → EventsLined (link_events (r ∷ [
 record_lined (User event) h = event_lined event h
 record_lined (Sent bytes) h = tt
 record_lined (Received hint kept bytes) h = tt
+record_lined (Noise bytes) h = tt
 
 pub events_lined : (records : List Record) → AllByRecursion IsRecord records → EventsLined (link_events records)
 events_lined [] h = tt
@@ -148,10 +149,9 @@ whole_begins : (messages : List (List ℕ)) (f g : TrueFlow) → IsPassed f → 
 whole_begins [] f g p cut held e = subst (BeginsWith g.handed) (sym (append-nil f.delivered)) (passed_begins f g p cut held)
 whole_begins (message ∷ later) f g p cut held e =
     let d = delivers_next f message later e in
-    let did = delivered_is message f d.flow d.does in
-    let all = ap (λ (x : TrueFlow). x.delivered) did.is ∙ ap (λ (m : List ℕ). f.delivered ++ m ∷ []) (sym did.message_is) in
-    subst (BeginsWith g.handed) (ap (λ (l : List (List ℕ)). l ++ later) all ∙ append_assoc f.delivered (message ∷ []) later)
-    (whole_begins later d.flow g (passed_delivered message f d.flow p did) cut (subst (λ (x : TrueFlow). IsHeldIn x g) (sym did.is) held) d.left)
+    let next = delivering message d.w f in
+    subst (BeginsWith g.handed) (append_assoc f.delivered (message ∷ []) later)
+    (whole_begins later next g (passed_delivered message f next p (delivered_is message f next d.does)) cut held d.left)
 
 -- without a piece nothing is whole
 none_whole : (f : TrueFlow) → f.received ≡ [] → complete [] (drop f.passed f.received) ≡ []

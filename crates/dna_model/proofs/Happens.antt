@@ -1,15 +1,17 @@
--- What a record that is made does, whatever the record is: one of four things.
-use Rattle.std.proofs.Common.{◌≡◌, ℕ, ◌+◌, ◌≤◌, Bool, true, false, cond, nat_lt, ltb-false, Option, Some, None, Err, List, refl, subst}
+-- What a record that is made does, whatever the record is.
+use Rattle.std.proofs.Common.{◌≡◌, ℕ, ◌+◌, ◌≤◌, Bool, true, false, cond, nat_lt, ltb-false, Option, Some, None, Ok, Err, List, refl, subst}
 use Rattle.std.specs.Prelude.{slice_get, bytes_eq}
 use Rattle.std.proofs.lemmas.Slice.Eq.{bytes_eq-Decides}
 use Rattle.two_nodes.specs.Nodes.{Half, Outcome, answered, concluded, read, stepped, stepped_sending, advance}
 use Rattle.two_nodes.specs.Nodes.Outcome.{Made}
 use Rattle.two_nodes.proofs.Order.{one_half}
+use Rattle.ddcmp_msg.specs.declared.nak_reason.NakReason.{NakReason}
+use Rattle.ddcmp_msg.specs.declared.nak_reason.NakReason.TheVariants.{HeaderCheck, DataCheck}
 use Rattle.ddcmp_msg.specs.Message.{MessageValue}
 use Rattle.ddcmp_msg.specs.Reading.{ReadingValue, reading}
 use Rattle.ddcmp_msg.specs.Reading as read_as
 use Rattle.capture.specs.declared.record.Record.{Record}
-use Rattle.capture.specs.declared.record.Record.TheVariants.{Sent, Received, User}
+use Rattle.capture.specs.declared.record.Record.TheVariants.{Sent, Received, Noise, User}
 use Rattle.capture.specs.declared.event.Event.{Event}
 use Rattle.capture.specs.declared.event.Event.TheVariants as events
 use Rattle.dna_model.specs.declared.state.StationEvent.{StationEvent}
@@ -17,15 +19,15 @@ use Rattle.dna_model.specs.declared.state.StationEvent.TheVariants.{Start, Halt}
 use Rattle.dna_model.specs.declared.refusal.StationRefusal.{StationRefusal}
 use Rattle.dna_model.specs.declared.refusal.StepRefusal.{StepRefusal}
 use Rattle.dna_model.specs.declared.refusal.StepRefusal.TheVariants.{HintOrder}
-use Rattle.dna_model.specs.Table.{user_refusal}
+use Rattle.dna_model.specs.Table.{user_refusal, counts_damage}
 use Rattle.dna_model.specs.Rules.{Rules}
 use Rattle.dna_model.specs.Station.{after_event}
 use Rattle.dna_model.specs.Delivery.{begins}
 use Rattle.dna_model.specs.Truth.{Truth}
 use Rattle.dna_model.specs.Book.{ArrivalValue, Sound, HeaderBad, DataBad}
-use Rattle.dna_model.specs.StationBook.{sending_refusal, after_sending, truth_of, arrival_refusal, after_arrival}
+use Rattle.dna_model.specs.StationBook.{station_book, sending_refusal, after_sending, truth_of, arrival_refusal, after_arrival}
 use Rattle.dna_model.specs.Line.{SentUnit, damage, coming_by, coming}
-use Rattle.dna_model.specs.Machine.{does, user_step, sends, sent_step, met, comes, receives, unless_refused}
+use Rattle.dna_model.specs.Machine.{does, user_step, sends, sent_step, met, comes, receives, noise_step, unless_refused}
 use Rattle.dna_model.specs.Node.{Node, station_machine, step}
 
 -- what comes of a unit with these bytes: its message with its truth, where they are the unit's; or damage
@@ -38,7 +40,7 @@ abbrev pub event_of : StationEvent → Event
 event_of Start = events.Start
 event_of Halt = events.Halt
 
--- the half that a record leaves
+-- the half that a record leaves. Noise is one more cause, or nothing
 pub data Happens (rules : Rules) (own other : Half Node SentUnit) : Record → Half Node SentUnit → Type 0 where
   Nothing : (event : Event) → begins event ≡ false → Happens rules own other (User event) (stepped own own.state)
   UserEvent : (event : StationEvent) → user_refusal own.state.station.state event ≡ None →
@@ -48,6 +50,9 @@ pub data Happens (rules : Rules) (own other : Half Node SentUnit) : Record → H
   Receipt : (hint : ℕ) (kept : Bool) (bytes : List ℕ) (unit : SentUnit) (arrival : ArrivalValue Truth) → slice_get other.sent hint ≡ Some unit → own.state.front ≤ hint → ComesOf unit bytes arrival →
       arrival_refusal rules own.state.station arrival kept ≡ None →
       Happens rules own other (Received hint kept bytes) (stepped own (record own.state { station = after_arrival own.state.station arrival kept; front = hint + 1 }))
+  Counted : (bytes : List ℕ) (reason : NakReason) →
+      Happens rules own other (Noise bytes) (stepped own (record own.state { station = station_book.counts reason own.state.station }))
+  Unheard : (bytes : List ℕ) → Happens rules own other (Noise bytes) (stepped own own.state)
 
 module _ (rules : Rules) (own other h : Half Node SentUnit) where
   left : (r : Record) (g : Half Node SentUnit) → Happens rules own other r g → ◌≡◌ {A = Outcome Node SentUnit StepRefusal} (Made g) (Made h) → Happens rules own other r h
@@ -92,7 +97,18 @@ module _ (rules : Rules) (own other h : Half Node SentUnit) where
       go true e made = absurd cc
       go false e made = comes_happens hint kept bytes unit there (ltb-false hint own.state.front e) (bytes_eq bytes unit.bytes) (reading bytes) refl made
 
+  counted_happens : (bytes : List ℕ) (reason : NakReason) (b : Bool) →
+      answered own other (does own.state (Ok (cond b (station_book.counts reason own.state.station) own.state.station))) ≡ Made h → Happens rules own other (Noise bytes) h
+  counted_happens bytes reason true made = left _ _ (Counted bytes reason) made
+  counted_happens bytes reason false made = left _ _ (Unheard bytes) made
+
+  noise_happens : (bytes : List ℕ) (r : ReadingValue) → answered own other (noise_step (station_machine rules) own.state r) ≡ Made h → Happens rules own other (Noise bytes) h
+  noise_happens bytes read_as.HeaderBad made = counted_happens bytes HeaderCheck (counts_damage own.state.station.state) made
+  noise_happens bytes read_as.DataBad made = counted_happens bytes DataCheck (counts_damage own.state.station.state) made
+  noise_happens bytes r made = absurd cc
+
   pub happens : (r : Record) → advance (step rules) own other r ≡ Made h → Happens rules own other r h
   happens (Sent bytes) made = sent_happens bytes (reading bytes) refl made
   happens (Received hint kept bytes) made = read_happens hint kept bytes (slice_get other.sent hint) refl made
+  happens (Noise bytes) made = noise_happens bytes (reading bytes) made
   happens (User event) made = event_happens event made

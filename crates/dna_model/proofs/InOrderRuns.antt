@@ -11,11 +11,11 @@ use Rattle.dna_model.specs.declared.state.StationEvent.TheVariants.{Start, Halt}
 use Rattle.dna_model.specs.Station.{Station, new_station, past, all_given, after_event}
 use Rattle.dna_model.specs.Delivery.{AreAmong, DeliversFrom, all_taken, periods, delivered, taken_by_period}
 use Rattle.dna_model.specs.Rules.{judged}
-use Rattle.dna_model.specs.StationBook.{after_sending, after_arrival}
+use Rattle.dna_model.specs.StationBook.{station_book, after_sending, after_arrival}
 use Rattle.dna_model.specs.Line.{SentUnit}
 use Rattle.dna_model.specs.Node.{Node, new_node}
 use Rattle.dna_model.specs.Pair.{pair, start}
-use Rattle.dna_model.proofs.Happens.{Happens, Nothing, UserEvent, Sending, Receipt}
+use Rattle.dna_model.proofs.Happens.{Happens, Nothing, UserEvent, Sending, Receipt, Counted, Unheard}
 use Rattle.dna_model.proofs.StationNumbers.{unit_of}
 use Rattle.dna_model.proofs.StationBounds.{IsSound}
 use Rattle.dna_model.proofs.Effects.{Stays, sending_stays}
@@ -25,7 +25,7 @@ use Rattle.dna_model.proofs.DeliveredSteps.{Offers, Delivers, TookBy, delivers_b
 use Rattle.dna_model.proofs.DeliveredRuns.{Left, left_by, new_offers, new_delivers, delivers_from}
 use Rattle.dna_model.proofs.DeliveredCaptures.{captured_more}
 use Rattle.dna_model.proofs.Places.{AtPlaces, places_left}
-use Rattle.dna_model.proofs.Partnered.{Partnered, new_partnered, event_partnered, sending_partnered, receipt_partnered}
+use Rattle.dna_model.proofs.Partnered.{Partnered, new_partnered, event_partnered, sending_partnered, receipt_partnered, partnered_same}
 use Rattle.dna_model.proofs.InOrder.{TakesInOrder, takes_beside, takes_more, takes_last, takes_none, takes_start, takes_packet}
 use Rattle.dna_model.proofs.Among.{taken_among_given}
 
@@ -47,6 +47,11 @@ module _ (own other : Half Node SentUnit) (h : IsSound own.state own.sent other.
 
   order_own : (r : Record) (left : Half Node SentUnit) → Happens judged own other r left → OwnOrder left.state left.sent other.sent
   order_own r left (Nothing event none) = p
+  order_own r left (Counted bytes reason) = record {
+    partnered = partnered_same own.state.station (station_book.counts reason own.state.station) own.sent refl refl p.partnered;
+    takes = takes_last own.state.station (station_book.counts reason own.state.station) other.sent own.state.front p.takes refl refl refl;
+  }
+  order_own r left (Unheard bytes) = p
   order_own r left (UserEvent Start allowed) = record { partnered = event_partnered own.state own.sent other.sent Start h p.partnered; takes = takes_start own.state.station other.sent own.state.front p.takes }
   order_own r left (UserEvent Halt allowed) = record {
     partnered = event_partnered own.state own.sent other.sent Halt h p.partnered;
@@ -69,6 +74,8 @@ module _ (own other : Half Node SentUnit) (p : OwnOrder other.state other.sent o
   -- the other side, beside what this record left
   order_other : (r : Record) (left : Half Node SentUnit) → Happens judged own other r left → OwnOrder other.state other.sent left.sent
   order_other r left (Nothing event none) = p
+  order_other r left (Counted bytes reason) = p
+  order_other r left (Unheard bytes) = p
   order_other r left (UserEvent event allowed) = p
   order_other r left (Sending bytes m read allowed) = record {
     partnered = p.partnered;

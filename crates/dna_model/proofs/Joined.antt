@@ -35,7 +35,7 @@ use Rattle.dna_model.proofs.Happens.{happens}
 use Rattle.dna_model.proofs.NumberedSteps.{at_pushed}
 use Rattle.dna_model.proofs.StationNumbers.{is_data}
 use Rattle.dna_model.proofs.PlacesInOrder.{BothPlaced, placed_kept, start_placed, IsBehind, LeftBehind, behind_left, behind_beside}
-use Rattle.dna_model.proofs.OnTop.{NoMessage, Message, NotKept, KeptNone, KeptOne, OnTop, ByStation, ByLinks, Again, First, Receipt, follows}
+use Rattle.dna_model.proofs.OnTop.{NoMessage, Message, NotKept, KeptNone, KeptOne, OnTop, ByStation, ByLinks, Again, First, Receipt, Counted, Unheard, follows}
 
 -- ---- all packets given
 
@@ -126,6 +126,8 @@ module _ (own other : Half LayersNode LayersUnit) (o : IsOrdered own.state.stati
         go (inr a) d = subst (λ (x : LayersUnit). is_data x.message ≡ true → slice_get messages x.known.station.place ≡ Some x.known.carried) a.1 this d
 
   told_left : (r : Record) (h : Half LayersNode LayersUnit) → OnTop judged own other r h → AreTold h
+  told_left r h (Counted bytes reason) = record { counted = t.counted; told = t.told }
+  told_left r h (Unheard bytes) = record { counted = t.counted; told = t.told }
   told_left r h (ByStation Start) = record { counted = t.counted ∙ sym (ap length (given_start s.station)); told = t.told }
   told_left r h (ByStation Halt) = record { counted = t.counted; told = t.told }
   told_left r h (ByLinks event of_links links is done) = record { counted = t.counted; told = t.told }
@@ -160,6 +162,8 @@ module _ (own other : Half LayersNode LayersUnit) (theirs : AreTold other) (fron
   kept_unit hint unit u there at = same_Some u (unit_of_station unit) (sym at ∙ slice_get-map unit_of_station other.sent hint ∙ ap (option_map unit_of_station) there)
 
   moved : (r : Record) (h : Half LayersNode LayersUnit) → OnTop judged own other r h → Left h r → Moved own other h r front of_other
+  moved r h (Counted bytes reason) l = record { front_left = front; moves = NoStep; behind = l }
+  moved r h (Unheard bytes) l = record { front_left = front; moves = NoStep; behind = l }
   moved r h (ByStation Start) l = record { front_left = front; moves = NoStep; behind = l }
   moved r h (ByStation Halt) l = record { front_left = front; moves = NoStep; behind = l }
   moved r h (ByLinks event of_links links is done) l = record {

@@ -23,7 +23,7 @@ use Rattle.dna_model.specs.Layers.{LayersNode, LayersUnit, to_station}
 use Rattle.dna_model.specs.LayersPair.{layers_pair, layers_start}
 use Rattle.dna_model.proofs.NumberedSteps.{at_pushed}
 use Rattle.dna_model.proofs.StationNumbers.{is_data}
-use Rattle.dna_model.proofs.OnTop.{FirstSent, NoMessage, Message, OnTop, ByStation, ByLinks, Again, First, Receipt, follows}
+use Rattle.dna_model.proofs.OnTop.{FirstSent, NoMessage, Message, OnTop, ByStation, ByLinks, Again, First, Receipt, Counted, Unheard, follows}
 use Rattle.dna_model.proofs.Joined.{given_start, given_arrival, given_first, given_again, AreTold, LayersJoined, joined_kept, start_joined}
 
 -- what is read of a packet that was first sent
@@ -60,6 +60,8 @@ module _ (own other : Half LayersNode LayersUnit) (t : AreTold own) (before : Ar
   packets_same packets same = subst (AreReadAs own.state.station.messages) (sym same) before
 
   pub read_left : (r : Record) (h : Half LayersNode LayersUnit) → OnTop judged own other r h → AreRead h
+  read_left r h (Counted bytes reason) = before
+  read_left r h (Unheard bytes) = before
   read_left r h (ByStation Start) = packets_same (all_given (after_event own.state.station.station Start)) (given_start own.state.station.station)
   read_left r h (ByStation Halt) = before
   read_left r h (ByLinks event of_links links is done) = before

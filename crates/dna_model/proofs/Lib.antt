@@ -8,6 +8,7 @@ mod StationRows
 -- a pair for each rule of the station
 mod PairUnits
 mod PairRowsUser
+mod PairRowsNoise
 mod PairRowsSending
 mod PairRowsHalted
 mod PairRowsIstrt
@@ -141,6 +142,7 @@ mod SidesLined
 mod SentLined
 mod PlayedFacts
 mod ComesStage
+mod NoiseStage
 mod StepPasses
 mod StepStages
 mod PlayedStages
@@ -155,6 +157,28 @@ mod PlayRowsStation
 mod PlayRowsSteps
 mod PlayRowsLinks
 mod PlayRowsLinkTurns
+mod KeptTimers
+mod LiveLists
+mod LiveEnds
+mod LiveLinks
+mod KeptNow
+mod KeptMade
+mod KeptOpened
+mod KeptHanded
+mod KeptStations
+mod KeptChoices
+mod KeptTurns
+mod KeptSends
+mod KeptDeliveries
+mod KeptLinkComes
+mod KeptSegments
+mod KeptReceipts
+mod KeptNoise
+mod KeptSteps
+mod SentGrows
+mod KeptLeft
+mod KeptPairs
+mod KeptLaw
 mod PlayRowsBounds
 mod PlayRowsScripts
 mod PlayRowsText

@@ -49,21 +49,23 @@ HasFar others l = (far : ℕ) → l.port.far ≡ Some far → Owner others l.par
 abbrev pub IsNamed : LinkOf TrueFlow → Type 0
 IsNamed l = is_called l.port.phase ≡ true → l.port.own ≡ None
 
--- of all links of a side beside those of the other, where this is the highest address that was given
+-- of all links of a side beside those of the other, where this is the highest address that was given; addresses are from 1
 pub record AreAddressed (links others : LinkList) (most : ℕ) : Type 0 where
   pub distinct : (i j a : ℕ) → OwnsIn links i a → OwnsIn links j a → i ≡ j
   pub highest : (i a : ℕ) → OwnsIn links i a → a ≤ most
+  pub least : (i a : ℕ) → OwnsIn links i a → 1 ≤ a
   pub far : (i : ℕ) (l : LinkOf TrueFlow) → slice_get links i ≡ Some l → HasFar others l
   pub named : (i : ℕ) (l : LinkOf TrueFlow) → slice_get links i ≡ Some l → IsNamed l
 
 pub none_addressed : (others : LinkList) (most : ℕ) → AreAddressed [] others most
-none_addressed others most = record { distinct = λ i j a x y. let t = x.there in absurd cc; highest = λ i a x. let t = x.there in absurd cc; far = λ i l at. absurd cc; named = λ i l at. absurd cc }
+none_addressed others most = record { distinct = λ i j a x y. let t = x.there in absurd cc; highest = λ i a x. let t = x.there in absurd cc; least = λ i a x. let t = x.there in absurd cc; far = λ i l at. absurd cc; named = λ i l at. absurd cc }
 
 -- the other side's links keep theirs
 pub addressed_beside : (links others further : LinkList) (most : ℕ) → KeepsAddresses others further → AreAddressed links others most → AreAddressed links further most
 addressed_beside links others further most keeps h = record {
   distinct = h.distinct;
   highest = h.highest;
+  least = h.least;
   far = λ i l at far e. owner_kept others further l.partner far keeps (h.far i l at far e);
   named = h.named;
 }
@@ -97,6 +99,7 @@ module _ (links : LinkList) (n : ℕ) (l k : LinkOf TrueFlow) (there : slice_get
   set_addressed others most same far named h = record {
     distinct = λ i j a x y. h.distinct i j a (set_back same i a x) (set_back same j a y);
     highest = λ i a x. h.highest i a (set_back same i a x);
+    least = λ i a x. h.least i a (set_back same i a x);
     far = λ i m at. at_far i m (at_set links n i k m at);
     named = λ i m at. at_named i m (at_set links n i k m at);
   }
@@ -126,6 +129,7 @@ fresh_addressed : (old new others : LinkList) (most n address : ℕ) → most < 
 fresh_addressed old new others most n address less back each h = record {
   distinct = λ i j a x y. same i j a (back i a x) (back j a y);
   highest = λ i a x. under i a (back i a x);
+  least = λ i a x. above i a (back i a x);
   far = λ i l at. (each i l at).0;
   named = λ i l at. (each i l at).1;
 }
@@ -139,6 +143,10 @@ fresh_addressed old new others most n address less back each h = record {
     under : (i a : ℕ) → OwnsIn old i a ⊎ ((i ≡ n) × (a ≡ address)) → a ≤ address
     under i a (inl x) = let l = h.highest i a x in omega arith
     under i a (inr e) = let f = e.1 in omega arith
+
+    above : (i a : ℕ) → OwnsIn old i a ⊎ ((i ≡ n) × (a ≡ address)) → 1 ≤ a
+    above i a (inl x) = h.least i a x
+    above i a (inr e) = let f = e.1 in omega arith
 
 module _ (links : LinkList) (k : LinkOf TrueFlow) where
   push_back : (i a : ℕ) → OwnsIn (links ++ k ∷ []) i a → OwnsIn links i a ⊎ ((i ≡ length links) × (k.port.own ≡ Some a))
@@ -163,6 +171,7 @@ module _ (links : LinkList) (k : LinkOf TrueFlow) where
   push_unnamed others most none far h = record {
     distinct = λ i j a x y. h.distinct i j a (old i a (push_back i a x)) (old j a (push_back j a y));
     highest = λ i a x. h.highest i a (old i a (push_back i a x));
+    least = λ i a x. h.least i a (old i a (push_back i a x));
     far = push_each (HasFar others) h.far far;
     named = push_each IsNamed h.named (λ c. none);
   }

@@ -1,6 +1,6 @@
 -- What holds of the links of an end of the player is kept by each thing that happens: they fit, what they owe goes with them, each DC names a link
 -- that is over, and what they sent is of the player.
-use Rattle.std.proofs.Common.{◌≡◌, ℕ, ◌+◌, true, Some, List, [], ◌∷◌, length, drop, suc, Ok, refl, ap, ◌∙◌, subst, arith, ◌⊎◌, inl, inr}
+use Rattle.std.proofs.Common.{◌≡◌, ℕ, ◌+◌, ◌≤◌, true, Some, List, [], ◌∷◌, length, drop, suc, Ok, refl, ap, ◌∙◌, subst, arith, ◌⊎◌, inl, inr}
 use Rattle.std.specs.Prelude.{slice_get}
 use Rattle.dna_packet.specs.Nsp.{NspValue}
 use Rattle.dna_model.specs.Links.{LinkOf, LinkTruth}
@@ -28,6 +28,8 @@ use Rattle.dna_model.proofs.EndSends.{IsSmall}
 pub record ConfirmHolds (links : LinkList) (most : ℕ) (confirm : EndConfirm) : Type 0 where
   pub done : IsDone links most confirm
   pub small : IsSmall confirm
+  -- the link that it names had an address
+  pub some : 1 ≤ confirm.src
 
 abbrev pub AllConfirms : LinkList → ℕ → List EndConfirm → Type 0
 AllConfirms links most confirms = (i : ℕ) (confirm : EndConfirm) → slice_get confirms i ≡ Some confirm → ConfirmHolds links most confirm
@@ -52,7 +54,7 @@ module _ (s : Links) (most : ℕ) (owed : LinksOwed) (h : LinkHolds s.links most
   left_holds left top fit moves done = record {
     fit = fit;
     owes = all_still s.links left.links owed.links h.owes moves;
-    confirms = λ i confirm at. let c = h.confirms i confirm at in record { done = done confirm c.done; small = c.small };
+    confirms = λ i confirm at. let c = h.confirms i confirm at in record { done = done confirm c.done; small = c.small; some = c.some };
   }
 
   pub same_holds : Holds s most

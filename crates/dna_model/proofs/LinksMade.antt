@@ -27,14 +27,14 @@ use Rattle.dna_model.proofs.PlayLines.{line_tested}
 use Rattle.dna_model.proofs.PlayedSteps.{PlayHalf}
 use Rattle.dna_model.proofs.LinkTables.{IsFound}
 use Rattle.dna_model.proofs.LinkReads.{at_is}
-use Rattle.dna_model.proofs.LinkAddresses.{LinkList, AreAddressed}
+use Rattle.dna_model.proofs.LinkAddresses.{LinkList, AreAddressed, freed_same}
 use Rattle.dna_model.proofs.LinkPays.{found_at, none_found, with_found}
 use Rattle.dna_model.proofs.EndStage.{with_left}
 
 -- ---- an event is made
 
 -- one that the links take, and that has a line
-event_makes : (own other : PlayHalf) (event : Event) (value : LinkEventValue) (left : Links) → link_event event ≡ Some value →
+pub event_makes : (own other : PlayHalf) (event : Event) (value : LinkEventValue) (left : Links) → link_event event ≡ Some value →
     has_line (User event) ≡ true →
     links_user (links_of own) value ≡ Ok left → makes own other (User event) ≡ Some (with_left own left)
 unfolding end_step
@@ -99,43 +99,66 @@ module _ (s : Links) (others : LinkList) (most : ℕ) (addressed : AreAddressed 
   with_free : (address : ℕ) (next : Links) → most < address → gives true_flows address s next ≡ Ok next
   with_free address next less = ap (λ (o : Option ℕ). at_number s.links o (Ok next) (λ number link. Err AddressInUse)) (free address less)
 
-  pub open_taken : (address : ℕ) → most < address → (left : Links) × (links_user s (Open address) ≡ Ok left)
-  open_taken address less = let next : Links = begun (opened true_flows address) (freed true_flows address s) in (next, with_free address next less)
+  pub open_goes : (address : ℕ) → most < address → links_user s (Open address) ≡ Ok (begun (opened true_flows address) s)
+  open_goes address less =
+      with_free address (begun (opened true_flows address) (freed true_flows address s)) less
+      ∙ ap (λ (x : Links). Ok (begun (opened true_flows address) x)) (freed_same s others most addressed address less)
 
-  answer_taken : (phase : Phase) (partner address number : ℕ) (link : LinkOf TrueFlow) → IsFound (CalledBy partner) s number link → most < address →
-      (left : Links) × (answers true_flows phase partner address s ≡ Ok left)
-  answer_taken phase partner address number link found less =
-      let next : Links = changed number (users.answered true_flows phase address link) (freed true_flows address s) in (
-        next,
-        with_found s (CalledBy partner) number link (Err NoLink) (λ number link. gives true_flows address s
-            (changed number (users.answered true_flows phase address link) (freed true_flows address s))) found
-            ∙ with_free address next less,
-      )
+  pub open_taken : (address : ℕ) → most < address → (left : Links) × (links_user s (Open address) ≡ Ok left)
+  open_taken address less = (begun (opened true_flows address) s, open_goes address less)
+
+  answer_goes : (phase : Phase) (partner address number : ℕ) (link : LinkOf TrueFlow) → IsFound (CalledBy partner) s number link → most < address →
+      answers true_flows phase partner address s ≡ Ok (changed number (users.answered true_flows phase address link) s)
+  answer_goes phase partner address number link found less =
+      with_found s (CalledBy partner) number link (Err NoLink) (λ number link. gives true_flows address s
+      (changed number (users.answered true_flows phase address link) (freed true_flows address s))) found
+      ∙ with_free address (changed number (users.answered true_flows phase address link) (freed true_flows address s)) less
+      ∙ ap (λ (x : Links). Ok (changed number (users.answered true_flows phase address link) x)) (freed_same s others most addressed address less)
+
+  pub accept_goes : (partner address number : ℕ) (link : LinkOf TrueFlow) → IsFound (CalledBy partner) s number link → most < address →
+      links_user s (Accept partner address) ≡ Ok (changed number (users.answered true_flows Confirming address link) s)
+  accept_goes = answer_goes Confirming
+
+  pub reject_goes : (partner address number : ℕ) (link : LinkOf TrueFlow) → IsFound (CalledBy partner) s number link → most < address →
+      links_user s (Reject partner address) ≡ Ok (changed number (users.answered true_flows Disconnecting address link) s)
+  reject_goes = answer_goes Disconnecting
 
   pub accept_taken : (partner address number : ℕ) (link : LinkOf TrueFlow) → IsFound (CalledBy partner) s number link → most < address →
       (left : Links) × (links_user s (Accept partner address) ≡ Ok left)
-  accept_taken = answer_taken Confirming
+  accept_taken partner address number link found less = (
+    changed number (users.answered true_flows Confirming address link) s,
+    accept_goes partner address number link found less,
+  )
 
   pub reject_taken : (partner address number : ℕ) (link : LinkOf TrueFlow) → IsFound (CalledBy partner) s number link → most < address →
       (left : Links) × (links_user s (Reject partner address) ≡ Ok left)
-  reject_taken = answer_taken Disconnecting
+  reject_taken partner address number link found less = (
+    changed number (users.answered true_flows Disconnecting address link) s,
+    reject_goes partner address number link found less,
+  )
+
+pub in_goes : (s : Links) (address : ℕ) (message : List ℕ) (number : ℕ) (link : LinkOf TrueFlow) → IsFound (LiveAt address) s number link →
+    takes_messages link.port.phase ≡ true →
+    links_user s (In address message) ≡ Ok (changed number (with_flow (true_flows.hands_in message link.flow) link) s)
+in_goes s address message number link found may =
+    with_found s (LiveAt address) number link (Err NoLink) (λ number link. check (takes_messages link.port.phase) LinkState
+    (Ok (changed number (with_flow (true_flows.hands_in message link.flow) link) s))) found
+    ∙ ap (λ (b : Bool). check b LinkState (Ok (changed number (with_flow (true_flows.hands_in message link.flow) link) s))) may
 
 pub in_taken : (s : Links) (address : ℕ) (message : List ℕ) (number : ℕ) (link : LinkOf TrueFlow) → IsFound (LiveAt address) s number link →
     takes_messages link.port.phase ≡ true → (left : Links) × (links_user s (In address message) ≡ Ok left)
-in_taken s address message number link found may =
-    let next : Links = changed number (with_flow (true_flows.hands_in message link.flow) link) s in (
-      next,
-      with_found s (LiveAt address) number link (Err NoLink) (λ number link. check (takes_messages link.port.phase) LinkState
-          (Ok (changed number (with_flow (true_flows.hands_in message link.flow) link) s))) found
-          ∙ ap (λ (b : Bool). check b LinkState (Ok next)) may,
-    )
+in_taken s address message number link found may = (
+  changed number (with_flow (true_flows.hands_in message link.flow) link) s,
+  in_goes s address message number link found may,
+)
+
+pub close_goes : (s : Links) (address number : ℕ) (link : LinkOf TrueFlow) → IsFound (LiveAt address) s number link →
+    is_connected link.port.phase ≡ true → links_user s (Close address) ≡ Ok (changed number (in_phase Disconnecting link) s)
+close_goes s address number link found may =
+    with_found s (LiveAt address) number link (Err NoLink) (λ number link. check (is_connected link.port.phase) LinkState
+    (Ok (changed number (in_phase Disconnecting link) s))) found
+    ∙ ap (λ (b : Bool). check b LinkState (Ok (changed number (in_phase Disconnecting link) s))) may
 
 pub close_taken : (s : Links) (address number : ℕ) (link : LinkOf TrueFlow) → IsFound (LiveAt address) s number link →
     is_connected link.port.phase ≡ true → (left : Links) × (links_user s (Close address) ≡ Ok left)
-close_taken s address number link found may =
-    let next : Links = changed number (in_phase Disconnecting link) s in (
-      next,
-      with_found s (LiveAt address) number link (Err NoLink) (λ number link. check (is_connected link.port.phase) LinkState
-          (Ok (changed number (in_phase Disconnecting link) s))) found
-          ∙ ap (λ (b : Bool). check b LinkState (Ok next)) may,
-    )
+close_taken s address number link found may = (changed number (in_phase Disconnecting link) s, close_goes s address number link found may)

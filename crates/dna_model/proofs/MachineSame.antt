@@ -10,13 +10,13 @@ use Rattle.ddcmp_msg.specs.Message.{MessageValue}
 use Rattle.ddcmp_msg.specs.Reading.{ReadingValue, reading}
 use Rattle.ddcmp_msg.specs.Reading as read_as
 use Rattle.capture.specs.declared.record.Record.{Record}
-use Rattle.capture.specs.declared.record.Record.TheVariants.{Sent, Received, User}
+use Rattle.capture.specs.declared.record.Record.TheVariants.{Sent, Received, Noise, User}
 use Rattle.capture.specs.declared.event.Event.{Event}
 use Rattle.dna_model.specs.declared.refusal.StepRefusal.{StepRefusal}
 use Rattle.dna_model.specs.declared.refusal.StepRefusal.TheVariants.{HintOrder}
 use Rattle.dna_model.specs.Book.{Sound, HeaderBad, DataBad}
 use Rattle.dna_model.specs.Line.{UnitOf, damage, coming_by, coming}
-use Rattle.dna_model.specs.Machine.{Machine, NodeOf, does, sends, met, sent_step, comes, receives, step}
+use Rattle.dna_model.specs.Machine.{Machine, NodeOf, does, sends, met, sent_step, comes, receives, noise_step, step}
 
 module _ {S K T J : Type 0} (of_station : S → T) (of_known : MessageValue → K → J) (one : Machine S K) (two : Machine T J) where
   abbrev pub cut_result : Result S StepRefusal → Result T StepRefusal
@@ -61,6 +61,15 @@ module _ {S K T J : Type 0} (of_station : S → T) (of_known : MessageValue → 
         ∙ sends_same bytes m (one.sends own.state.station m)
     sent_same bytes read = refl
 
+    noise_same : (r : ReadingValue) → answered (cut_half machine_cut own) (cut_half machine_cut other) (noise_step two (cut_half machine_cut own).state r) ≡ cut_outcome machine_cut (answered own other (noise_step one own.state r))
+    noise_same read_as.HeaderBad =
+        ap (λ (o : Result T StepRefusal). answered (cut_half machine_cut own) (cut_half machine_cut other) (does (cut_half machine_cut own).state o)) (same.header_bad false)
+        ∙ did_same (one.arrives own.state.station HeaderBad false)
+    noise_same read_as.DataBad =
+        ap (λ (o : Result T StepRefusal). answered (cut_half machine_cut own) (cut_half machine_cut other) (does (cut_half machine_cut own).state o)) (same.data_bad false)
+        ∙ did_same (one.arrives own.state.station DataBad false)
+    noise_same read = refl
+
     met_same : (front : ℕ) (p : Result T StepRefusal) (o : Result S StepRefusal) → p ≡ cut_result o →
         concluded (cut_half machine_cut own) (met (cut_half machine_cut own).state front p) ≡ cut_outcome machine_cut (concluded own (met own.state front o))
     met_same front p o e = ap (λ (x : Result T StepRefusal). concluded (cut_half machine_cut own) (met (cut_half machine_cut own).state front x)) e ∙ go o
@@ -94,5 +103,6 @@ module _ {S K T J : Type 0} (of_station : S → T) (of_known : MessageValue → 
     record_same (Received hint kept bytes) =
         ap (read (cut_half machine_cut own) (receives two (cut_half machine_cut own).state hint kept bytes)) (slice_get-map unit_cut other.sent hint)
         ∙ read_same hint kept bytes (slice_get other.sent hint) refl
+    record_same (Noise bytes) = noise_same (reading bytes)
     record_same (User event) =
         ap (λ (o : Result T StepRefusal). answered (cut_half machine_cut own) (cut_half machine_cut other) (does (cut_half machine_cut own).state o)) (same.user event) ∙ did_same (one.user own.state.station event)

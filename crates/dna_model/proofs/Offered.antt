@@ -21,7 +21,7 @@ use Rattle.dna_model.specs.Node.{Node}
 use Rattle.dna_model.specs.Pair.{pair, start}
 use Rattle.dna_model.proofs.Modulo.{same_test}
 use Rattle.dna_model.proofs.Checks.{sending_passed}
-use Rattle.dna_model.proofs.Happens.{Happens, Nothing, UserEvent, Sending, Receipt}
+use Rattle.dna_model.proofs.Happens.{Happens, Nothing, UserEvent, Sending, Receipt, Counted, Unheard}
 use Rattle.dna_model.proofs.StationBounds.{IsSound}
 use Rattle.dna_model.proofs.DeliveredSteps.{arrival_took}
 use Rattle.dna_model.proofs.DeliveredCaptures.{in_last-append}
@@ -83,6 +83,8 @@ sending_given s (Stack flags) ordered allowed = more_given s s (read_as.Sound (S
 module _ (own other : Half Node SentUnit) (h : IsSound own.state own.sent other.sent) where
   record_given : (r : Record) (left : Half Node SentUnit) → Happens judged own other r left → given_by_period left.state.station ≡ offered_by (given_by_period own.state.station) r
   record_given r left (Nothing event none) = ap (λ (b : Bool). with_period b (given_by_period own.state.station)) (sym none)
+  record_given r left (Counted bytes reason) = refl
+  record_given r left (Unheard bytes) = refl
   record_given r left (UserEvent Start allowed) = map-append given_in (periods own.state.station) (past (after_event own.state.station Start) ∷ [])
   record_given r left (UserEvent Halt allowed) = refl
   record_given r left (Sending bytes m read allowed) =

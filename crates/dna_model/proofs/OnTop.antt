@@ -8,11 +8,13 @@ use Rattle.two_nodes.specs.Nodes.Outcome.{Made}
 use Rattle.two_nodes.specs.Kept.{IsKept}
 use Rattle.two_nodes.specs.Cutting.{cut_half, cut_world, cut_outcome}
 use Rattle.two_nodes.proofs.Order.{one_half}
+use Rattle.ddcmp_msg.specs.declared.nak_reason.NakReason.{NakReason}
+use Rattle.ddcmp_msg.specs.declared.nak_reason.NakReason.TheVariants.{HeaderCheck, DataCheck}
 use Rattle.ddcmp_msg.specs.Message.{MessageValue}
 use Rattle.ddcmp_msg.specs.Reading.{ReadingValue, reading}
 use Rattle.ddcmp_msg.specs.Reading as read_as
 use Rattle.capture.specs.declared.record.Record.{Record}
-use Rattle.capture.specs.declared.record.Record.TheVariants.{Sent, Received, User}
+use Rattle.capture.specs.declared.record.Record.TheVariants.{Sent, Received, Noise, User}
 use Rattle.capture.specs.declared.event.Event.{Event}
 use Rattle.capture.specs.declared.event.Event.TheVariants as events
 use Rattle.dna_model.specs.declared.state.StationEvent.{StationEvent}
@@ -21,14 +23,14 @@ use Rattle.dna_model.specs.declared.refusal.StationRefusal.{StationRefusal}
 use Rattle.dna_model.specs.declared.refusal.StepRefusal.{StepRefusal}
 use Rattle.dna_model.specs.declared.refusal.StepRefusal.TheVariants.{HintOrder}
 use Rattle.dna_model.specs.declared.link_refusal.LinkRefusal.{LinkRefusal}
-use Rattle.dna_model.specs.Table.{user_refusal}
+use Rattle.dna_model.specs.Table.{user_refusal, counts_damage}
 use Rattle.dna_model.specs.Rules.{Rules, judged}
 use Rattle.dna_model.specs.Station.{Station, after_event}
 use Rattle.dna_model.specs.Truth.{Truth}
 use Rattle.dna_model.specs.Book.{ArrivalValue, Sound, HeaderBad, DataBad, body_of}
-use Rattle.dna_model.specs.StationBook.{sending_refusal, after_sending, gives_number, truth_of, arrival_refusal, after_arrival}
+use Rattle.dna_model.specs.StationBook.{station_book, sending_refusal, after_sending, gives_number, truth_of, arrival_refusal, after_arrival}
 use Rattle.dna_model.specs.Line.{SentUnit, damage, coming_by}
-use Rattle.dna_model.specs.Machine.{does, user_step, sends, sent_step, met, comes, receives, step, unless_refused}
+use Rattle.dna_model.specs.Machine.{does, user_step, sends, sent_step, met, comes, receives, noise_step, step, unless_refused}
 use Rattle.dna_model.specs.Node.{Node, station_machine}
 use Rattle.dna_model.specs.Pair.{pair}
 use Rattle.dna_model.specs.Links.{Carried}
@@ -74,6 +76,9 @@ pub data OnTop (rules : Rules) (own other : Half LayersNode LayersUnit) : Record
       (links : Links) → IsMet rules own.state.station.links unit.known.carried kept links →
       OnTop rules own other (Received hint kept bytes)
       (stepped own (record own.state { station = record own.state.station { station = after_arrival own.state.station.station (to_station arrival) kept; links = links }; front = hint + 1 }))
+  Counted : (bytes : List ℕ) (reason : NakReason) →
+      OnTop rules own other (Noise bytes) (stepped own (record own.state { station = record own.state.station { station = station_book.counts reason own.state.station.station } }))
+  Unheard : (bytes : List ℕ) → OnTop rules own other (Noise bytes) (stepped own own.state)
 
 module _ (rules : Rules) (own other h : Half LayersNode LayersUnit) where
   abbrev s : Layers
@@ -207,11 +212,27 @@ module _ (rules : Rules) (own other h : Half LayersNode LayersUnit) where
       go true made = absurd cc
       go false made = by_coming hint bytes unit there kept (bytes_eq bytes unit.bytes) (reading bytes) made
 
+  -- ---- noise
+
+  by_count : (bytes : List ℕ) (reason : NakReason) (b : Bool) →
+      answered own other (does own.state (Ok (record s { station = cond b (station_book.counts reason s.station) s.station }))) ≡ Made h →
+      Follows (Noise bytes) (answered low low_other (does low.state (Ok (cond b (station_book.counts reason s.station) s.station))))
+  by_count bytes reason true made = left _ _ (Counted bytes reason) made
+  by_count bytes reason false made = left _ _ (Unheard bytes) made
+
+  by_noise : (bytes : List ℕ) (r : ReadingValue) → answered own other (noise_step (layers_machine rules) own.state r) ≡ Made h →
+      Follows (Noise bytes) (answered low low_other (noise_step (station_machine rules) low.state r))
+  by_noise bytes read_as.HeaderBad made = by_count bytes HeaderCheck (counts_damage s.station.state) made
+  by_noise bytes read_as.DataBad made = by_count bytes DataCheck (counts_damage s.station.state) made
+  by_noise bytes (read_as.Sound m) made = absurd cc
+  by_noise bytes (read_as.Malformed departure) made = absurd cc
+
   pub follows : (r : Record) → advance (step (layers_machine rules)) own other r ≡ Made h → Follows r (advance (step (station_machine rules)) low low_other r)
   follows (Sent bytes) made = by_reading bytes (reading bytes) made
   follows (Received hint kept bytes) made =
       let f = by_read hint kept bytes (slice_get other.sent hint) refl made in
       record { station = ap (read low (receives (station_machine rules) low.state hint kept bytes)) (slice_get-map unit_of_station other.sent hint) ∙ f.station; links = f.links }
+  follows (Noise bytes) made = by_noise bytes (reading bytes) made
   follows (User event) made = by_user event made
 
 -- ---- what each record of the station's nodes keeps, each record over both layers keeps

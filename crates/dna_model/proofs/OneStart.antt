@@ -8,7 +8,7 @@ use Rattle.ddcmp_msg.specs.declared.nak_reason.NakReason.TheVariants.{HeaderChec
 use Rattle.two_nodes.specs.Nodes.{Half, World}
 use Rattle.two_nodes.specs.Kept.{IsKept}
 use Rattle.capture.specs.declared.record.Record.{Record}
-use Rattle.capture.specs.declared.record.Record.TheVariants.{Sent, Received, User}
+use Rattle.capture.specs.declared.record.Record.TheVariants.{Sent, Received, Noise, User}
 use Rattle.capture.specs.declared.event.Event.{Event}
 use Rattle.dna_model.specs.declared.state.State.{State}
 use Rattle.dna_model.specs.declared.state.State.TheVariants.{Halted, Istrt, Astrt, Running}
@@ -26,7 +26,7 @@ use Rattle.dna_model.specs.Node.{Node}
 use Rattle.dna_model.specs.Pair.{pair}
 use Rattle.dna_model.proofs.OrderlyRecords.{starts_in, starts}
 use Rattle.dna_model.proofs.Effects.{kept_by_all, Stays, does_stays, sending_stays, by_response, by_packet, by_rep}
-use Rattle.dna_model.proofs.Happens.{Happens, ComesOf, Itself, BadHeader, BadData, Nothing, UserEvent, Sending, Receipt, happens, event_of}
+use Rattle.dna_model.proofs.Happens.{Happens, ComesOf, Itself, BadHeader, BadData, Nothing, UserEvent, Sending, Receipt, Counted, Unheard, happens, event_of}
 use Rattle.dna_model.proofs.NumberedSteps.{at_pushed}
 use Rattle.dna_model.proofs.StationNumbers.{unit_of}
 
@@ -217,6 +217,9 @@ module _ (own other : Half Node SentUnit) (mine : AreBegun own.state.station own
 
   record_leaves : (r : Record) (h : Half Node SentUnit) → Happens judged own other r h → LeavesBegun own other h r
   record_leaves r h (Nothing event quiet) = same_period _ (User event) refl (no_start event quiet) mine
+  record_leaves r h (Counted bytes reason) =
+      same_period _ (Noise bytes) refl refl (damage_begun own.state.station own.sent other.state.station.period reason true mine)
+  record_leaves r h (Unheard bytes) = same_period _ (Noise bytes) refl refl mine
   record_leaves r h (UserEvent event allowed) = event_leaves event
   record_leaves r h (Sending bytes m reads allowed) = same_period _ (Sent bytes) (sending_stays own.state.station m).period refl (sending_begun own.state.station own.sent other.state.station.period bytes m allowed mine)
   record_leaves r h (Receipt hint kept bytes unit arrival there ahead comes allowed) =

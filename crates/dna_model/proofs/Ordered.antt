@@ -38,7 +38,7 @@ module _ (s : Station) (o : IsOrdered s) where
       not_new : eqb s.next_to_send (given s + 1) ≡ false → s.next_to_send + 1 ≤ given s + 1
       not_new e = grind (arith, o.below)
 
-  same_ordered : (t : Station) → t.acknowledged ≡ s.acknowledged → t.next_to_send ≡ s.next_to_send → t.packets ≡ s.packets → IsOrdered t
+  pub same_ordered : (t : Station) → t.acknowledged ≡ s.acknowledged → t.next_to_send ≡ s.next_to_send → t.packets ≡ s.packets → IsOrdered t
   same_ordered t a n p =
       let q : length t.packets ≡ length s.packets = ap length p in
       let above = o.above in let below = o.below in let few = o.few in

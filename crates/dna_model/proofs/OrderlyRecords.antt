@@ -1,7 +1,7 @@
 -- Records of a side that starts at most once, and gives each of its link addresses higher than all before.
 use Rattle.std.specs.Prelude.{ℕ, ◌+◌, ◌<◌, ◌≤◌, if◌then◌else◌, Option, Some, None, List, [], ◌∷◌}
 use Rattle.capture.specs.declared.record.Record.{Record}
-use Rattle.capture.specs.declared.record.Record.TheVariants.{Sent, Received, User}
+use Rattle.capture.specs.declared.record.Record.TheVariants.{Sent, Received, Noise, User}
 use Rattle.dna_model.specs.Delivery.{begins}
 use Rattle.dna_model.specs.LinkUser.{LinkEventValue}
 use Rattle.dna_model.specs.LinkCaptures.{given_address}
@@ -30,6 +30,7 @@ abbrev pub starts_in : Record → ℕ
 starts_in (User event) = if begins event then 1 else 0
 starts_in (Sent bytes) = 0
 starts_in (Received hint kept bytes) = 0
+starts_in (Noise bytes) = 0
 
 abbrev pub starts : List Record → ℕ
 starts [] = 0

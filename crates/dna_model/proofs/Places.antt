@@ -15,7 +15,7 @@ use Rattle.dna_model.specs.Delivery.{BeginsWith, CarriesItsPacket}
 use Rattle.dna_model.specs.Line.{SentUnit}
 use Rattle.dna_model.specs.Node.{Node}
 use Rattle.dna_model.proofs.Checks.{sending_passed}
-use Rattle.dna_model.proofs.Happens.{Happens, Nothing, UserEvent, Sending, Receipt}
+use Rattle.dna_model.proofs.Happens.{Happens, Nothing, UserEvent, Sending, Receipt, Counted, Unheard}
 use Rattle.dna_model.proofs.NumberedSteps.{each_pushed}
 use Rattle.dna_model.proofs.StationNumbers.{unit_of}
 use Rattle.dna_model.proofs.StationBounds.{IsSound}
@@ -73,6 +73,8 @@ module _ (own other : Half Node SentUnit) (h : IsSound own.state own.sent other.
 
   pub places_left : (r : Record) (left : Half Node SentUnit) → Happens judged own other r left → AtPlaces left.state.station left.sent
   places_left r left (Nothing event none) = p
+  places_left r left (Counted bytes reason) = p
+  places_left r left (Unheard bytes) = p
   places_left r left (UserEvent Start allowed) = places_still (after_event own.state.station Start) (given_start own.state.station)
   places_left r left (UserEvent Halt allowed) = p
   places_left r left (Sending bytes m read allowed) = each_pushed own.sent (unit_of own.state.station bytes m) (λ i (x : SentUnit). CarriesItsPacket (all_given (after_sending own.state.station m)) x.message x.known)

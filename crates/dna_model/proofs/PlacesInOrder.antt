@@ -11,18 +11,18 @@ use Rattle.two_nodes.proofs.Order.{slice_get-append}
 use Rattle.two_nodes.proofs.Listed.{next_at}
 use Rattle.ddcmp_msg.specs.Message.{MessageValue, Data, Ack, Nak, Rep, Strt, Stack}
 use Rattle.capture.specs.declared.record.Record.{Record}
-use Rattle.capture.specs.declared.record.Record.TheVariants.{Sent, Received, User}
+use Rattle.capture.specs.declared.record.Record.TheVariants.{Sent, Received, Noise, User}
 use Rattle.dna_model.specs.declared.head.Head.{Head}
 use Rattle.dna_model.specs.declared.state.StationEvent.TheVariants.{Start, Halt}
 use Rattle.dna_model.specs.Station.{Station, PastPeriod, past, packets_of, after_event}
 use Rattle.dna_model.specs.Rules.{judged}
 use Rattle.dna_model.specs.Truth.{number_of, place_of}
-use Rattle.dna_model.specs.StationBook.{after_sending, after_arrival}
+use Rattle.dna_model.specs.StationBook.{station_book, after_sending, after_arrival}
 use Rattle.dna_model.specs.Delivery.{periods}
 use Rattle.dna_model.specs.Line.{SentUnit}
 use Rattle.dna_model.specs.Node.{Node}
 use Rattle.dna_model.specs.Pair.{pair, start}
-use Rattle.dna_model.proofs.Happens.{Happens, Nothing, UserEvent, Sending, Receipt, happens}
+use Rattle.dna_model.proofs.Happens.{Happens, Nothing, UserEvent, Sending, Receipt, Counted, Unheard, happens}
 use Rattle.dna_model.proofs.NumberedSteps.{at_pushed}
 use Rattle.dna_model.proofs.StationNumbers.{is_data, unit_of}
 use Rattle.dna_model.proofs.StationBounds.{IsSound}
@@ -176,6 +176,8 @@ module _ (s : Station) (own : List SentUnit) (bytes : List ℕ) (m : MessageValu
 placed_left : (own other : Half Node SentUnit) → IsSound own.state own.sent other.sent → Offers own.state.station own.sent → ArePlaced own.state.station own.sent →
     (r : Record) (left : Half Node SentUnit) → Happens judged own other r left → ArePlaced left.state.station left.sent
 placed_left own other h o p r left (Nothing event none) = p
+placed_left own other h o p r left (Counted bytes reason) = placed_same own.state.station (station_book.counts reason own.state.station) own.sent refl refl p
+placed_left own other h o p r left (Unheard bytes) = p
 placed_left own other h o p r left (UserEvent Start allowed) = placed_start own.state.station own.sent o (λ i u at. (h.told i u at).no_later) p
 placed_left own other h o p r left (UserEvent Halt allowed) = placed_same own.state.station (after_event own.state.station Halt) own.sent refl refl p
 placed_left own other h o p r left (Sending bytes m read allowed) =
@@ -250,6 +252,7 @@ LeftBehind own other left front (Received hint true bytes) =
     (unit : SentUnit) × IsDataAt other.sent hint unit × (front ≤ unit.known.place) × IsBehind left.state.station left.state.front other.sent (unit.known.place + 1)
 LeftBehind own other left front (Received hint false bytes) = IsBehind left.state.station left.state.front other.sent front
 LeftBehind own other left front (Sent bytes) = IsBehind left.state.station left.state.front other.sent front
+LeftBehind own other left front (Noise bytes) = IsBehind left.state.station left.state.front other.sent front
 LeftBehind own other left front (User event) = IsBehind left.state.station left.state.front other.sent front
 
 module _ (own other : Half Node SentUnit) (h : IsSound own.state own.sent other.sent) (theirs : Partnered other.state.station other.sent) (placed : ArePlaced other.state.station other.sent)
@@ -304,6 +307,8 @@ module _ (own other : Half Node SentUnit) (h : IsSound own.state own.sent other.
 
   pub behind_left : (r : Record) (left : Half Node SentUnit) → Happens judged own other r left → LeftBehind own other left front r
   behind_left r left (Nothing event none) = p
+  behind_left r left (Counted bytes reason) = unkept (station_book.counts reason own.state.station) own.state.front refl (omega arith) (omega arith)
+  behind_left r left (Unheard bytes) = p
   behind_left r left (UserEvent Start allowed) =
       behind_still own.state.station (after_event own.state.station Start) own.state.front own.state.front other.sent other.sent front (omega arith) (λ same. absurd (omega arith)) (omega arith) (λ k u at. at) p
   behind_left r left (UserEvent Halt allowed) = unkept (after_event own.state.station Halt) own.state.front refl (omega arith) (omega arith)
@@ -318,6 +323,8 @@ module _ (own other : Half Node SentUnit) (h : IsSound own.state own.sent other.
 pub behind_beside : (own other : Half Node SentUnit) (front : ℕ) → IsBehind other.state.station other.state.front own.sent front →
     (r : Record) (left : Half Node SentUnit) → Happens judged own other r left → IsBehind other.state.station other.state.front left.sent front
 behind_beside own other front p r left (Nothing event none) = p
+behind_beside own other front p r left (Counted bytes reason) = p
+behind_beside own other front p r left (Unheard bytes) = p
 behind_beside own other front p r left (UserEvent event allowed) = p
 behind_beside own other front p r left (Sending bytes m read allowed) =
     behind_still other.state.station other.state.station other.state.front other.state.front own.sent (own.sent ++ unit_of own.state.station bytes m ∷ []) front (omega arith) (λ same. omega arith) (omega arith)

@@ -6,7 +6,7 @@ use Rattle.capture.specs.declared.limit.TheConstants.{MAX_HINT, MAX_LINK}
 use Rattle.capture.specs.declared.event.Event.{Event}
 use Rattle.capture.specs.declared.event.Event.TheVariants.{Start, Halt, Open, Accept, Reject, In, Up, Close}
 use Rattle.capture.specs.declared.record.Record.{Record}
-use Rattle.capture.specs.declared.record.Record.TheVariants.{Sent, Received, User}
+use Rattle.capture.specs.declared.record.Record.TheVariants.{Sent, Received, Noise, User}
 use Rattle.capture.specs.Range.{IsLink, EventNumbersFit, NumbersFit, IsRecord, record_bytes, most_bytes}
 use Rattle.dna_model.specs.HasLine.{is_link, event_numbers_fit, numbers_fit, are_bytes, has_line}
 
@@ -33,6 +33,7 @@ event_told (Close link) e = link_told link e
 numbers_told : (r : Record) → numbers_fit r ≡ true → NumbersFit r
 numbers_told (Sent bytes) e = tt
 numbers_told (Received hint kept bytes) e = leb-true hint MAX_HINT e
+numbers_told (Noise bytes) e = tt
 numbers_told (User event) e = event_told event e
 
 -- a record that passes the test has a line
@@ -66,6 +67,7 @@ event_tested (Close link) h = link_tested link h
 numbers_tested : (r : Record) → NumbersFit r → numbers_fit r ≡ true
 numbers_tested (Sent bytes) h = refl
 numbers_tested (Received hint kept bytes) h = le-leb hint MAX_HINT h
+numbers_tested (Noise bytes) h = refl
 numbers_tested (User event) h = event_tested event h
 
 -- a record that has a line passes it

@@ -3,10 +3,11 @@ use Rattle.std.proofs.Common.{◌≡◌, ℕ, ◌+◌, ◌-◌, ◌*◌, true, f
 use Rattle.std.specs.Prelude.{nat_lt, if◌then◌else◌}
 use Rattle.wire_base.specs.declared.side.Side.TheVariants.{A, B}
 use Rattle.capture.specs.declared.record.Record.{Record}
-use Rattle.capture.specs.declared.record.Record.TheVariants.{Sent, Received}
+use Rattle.capture.specs.declared.record.Record.TheVariants.{Sent, Received, Noise}
 use Rattle.dna_model.specs.Script.{StepValue, ScriptStep, Script, Start, Send, Deliver, Open, Accept, Reject}
 use Rattle.dna_model.specs.Stepped.{Stop, BadStep}
 use Rattle.dna_model.specs.Played.{Played, Stopped, plays_all, play}
+use Rattle.dna_model.specs.KeptPlayed.{KeptPlayed, KeptStopped, kept_plays_all, kept_play}
 
 abbrev pub a : StepValue → ScriptStep
 a step = record { side = A; step = step }
@@ -39,6 +40,9 @@ r hint digits = Received hint false (hex digits)
 abbrev pub k : ℕ → List ℕ → Record
 k hint digits = Received hint true (hex digits)
 
+abbrev pub n : List ℕ → Record
+n digits = Noise (hex digits)
+
 -- What becomes of a script: its captures; or how many of its steps are made, why the next one is not, and the captures of those before it
 pub data Becomes : Type 0 where
   Captures : (of_a of_b : List Record) → Becomes
@@ -53,14 +57,26 @@ abbrev behind : Result Played Stopped → List ScriptStep → Result Played Stop
 behind (Ok end) steps = plays_all 0 (record end { of_a = []; of_b = [] }) steps
 behind (Err stopped) steps = Err stopped
 
+-- the same by ends as their nodes keep them
+abbrev pub kept_becomes : Result KeptPlayed KeptStopped → Becomes
+kept_becomes (Ok end) = Captures end.of_a end.of_b
+kept_becomes (Err stopped) = StopsAt stopped.steps stopped.stop stopped.so_far.of_a stopped.so_far.of_b
+
+abbrev kept_behind : Result KeptPlayed KeptStopped → List ScriptStep → Result KeptPlayed KeptStopped
+kept_behind (Ok end) steps = kept_plays_all 0 (record end { of_a = []; of_b = [] }) steps
+kept_behind (Err stopped) steps = Err stopped
+
+-- ---- a row is of both
+
 abbrev pub IsPlayedBetween : (node_a node_b : ℕ) → List ScriptStep → Becomes → Type 0
-IsPlayedBetween node_a node_b steps made = becomes (play (script_between node_a node_b steps)) ≡ made
+IsPlayedBetween node_a node_b steps made =
+    (becomes (play (script_between node_a node_b steps)) ≡ made) × (kept_becomes (kept_play (script_between node_a node_b steps)) ≡ made)
 
 abbrev pub IsPlayed : List ScriptStep → Becomes → Type 0
 IsPlayed steps made = IsPlayedBetween 0x0401 0x0402 steps made
 
 abbrev pub Adds : (first steps : List ScriptStep) → Becomes → Type 0
-Adds first steps made = becomes (behind (play (script first)) steps) ≡ made
+Adds first steps made = (becomes (behind (play (script first)) steps) ≡ made) × (kept_becomes (kept_behind (kept_play (script first)) steps) ≡ made)
 
 abbrev pub ASends : (first : List ScriptStep) → (digits : List ℕ) → Type 0
 ASends first digits = Adds first (a Send ∷ []) (Captures (s digits ∷ []) [])

@@ -7,12 +7,14 @@ use Rattle.ddcmp_msg.specs.Spelling.{spelling}
 use Rattle.capture.specs.declared.record.Record.{Record}
 use Rattle.capture.specs.declared.record.Record.TheVariants.{User}
 use Rattle.capture.specs.declared.event.Event.TheVariants as event
-use Rattle.dna_model.specs.Script.{ScriptStep, Start, Timer, Send, Deliver, Refuse, Lose, Damage, Open, Close}
+use Rattle.dna_model.specs.Script.{ScriptStep, Start, Timer, Send, Deliver, Refuse, Lose, Damage, Noise, Open, Close}
 use Rattle.dna_model.specs.Player.{end_step}
 use Rattle.dna_model.specs.Stepped.{BadStep}
 use Rattle.dna_model.specs.Play.{plays}
 use Rattle.dna_model.specs.Played.{plays_step}
-use Rattle.dna_model.proofs.PlayRowSteps.{a, b, s, r, k, IsPlayed, Captures, StopsAt}
+use Rattle.dna_model.specs.KeptPlay.{kept_plays}
+use Rattle.dna_model.specs.KeptPlayed.{kept_plays_step}
+use Rattle.dna_model.proofs.PlayRowSteps.{a, b, s, r, k, n, IsPlayed, Captures, StopsAt}
 use Rattle.dna_model.proofs.LayersRows.{player_example_a, player_example_b}
 
 abbrev example : List ScriptStep
@@ -38,8 +40,8 @@ example_b =
     s (codes "81090001010153800201040204002401002cd5") ∷ []
 
 scripted_example : IsPlayed example (Captures example_a example_b)
-unfolding reading spelling is_good check_of after_byte shift end_step plays plays_step
-scripted_example = refl
+unfolding reading spelling is_good check_of after_byte shift end_step plays plays_step kept_plays kept_plays_step
+scripted_example = (refl, refl)
 
 -- they are the captures of a run
 same_as_the_run_of_a : example_a ≡ player_example_a
@@ -64,5 +66,18 @@ abbrev closes_instead_b : List Record
 closes_instead_b = User event.Start ∷ r 1 (codes "0506c00000017595") ∷ s (codes "0507c00000014855") ∷ r 2 (codes "050100000001fc55") ∷ []
 
 closed_before_the_answer : IsPlayed closes_instead (StopsAt 11 BadStep closes_instead_a closes_instead_b)
-unfolding reading spelling is_good check_of after_byte shift end_step plays plays_step
-closed_before_the_answer = refl
+unfolding reading spelling is_good check_of after_byte shift end_step plays plays_step kept_plays kept_plays_step
+closed_before_the_answer = (refl, refl)
+
+-- noise, which names no unit
+abbrev noisy : List ScriptStep
+noisy =
+    a Start ∷ b Start ∷ a Send ∷ b Deliver ∷ b Send ∷ a Deliver ∷ a Send ∷ b Deliver ∷ b (Noise []) ∷ b Send ∷ a Deliver ∷ []
+
+noise_in_a_script : IsPlayed noisy (Captures
+    (User event.Start ∷ s (codes "0506c00000017595") ∷ r 0 (codes "0507c00000014855") ∷ s (codes "050100000001fc55") ∷
+    r 1 (codes "050201000001b9a9") ∷ [])
+    (User event.Start ∷ r 0 (codes "0506c00000017595") ∷ s (codes "0507c00000014855") ∷ r 1 (codes "050100000001fc55") ∷ n [] ∷
+    s (codes "050201000001b9a9") ∷ []))
+unfolding reading spelling is_good check_of after_byte shift end_step plays plays_step kept_plays kept_plays_step
+noise_in_a_script = (refl, refl)

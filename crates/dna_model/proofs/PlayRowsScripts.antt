@@ -11,6 +11,8 @@ use Rattle.dna_model.specs.Script.{ScriptStep, Start, Timer, Send, Deliver, Refu
 use Rattle.dna_model.specs.Player.{end_step}
 use Rattle.dna_model.specs.Play.{plays}
 use Rattle.dna_model.specs.Played.{plays_step}
+use Rattle.dna_model.specs.KeptPlay.{kept_plays}
+use Rattle.dna_model.specs.KeptPlayed.{kept_plays_step}
 use Rattle.dna_model.proofs.PlayRowSteps.{a, b, s, r, k, hex, IsPlayedBetween, Captures}
 
 -- Units are lost and damaged, and both stations ask and repeat
@@ -54,8 +56,8 @@ lossy_b =
     s (codes "810f000304017910020204010400180000030001020002ec7a") ∷ []
 
 lossy_is_played : IsPlayedBetween 0x0402 0x0401 lossy (Captures lossy_a lossy_b)
-unfolding reading spelling is_good check_of after_byte shift end_step plays plays_step
-lossy_is_played = refl
+unfolding reading spelling is_good check_of after_byte shift end_step plays plays_step kept_plays kept_plays_step
+lossy_is_played = (refl, refl)
 
 -- A link opened from b, and messages to both users
 abbrev delivered : List ScriptStep
@@ -90,8 +92,8 @@ delivered_b =
     k 4 (codes "810d0003040100d0020104020400600100010002001df0") ∷ User (event.Up 1 []) ∷ []
 
 delivered_is_played : IsPlayedBetween 0x0402 0x0401 delivered (Captures delivered_a delivered_b)
-unfolding reading spelling is_good check_of after_byte shift end_step plays plays_step
-delivered_is_played = refl
+unfolding reading spelling is_good check_of after_byte shift end_step plays plays_step kept_plays kept_plays_step
+delivered_is_played = (refl, refl)
 
 -- Node 62.1023 beside 1.1: packets for which there is no buffer, and damaged ones
 abbrev far_node : List ScriptStep
@@ -119,8 +121,8 @@ far_node_b =
     User (event.In 2 []) ∷ User (event.In 2 (hex (codes "5e3407"))) ∷ []
 
 far_node_is_played : IsPlayedBetween 0xfbff 0x0401 far_node (Captures far_node_a far_node_b)
-unfolding reading spelling is_good check_of after_byte shift end_step plays plays_step
-far_node_is_played = refl
+unfolding reading spelling is_good check_of after_byte shift end_step plays plays_step kept_plays kept_plays_step
+far_node_is_played = (refl, refl)
 
 -- Several links: accepted, rejected, closed from either side, their segments acknowledged and repeated
 abbrev several_links : List ScriptStep
@@ -230,5 +232,5 @@ several_links_b =
     User (event.In 3 []) ∷ []
 
 several_links_is_played : IsPlayedBetween 0x0401 0x0402 several_links (Captures several_links_a several_links_b)
-unfolding reading spelling is_good check_of after_byte shift end_step plays plays_step
-several_links_is_played = refl
+unfolding reading spelling is_good check_of after_byte shift end_step plays plays_step kept_plays kept_plays_step
+several_links_is_played = (refl, refl)

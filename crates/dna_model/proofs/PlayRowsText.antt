@@ -6,7 +6,7 @@ use Rattle.capture.specs.Text.{bytes_text, address_text, spaced}
 use Rattle.capture.specs.Reading.{number_at, positive_at, address_at}
 use Rattle.capture.proofs.NumberLaws.{number_takes}
 use Rattle.capture.proofs.AddressLaws.{address_takes}
-use Rattle.dna_model.specs.Script.{Start, Halt, Timer, Send, Deliver, Refuse, Lose, Damage, Open, Accept, Reject, In, Close, Retry}
+use Rattle.dna_model.specs.Script.{Start, Halt, Timer, Send, Deliver, Refuse, Lose, Damage, Noise, Open, Accept, Reject, In, Close, Retry}
 use Rattle.dna_model.specs.ScriptText.{line_text, script_head}
 use Rattle.dna_model.proofs.PlayRowSteps.{a, b}
 
@@ -37,6 +37,12 @@ refuse_line = refl
 
 lose_line : line_text (a Lose) ≡ codes "a lose"
 lose_line = refl
+
+noise_line : (bytes : List ℕ) → line_text (b (Noise bytes)) ≡ codes "b noise " ++ bytes_text bytes
+noise_line bytes = refl
+
+no_noise_line : line_text (a (Noise [])) ≡ codes "a noise -"
+no_noise_line = refl
 
 open_line : line_text (b Open) ≡ codes "b open"
 open_line = refl

@@ -1,6 +1,6 @@
 -- What is known of an end of the player beside the other while a script is played: of what may come to it, and of what its user may get then. It
 -- stays known while the end takes a unit and its user gets what is whole.
-use Rattle.std.proofs.Common.{◌≡◌, ℕ, ◌+◌, ◌<◌, ◌≤◌, ◌^◌, true, Some, List, [], ◌++◌, Ok, sym, ◌∙◌, arith}
+use Rattle.std.proofs.Common.{◌≡◌, ℕ, ◌+◌, ◌<◌, ◌≤◌, ◌^◌, true, Option, Some, None, List, [], ◌++◌, Ok, sym, ap, ◌∙◌, arith}
 use Rattle.std.specs.Prelude.{slice_get}
 use Rattle.two_nodes.specs.Nodes.{Run}
 use Rattle.two_nodes.proofs.Lasting.{lasts}
@@ -9,25 +9,33 @@ use Rattle.ddcmp_msg.specs.Reading as read_as
 use Rattle.dna_packet.specs.Nsp.{NspValue}
 use Rattle.capture.specs.declared.record.Record.{Record}
 use Rattle.capture.specs.Range.{IsNode}
-use Rattle.dna_model.specs.Book.{body_of}
+use Rattle.dna_model.specs.Rules.{judged}
+use Rattle.dna_model.specs.Book.{Sound, body_of}
+use Rattle.dna_model.specs.StationBook.{arrival_refusal}
+use Rattle.dna_model.specs.LinkArriving.{of_partner}
+use Rattle.dna_model.specs.CutLinks.{ArrivesNear}
+use Rattle.dna_model.specs.LinkBounds.{AreLinksBounded}
 use Rattle.dna_model.specs.LinkRuns.{SentMessage, LinkWorld}
 use Rattle.dna_model.specs.Content.{content}
 use Rattle.dna_model.specs.Layers.{LayersUnit}
 use Rattle.dna_model.specs.LayersPair.{layers_pair, layers_start, side_of, link_events}
 use Rattle.dna_model.specs.Script.{Script}
-use Rattle.dna_model.specs.Player.{End, links_of}
+use Rattle.dna_model.specs.Player.{End, station_of, links_of}
 use Rattle.dna_model.specs.Played.{Played, head_a, head_b}
 use Rattle.dna_model.specs.PlayRun.{ArePlayed, world_of}
 use Rattle.dna_model.proofs.StationNumbers.{is_data}
 use Rattle.dna_model.proofs.LayersRead.{LayersRead, packet_in, read_kept, start_read}
-use Rattle.dna_model.proofs.LinkRunBounds.{BothOwned, sound, owned}
+use Rattle.dna_model.proofs.LinkRunBounds.{BothOwned, sound, owned, bounded}
+use Rattle.dna_model.proofs.ReadInRange.{content_in_range}
+use Rattle.dna_model.proofs.CutLayersNode.{IsLayersBounded}
+use Rattle.dna_model.proofs.LayersBounds.{a_bounded, b_bounded}
 use Rattle.dna_model.proofs.LinkSteps.{BothLinksSound}
 use Rattle.dna_model.proofs.LinkNodes.{BothFrom, reached_from}
 use Rattle.dna_model.proofs.UnitFacts.{unit_reads, unit_content}
 use Rattle.dna_model.proofs.HandedLined.{events_lined}
 use Rattle.dna_model.proofs.SidesLined.{is_lined}
 use Rattle.dna_model.proofs.SentLined.{AreSentLined, sent_lined}
-use Rattle.dna_model.proofs.PlayedSteps.{MakesAll}
+use Rattle.dna_model.proofs.PlayedSteps.{PlayHalf, MakesAll}
 use Rattle.dna_model.proofs.PlayedOrder.{InOrder, order_join}
 use Rattle.dna_model.proofs.PlayedRuns.{more_of_a, more_of_b}
 use Rattle.dna_model.proofs.PlayerChecked.{is_checked_run}
@@ -48,11 +56,25 @@ pub record Facts (own other : End) : Type 0 where
   pub reads : (k : ℕ) (unit : LayersUnit) → slice_get other.half.sent k ≡ Some unit → reading unit.bytes ≡ read_as.Sound unit.message
   pub packets : (k : ℕ) (unit : LayersUnit) → slice_get other.half.sent k ≡ Some unit → is_data unit.message ≡ true →
       content (body_of unit.message) ≡ Ok (packet_in unit.known.carried)
+  -- the numbers of a message that may be kept are near those of the link that it is for
+  pub near : (k : ℕ) (unit : LayersUnit) → slice_get other.half.sent k ≡ Some unit → own.half.state.front ≤ k →
+      arrival_refusal judged (station_of own.half) (Sound unit.message unit.known.station) true ≡ None →
+      (u : SentMessage) → unit.known.carried ≡ Some u → ArrivesNear of_partner (links_of own.half) u.packet.message u.truth
 
 -- also behind records that start nothing and give no address
 abbrev pub Later : (own other : End) → Type 0
 Later own other = (e : End) (records : List Record) → MakesAll other.half own.half records e.half → InOrder own.addresses 0 records e.addresses →
     Facts e other
+
+-- a unit that may be kept has its message, and that is near
+comes_near : (own other : PlayHalf) (front of_other : ℕ) → IsLayersBounded own other front of_other →
+    AreLinksBounded (side_of own front) (side_of other of_other) → (k : ℕ) (unit : LayersUnit) → slice_get other.sent k ≡ Some unit →
+    own.state.front ≤ k → arrival_refusal judged own.state.station.station (Sound unit.message unit.known.station) true ≡ None →
+    (u : SentMessage) → unit.known.carried ≡ Some u → ArrivesNear of_partner own.state.station.links u.packet.message u.truth
+comes_near own other front of_other c bounds k unit there ahead allowed u is =
+    let h = c.kept k unit there ahead allowed in
+    let small = content_in_range (body_of unit.message) u.packet (h.read ∙ ap (λ (o : Option SentMessage). Ok (packet_in o)) is) in
+    bounds.near unit.known.station.place u h.ahead (h.told ∙ ap Some is) small
 
 module _ (script : Script) where
   -- what was played so far starts each side at most once
@@ -87,6 +109,10 @@ module _ (script : Script) where
     all_owned = owned script.node_a script.node_b script.node_b script.node_a links_world (link_events played.of_a)
         (link_events played.of_b) met.joined.joined.reached
 
+    bounds : AreLinksBounded links_world.a links_world.b × AreLinksBounded links_world.b links_world.a
+    bounds = bounded script.node_a script.node_b script.node_b script.node_a links_world (link_events played.of_a)
+        (link_events played.of_b) met.joined.joined.reached
+
     nodes : BothFrom script.node_a script.node_b script.node_b script.node_a links_world
     nodes = reached_from script.node_a script.node_b script.node_b script.node_a met.joined.joined.reached
 
@@ -106,6 +132,8 @@ module _ (script : Script) where
           lined = lines.1;
           reads = unit_reads played.b.half played.a.half order.of_b.sound;
           packets = λ k unit there. unit_content played.b.half played.a.half order.of_b.sound k unit there order.of_b.places met.joined.b_told met.b_read;
+          near = comes_near played.a.half played.b.half met.joined.joined.front_a met.joined.joined.front_b
+              (a_bounded (head_a script) (head_b script) (world_of played) played.of_a played.of_b met) bounds.0;
         }
 
     pub facts_b : Facts played.b played.a
@@ -121,6 +149,8 @@ module _ (script : Script) where
           lined = lines.0;
           reads = unit_reads played.a.half played.b.half order.of_a.sound;
           packets = λ k unit there. unit_content played.a.half played.b.half order.of_a.sound k unit there order.of_a.places met.joined.a_told met.a_read;
+          near = comes_near played.b.half played.a.half met.joined.joined.front_b met.joined.joined.front_a
+              (b_bounded (head_a script) (head_b script) (world_of played) played.of_a played.of_b met) bounds.1;
         }
 
   module _ (node_a : IsNode script.node_a) (node_b : IsNode script.node_b) (played : Played) (g : Going played) where

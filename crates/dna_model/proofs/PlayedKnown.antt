@@ -12,7 +12,7 @@ use Rattle.dna_model.specs.LayersPair.{layers_pair, layers_start, side_of, link_
 use Rattle.dna_model.specs.Player.{links_of}
 use Rattle.dna_model.specs.Played.{Played}
 use Rattle.dna_model.specs.PlayRun.{world_of}
-use Rattle.dna_model.proofs.OnTop.{OnTop, ByStation, ByLinks, Again, First, Receipt, follows}
+use Rattle.dna_model.proofs.OnTop.{OnTop, ByStation, ByLinks, Again, First, Receipt, Counted, Unheard, follows}
 use Rattle.dna_model.proofs.RunBounds.{sound_bounded}
 use Rattle.dna_model.proofs.LinkRunBounds.{bounded}
 use Rattle.dna_model.proofs.LinkAddresses.{AreAddressed}
@@ -26,6 +26,8 @@ use Rattle.dna_model.proofs.EndStage.{HasNumbers, Known}
 -- ---- the addresses of a head stay
 
 head_stays : (rules : Rules) (own other h : Half LayersNode LayersUnit) (r : Record) → OnTop rules own other r h → h.state.head ≡ own.state.head
+head_stays rules own other h r (Counted bytes reason) = refl
+head_stays rules own other h r (Unheard bytes) = refl
 head_stays rules own other h r (ByStation event) = refl
 head_stays rules own other h r (ByLinks event of_links links is done) = refl
 head_stays rules own other h r (Again bytes m old) = refl

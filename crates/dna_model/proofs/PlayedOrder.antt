@@ -11,6 +11,7 @@ use Rattle.capture.specs.declared.event.Event.{Event}
 use Rattle.capture.specs.declared.event.Event.TheVariants as events
 use Rattle.capture.specs.declared.record.Record.{Record}
 use Rattle.capture.specs.declared.record.Record.TheVariants.{Sent, Received, User}
+use Rattle.capture.specs.declared.record.Record.TheVariants as recorded
 use Rattle.dna_model.specs.declared.port.LinkTest.{LinkTest}
 use Rattle.dna_model.specs.declared.port.LinkTest.TheVariants.{LiveAt, CalledBy, ActedOn}
 use Rattle.dna_model.specs.Links.{LinkOf, LinksOf, number_of, on_link, at_number, with_link}
@@ -22,7 +23,7 @@ use Rattle.dna_model.specs.Layers.{LayersUnit}
 use Rattle.dna_model.specs.LayersPair.{link_event_in, link_events}
 use Rattle.dna_model.proofs.OrderlyRecords.{higher, highest, AddressesRise, starts}
 use Rattle.dna_model.specs.PlayRun.{starts_now}
-use Rattle.dna_model.specs.Script.{StepValue, Start, Halt, Timer, Send, Deliver, Refuse, Lose, Damage, Open, Accept, Reject, In, Close, Retry}
+use Rattle.dna_model.specs.Script.{StepValue, Start, Halt, Timer, Send, Deliver, Refuse, Lose, Damage, Noise, Open, Accept, Reject, In, Close, Retry}
 use Rattle.dna_model.specs.Owed.{Debt, OwesStrt, timer_debt}
 use Rattle.dna_model.specs.LinkOwed.{LinkOwed, LinkDebt, Owes, InitiateTurn, ConfirmTurn, DisconnectTurn, retried}
 use Rattle.dna_model.specs.LinkOwed as links_owing
@@ -30,7 +31,7 @@ use Rattle.dna_model.specs.NextSent.{Choice, SendStrt, SendStack, SendNak, SendR
 use Rattle.dna_model.specs.Compose.{message_of}
 use Rattle.dna_model.specs.Player.{End, makes, variables_of, links_of, link_ends_of, after_record}
 use Rattle.dna_model.specs.Stepped.{Stop, BadStep, Full, Stepped, made, silent, owing_more, links_owing_more}
-use Rattle.dna_model.specs.Receipt.{with_half, complete, delivered_by, gets_all, carried, delivered_now, after_receipt, then_gets, receives, can_keep, comes, on_unit, is_damage, damaged}
+use Rattle.dna_model.specs.Receipt.{with_half, complete, delivered_by, gets_all, carried, delivered_now, after_receipt, then_gets, receives, can_keep, comes, on_unit, is_damage, damaged, heard}
 use Rattle.dna_model.specs.Play.{by_user, giving, timed, retrying, after_sending, sends_message, sends_choice, no_more, plays}
 use Rattle.dna_model.proofs.PlayedSteps.{PlayHalf}
 
@@ -240,6 +241,8 @@ plays_orderly own other Refuse = unit_orderly own other (slice_get other.sent ow
 plays_orderly own other Lose = unit_orderly own other (slice_get other.sent own.passed) (λ bytes. silent (record own { passed = own.passed + 1 })) (λ bytes. nothing_in_order own.addresses)
 plays_orderly own other (Damage place value) =
     unit_orderly own other (slice_get other.sent own.passed) (λ bytes. cond (is_damage place value bytes) (comes own other true (damaged place value bytes)) (Err BadStep)) (λ bytes. damage_orderly own other (is_damage place value bytes) (damaged place value bytes))
+plays_orderly own other (Noise bytes) =
+    made_orderly own 0 own (recorded.Noise bytes) (heard own (reading bytes)) (λ e. refl) (makes own.half other (recorded.Noise bytes)) (quiet own (recorded.Noise bytes) refl refl)
 plays_orderly own other Open = given_orderly own other (Owes (length (links_of own.half).links) InitiateTurn) (λ address. events.Open address) (record { counted = refl; rise = (omega arith, tt); top = refl })
 plays_orderly own other (Accept partner) = link_orderly own 0 (CalledBy partner) (links_of own.half)
     (λ number link. giving own (λ end address. by_user end other (events.Accept partner address) (links_owing_more (Owes number ConfirmTurn))))

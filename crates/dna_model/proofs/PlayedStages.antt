@@ -27,7 +27,7 @@ pub record Stages (so_far : Played) (steps : ℕ) : Type 0 where
 module _ (script : Script) (node_a : IsNode script.node_a) (node_b : IsNode script.node_b) where
   -- ---- a step
 
-  abbrev AreStaged : ℕ → Result Played Stop → Type 0
+  abbrev pub AreStaged : ℕ → Result Played Stop → Type 0
   AreStaged steps (Ok next) = Stages next steps
   AreStaged steps (Err stop) = Unit {0}
 
@@ -50,7 +50,7 @@ module _ (script : Script) (node_a : IsNode script.node_a) (node_b : IsNode scri
           record { of_a = s.of_a; of_b = stage; passed_a = omega arith; passed_b = omega arith }
       go (Err stop) stage passed = tt
 
-  step_staged : (so_far : Played) (steps : ℕ) (step : ScriptStep) → Going script so_far → Stages so_far steps →
+  pub step_staged : (so_far : Played) (steps : ℕ) (step : ScriptStep) → Going script so_far → Stages so_far steps →
       AreStaged (steps + 1) (plays_step so_far step)
   unfolding plays_step
   step_staged so_far steps step g s = staged_at so_far steps step.side step.step g s

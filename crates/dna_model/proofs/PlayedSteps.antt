@@ -11,19 +11,20 @@ use Rattle.capture.specs.declared.event.Event.{Event}
 use Rattle.capture.specs.declared.event.Event.TheVariants as events
 use Rattle.capture.specs.declared.record.Record.{Record}
 use Rattle.capture.specs.declared.record.Record.TheVariants.{Sent, Received, User}
+use Rattle.capture.specs.declared.record.Record.TheVariants as recorded
 use Rattle.dna_model.specs.declared.port.LinkTest.{LinkTest}
 use Rattle.dna_model.specs.declared.port.LinkTest.TheVariants.{LiveAt, CalledBy}
 use Rattle.dna_model.specs.Links.{LinkOf, LinksOf, number_of, on_link, at_number, with_link}
 use Rattle.dna_model.specs.TrueFlow.{TrueFlow}
 use Rattle.dna_model.specs.Layers.{LayersNode, LayersUnit}
-use Rattle.dna_model.specs.Script.{StepValue, Start, Halt, Timer, Send, Deliver, Refuse, Lose, Damage, Open, Accept, Reject, In, Close, Retry}
+use Rattle.dna_model.specs.Script.{StepValue, Start, Halt, Timer, Send, Deliver, Refuse, Lose, Damage, Noise, Open, Accept, Reject, In, Close, Retry}
 use Rattle.dna_model.specs.Owed.{Debt, OwesStrt, timer_debt}
 use Rattle.dna_model.specs.LinkOwed.{LinkOwed, LinkDebt, Owes, InitiateTurn, ConfirmTurn, DisconnectTurn, retried}
 use Rattle.dna_model.specs.NextSent.{Choice, SendStrt, SendStack, SendNak, SendRep, SendAgain, SendNew, SendAck, link_choice, choice}
 use Rattle.dna_model.specs.Compose.{message_of}
 use Rattle.dna_model.specs.Player.{End, makes, variables_of, links_of, link_ends_of, after_record}
 use Rattle.dna_model.specs.Stepped.{Stop, BadStep, Full, Stepped, made, silent, owing_more, links_owing_more}
-use Rattle.dna_model.specs.Receipt.{with_half, gets_all, carried, delivered_now, after_receipt, then_gets, receives, can_keep, comes, on_unit, is_damage, damaged}
+use Rattle.dna_model.specs.Receipt.{with_half, gets_all, carried, delivered_now, after_receipt, then_gets, receives, can_keep, comes, on_unit, is_damage, damaged, heard}
 use Rattle.dna_model.specs.Play.{by_user, giving, timed, retrying, after_sending, sends_message, sends_choice, sends, no_more, plays}
 
 abbrev pub PlayHalf : Type 0
@@ -164,6 +165,7 @@ plays_good own other Refuse = unit_good own other (slice_get other.sent own.pass
 plays_good own other Lose = unit_good own other (slice_get other.sent own.passed) (λ bytes. silent (record own { passed = own.passed + 1 })) (λ bytes. Nothing)
 plays_good own other (Damage place value) =
     unit_good own other (slice_get other.sent own.passed) (λ bytes. cond (is_damage place value bytes) (comes own other true (damaged place value bytes)) (Err BadStep)) (λ bytes. damage_good own other (is_damage place value bytes) (damaged place value bytes))
+plays_good own other (Noise bytes) = made_good own other (recorded.Noise bytes) (heard own (reading bytes)) (λ e. refl) (makes own.half other (recorded.Noise bytes)) refl
 plays_good own other Open = given_good own other (Owes (length (links_of own.half).links) InitiateTurn) (λ address. events.Open address)
 plays_good own other (Accept partner) = link_good own.half other (CalledBy partner) (links_of own.half)
     (λ number link. giving own (λ end address. by_user end other (events.Accept partner address) (links_owing_more (Owes number ConfirmTurn))))

@@ -14,7 +14,7 @@ use Rattle.ddcmp_msg.specs.Reading as read_as
 use Rattle.capture.specs.declared.event.Event.{Event}
 use Rattle.capture.specs.declared.event.Event.TheVariants as events
 use Rattle.capture.specs.declared.record.Record.{Record}
-use Rattle.capture.specs.declared.record.Record.TheVariants.{Sent, Received, User}
+use Rattle.capture.specs.declared.record.Record.TheVariants.{Sent, Received, Noise, User}
 use Rattle.dna_model.specs.declared.head.Head.{Head}
 use Rattle.dna_model.specs.declared.state.State.{State}
 use Rattle.dna_model.specs.declared.state.State.TheVariants.{Halted, Istrt, Astrt, Running}
@@ -27,7 +27,7 @@ use Rattle.dna_model.specs.Truth.{tag_of}
 use Rattle.dna_model.specs.Book.{Sound, has_packet, keep_refusal}
 use Rattle.dna_model.specs.StationBook.{takes, after_arrival}
 use Rattle.dna_model.specs.Line.{damage, coming_by}
-use Rattle.dna_model.specs.Machine.{met, comes, receives, sent_step, user_step, unless_refused, step}
+use Rattle.dna_model.specs.Machine.{met, comes, receives, sent_step, noise_step, user_step, unless_refused, step}
 use Rattle.dna_model.specs.TrueLinks.{Links, links_arrived}
 use Rattle.dna_model.specs.LinkRuns.{SentMessage}
 use Rattle.dna_model.specs.Layers.{Layers, LayersNode, LayersUnit, with_links, keeps, meets_on, layers_machine, stations, unit_of_station}
@@ -136,6 +136,12 @@ module _ (own other : Half LayersNode LayersUnit) where
   sent_same bytes read_as.DataBad = refl
   sent_same bytes (read_as.Malformed departure) = refl
 
+  noise_same : (r : ReadingValue) → noise_step (layers_machine by_bytes) own.state r ≡ noise_step (layers_machine judged) own.state r
+  noise_same (read_as.Sound m) = refl
+  noise_same read_as.HeaderBad = refl
+  noise_same read_as.DataBad = refl
+  noise_same (read_as.Malformed departure) = refl
+
   user_same : (event : Event) → user_step (layers_machine by_bytes) own.state event ≡ user_step (layers_machine judged) own.state event
   user_same events.Start = refl
   user_same events.Halt = refl
@@ -149,6 +155,7 @@ module _ (own other : Half LayersNode LayersUnit) where
   -- each record becomes the same
   pub record_same : IsReady → (r : Record) → advance (step (layers_machine by_bytes)) own other r ≡ advance (step (layers_machine judged)) own other r
   record_same h (Sent bytes) = ap (answered own other) (sent_same bytes (reading bytes))
+  record_same h (Noise bytes) = ap (answered own other) (noise_same (reading bytes))
   record_same h (User event) = ap (answered own other) (user_same event)
   record_same h (Received hint kept bytes) = go (slice_get other.sent hint) refl
     where

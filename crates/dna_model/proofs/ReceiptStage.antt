@@ -60,10 +60,10 @@ module _ (own other : End) (h : Stage own) (theirs : Stage other) (known : Known
     again_never number true e = cc
     again_never number false e = cc
 
-    of_end : (dst src reason : ℕ) → reason < 2 ^ 16 → dst ≤ own.addresses → src < 2 ^ 16 →
+    of_end : (dst src reason : ℕ) → reason < 2 ^ 16 → dst ≤ own.addresses → 1 ≤ dst → src < 2 ^ 16 →
         ◌≡◌ {A = Result Links LinkRefusal} (Ok (ends_link true_flows of_anyone dst src s)) (Ok left) →
         confirm_debt src dst reason ≡ OwesConfirm confirm → Confirmed
-    of_end dst src reason small given src_small does e =
+    of_end dst src reason small given some src_small does e =
         let same : ends_link true_flows of_anyone dst src s ≡ left = cc in
         let is : record { dst = src; src = dst; reason = reason } ≡ confirm = same_confirm (record { dst = src; src = dst; reason = reason }) confirm e in
         let few = h.few in
@@ -71,6 +71,7 @@ module _ (own other : End) (h : Stage own) (theirs : Stage other) (known : Known
         (subst (ConfirmHolds (ends_link true_flows of_anyone dst src s).links own.addresses) is (record {
           done = end_done s (links_of other.half).links own.addresses known.addressed of_anyone dst src reason given;
           small = record { dst = src_small; src = omega arith; reason = small };
+          some = some;
         }))
       where
         same_confirm : (x y : EndConfirm) → OwesConfirm x ≡ OwesConfirm y → x ≡ y
@@ -80,12 +81,12 @@ module _ (own other : End) (h : Stage own) (theirs : Stage other) (known : Known
         message_arrived true_flows of_anyone s m truth ≡ Ok left → message_debt s m ≡ OwesConfirm confirm → Confirmed
     confirmed (DisconnectInitiate dst src reason user_data) told does e =
         let to = told.to dst refl in let from = told.from src refl in
-        let given = known.addressed.highest to.number dst to.owns in
+        let given = known.addressed.highest to.number dst to.owns in let some = known.addressed.least to.number dst to.owns in
         let below = known.others.highest from.number src from.owns in let few = theirs.few in
         looked (TheLink dst src) s (with_link (CallingAt dst) s (confirm_debt src dst 41) (λ number link. confirm_debt src dst 42)) (λ number link. confirm_debt src dst 42) (OwesConfirm confirm) e
         (λ none e. looked (CallingAt dst) s (confirm_debt src dst 41) (λ number link. confirm_debt src dst 42) (OwesConfirm confirm) e
-        (λ none e. of_end dst src 41 (omega arith) given (omega arith) does e) (λ number link found e. of_end dst src 42 (omega arith) given (omega arith) does e))
-        (λ number link found e. of_end dst src 42 (omega arith) given (omega arith) does e)
+        (λ none e. of_end dst src 41 (omega arith) given some (omega arith) does e) (λ number link found e. of_end dst src 42 (omega arith) given some (omega arith) does e))
+        (λ number link found e. of_end dst src 42 (omega arith) given some (omega arith) does e)
     confirmed (ConnectInitiate retransmitted src services info segsize user_data) told does e =
         looked (LiveTo src) s (Owes (length s.links) ConnectAckTurn) (λ number link. repeated_call_debt number link.port.phase) (OwesConfirm confirm) e (λ none e. absurd cc) (λ number link found e. absurd (call_never number link.port.phase e))
     confirmed (ConnectConfirm dst src services info segsize user_data) told does e =

@@ -11,11 +11,11 @@ use Rattle.dna_model.specs.Station.{new_station}
 use Rattle.dna_model.specs.Bounds.{IsBounded}
 use Rattle.dna_model.specs.Pair.{pair, start}
 use Rattle.dna_model.proofs.Ordered.{new_ordered}
-use Rattle.dna_model.proofs.Happens.{Happens, Nothing, UserEvent, Sending, Receipt}
+use Rattle.dna_model.proofs.Happens.{Happens, Nothing, UserEvent, Sending, Receipt, Counted, Unheard}
 use Rattle.dna_model.proofs.Sides.{OfBoth, IsKeptBySides, kept_by_both, after_run}
 use Rattle.dna_model.proofs.NumberedSteps.{none_numbered, present_new}
 use Rattle.dna_model.proofs.StationNumbers.{limits, view, numbers_of, unit_of}
-use Rattle.dna_model.proofs.StationBounds.{IsSound, sound_beside, sound_event, sound_sending}
+use Rattle.dna_model.proofs.StationBounds.{IsSound, sound_beside, sound_event, sound_counted, sound_sending}
 use Rattle.dna_model.proofs.ReceiptBounds.{sound_receipt, within}
 
 abbrev pub SoundSide : (own other : Half Node SentUnit) → List Record → Type 0
@@ -24,12 +24,16 @@ SoundSide own other made = IsSound own.state own.sent other.sent
 module _ (own other : Half Node SentUnit) (h : IsSound own.state own.sent other.sent) (theirs : IsSound other.state other.sent own.sent) where
   pub sound_own : (r : Record) (left : Half Node SentUnit) → Happens judged own other r left → IsSound left.state left.sent other.sent
   sound_own r left (Nothing event none) = h
+  sound_own r left (Counted bytes reason) = sound_counted own.state own.sent other.sent reason h
+  sound_own r left (Unheard bytes) = h
   sound_own r left (UserEvent event allowed) = sound_event own.state own.sent other.sent event h
   sound_own r left (Sending bytes m read allowed) = sound_sending own.state own.sent other.sent bytes m h read allowed
   sound_own r left (Receipt hint kept bytes unit arrival there ahead of_unit allowed) = sound_receipt own.state own.sent other.sent h theirs.messages hint unit there ahead bytes arrival kept of_unit allowed
 
   pub sound_other : (r : Record) (left : Half Node SentUnit) → Happens judged own other r left → IsSound other.state other.sent left.sent
   sound_other r left (Nothing event none) = theirs
+  sound_other r left (Counted bytes reason) = theirs
+  sound_other r left (Unheard bytes) = theirs
   sound_other r left (UserEvent event allowed) = theirs
   sound_other r left (Sending bytes m read allowed) = sound_beside other.state other.sent own.sent (unit_of own.state.station bytes m) theirs
   sound_other r left (Receipt hint kept bytes unit arrival there ahead of_unit allowed) = theirs

@@ -11,7 +11,7 @@ use Rattle.dna_model.specs.Rules.{judged}
 use Rattle.dna_model.specs.Layers.{LayersTruth, LayersNode, LayersUnit, first_sent, sends_again}
 use Rattle.dna_model.specs.LayersPair.{layers_pair}
 use Rattle.dna_model.proofs.NumberedSteps.{at_pushed}
-use Rattle.dna_model.proofs.OnTop.{sent_by, OnTop, ByStation, ByLinks, Again, First, Receipt, follows}
+use Rattle.dna_model.proofs.OnTop.{sent_by, OnTop, ByStation, ByLinks, Again, First, Receipt, Counted, Unheard, follows}
 use Rattle.dna_model.proofs.PlayedSteps.{PlayHalf}
 
 -- each unit that was sent has a line
@@ -40,6 +40,8 @@ lined_left own other h r (Again bytes m old) line all = one_more_lined own.sent 
 lined_left own other h r (First bytes m new links carried made) line all = one_more_lined own.sent bytes m
     (first_sent own.state.station (sent_by own m) links carried).1 all line
 lined_left own other h r (Receipt hint kept bytes unit arrival there links met) line all = all
+lined_left own other h r (Counted bytes reason) line all = all
+lined_left own other h r (Unheard bytes) line all = all
 
 -- of both sides, in every run of records that have lines
 pub sent_lined : {w end : World LayersNode LayersUnit} {of_a of_b : List Record} → Run layers_pair w of_a of_b end → AllByRecursion IsRecord of_a →

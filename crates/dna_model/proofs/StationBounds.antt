@@ -1,6 +1,7 @@
 -- The bounds of DDCMP hold at any time: what holds of each node beside the other is kept by every record.
 use Rattle.std.proofs.Common.{◌≡◌, ℕ, ◌≤◌, Bool, true, false, Some, None, List, [], ◌∷◌, ◌++◌, length, refl, sym, ap, ◌∙◌, subst, arith, length-append}
 use Rattle.std.specs.Prelude.{slice_get}
+use Rattle.ddcmp_msg.specs.declared.nak_reason.NakReason.{NakReason}
 use Rattle.ddcmp_msg.specs.Message.{MessageValue, Data}
 use Rattle.ddcmp_msg.specs.Reading.{reading, Sound}
 use Rattle.dna_model.specs.declared.state.State.{State}
@@ -10,12 +11,12 @@ use Rattle.dna_model.specs.declared.state.StationEvent.TheVariants.{Start, Halt}
 use Rattle.dna_model.specs.Station.{Station, given, after_event}
 use Rattle.dna_model.specs.Table.{checks}
 use Rattle.dna_model.specs.Book.{failed}
-use Rattle.dna_model.specs.StationBook.{passes, sending_refusal, after_sending}
+use Rattle.dna_model.specs.StationBook.{station_book, passes, sending_refusal, after_sending}
 use Rattle.dna_model.specs.Bounds.{IsOrdered, HasWireNumbers}
 use Rattle.dna_model.specs.Line.{SentUnit}
 use Rattle.dna_model.specs.Node.{Node}
 use Rattle.dna_model.proofs.Effects.{sending_stays}
-use Rattle.dna_model.proofs.Ordered.{event_ordered, sending_ordered}
+use Rattle.dna_model.proofs.Ordered.{same_ordered, event_ordered, sending_ordered}
 use Rattle.dna_model.proofs.Numbered.{Numbers, AreNumbered, IsPresent}
 use Rattle.dna_model.proofs.NumberedSteps.{each_pushed, numbered_beside, present_beside, numbered_sending, present_sending, present_new}
 use Rattle.dna_model.proofs.StationNumbers.{limits, numbers_of, view, AsksForHighest, unit_of, sent_spelled, sent_asks, sending_is}
@@ -79,6 +80,19 @@ sound_event n own other Start h = record {
 sound_event n own other Halt h = record {
   ordered = event_ordered n.station Halt h.ordered;
   none = λ e. absurd cc;
+  met = h.met;
+  told = h.told;
+  messages = h.messages;
+  present = h.present;
+}
+
+-- ---- one more cause for a NAK
+
+pub sound_counted : (n : Node) (own other : List SentUnit) (reason : NakReason) → IsSound n own other →
+    IsSound (record n { station = station_book.counts reason n.station }) own other
+sound_counted n own other reason h = record {
+  ordered = same_ordered n.station h.ordered (station_book.counts reason n.station) refl refl refl;
+  none = h.none;
   met = h.met;
   told = h.told;
   messages = h.messages;

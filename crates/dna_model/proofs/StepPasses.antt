@@ -10,19 +10,20 @@ use Rattle.capture.specs.declared.event.Event.{Event}
 use Rattle.capture.specs.declared.event.Event.TheVariants as events
 use Rattle.capture.specs.declared.record.Record.{Record}
 use Rattle.capture.specs.declared.record.Record.TheVariants.{Sent, Received, User}
+use Rattle.capture.specs.declared.record.Record.TheVariants as recorded
 use Rattle.dna_model.specs.declared.port.LinkTest.{LinkTest}
 use Rattle.dna_model.specs.declared.port.LinkTest.TheVariants.{LiveAt, CalledBy}
 use Rattle.dna_model.specs.Links.{LinkOf, LinksOf, with_link}
 use Rattle.dna_model.specs.TrueFlow.{TrueFlow}
 use Rattle.dna_model.specs.Layers.{LayersUnit}
-use Rattle.dna_model.specs.Script.{StepValue, Start, Halt, Timer, Send, Deliver, Refuse, Lose, Damage, Open, Accept, Reject, In, Close, Retry}
+use Rattle.dna_model.specs.Script.{StepValue, Start, Halt, Timer, Send, Deliver, Refuse, Lose, Damage, Noise, Open, Accept, Reject, In, Close, Retry}
 use Rattle.dna_model.specs.Owed.{Debt, OwesStrt, timer_debt}
 use Rattle.dna_model.specs.LinkOwed.{LinkOwed, LinkDebt, Owes, InitiateTurn, ConfirmTurn, DisconnectTurn, retried}
 use Rattle.dna_model.specs.NextSent.{Choice, SendStrt, SendStack, SendNak, SendRep, SendAgain, SendNew, SendAck, choice, link_choice}
 use Rattle.dna_model.specs.Compose.{message_of}
 use Rattle.dna_model.specs.Player.{End, makes, variables_of, links_of, link_ends_of, after_record}
 use Rattle.dna_model.specs.Stepped.{Stop, BadStep, Full, Stepped, made, silent, owing_more, links_owing_more}
-use Rattle.dna_model.specs.Receipt.{carried, delivered_now, after_receipt, with_half, gets_all, then_gets, receives, can_keep, comes, on_unit, is_damage, damaged, passing}
+use Rattle.dna_model.specs.Receipt.{carried, delivered_now, after_receipt, with_half, gets_all, then_gets, receives, can_keep, comes, on_unit, is_damage, damaged, passing, heard}
 use Rattle.dna_model.specs.Play.{by_user, giving, timed, retrying, after_sending, sends_message, sends_choice, no_more, plays}
 use Rattle.dna_model.proofs.LinkTables.{looked}
 use Rattle.dna_model.proofs.PlayedSteps.{PlayHalf}
@@ -143,6 +144,8 @@ module _ (own : End) (other : PlayHalf) where
   plays_passes (Damage place value) =
       unit_passes (slice_get other.sent own.passed) (λ bytes. cond (is_damage place value bytes) (comes own other true (damaged place value bytes))
       (Err BadStep)) (λ bytes. damage_passes (is_damage place value bytes) (damaged place value bytes))
+  plays_passes (Noise bytes) =
+      made_passes own own.passed (recorded.Noise bytes) (heard own (reading bytes)) (λ e. omega arith) refl (makes own.half other (recorded.Noise bytes))
   plays_passes Open = given_passes (Owes (length (links_of own.half).links) InitiateTurn) (λ address. events.Open address)
   plays_passes (Accept partner) = link_passes own.passed (CalledBy partner) (links_of own.half)
       (λ number link. giving own (λ end address. by_user end other (events.Accept partner address) (links_owing_more (Owes number ConfirmTurn))))

@@ -1,13 +1,15 @@
 -- A step of a script is bad only where its rule says so, and full only where the addresses of its end are used up.
 use Rattle.std.proofs.Common.{◌≡◌, ℕ, ◌+◌, ◌<◌, ◌≤◌, Bool, true, false, ◌&&◌, cond, nat_lt, ltb-true, ltb-false, lt-ltb, le-leb, leb-true, inl, inr, Option, Some, None, List, [], ◌∷◌, length, Result, Ok, Err, refl, sym, ap, ap₂, ◌∙◌, subst, arith}
 use Rattle.std.specs.Prelude.{slice_get, slice_index, nat_le}
+use Rattle.ddcmp_msg.specs.Reading.{reading}
 use Rattle.std.proofs.lemmas.Bool.{and_parts}
 use Rattle.std.proofs.lemmas.Option.{same_Some}
-use Rattle.capture.specs.declared.limit.TheConstants.{MAX_HINT, MAX_LINK, MAX_MESSAGE}
+use Rattle.capture.specs.declared.limit.TheConstants.{MAX_HINT, MAX_LINK}
 use Rattle.capture.specs.declared.event.Event.{Event}
 use Rattle.capture.specs.declared.event.Event.TheVariants as events
 use Rattle.capture.specs.declared.record.Record.{Record}
 use Rattle.capture.specs.declared.record.Record.TheVariants.{User}
+use Rattle.capture.specs.declared.record.Record.TheVariants as recorded
 use Rattle.capture.specs.Range.{IsLink}
 use Rattle.dna_model.specs.declared.state.State.{State}
 use Rattle.dna_model.specs.declared.state.State.TheVariants.{Halted, Istrt, Astrt}
@@ -22,15 +24,15 @@ use Rattle.dna_model.specs.LinkUser as of_links
 use Rattle.dna_model.specs.TrueFlow.{TrueFlow, true_flows}
 use Rattle.dna_model.specs.TrueLinks.{Links}
 use Rattle.dna_model.specs.Layers.{LayersUnit}
-use Rattle.dna_model.specs.Script.{StepValue, ScriptStep, Start, Halt, Timer, Send, Deliver, Refuse, Lose, Damage, Open, Accept, Reject, In, Close, Retry}
-use Rattle.dna_model.specs.ScriptText.{IsStep, NumbersFit, message_of}
+use Rattle.dna_model.specs.Script.{StepValue, ScriptStep, Start, Halt, Timer, Send, Deliver, Refuse, Lose, Damage, Noise, Open, Accept, Reject, In, Close, Retry}
+use Rattle.dna_model.specs.ScriptText.{IsStep, NumbersFit, step_bytes, most_bytes}
 use Rattle.dna_model.specs.HasLine.{has_line}
 use Rattle.dna_model.specs.Owed.{OwesStrt, timer_debt}
 use Rattle.dna_model.specs.LinkOwed.{LinkOwed, LinkDebt, Owes, InitiateTurn, ConfirmTurn, DisconnectTurn, retried}
 use Rattle.dna_model.specs.NextSent.{Choice, choice, link_choice}
 use Rattle.dna_model.specs.Player.{End, makes, station_of, links_of, variables_of, link_ends_of}
 use Rattle.dna_model.specs.Stepped.{Stop, BadStep, Full, Stepped, made, silent, owing_more, links_owing_more}
-use Rattle.dna_model.specs.Receipt.{comes, on_unit, is_damage, damaged, passing}
+use Rattle.dna_model.specs.Receipt.{comes, on_unit, is_damage, damaged, passing, heard, hears}
 use Rattle.dna_model.specs.Play.{by_user, with_address, giving, timed, retrying, sends, sends_choice, no_more, plays}
 use Rattle.dna_model.specs.StepRule.{HasUnit, HasNext, IsHurt, IsOneOf, HasLink, IsCalled, Asks, gives_address, IsFull, GoesByRule}
 use Rattle.dna_model.proofs.PlayLines.{line_tested}
@@ -44,6 +46,7 @@ use Rattle.dna_model.proofs.EndStage.{Stage, Known, sound_of}
 use Rattle.dna_model.proofs.EndUser.{start_made, start_makes, halt_makes, link_event_made}
 use Rattle.dna_model.proofs.StepStages.{facts_now}
 use Rattle.dna_model.proofs.ComesMade.{unit_made_to, damage_made_to}
+use Rattle.dna_model.proofs.NoiseStage.{is_noise, noise_made}
 use Rattle.dna_model.proofs.LinksMade.{event_made, open_line, accept_line, reject_line, close_line, is_there, live_found, open_taken, accept_taken, reject_taken, in_taken, close_taken}
 
 -- ---- phases, as the rules of steps and the tables have them
@@ -243,6 +246,12 @@ module _ (own other : End) (h : Stage own) (theirs : Stage other) (later : Later
           (never_full (Damage place value) refl) (damage_made_to own other h theirs later facts few unit there place value is)
       go unit there false is = λ asks. undamaged unit there is asks
 
+  noise_ruled : (bytes : List ℕ) → has_line (recorded.Noise bytes) ≡ true → Rules (Noise bytes) (hears own other.half bytes)
+  noise_ruled bytes lined = record_ruled (Noise bytes) (recorded.Noise bytes) (heard own (reading bytes)) own (never_full (Noise bytes) refl)
+      (makes own.half other.half (recorded.Noise bytes))
+      (λ half e. is_noise own.half other.half bytes half e)
+      (λ none asks. let e = sym none ∙ (noise_made own.half other.half bytes lined asks).1 in cc)
+
   -- ---- addresses
 
   giving_ruled : (step : StepValue) (debt : LinkDebt) (event : ℕ → Event) → gives_address step ≡ true → Asks own other.half step →
@@ -399,7 +408,7 @@ module _ (own other : End) (h : Stage own) (theirs : Stage other) (later : Later
 
   -- ---- the steps
 
-  ruled : (value : StepValue) → NumbersFit value → ((i : ℕ) → slice_index (message_of value) i < 256) → length (message_of value) ≤ MAX_MESSAGE →
+  ruled : (value : StepValue) → NumbersFit value → ((i : ℕ) → slice_index (step_bytes value) i < 256) → length (step_bytes value) ≤ most_bytes value →
       Rules value (plays own other.half value)
   unfolding plays
   ruled Start numbers bytes short = start_ruled
@@ -410,6 +419,10 @@ module _ (own other : End) (h : Stage own) (theirs : Stage other) (later : Later
   ruled Refuse numbers bytes short = refuse_ruled
   ruled Lose numbers bytes short = lose_ruled
   ruled (Damage place value) numbers bytes short = damage_ruled place value
+  ruled (Noise noise) numbers bytes short = noise_ruled noise (line_tested (recorded.Noise noise) (record {
+    spelling = record { numbers = numbers; bytes = bytes };
+    short = short;
+  }))
   ruled Open numbers bytes short = open_ruled
   ruled (Accept partner) numbers bytes short = accept_ruled partner numbers
   ruled (Reject partner) numbers bytes short = reject_ruled partner numbers

@@ -4,7 +4,7 @@ use Rattle.std.specs.Prelude.{slice_get}
 use Rattle.dna_model.specs.declared.port.LinkTest.TheVariants.{LiveAt, CalledBy}
 use Rattle.dna_model.specs.Layers.{LayersUnit}
 use Rattle.capture.specs.declared.event.Event.TheVariants as events
-use Rattle.dna_model.specs.Script.{StepValue, Start, Halt, Timer, Send, Deliver, Refuse, Lose, Damage, Open, Accept, Reject, In, Close, Retry}
+use Rattle.dna_model.specs.Script.{StepValue, Start, Halt, Timer, Send, Deliver, Refuse, Lose, Damage, Noise, Open, Accept, Reject, In, Close, Retry}
 use Rattle.dna_model.specs.LinkOwed.{Owes, ConfirmTurn, DisconnectTurn, retried}
 use Rattle.dna_model.specs.Player.{End, links_of}
 use Rattle.dna_model.specs.Stepped.{Stop, BadStep, Stepped, links_owing_more, silent}
@@ -15,6 +15,7 @@ use Rattle.dna_model.proofs.PlayedOrder.{nothing_in_order}
 use Rattle.dna_model.proofs.PlayedFacts.{Facts, Later}
 use Rattle.dna_model.proofs.EndStage.{Stage, Known}
 use Rattle.dna_model.proofs.ComesStage.{unit_staged, damage_staged}
+use Rattle.dna_model.proofs.NoiseStage.{noise_staged}
 use Rattle.dna_model.proofs.UserStages.{Staged, link_staged, open_staged, accept_staged, reject_staged, close_staged, in_staged, start_staged, halt_staged, timed_staged, retried_staged, sends_staged}
 
 module _ (own other : End) (h : Stage own) (theirs : Stage other) (later : Later own other) where
@@ -52,6 +53,7 @@ module _ (own other : End) (h : Stage own) (theirs : Stage other) (later : Later
   plays_staged (Damage place value) = on_staged (slice_get other.half.sent own.passed)
       (λ bytes. cond (is_damage place value bytes) (comes own other.half true (damaged place value bytes)) (Err BadStep))
       (λ unit there. hurt_staged place value unit there (is_damage place value unit.bytes) refl)
+  plays_staged (Noise bytes) = noise_staged own other h known bytes
   plays_staged Open = open_staged own other h theirs known
   plays_staged (Accept partner) = link_staged (CalledBy partner) (links_of own.half)
       (λ number link. giving own (λ end address. by_user end other.half (events.Accept partner address) (links_owing_more (Owes number ConfirmTurn))))

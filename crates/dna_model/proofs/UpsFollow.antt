@@ -69,19 +69,27 @@ next_whole begun (Some p ∷ later) message rest e = go p.ends refl e (next_whol
           left = ap (complete []) (one_less n.w.pieces) ∙ n.left;
         }
 
+-- the flow after it is delivered, which came in so many pieces
+abbrev pub delivering : List ℕ → Whole → TrueFlow → TrueFlow
+delivering message w f = record f { delivered = f.delivered ++ message ∷ []; passed = f.passed + w.pieces }
+
 -- a flow whose first whole message this is delivers it
 pub record DeliversNext (f : TrueFlow) (message : List ℕ) (rest : List (List ℕ)) : Type 0 where
-  pub flow : TrueFlow
-  pub does : delivers message f ≡ Some flow
-  pub left : complete [] (drop flow.passed flow.received) ≡ rest
+  pub w : Whole
+  pub is : next_message (drop f.passed f.received) ≡ Some w
+  pub does : delivers message f ≡ Some (delivering message w f)
+  pub left : complete [] (drop (f.passed + w.pieces) f.received) ≡ rest
 
 pub delivers_next : (f : TrueFlow) (message : List ℕ) (rest : List (List ℕ)) → complete [] (drop f.passed f.received) ≡ message ∷ rest →
     DeliversNext f message rest
 delivers_next f message rest e =
     let n = next_whole [] (drop f.passed f.received) message rest e in
     record {
-      flow = record f { delivered = f.delivered ++ n.w.message ∷ []; passed = f.passed + n.w.pieces };
-      does = ap (λ (o : Option Whole). delivers_whole o message f) n.is ∙ ap (λ (b : Bool). delivered_as b n.w f) ((bytes_eq-Decides message n.w.message).1 (sym n.message_is));
+      w = n.w;
+      is = n.is;
+      does = ap (λ (o : Option Whole). delivers_whole o message f) n.is
+          ∙ ap (λ (b : Bool). delivered_as b n.w f) ((bytes_eq-Decides message n.w.message).1 (sym n.message_is))
+          ∙ ap (λ (bytes : List ℕ). Some (delivering bytes n.w f)) n.message_is;
       left = ap (complete []) (sym (drop-drop n.w.pieces f.passed f.received)) ∙ n.left;
     }
 
@@ -95,20 +103,20 @@ pub record IsWholeAt (s : Links) (address number : ℕ) (messages : List (List �
   pub only : (j : ℕ) (m : LinkOf TrueFlow) → slice_get s.links j ≡ Some m → is_at m.port.own address ≡ true → j ≡ number
   pub whole : complete [] (drop link.flow.passed link.flow.received) ≡ messages
 
--- one that is delivered leaves the others
-record IsDelivered (s : Links) (address number : ℕ) (message : List ℕ) (rest : List (List ℕ)) : Type 0 where
-  pub left : Links
-  pub does : links_user s (Up address message) ≡ Ok left
-  pub others : IsWholeAt left address number rest
+-- one of this link that is delivered leaves the others
+pub record IsDelivered (s : Links) (address number : ℕ) (link : LinkOf TrueFlow) (message : List ℕ) (rest : List (List ℕ)) : Type 0 where
+  pub next : DeliversNext link.flow message rest
+  pub does : links_user s (Up address message) ≡ Ok (changed number (with_flow (delivering message next.w link.flow) link) s)
+  pub others : IsWholeAt (changed number (with_flow (delivering message next.w link.flow) link) s) address number rest
 
-one_delivered : (s : Links) (address number : ℕ) (message : List ℕ) (rest : List (List ℕ)) → IsWholeAt s address number (message ∷ rest) →
-    IsDelivered s address number message rest
+pub one_delivered : (s : Links) (address number : ℕ) (message : List ℕ) (rest : List (List ℕ)) (h : IsWholeAt s address number (message ∷ rest)) →
+    IsDelivered s address number h.link message rest
 one_delivered s address number message rest h =
     let d = delivers_next h.link.flow message rest h.whole in
-    let k = with_flow d.flow h.link in
+    let k = with_flow (delivering message d.w h.link.flow) h.link in
     let found = found_at s (HasAddress address) number h.link h.there h.owns h.only in
     record {
-      left = changed number k s;
+      next = d;
       does = with_found s (HasAddress address) number h.link (Err NoLink) (λ number link. delivered true_flows number link s (true_flows.delivers message link.flow)) found ∙ ap (delivered true_flows number h.link s) d.does;
       others = record {
         link = k;
@@ -130,7 +138,7 @@ AllLined address [] = Unit {0}
 AllLined address (message ∷ later) = (has_line (User (events.Up address message)) ≡ true) × AllLined address later
 
 module _ (own other : PlayHalf) where
-  up_made : (address : ℕ) (message : List ℕ) (left : Links) → has_line (User (events.Up address message)) ≡ true →
+  pub up_made : (address : ℕ) (message : List ℕ) (left : Links) → has_line (User (events.Up address message)) ≡ true →
       links_user (links_of own) (Up address message) ≡ Ok left →
       makes own other (User (events.Up address message)) ≡ Some (stepped own (record own.state { station = record own.state.station { links = left } }))
   unfolding end_step
@@ -146,9 +154,11 @@ gets_whole other address number [] so_far lined h = (so_far, refl)
 gets_whole other address number (message ∷ later) so_far lined h =
     let d = one_delivered (links_of so_far.end.half) address number message later h in
     let half = so_far.end.half in
-    let next : PlayHalf = stepped half (record half.state { station = record half.state.station { links = d.left } }) in
+    let k = with_flow (delivering message d.next.w h.link.flow) h.link in
+    let left : Links = changed number k (links_of half) in
+    let next : PlayHalf = stepped half (record half.state { station = record half.state.station { links = left } }) in
     let r = gets_whole other address number later (record { end = after_record so_far.end next; records = so_far.records ++ User (events.Up address message) ∷ [] }) lined.1 d.others in (
       r.0,
       ap (λ (o : Option PlayHalf). with_half o (λ half. gets_all (map (λ (message : List ℕ). events.Up address message) later) other (record { end = after_record so_far.end half; records = so_far.records ++ User (events.Up address message) ∷ [] })))
-          (up_made half other address message d.left lined.0 d.does) ∙ r.1,
+          (up_made half other address message left lined.0 d.does) ∙ r.1,
     )

@@ -3,7 +3,7 @@ use Rattle.std.specs.Prelude.{◌≡◌, ℕ, Bool, true, false, Option, Some, N
 use Rattle.ddcmp_msg.specs.Message.{MessageValue, Data}
 use Rattle.ddcmp_msg.specs.Reading.{ReadingValue, reading, Sound}
 use Rattle.capture.specs.declared.record.Record.{Record}
-use Rattle.capture.specs.declared.record.Record.TheVariants.{Sent, Received, User}
+use Rattle.capture.specs.declared.record.Record.TheVariants.{Sent, Received, Noise, User}
 use Rattle.capture.specs.declared.event.Event.{Event}
 use Rattle.capture.specs.declared.event.Event.TheVariants.{Start}
 use Rattle.dna_model.specs.Station.{Station, PastPeriod, past}
@@ -56,6 +56,7 @@ with_period false periods = periods
 abbrev pub delivered_by : List (List (List ℕ)) → Record → List (List (List ℕ))
 delivered_by periods (Received hint true bytes) = in_last (packet_in (reading bytes)) periods
 delivered_by periods (Received hint false bytes) = periods
+delivered_by periods (Noise bytes) = periods
 delivered_by periods (User event) = with_period (begins event) periods
 delivered_by periods (Sent bytes) = periods
 

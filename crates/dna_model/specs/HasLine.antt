@@ -5,7 +5,7 @@ use Rattle.capture.specs.declared.limit.TheConstants.{MAX_HINT, MAX_LINK}
 use Rattle.capture.specs.declared.event.Event.{Event}
 use Rattle.capture.specs.declared.event.Event.TheVariants.{Start, Halt, Open, Accept, Reject, In, Up, Close}
 use Rattle.capture.specs.declared.record.Record.{Record}
-use Rattle.capture.specs.declared.record.Record.TheVariants.{Sent, Received, User}
+use Rattle.capture.specs.declared.record.Record.TheVariants.{Sent, Received, Noise, User}
 use Rattle.capture.specs.Range.{record_bytes, most_bytes}
 
 abbrev pub is_link : ℕ → Bool
@@ -24,6 +24,7 @@ event_numbers_fit (Close link) = is_link link
 abbrev pub numbers_fit : Record → Bool
 numbers_fit (Sent bytes) = true
 numbers_fit (Received hint kept bytes) = nat_le hint MAX_HINT
+numbers_fit (Noise bytes) = true
 numbers_fit (User event) = event_numbers_fit event
 
 abbrev pub are_bytes : List ℕ → Bool

@@ -3,7 +3,7 @@ use Rattle.std.specs.Prelude.{ℕ, Option, Some, None, List, [], ◌∷◌, flat
 use Rattle.two_nodes.specs.Nodes.{Nodes, Half, World, start_world}
 use Rattle.two_nodes.specs.Nodes as any
 use Rattle.capture.specs.declared.record.Record.{Record}
-use Rattle.capture.specs.declared.record.Record.TheVariants.{Sent, Received, User}
+use Rattle.capture.specs.declared.record.Record.TheVariants.{Sent, Received, Noise, User}
 use Rattle.dna_model.specs.declared.head.Head.{Head}
 use Rattle.dna_model.specs.declared.refusal.StepRefusal.{StepRefusal}
 use Rattle.dna_model.specs.Rules.{judged}
@@ -35,6 +35,7 @@ abbrev pub link_event_in : Record → List LinkEventValue
 link_event_in (User event) = one_or_none (link_event event)
 link_event_in (Sent bytes) = []
 link_event_in (Received hint kept bytes) = []
+link_event_in (Noise bytes) = []
 
 -- the events of a capture that are the links', in their order
 abbrev pub link_events : List Record → List LinkEventValue

@@ -62,3 +62,10 @@ pub mod ScriptText
 pub mod PlayedText
 pub mod PlayRun
 pub mod StepRule
+-- The same of ends as their nodes keep them, on numbers that wrap: what an end keeps, what happens to it, and what a script stands for by that
+pub mod Kept
+pub mod KeptStation
+pub mod KeptLinks
+pub mod KeptPlay
+pub mod KeptPlayed
+pub mod KeptRun

@@ -5,18 +5,18 @@ use Rattle.two_nodes.specs.Nodes.Answer.{Refuses, Goes, Sends, Reads}
 use Rattle.ddcmp_msg.specs.Message.{MessageValue}
 use Rattle.ddcmp_msg.specs.Reading.{ReadingValue, reading, Sound}
 use Rattle.capture.specs.declared.record.Record.{Record}
-use Rattle.capture.specs.declared.record.Record.TheVariants.{Sent, Received, User}
+use Rattle.capture.specs.declared.record.Record.TheVariants.{Sent, Received, Noise, User}
 use Rattle.capture.specs.declared.event.Event.{Event}
 use Rattle.capture.specs.declared.event.Event.TheVariants as events
 use Rattle.dna_model.specs.declared.head.Head.{Head}
 use Rattle.dna_model.specs.declared.state.StationEvent.TheVariants.{Start, Halt}
 use Rattle.dna_model.specs.declared.refusal.StationRefusal.{StationRefusal}
 use Rattle.dna_model.specs.declared.refusal.StepRefusal.{StepRefusal}
-use Rattle.dna_model.specs.declared.refusal.StepRefusal.TheVariants.{NotAMessage, HintOrder, Undetected, Station as OfStation}
+use Rattle.dna_model.specs.declared.refusal.StepRefusal.TheVariants.{NotAMessage, HintOrder, Undetected, NotNoise, Station as OfStation}
 use Rattle.dna_model.specs.Table.{user_refusal}
 use Rattle.dna_model.specs.Rules.{Rules}
 use Rattle.dna_model.specs.Book.{ArrivalValue, Book, sending_refusal_by, after_sending_by, arrival_refusal_by, after_arrival_by}
-use Rattle.dna_model.specs.Line.{UnitOf, coming}
+use Rattle.dna_model.specs.Line.{UnitOf, coming, damage}
 
 -- What keeps an S and knows a K of each unit: what its user's event, a message that it sends and an arrival make of it, or why it makes none
 pub record Machine (S K : Type 0) : Type 0 where
@@ -64,9 +64,19 @@ module _ {S K : Type 0} (machine : Machine S K) where
   receives n hint kept bytes unit =
       if nat_lt hint n.front then Err HintOrder else comes n (hint + 1) kept (coming unit bytes)
 
+  -- bytes that nobody sent: damage that a block check shows is met as such an arrival, and all else is no noise
+  abbrev pub noise_comes : S → Option (ArrivalValue K) → Result S StepRefusal
+  noise_comes s None = Err NotNoise
+  noise_comes s (Some arrival) = machine.arrives s arrival false
+
+  -- the front stays
+  abbrev pub noise_step : NodeOf S → ReadingValue → Answer (NodeOf S) (UnitOf K) StepRefusal
+  noise_step n read = does n (noise_comes n.station (damage read))
+
   abbrev pub step : NodeOf S → Record → Answer (NodeOf S) (UnitOf K) StepRefusal
   step n (Sent bytes) = sent_step n bytes (reading bytes)
   step n (Received hint kept bytes) = Reads hint (receives n hint kept bytes)
+  step n (Noise bytes) = noise_step n (reading bytes)
   step n (User event) = user_step n event
 
 -- ---- two nodes
@@ -75,12 +85,14 @@ module _ {S K : Type 0} (machine : Machine S K) where
 abbrev pub named_unit : Record → Option ℕ
 named_unit (Sent bytes) = None
 named_unit (Received hint kept bytes) = Some hint
+named_unit (Noise bytes) = None
 named_unit (User event) = None
 
 -- whether a record sends a unit
 abbrev pub is_sent : Record → Bool
 is_sent (Sent bytes) = true
 is_sent (Received hint kept bytes) = false
+is_sent (Noise bytes) = false
 is_sent (User event) = false
 
 -- both nodes go by the same step

@@ -3,7 +3,7 @@ use Rattle.std.specs.Prelude.{◌≡◌, ℕ, ◌+◌, ◌==◌, if◌then◌els
 use Rattle.ddcmp_msg.specs.Message.{Data}
 use Rattle.ddcmp_msg.specs.Reading.{ReadingValue, reading, Sound}
 use Rattle.capture.specs.declared.record.Record.{Record}
-use Rattle.capture.specs.declared.record.Record.TheVariants.{Sent, Received, User}
+use Rattle.capture.specs.declared.record.Record.TheVariants.{Sent, Received, Noise, User}
 use Rattle.dna_model.specs.Station.{Station, PastPeriod, wire}
 use Rattle.dna_model.specs.Delivery.{BeginsWith, AreAmong, begins, delivered, in_last, periods, with_period}
 
@@ -22,6 +22,7 @@ present (period ∷ next ∷ periods) = present (next ∷ periods)
 abbrev pub offered_by : List (List (List ℕ)) → Record → List (List (List ℕ))
 offered_by periods (Sent bytes) = in_last (offers (reading bytes) (present periods)) periods
 offered_by periods (Received hint kept bytes) = periods
+offered_by periods (Noise bytes) = periods
 offered_by periods (User event) = with_period (begins event) periods
 
 -- the data of the units sent with a new number in each period, in order, period 0 first

@@ -10,14 +10,14 @@ use Rattle.capture.specs.declared.record.Record.TheVariants.{Sent, User}
 use Rattle.dna_model.specs.declared.port.LinkTest.TheVariants.{LiveAt, CalledBy}
 use Rattle.dna_model.specs.Links.{with_link}
 use Rattle.dna_model.specs.Layers.{LayersNode, LayersUnit}
-use Rattle.dna_model.specs.Script.{StepValue, Start, Halt, Timer, Send, Deliver, Refuse, Lose, Damage, Open, Accept, Reject, In, Close, Retry}
+use Rattle.dna_model.specs.Script.{StepValue, Start, Halt, Timer, Send, Deliver, Refuse, Lose, Damage, Noise, Open, Accept, Reject, In, Close, Retry}
 use Rattle.dna_model.specs.Owed.{Debt, OwesStrt, timer_debt}
 use Rattle.dna_model.specs.LinkOwed.{LinkOwed, Owes, InitiateTurn, ConfirmTurn, DisconnectTurn, retried, changed}
 use Rattle.dna_model.specs.NextSent.{Choice, SendNew, link_choice, after_link_choice, choice, after_choice}
 use Rattle.dna_model.specs.Compose.{message_of}
 use Rattle.dna_model.specs.Player.{End, makes, variables_of, links_of, link_ends_of}
 use Rattle.dna_model.specs.Stepped.{Stop, BadStep, Full, Stepped, made, silent, owing_more, links_owing_more}
-use Rattle.dna_model.specs.Receipt.{passing, comes, with_unit, is_damage, damaged}
+use Rattle.dna_model.specs.Receipt.{passing, comes, with_unit, is_damage, damaged, hears}
 
 -- ---- the user
 
@@ -91,3 +91,5 @@ plays own other Refuse = with_unit own other (λ bytes. comes own other false by
 plays own other Lose = with_unit own other (λ bytes. silent (passing own))
 plays own other (Damage place value) =
     with_unit own other (λ bytes. if is_damage place value bytes then comes own other true (damaged place value bytes) else Err BadStep)
+-- bytes that nobody sent
+plays own other (Noise bytes) = hears own other bytes

@@ -2,19 +2,20 @@
 -- captures of the lines before it.
 use Rattle.std.specs.Prelude.{◌≡◌, ℕ, ◌+◌, ◌≤◌, List, ◌++◌, length, Ok, Err}
 use Rattle.capture.specs.declared.fault.Departure.{Departure}
+use Rattle.capture.specs.declared.format.Format.TheVariants.{One}
 use Rattle.capture.specs.Text as captures
 use Rattle.dna_model.specs.Script.{ScriptStep, Script}
 use Rattle.dna_model.specs.ScriptText.{IsScriptText, BeginsWithScript, StepDeparts, IsStep, script_line, MAX_STEPS}
 use Rattle.dna_model.specs.Stepped.{Stop}
 use Rattle.dna_model.specs.Played.{Played, plays_step, play}
 
--- ---- the texts of the two captures
+-- ---- the texts of the two captures, in format 1
 
 abbrev pub text_of_a : Script → Played → List ℕ
-text_of_a script played = captures.head_line script.node_a script.node_b ++ captures.record_lines played.of_a
+text_of_a script played = captures.capture_text One script.node_a script.node_b played.of_a
 
 abbrev pub text_of_b : Script → Played → List ℕ
-text_of_b script played = captures.head_line script.node_b script.node_a ++ captures.record_lines played.of_b
+text_of_b script played = captures.capture_text One script.node_b script.node_a played.of_b
 
 -- ---- the whole script is played
 

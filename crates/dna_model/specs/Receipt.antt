@@ -1,4 +1,4 @@
--- What comes to an end of the player: a unit off the line, as it was sent or damaged, and what its user gets of it at once.
+-- What comes to an end of the player: a unit off the line, as it was sent or damaged, and what its user gets of it at once; and noise.
 use Rattle.std.specs.Prelude.{ℕ, ◌+◌, Bool, true, false, ◌&&◌, nat_lt, nat_le, bit_xor, if◌then◌else◌, Option, Some, None, List, [], ◌∷◌, ◌++◌}
 use Rattle.std.specs.Prelude.{length, map, slice_get, slice_index, slice_set, Result, Ok, Err}
 use Rattle.two_nodes.specs.Nodes.{Half}
@@ -6,7 +6,7 @@ use Rattle.ddcmp_msg.specs.Reading.{ReadingValue, reading, Sound}
 use Rattle.dna_packet.specs.Nsp.{NspValue, DataSegment}
 use Rattle.capture.specs.declared.event.Event.{Event}
 use Rattle.capture.specs.declared.event.Event.TheVariants as events
-use Rattle.capture.specs.declared.record.Record.TheVariants.{Received, User}
+use Rattle.capture.specs.declared.record.Record.TheVariants.{Received, Noise, User}
 use Rattle.dna_model.specs.declared.refusal.StepRefusal.{StepRefusal}
 use Rattle.dna_model.specs.declared.port.LinkTest.TheVariants.{ActedOn}
 use Rattle.dna_model.specs.Book.{body_of}
@@ -101,3 +101,10 @@ is_damage place value bytes = nat_lt place (length bytes) && (nat_le 1 value && 
 
 abbrev pub damaged : (place value : ℕ) → List ℕ → List ℕ
 damaged place value bytes = slice_set bytes place (bit_xor (slice_index bytes place) value)
+
+-- bytes that nobody sent: the end's node takes them as noise, and no unit is off the line
+abbrev pub heard : End → ReadingValue → End → End
+heard before read e = owing_more (arrival_debt (variables_of before.half) read false) e
+
+abbrev pub hears : End → Half LayersNode LayersUnit → List ℕ → Result Stepped Stop
+hears own other bytes = let r = Noise bytes in made own r (heard own (reading bytes)) (makes own.half other r)

@@ -17,6 +17,8 @@ pub data StepValue : Type 0 where
   Refuse : StepValue
   Lose : StepValue
   Damage : (place value : ℕ) → StepValue
+  -- bytes come that nobody sent; the next unit stays on the line
+  Noise : (bytes : List ℕ) → StepValue
   -- the user opens a link; accepts or rejects the call of the other side's link; hands a message in; closes a link
   Open : StepValue
   Accept : (partner : ℕ) → StepValue

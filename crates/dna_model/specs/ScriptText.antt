@@ -4,13 +4,13 @@ use Rattle.std.specs.Fmt.{decimal}
 use Rattle.std.specs.List.{flat_map, AllByRecursion}
 use Rattle.ddcmp_msg.specs.Message.{IsBytes}
 use Rattle.wire_base.specs.Side.{side_letter}
-use Rattle.capture.specs.declared.limit.TheConstants.{MAX_HINT, MAX_MESSAGE, MAX_LINE}
+use Rattle.capture.specs.declared.limit.TheConstants.{MAX_HINT, MAX_UNIT, MAX_MESSAGE, MAX_LINE}
 use Rattle.capture.specs.declared.fault.Departure.{Departure}
 use Rattle.capture.specs.declared.fault.Departure.TheVariants.{Syntax, TooLong, TooMany}
 use Rattle.capture.specs.Text.{bytes_text, address_text, spaced, ended}
 use Rattle.capture.specs.Range.{IsLink, IsNode}
 use Rattle.capture.specs.Departing.{first_line, has_lf, IsWhole, LineDeparts}
-use Rattle.dna_model.specs.Script.{StepValue, ScriptStep, Script, Start, Halt, Timer, Send, Deliver, Refuse, Lose, Damage, Open, Accept, Reject, In, Close, Retry}
+use Rattle.dna_model.specs.Script.{StepValue, ScriptStep, Script, Start, Halt, Timer, Send, Deliver, Refuse, Lose, Damage, Noise, Open, Accept, Reject, In, Close, Retry}
 
 -- how many steps a script may have
 abbrev pub MAX_STEPS : ℕ
@@ -28,6 +28,7 @@ step_text Deliver = codes "deliver"
 step_text Refuse = codes "refuse"
 step_text Lose = codes "lose"
 step_text (Damage place value) = codes "damage " ++ spaced (decimal place) (decimal value)
+step_text (Noise bytes) = codes "noise " ++ bytes_text bytes
 step_text Open = codes "open"
 step_text (Accept partner) = codes "accept " ++ decimal partner
 step_text (Reject partner) = codes "reject " ++ decimal partner
@@ -61,18 +62,25 @@ NumbersFit (Close link) = IsLink link
 NumbersFit (Retry link) = IsLink link
 NumbersFit step = Unit {0}
 
-abbrev pub message_of : StepValue → List ℕ
-message_of (In link message) = message
-message_of step = []
+-- the noise or the message of a step
+abbrev pub step_bytes : StepValue → List ℕ
+step_bytes (Noise bytes) = bytes
+step_bytes (In link message) = message
+step_bytes step = []
+
+-- how many bytes the line of a step may hold
+abbrev pub most_bytes : StepValue → ℕ
+most_bytes (Noise bytes) = MAX_UNIT
+most_bytes step = MAX_MESSAGE
 
 -- a step that a line could spell, were BYTES of any length allowed
 pub record HasSpelling (step : ScriptStep) : Type 0 where
   pub numbers : NumbersFit step.step
-  pub bytes : IsBytes (message_of step.step)
+  pub bytes : IsBytes (step_bytes step.step)
 
 -- its BYTES is no longer than allowed
 abbrev pub IsShort : ScriptStep → Type 0
-IsShort step = length (message_of step.step) ≤ MAX_MESSAGE
+IsShort step = length (step_bytes step.step) ≤ most_bytes step.step
 
 -- a step that has a line
 pub record IsStep (step : ScriptStep) : Type 0 where

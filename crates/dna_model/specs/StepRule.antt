@@ -2,6 +2,7 @@
 -- needs a new link address where all of the end are given, is full; every other step can be made.
 use Rattle.std.specs.Prelude.{◌≡◌, ℕ, ◌<◌, ◌≤◌, ◌⊎◌, Bool, true, false, Some, List, [], ◌∷◌, ◌++◌, length, slice_get, Result, Ok, Err}
 use Rattle.two_nodes.specs.Nodes.{Half}
+use Rattle.ddcmp_msg.specs.Reading.{reading, HeaderBad, DataBad}
 use Rattle.wire_base.specs.declared.side.Side.{Side}
 use Rattle.wire_base.specs.declared.side.Side.TheVariants.{A, B}
 use Rattle.capture.specs.declared.limit.TheConstants.{MAX_LINK}
@@ -11,7 +12,7 @@ use Rattle.dna_model.specs.declared.port.Phase.TheVariants.{Calling, Called, Con
 use Rattle.dna_model.specs.Links.{LinkOf}
 use Rattle.dna_model.specs.TrueFlow.{TrueFlow}
 use Rattle.dna_model.specs.Layers.{LayersNode, LayersUnit}
-use Rattle.dna_model.specs.Script.{StepValue, Start, Halt, Timer, Send, Deliver, Refuse, Lose, Damage, Open, Accept, Reject, In, Close, Retry, ScriptStep, Script}
+use Rattle.dna_model.specs.Script.{StepValue, Start, Halt, Timer, Send, Deliver, Refuse, Lose, Damage, Noise, Open, Accept, Reject, In, Close, Retry, ScriptStep, Script}
 use Rattle.dna_model.specs.NextSent.{Choice, choice, link_choice}
 use Rattle.dna_model.specs.Player.{End, station_of, links_of, variables_of, link_ends_of}
 use Rattle.dna_model.specs.Stepped.{Stop, BadStep, Full}
@@ -39,6 +40,10 @@ pub record IsHurt (place value : ℕ) (unit : LayersUnit) : Type 0 where
   pub inside : place < length unit.bytes
   pub least : 1 ≤ value
   pub most : value ≤ 255
+
+-- a block check shows that these bytes are damaged
+abbrev pub IsNoise : List ℕ → Type 0
+IsNoise bytes = (reading bytes ≡ HeaderBad) ⊎ (reading bytes ≡ DataBad)
 
 abbrev pub IsOneOf : List Phase → Phase → Type 0
 IsOneOf [] phase = ⊥
@@ -74,6 +79,8 @@ Asks own other Deliver = HasNext own other
 Asks own other Refuse = HasNext own other
 Asks own other Lose = HasNext own other
 Asks own other (Damage place value) = (unit : LayersUnit) × IsNext own other unit × IsHurt place value unit
+-- noise: bytes that are damaged
+Asks own other (Noise bytes) = IsNoise bytes
 -- the links
 Asks own other Open = Unit {0}
 Asks own other (Accept partner) = IsCalled own partner

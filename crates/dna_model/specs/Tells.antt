@@ -4,10 +4,11 @@ use Rattle.std.specs.Prelude.{ℕ, true, false, None, Result, Ok, Err, List, ref
 use Rattle.two_nodes.specs.Past.{AgreesWith, Tells, BothTell}
 use Rattle.ddcmp_msg.specs.Message.{MessageValue}
 use Rattle.ddcmp_msg.specs.Reading.{ReadingValue, reading, Sound}
-use Rattle.capture.specs.declared.record.Record.TheVariants.{Sent, Received, User}
+use Rattle.capture.specs.declared.record.Record.TheVariants.{Sent, Received, Noise, User}
 use Rattle.dna_model.specs.declared.refusal.StepRefusal.{StepRefusal}
 use Rattle.dna_model.specs.Rules.{judged}
-use Rattle.dna_model.specs.Machine.{Machine, NodeOf, does, sends, sent_step, step, named_unit, is_sent, pair_of}
+use Rattle.dna_model.specs.Line.{damage}
+use Rattle.dna_model.specs.Machine.{Machine, NodeOf, does, sends, sent_step, noise_comes, step, named_unit, is_sent, pair_of}
 use Rattle.dna_model.specs.Node.{station_machine}
 use Rattle.dna_model.specs.Pair.{pair}
 use Rattle.dna_model.specs.WireNode.{wire_machine, wire_pair}
@@ -32,6 +33,7 @@ module _ {S K : Type 0} where
     step_tells : Tells (step machine) named_unit is_sent
     step_tells n (Sent bytes) = sent_tells n bytes (reading bytes)
     step_tells n (Received hint kept bytes) = (refl, refl)
+    step_tells n (Noise bytes) = did_tells K n (noise_comes machine n.station (damage (reading bytes)))
     step_tells n (User event) = did_tells K n (machine.user n.station event)
 
     pub machine_tells : BothTell (pair_of machine)

@@ -43,4 +43,6 @@ pub enum StepRefusal {
     BadNsp,
     /// The links refuse, for this reason of theirs.
     Links(LinkRefusal),
+    /// Bytes that came and that nobody sent show no damage, whether they read as a message or not (reason 27).
+    NotNoise,
 }

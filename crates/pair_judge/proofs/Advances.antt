@@ -5,7 +5,8 @@ use Rattle.std.proofs.lemmas.List.{drop-append-le}
 use Rattle.two_nodes.specs.Nodes.{Outcome, Made, Waits, Refused, Answer, answered, concluded, stepped, stepped_sending, advance}
 use Rattle.two_nodes.specs.Nodes.Answer.{Goes, Sends, Refuses, Reads}
 use Rattle.two_nodes.specs.Nodes as any
-use Rattle.capture.specs.declared.record.Record.TheVariants.{Sent, Received, User}
+use Rattle.capture.specs.declared.record.Record.{Record}
+use Rattle.capture.specs.declared.record.Record.TheVariants.{Sent, Received, Noise, User}
 use Rattle.capture.specs.declared.event.Event.{Event}
 use Rattle.ddcmp_msg.specs.Reading.{reading}
 use Rattle.dna_model.specs.declared.head.Head.{Head}
@@ -20,7 +21,7 @@ use Rattle.pair_judge.specs.Receipts.{IsReceived, came, node_at, node_of, layers
 use Rattle.pair_judge.specs.Steps.{IsSent, IsNotSent}
 use Rattle.pair_judge.specs.Making.{IsMade, StandsFor, move}
 use Rattle.pair_judge.specs.Summary.{counted}
-use Rattle.pair_judge.specs.Wire.{JudgeHalf, judge_machine, judge_receives, judge_sent_step, judge_step, judge_user_step}
+use Rattle.pair_judge.specs.Wire.{JudgeHalf, judge_hears, judge_machine, judge_receives, judge_sent_step, judge_step}
 
 -- the state of the half
 pub state_is : (own : End) (incoming : Line) (mine : JudgeHalf) → StandsFor own incoming mine → mine.state ≡ node_of own.head own.layers incoming
@@ -69,26 +70,41 @@ sending_refused old incoming bytes mine theirs refusal stands refuses =
     ap (λ (n : WireLayersNode). answered mine theirs (judge_sent_step n bytes (reading bytes))) (state_is old incoming mine stands)
     ∙ ap (answered mine theirs) (refuses old.head incoming.gone)
 
--- ---- a user event
+-- ---- a record that only its layers go by: an event of the user, or noise
+
+module _ (r : Record) (goes_by : WireLayers → Result WireLayers StepRefusal) (step_is : (n : WireLayersNode) → judge_step n r ≡ does {K = LayersTag} n (goes_by n.station)) where
+  went : (old : End) (incoming : Line) (mine theirs : JudgeHalf) (o : Result WireLayers StepRefusal) → StandsFor old incoming mine → goes_by old.layers ≡ o → advance judge_step mine theirs r ≡ answered mine theirs (does {K = LayersTag} (node_of old.head old.layers incoming) o)
+  went old incoming mine theirs o stands goes =
+      ap (λ (n : WireLayersNode). answered mine theirs (judge_step n r)) (state_is old incoming mine stands)
+      ∙ ap (answered mine theirs) (step_is (node_of old.head old.layers incoming))
+      ∙ ap (λ (x : Result WireLayers StepRefusal). answered mine theirs (does {K = LayersTag} (node_of old.head old.layers incoming) x)) goes
+
+  went_made : (old new : End) (incoming : Line) (mine theirs : JudgeHalf) → StandsFor old incoming mine → Shows incoming theirs.sent → goes_by old.layers ≡ Ok new.layers → new.line ≡ old.line → new.head ≡ old.head → new.counts ≡ counted old.counts r → load new.layers.station ≤ load old.layers.station + 1 → IsMade (move old new incoming incoming) r mine theirs
+  went_made old new incoming mine theirs stands shows goes line head counts loaded = record {
+    next = stepped mine (node_of old.head new.layers incoming);
+    step_is = went old incoming mine theirs (Ok new.layers) stands goes;
+    stands = record { head = sym head; layers = refl; front = refl; sent = same_line old.line new.line mine.sent line stands.sent };
+    incoming = shows;
+    same_head = head;
+    same_front = ap (λ (l : Line). l.gone) line;
+    counts = counts;
+    load = loaded;
+  }
+
+  went_refused : (old : End) (incoming : Line) (mine theirs : JudgeHalf) (refusal : StepRefusal) → StandsFor old incoming mine → goes_by old.layers ≡ Err refusal → advance judge_step mine theirs r ≡ Refused refusal
+  went_refused old incoming mine theirs refusal stands refuses = went old incoming mine theirs (Err refusal) stands refuses
 
 pub event_made : (old new : End) (incoming : Line) (event : Event) (mine theirs : JudgeHalf) → StandsFor old incoming mine → Shows incoming theirs.sent → judge_machine.user old.layers event ≡ Ok new.layers → new.line ≡ old.line → new.head ≡ old.head → new.counts ≡ counted old.counts (User event) → load new.layers.station ≤ load old.layers.station + 1 → IsMade (move old new incoming incoming) (User event) mine theirs
-event_made old new incoming event mine theirs stands shows goes line head counts loaded = record {
-  next = stepped mine (node_of old.head new.layers incoming);
-  step_is =
-      ap (λ (n : WireLayersNode). answered mine theirs (judge_user_step n event)) (state_is old incoming mine stands)
-      ∙ ap (λ (r : Result WireLayers StepRefusal). answered mine theirs (does {K = LayersTag} (node_of old.head old.layers incoming) r)) goes;
-  stands = record { head = sym head; layers = refl; front = refl; sent = same_line old.line new.line mine.sent line stands.sent };
-  incoming = shows;
-  same_head = head;
-  same_front = ap (λ (l : Line). l.gone) line;
-  counts = counts;
-  load = loaded;
-}
+event_made old new incoming event = went_made (User event) (λ (s : WireLayers). judge_machine.user s event) (λ n. refl) old new incoming
 
 pub event_refused : (old : End) (incoming : Line) (event : Event) (mine theirs : JudgeHalf) (refusal : StepRefusal) → StandsFor old incoming mine → judge_machine.user old.layers event ≡ Err refusal → advance judge_step mine theirs (User event) ≡ Refused refusal
-event_refused old incoming event mine theirs refusal stands refuses =
-    ap (λ (n : WireLayersNode). answered mine theirs (judge_user_step n event)) (state_is old incoming mine stands)
-    ∙ ap (λ (r : Result WireLayers StepRefusal). answered mine theirs (does {K = LayersTag} (node_of old.head old.layers incoming) r)) refuses
+event_refused old incoming event = went_refused (User event) (λ (s : WireLayers). judge_machine.user s event) (λ n. refl) old incoming
+
+pub noise_made : (old new : End) (incoming : Line) (bytes : List ℕ) (mine theirs : JudgeHalf) → StandsFor old incoming mine → Shows incoming theirs.sent → judge_hears old.layers (reading bytes) ≡ Ok new.layers → new.line ≡ old.line → new.head ≡ old.head → new.counts ≡ counted old.counts (Noise bytes) → load new.layers.station ≤ load old.layers.station + 1 → IsMade (move old new incoming incoming) (Noise bytes) mine theirs
+noise_made old new incoming bytes = went_made (Noise bytes) (λ (s : WireLayers). judge_hears s (reading bytes)) (λ n. refl) old new incoming
+
+pub noise_refused : (old : End) (incoming : Line) (bytes : List ℕ) (mine theirs : JudgeHalf) (refusal : StepRefusal) → StandsFor old incoming mine → judge_hears old.layers (reading bytes) ≡ Err refusal → advance judge_step mine theirs (Noise bytes) ≡ Refused refusal
+noise_refused old incoming bytes = went_refused (Noise bytes) (λ (s : WireLayers). judge_hears s (reading bytes)) (λ n. refl) old incoming
 
 -- ---- a receipt
 

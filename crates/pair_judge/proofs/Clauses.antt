@@ -6,6 +6,7 @@ use Rattle.wire_base.specs.declared.side.Side.{Side}
 use Rattle.wire_base.specs.declared.side.Side.TheVariants.{A, B}
 use Rattle.capture.specs.declared.fault.Departure.{Departure}
 use Rattle.capture.specs.declared.record.Record.{Record}
+use Rattle.capture.specs.declared.hint.HintForm.{HintForm}
 use Rattle.capture.specs.Range.{IsText}
 use Rattle.capture.specs.SoFar.{Behind, ToCome, TheEnd, ReadSoFar, so_far, IsReadSoFar, GoesOn, GoesOnBy, DepartsBehind, HeadDepartsAt}
 use Rattle.two_nodes.specs.Nodes.{World, Run}
@@ -35,7 +36,7 @@ use Rattle.pair_judge.proofs.Found.{at_heads}
 
 -- the laws of whole texts
 pub record WholeLaws : Type 0 where
-  pub ended : (bytes : List ℕ) (own peer : ℕ) (rs : List Record) → IsReadSoFar (Some bytes) (so_far own peer rs TheEnd) → IsText own peer rs bytes
+  pub ended : (bytes : List ℕ) (form : HintForm) (own peer : ℕ) (rs : List Record) → IsReadSoFar (Some bytes) (so_far form own peer rs TheEnd) → IsText own peer rs bytes
   pub goes_on : (bytes : List ℕ) (own peer : ℕ) (rs : List Record) (read : ReadSoFar) → IsText own peer rs bytes → IsReadSoFar (Some bytes) read → (own ≡ read.own) × (peer ≡ read.peer) × GoesOn read rs
   pub departs_nowhere : (bytes : List ℕ) (own peer : ℕ) (rs : List Record) (read : ReadSoFar) (kind : Departure) (line : ℕ) → IsText own peer rs bytes → IsReadSoFar (Some bytes) read → DepartsBehind read kind line → ⊥
   pub head_stands : (bytes : List ℕ) (own peer : ℕ) (rs : List Record) (kind : Departure) (line : ℕ) → IsText own peer rs bytes → HeadDepartsAt (Some bytes) kind line → ⊥
@@ -103,7 +104,7 @@ goes_nowhere read = by_rest read.behind
 -- to its end it is a whole text
 read_whole : (laws : WholeLaws) (bytes : List ℕ) (read : ReadSoFar) → IsReadSoFar (Some bytes) read → read.behind ≡ TheEnd → IsText read.own read.peer read.records bytes
 read_whole laws bytes read from is =
-    laws.ended bytes read.own read.peer read.records (subst (λ (b : Behind). IsReadSoFar (Some bytes) (so_far read.own read.peer read.records b)) is from)
+    laws.ended bytes read.form read.own read.peer read.records (subst (λ (b : Behind). IsReadSoFar (Some bytes) (so_far read.form read.own read.peer read.records b)) is from)
 
 module _ (laws : WholeLaws) (runs : RunLaws) (bytes_a bytes_b : List ℕ) (read_a read_b : ReadSoFar) (from_a : IsReadSoFar (Some bytes_a) read_a) (from_b : IsReadSoFar (Some bytes_b) read_b) where
   are_a_run : (summary : Summary) → read_a.behind ≡ TheEnd → read_b.behind ≡ TheEnd → IsCounted (head_of read_a) (head_of read_b) read_a.records read_b.records summary → AreARun bytes_a bytes_b summary

@@ -8,7 +8,8 @@ use Rattle.capture.specs.declared.fault.CaptureFault.TheVariants.{Departs, Read,
 use Rattle.capture.specs.declared.record.Record.{Record}
 use Rattle.capture.specs.declared.entry.Entry.{Entry}
 use Rattle.capture.specs.Entries.{record_with}
-use Rattle.capture.specs.Text.{record_line}
+use Rattle.capture.specs.declared.hint.HintForm.{HintForm}
+use Rattle.capture.specs.Text.{form_after, record_line}
 use Rattle.capture.specs.Range.{IsRecord}
 use Rattle.capture.specs.Departing.{RecordDeparts}
 use Rattle.capture.specs.Reader.{CaptureState, FaultShows, NextGives}
@@ -25,41 +26,41 @@ use Rattle.pair_judge.specs.Course.{IsRead, IsFaultOf, along, behind, waiting}
 module _ (text : Option (List ℕ)) (course : Course) (come : Option (List ℕ)) (made : List Record) where
   -- with what the end of the judge has
   pub read_unread : course.ahead ≡ Unread → IsRead (along text course come made)
-      → IsReadSoFar text (so_far course.capture.own course.capture.peer made (ToCome come)) × (course.capture.records ≡ length made)
+      → IsReadSoFar text (so_far course.capture.form course.capture.own course.capture.peer made (ToCome come)) × (course.capture.records ≡ length made)
   read_unread is h =
-      let so = subst (λ (a : Ahead). IsReadSoFar text (so_far course.capture.own course.capture.peer (made ++ waiting course.capture.bytes a) (behind a come))) is h.so_far in
+      let so = subst (λ (a : Ahead). IsReadSoFar text (so_far course.capture.form course.capture.own course.capture.peer (made ++ waiting course.capture.bytes a) (behind a come))) is h.so_far in
       let count = subst (λ (a : Ahead). course.capture.records ≡ length (made ++ waiting course.capture.bytes a)) is h.count in
-      (subst (λ (rs : List Record). IsReadSoFar text (so_far course.capture.own course.capture.peer rs (ToCome come))) (append-nil made) so, count ∙ ap length (append-nil made))
+      (subst (λ (rs : List Record). IsReadSoFar text (so_far course.capture.form course.capture.own course.capture.peer rs (ToCome come))) (append-nil made) so, count ∙ ap length (append-nil made))
 
-  pub from_unread : course.ahead ≡ Unread → IsReadSoFar text (so_far course.capture.own course.capture.peer made (ToCome come)) → course.capture.records ≡ length made
+  pub from_unread : course.ahead ≡ Unread → IsReadSoFar text (so_far course.capture.form course.capture.own course.capture.peer made (ToCome come)) → course.capture.records ≡ length made
       → course.end.head ≡ record { own = course.capture.own; peer = course.capture.peer } → IsRead (along text course come made)
   from_unread is so count head = record {
-    so_far = subst (λ (a : Ahead). IsReadSoFar text (so_far course.capture.own course.capture.peer (made ++ waiting course.capture.bytes a) (behind a come))) (sym is)
-        (subst (λ (rs : List Record). IsReadSoFar text (so_far course.capture.own course.capture.peer rs (ToCome come))) (sym (append-nil made)) so);
+    so_far = subst (λ (a : Ahead). IsReadSoFar text (so_far course.capture.form course.capture.own course.capture.peer (made ++ waiting course.capture.bytes a) (behind a come))) (sym is)
+        (subst (λ (rs : List Record). IsReadSoFar text (so_far course.capture.form course.capture.own course.capture.peer rs (ToCome come))) (sym (append-nil made)) so);
     count = subst (λ (a : Ahead). course.capture.records ≡ length (made ++ waiting course.capture.bytes a)) (sym is) (count ∙ sym (ap length (append-nil made)));
     head = head;
   }
 
   pub read_waits : (entry : Entry) → course.ahead ≡ Waits entry → IsRead (along text course come made)
-      → IsReadSoFar text (so_far course.capture.own course.capture.peer (made ++ record_with entry course.capture.bytes ∷ []) (ToCome come)) × (course.capture.records ≡ length (made ++ record_with entry course.capture.bytes ∷ []))
+      → IsReadSoFar text (so_far course.capture.form course.capture.own course.capture.peer (made ++ record_with entry course.capture.bytes ∷ []) (ToCome come)) × (course.capture.records ≡ length (made ++ record_with entry course.capture.bytes ∷ []))
   read_waits entry is h = (
-    subst (λ (a : Ahead). IsReadSoFar text (so_far course.capture.own course.capture.peer (made ++ waiting course.capture.bytes a) (behind a come))) is h.so_far,
+    subst (λ (a : Ahead). IsReadSoFar text (so_far course.capture.form course.capture.own course.capture.peer (made ++ waiting course.capture.bytes a) (behind a come))) is h.so_far,
     subst (λ (a : Ahead). course.capture.records ≡ length (made ++ waiting course.capture.bytes a)) is h.count,
   )
 
-  pub from_waits : (entry : Entry) → course.ahead ≡ Waits entry → IsReadSoFar text (so_far course.capture.own course.capture.peer (made ++ record_with entry course.capture.bytes ∷ []) (ToCome come)) → course.capture.records ≡ length (made ++ record_with entry course.capture.bytes ∷ [])
+  pub from_waits : (entry : Entry) → course.ahead ≡ Waits entry → IsReadSoFar text (so_far course.capture.form course.capture.own course.capture.peer (made ++ record_with entry course.capture.bytes ∷ []) (ToCome come)) → course.capture.records ≡ length (made ++ record_with entry course.capture.bytes ∷ [])
       → course.end.head ≡ record { own = course.capture.own; peer = course.capture.peer } → IsRead (along text course come made)
   from_waits entry is so count head = record {
-    so_far = subst (λ (a : Ahead). IsReadSoFar text (so_far course.capture.own course.capture.peer (made ++ waiting course.capture.bytes a) (behind a come))) (sym is) so;
+    so_far = subst (λ (a : Ahead). IsReadSoFar text (so_far course.capture.form course.capture.own course.capture.peer (made ++ waiting course.capture.bytes a) (behind a come))) (sym is) so;
     count = subst (λ (a : Ahead). course.capture.records ≡ length (made ++ waiting course.capture.bytes a)) (sym is) count;
     head = head;
   }
 
-  pub from_ended : course.ahead ≡ Ended → IsReadSoFar text (so_far course.capture.own course.capture.peer made TheEnd) → course.capture.records ≡ length made
+  pub from_ended : course.ahead ≡ Ended → IsReadSoFar text (so_far course.capture.form course.capture.own course.capture.peer made TheEnd) → course.capture.records ≡ length made
       → course.end.head ≡ record { own = course.capture.own; peer = course.capture.peer } → IsRead (along text course come made)
   from_ended is so count head = record {
-    so_far = subst (λ (a : Ahead). IsReadSoFar text (so_far course.capture.own course.capture.peer (made ++ waiting course.capture.bytes a) (behind a come))) (sym is)
-        (subst (λ (rs : List Record). IsReadSoFar text (so_far course.capture.own course.capture.peer rs TheEnd)) (sym (append-nil made)) so);
+    so_far = subst (λ (a : Ahead). IsReadSoFar text (so_far course.capture.form course.capture.own course.capture.peer (made ++ waiting course.capture.bytes a) (behind a come))) (sym is)
+        (subst (λ (rs : List Record). IsReadSoFar text (so_far course.capture.form course.capture.own course.capture.peer rs TheEnd)) (sym (append-nil made)) so);
     count = subst (λ (a : Ahead). course.capture.records ≡ length (made ++ waiting course.capture.bytes a)) (sym is) (count ∙ sym (ap length (append-nil made)));
     head = head;
   }
@@ -82,8 +83,9 @@ put_back text course come made entry is h =
 
 -- what was read of a text that is read on
 pub record GrowingLaws : Type 0 where
-  pub one_more : (text before after : Option (List ℕ)) (own peer : ℕ) (rs : List Record) (r : Record) → IsReadSoFar text (so_far own peer rs (ToCome before)) → length rs < MAX_RECORDS → IsRecord r → Consumes before after (record_line r) → IsReadSoFar text (so_far own peer (rs ++ r ∷ []) (ToCome after))
-  pub ended : (text before : Option (List ℕ)) (own peer : ℕ) (rs : List Record) → IsReadSoFar text (so_far own peer rs (ToCome before)) → IsAtEnd before → IsReadSoFar text (so_far own peer rs TheEnd)
+  pub one_more : (text before after : Option (List ℕ)) (form : HintForm) (own peer : ℕ) (rs : List Record) (r : Record) → IsReadSoFar text (so_far form own peer rs (ToCome before)) → length rs < MAX_RECORDS → IsRecord r → Consumes before after (record_line form r)
+      → IsReadSoFar text (so_far (form_after form r) own peer (rs ++ r ∷ []) (ToCome after))
+  pub ended : (text before : Option (List ℕ)) (form : HintForm) (own peer : ℕ) (rs : List Record) → IsReadSoFar text (so_far form own peer rs (ToCome before)) → IsAtEnd before → IsReadSoFar text (so_far form own peer rs TheEnd)
 
 -- the head stays
 same_head : (old new : CaptureState) → new.own ≡ old.own → new.peer ≡ old.peer → ◌≡◌ {A = Head} (record { own = old.own; peer = old.peer }) (record { own = new.own; peer = new.peer })
@@ -99,23 +101,23 @@ module _ (laws : GrowingLaws) (text : Option (List ℕ)) (old new : Course) (bef
       let read = read_unread text old before made unread h in
       let few = gives.1 in
       let count = read.1 in
-      let so = laws.one_more text before after old.capture.own old.capture.peer made r read.0 (omega arith) gives.0 gives.4 in
-      from_unread text new after (made ++ r ∷ []) is (rw (own, peer) so) (gives.2 ∙ ap (λ n. n + 1) read.1 ∙ sym (length-append made (r ∷ []))) head_on
+      let so = laws.one_more text before after old.capture.form old.capture.own old.capture.peer made r read.0 (omega arith) gives.0 gives.4 in
+      from_unread text new after (made ++ r ∷ []) is (rw (own, peer, gives.5) so) (gives.2 ∙ ap (λ n. n + 1) read.1 ∙ sym (length-append made (r ∷ []))) head_on
 
   -- the end was found
   pub ended : new.ahead ≡ Ended → NextGives old.capture new.capture before after (Ok None) → IsRead (along text new after made)
   ended is gives =
       let read = read_unread text old before made unread h in
-      from_ended text new after made is (rw (own, peer) (laws.ended text before old.capture.own old.capture.peer made read.0 gives.0)) (gives.1 ∙ read.1) head_on
+      from_ended text new after made is (rw (own, peer, gives.3) (laws.ended text before old.capture.form old.capture.own old.capture.peer made read.0 gives.0)) (gives.1 ∙ read.1) head_on
 
 -- the line at hand departs
-pub faulty : (text : Option (List ℕ)) (course : Course) (come : Option (List ℕ)) (made : List Record) (fault : CaptureFault) → course.ahead ≡ Unread → IsRead (along text course come made) → FaultShows (RecordDeparts course.capture.records) (course.capture.records + 2) come fault → IsFaultOf (along text course come made) fault
+pub faulty : (text : Option (List ℕ)) (course : Course) (come : Option (List ℕ)) (made : List Record) (fault : CaptureFault) → course.ahead ≡ Unread → IsRead (along text course come made) → FaultShows (RecordDeparts course.capture.form course.capture.records) (course.capture.records + 2) come fault → IsFaultOf (along text course come made) fault
 faulty text course come made (Departs kind line) is h shows =
     let count = h.count in (
       is,
       record {
-        departs = subst (λ (a : Ahead). IfSome (coming (behind a come)) (RecordDeparts (length (made ++ waiting course.capture.bytes course.ahead)) kind)) (sym is)
-            (subst (λ (n : ℕ). IfSome come (RecordDeparts n kind)) h.count shows.1);
+        departs = subst (λ (a : Ahead). IfSome (coming (behind a come)) (RecordDeparts course.capture.form (length (made ++ waiting course.capture.bytes course.ahead)) kind)) (sym is)
+            (subst (λ (n : ℕ). IfSome come (RecordDeparts course.capture.form n kind)) h.count shows.1);
         line_is = shows.0 ∙ ap (λ n. n + 2) h.count;
       },
     )

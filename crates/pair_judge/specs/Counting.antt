@@ -2,13 +2,14 @@
 use Rattle.std.specs.Prelude.{ℕ, ◌+◌, Bool, true, false}
 use Rattle.ddcmp_msg.specs.Reading.{ReadingValue, reading, Sound, HeaderBad, DataBad, Malformed}
 use Rattle.capture.specs.declared.record.Record.{Record}
-use Rattle.capture.specs.declared.record.Record.TheVariants.{Sent, Received, User}
+use Rattle.capture.specs.declared.record.Record.TheVariants.{Sent, Received, Noise, User}
 use Rattle.capture.specs.declared.event.Event.{Event}
 use Rattle.capture.specs.declared.event.Event.TheVariants.{Start, Up}
 
 abbrev pub is_received : Record → Bool
 is_received (Sent bytes) = false
 is_received (Received hint kept bytes) = true
+is_received (Noise bytes) = true
 is_received (User event) = false
 
 -- a block check shows damage
@@ -18,14 +19,17 @@ shows_damage HeaderBad = true
 shows_damage DataBad = true
 shows_damage (Malformed departure) = false
 
+-- noise is damage, or it is not made
 abbrev pub is_damaged : Record → Bool
 is_damaged (Sent bytes) = false
 is_damaged (Received hint kept bytes) = shows_damage (reading bytes)
+is_damaged (Noise bytes) = true
 is_damaged (User event) = false
 
 abbrev pub is_kept : Record → Bool
 is_kept (Sent bytes) = false
 is_kept (Received hint kept bytes) = kept
+is_kept (Noise bytes) = false
 is_kept (User event) = false
 
 abbrev pub starts : Event → Bool
@@ -35,6 +39,7 @@ starts event = false
 abbrev pub is_start : Record → Bool
 is_start (Sent bytes) = false
 is_start (Received hint kept bytes) = false
+is_start (Noise bytes) = false
 is_start (User event) = starts event
 
 -- a message is delivered
@@ -45,6 +50,7 @@ delivers event = false
 abbrev pub is_delivery : Record → Bool
 is_delivery (Sent bytes) = false
 is_delivery (Received hint kept bytes) = false
+is_delivery (Noise bytes) = false
 is_delivery (User event) = delivers event
 
 -- the count, and one more where the fact holds

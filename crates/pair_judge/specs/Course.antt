@@ -67,7 +67,7 @@ having_made t made = record t { made = made }
 
 -- what was read of its text: the records that were made, and the one that waits
 abbrev pub read_of : Track → ReadSoFar
-read_of t = so_far t.course.capture.own t.course.capture.peer (t.made ++ waiting t.course.capture.bytes t.course.ahead) (behind t.course.ahead t.come)
+read_of t = so_far t.course.capture.form t.course.capture.own t.course.capture.peer (t.made ++ waiting t.course.capture.bytes t.course.ahead) (behind t.course.ahead t.come)
 
 -- that was read of its text, and its end is that of the node whose capture it is
 pub record IsRead (t : Track) : Type 0 where

@@ -4,7 +4,7 @@ use Rattle.two_nodes.specs.Nodes.{Outcome, advance}
 use Rattle.two_nodes.specs.Nodes as any
 use Rattle.capture.specs.declared.record.Record.{Record}
 use Rattle.capture.specs.declared.entry.Entry.{Entry}
-use Rattle.capture.specs.declared.entry.Entry.TheVariants.{Sent, Received}
+use Rattle.capture.specs.declared.entry.Entry.TheVariants.{Sent, Received, Noise}
 use Rattle.dna_model.specs.WireStation.{load}
 use Rattle.pair_judge.specs.declared.line.Line.{Line}
 use Rattle.pair_judge.specs.declared.end.End.{End}
@@ -14,10 +14,11 @@ use Rattle.pair_judge.specs.Lines.{Shows}
 use Rattle.pair_judge.specs.Summary.{counted}
 use Rattle.pair_judge.specs.Wire.{JudgeHalf, judge_step}
 
--- an entry of the user, and not of a unit
+-- an entry of the user, and not of what was sent or came
 abbrev pub IsEvent : Entry → Type 0
 IsEvent Sent = ⊥
 IsEvent (Received kept hint) = ⊥
+IsEvent Noise = ⊥
 IsEvent entry = Unit {0}
 
 -- this end of the judge, with the line from the other side, stands for that half of the run

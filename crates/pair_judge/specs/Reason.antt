@@ -9,7 +9,7 @@ use Rattle.dna_model.specs.declared.refusal.StepRefusal.TheVariants as steps
 use Rattle.dna_model.specs.declared.finding.Cause.{Cause}
 use Rattle.dna_model.specs.declared.finding.Cause.TheVariants as causes
 use Rattle.pair_judge.specs.declared.reason.Reason.{Reason}
-use Rattle.pair_judge.specs.declared.reason.Reason.TheVariants.{NotAMessage, HintOrder, NoSuchUnit, NoOrder, Undetected, WrongState, WrongNumber, WrongResponse, WindowFull, Changed, NoCause, WrongKeep, CrossedPeriod, WrongUserEvent, BadPacket, WrongNode, BadNsp, NoLink, LinkState, WrongSegment, WrongAck, SegmentTooLong, LinkWindowFull, WrongDelivery, CrossedLink, AddressInUse}
+use Rattle.pair_judge.specs.declared.reason.Reason.TheVariants.{NotAMessage, HintOrder, NoSuchUnit, NoOrder, Undetected, WrongState, WrongNumber, WrongResponse, WindowFull, Changed, NoCause, WrongKeep, CrossedPeriod, WrongUserEvent, BadPacket, WrongNode, BadNsp, NoLink, LinkState, WrongSegment, WrongAck, SegmentTooLong, LinkWindowFull, WrongDelivery, CrossedLink, AddressInUse, NotNoise}
 
 -- The table of the reasons: the number and the name that are printed
 abbrev pub reason_entry : Reason → ℕ × List ℕ
@@ -39,6 +39,7 @@ reason_entry LinkWindowFull = (23, codes "LinkWindowFull")
 reason_entry WrongDelivery = (24, codes "WrongDelivery")
 reason_entry CrossedLink = (25, codes "CrossedLink")
 reason_entry AddressInUse = (26, codes "AddressInUse")
+reason_entry NotNoise = (27, codes "NotNoise")
 
 abbrev pub reason_number : Reason → ℕ
 reason_number reason = (reason_entry reason).0
@@ -77,6 +78,7 @@ reason_of_step (steps.Station refusal) = reason_of_station refusal
 reason_of_step steps.BadPacket = BadPacket
 reason_of_step steps.BadNsp = BadNsp
 reason_of_step (steps.Links refusal) = reason_of_links refusal
+reason_of_step steps.NotNoise = NotNoise
 
 abbrev pub reason_of : Cause → Reason
 reason_of (causes.Step refusal) = reason_of_step refusal

@@ -3,10 +3,10 @@ use Rattle.std.specs.Prelude.{ℕ, Bool, List, Result}
 use Rattle.two_nodes.specs.Nodes.{Answer, Half, World}
 use Rattle.ddcmp_msg.specs.Reading.{ReadingValue}
 use Rattle.capture.specs.declared.record.Record.{Record}
-use Rattle.capture.specs.declared.event.Event.{Event}
 use Rattle.dna_model.specs.declared.refusal.StepRefusal.{StepRefusal}
 use Rattle.dna_model.specs.Rules.{judged}
-use Rattle.dna_model.specs.Machine.{Machine, user_step, sent_step, receives, step}
+use Rattle.dna_model.specs.Line.{damage}
+use Rattle.dna_model.specs.Machine.{Machine, sent_step, receives, noise_comes, step}
 use Rattle.dna_model.specs.WireLayers.{WireLayers, LayersTag, WireLayersNode, WireLayersUnit, wire_layers_machine}
 
 abbrev pub JudgeHalf : Type 0
@@ -22,11 +22,11 @@ judge_machine = wire_layers_machine judged
 abbrev pub judge_step : WireLayersNode → Record → Answer WireLayersNode WireLayersUnit StepRefusal
 judge_step n r = step judge_machine n r
 
-abbrev pub judge_user_step : WireLayersNode → Event → Answer WireLayersNode WireLayersUnit StepRefusal
-judge_user_step n event = user_step judge_machine n event
-
 abbrev pub judge_sent_step : WireLayersNode → List ℕ → ReadingValue → Answer WireLayersNode WireLayersUnit StepRefusal
 judge_sent_step n bytes read = sent_step judge_machine n bytes read
 
 abbrev pub judge_receives : WireLayersNode → ℕ → Bool → List ℕ → WireLayersUnit → Result WireLayersNode StepRefusal
 judge_receives n hint kept bytes unit = receives judge_machine n hint kept bytes unit
+
+abbrev pub judge_hears : WireLayers → ReadingValue → Result WireLayers StepRefusal
+judge_hears s read = noise_comes judge_machine s (damage read)

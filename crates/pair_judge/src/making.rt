@@ -16,6 +16,7 @@ ghost use Rattle.pair_judge.specs.Wire.{JudgeHalf};
 
 use crate::end::End;
 use crate::line::Line;
+use crate::noise::hear;
 use crate::receipt::{Receipt, receive};
 use crate::sending::send;
 use crate::step_fault::StepFault;
@@ -58,6 +59,7 @@ pub fn make(
     match entry {
         Entry::Sent => make_sent(alloc, own, bytes),
         Entry::Received { kept, hint } => make_received(own, incoming, hint, kept, bytes),
+        Entry::Noise => make_noise(own, bytes),
         Entry::Start
         | Entry::Halt
         | Entry::Open { .. }
@@ -118,7 +120,7 @@ fn make_event(own: &mut End, entry: Entry, bytes: &[u8]) -> Result<Made, AllocEr
             make_link_event(own, LinkEvent::Up { link, message })
         }
         Entry::Close { link } => make_link_event(own, LinkEvent::Close { link }),
-        Entry::Sent | Entry::Received { .. } => unreachable!(),
+        Entry::Sent | Entry::Received { .. } | Entry::Noise => unreachable!(),
     }
 }
 
@@ -169,6 +171,27 @@ fn make_received(
         Ok(Receipt::Waits) => Ok(Made::Waits),
         Ok(Receipt::Fails(refusal)) => Ok(Made::Fails(refusal)),
         Err(AllocError) => Err(AllocError),
+    }
+}
+
+// Bytes that nobody sent. What they need has no place on the way of a unit.
+#[inline(never)]
+fn make_noise(own: &mut End, bytes: &[u8]) -> Result<Made, AllocError>
+    requires { HasRoom own.old }
+    ensures made { IfOk result (λ made. (incoming : Line) (mine theirs : JudgeHalf) →
+        StandsFor own.old incoming mine → Shows incoming theirs.sent →
+        MadeIs made (move own.old own.new incoming incoming) (Record.Noise bytes.now) mine theirs) }
+    ensures waits { IfOk result NeverWaits }
+    ensures counts { IfOk result (λ made. IfFails made (own.new.counts ≡ own.old.counts)) }
+    ensures head { own.new.head ≡ own.old.head }
+{
+    match hear(&mut own.layers, bytes) {
+        Ok(()) => {
+            own.counts = own.counts.with_receipt(true, false);
+            Ok(Made::Done)
+        }
+        Err(StepFault::Refused(refusal)) => Ok(Made::Fails(refusal)),
+        Err(StepFault::OutOfMemory) => Err(AllocError),
     }
 }
 

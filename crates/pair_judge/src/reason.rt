@@ -10,7 +10,7 @@ use std::fmt;
 ///
 /// By whose fault each comes: 2, 3 and 4 by the hints, or by captures that do not pair; 5 by the line (damage that no block
 /// check shows) or likewise; 1, 6 to 11, 15 to 17 and 20 to 23 by the sender; 18 and 19 by the sender or a user; 14 and 26 by
-/// a user; 12 and 24 by the receiver's own claim; 13 and 25 by nobody.
+/// a user; 12, 24 and 27 by the receiver's own claim; 13 and 25 by nobody.
 #[derive(Clone, Copy, Debug, PartialEq, Eq)]
 pub enum Reason {
     /// 1: the bytes that were sent are no sound message.
@@ -65,6 +65,8 @@ pub enum Reason {
     CrossedLink,
     /// 26: the address is in use.
     AddressInUse,
+    /// 27: the bytes that nobody sent show no damage.
+    NotNoise,
 }
 
 impl Reason {
@@ -102,10 +104,11 @@ impl Reason {
             Reason::WrongDelivery => (24, "WrongDelivery"),
             Reason::CrossedLink => (25, "CrossedLink"),
             Reason::AddressInUse => (26, "AddressInUse"),
+            Reason::NotNoise => (27, "NotNoise"),
         }
     }
 
-    /// Its number, 1 to 26.
+    /// Its number, 1 to 27.
     pub fn number(self) -> u8
         ensures { result ≡ reason_number self }
     {
@@ -135,6 +138,7 @@ impl Reason {
             StepRefusal::BadPacket => Reason::BadPacket,
             StepRefusal::BadNsp => Reason::BadNsp,
             StepRefusal::Links(refusal) => Reason::of_links(refusal),
+            StepRefusal::NotNoise => Reason::NotNoise,
         }
     }
 

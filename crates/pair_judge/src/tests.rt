@@ -148,7 +148,7 @@ r 2 0507c00000014855
 fn a_faulty_text_is_named_by_side_and_line(rt: HostRuntime) {
     let cut_a = "ddcap 1 1.1 1.2\nu start\ns 0506c";
     let other_word_b = "ddcap 1 1.2 1.1\nu start\nx\n";
-    let other_head_b = "ddcap 2 1.2 1.1\n";
+    let other_head_b = "ddcap 3 1.2 1.1\n";
     let rows = [
         (cut_a, MISSES_THE_FIRST, Side::A, 3),
         (STARTS_TWICE, other_word_b, Side::B, 3),

@@ -7,7 +7,7 @@ use Rattle.ddcmp_msg.specs.Message.{IsBytes}
 use Rattle.wire_base.specs.declared.side.Side.{Side}
 use Rattle.wire_base.specs.declared.side.Side.TheVariants.{A, B}
 use Rattle.wire_base.specs.Side.{side_letter}
-use Rattle.capture.specs.declared.limit.TheConstants.{MAX_HINT, MAX_LINE, MAX_MESSAGE}
+use Rattle.capture.specs.declared.limit.TheConstants.{MAX_HINT, MAX_LINE, MAX_UNIT, MAX_MESSAGE}
 use Rattle.capture.specs.Text.{spaced, bytes_text, address_text}
 use Rattle.capture.specs.Range.{IsNode}
 use Rattle.capture.proofs.PartLaws.{HasNo, HasNo-append}
@@ -15,15 +15,15 @@ use Rattle.capture.proofs.NumberLaws.{decimal_lacks}
 use Rattle.capture.proofs.AddressLaws.{address_lacks}
 use Rattle.capture.proofs.BytesLaws.{bytes_lack}
 use Rattle.capture.proofs.LackLaws.{lacks, spaced_lacks, link_lacks, link_short, bytes_short, spaced_short, address_short}
-use Rattle.dna_model.specs.Script.{StepValue, ScriptStep, Start, Halt, Timer, Send, Deliver, Refuse, Lose, Damage, Open, Accept, Reject, In, Close, Retry}
-use Rattle.dna_model.specs.ScriptText.{step_text, line_text, script_head, NumbersFit, message_of, HasSpelling, IsStep}
+use Rattle.dna_model.specs.Script.{StepValue, ScriptStep, Start, Halt, Timer, Send, Deliver, Refuse, Lose, Damage, Noise, Open, Accept, Reject, In, Close, Retry}
+use Rattle.dna_model.specs.ScriptText.{step_text, line_text, script_head, NumbersFit, step_bytes, most_bytes, HasSpelling, IsStep}
 
 -- ---- no LF
 
 number_lacks : (n : ℕ) → n ≤ MAX_HINT → HasNo 10 (decimal n)
 number_lacks n small = decimal_lacks 10 n (lit< tt) (omega arith)
 
-step_lacks : (step : StepValue) → NumbersFit step → IsBytes (message_of step) → HasNo 10 (step_text step)
+step_lacks : (step : StepValue) → NumbersFit step → IsBytes (step_bytes step) → HasNo 10 (step_text step)
 step_lacks Start h fits = lacks 10 (codes "start") refl
 step_lacks Halt h fits = lacks 10 (codes "halt") refl
 step_lacks Timer h fits = lacks 10 (codes "timer") refl
@@ -32,6 +32,7 @@ step_lacks Deliver h fits = lacks 10 (codes "deliver") refl
 step_lacks Refuse h fits = lacks 10 (codes "refuse") refl
 step_lacks Lose h fits = lacks 10 (codes "lose") refl
 step_lacks (Damage place value) h fits = HasNo-append 10 (codes "damage ") (spaced (decimal place) (decimal value)) (lacks 10 (codes "damage ") refl) (spaced_lacks (decimal place) (decimal value) (number_lacks place h.0) (number_lacks value h.1))
+step_lacks (Noise bytes) h fits = HasNo-append 10 (codes "noise ") (bytes_text bytes) (lacks 10 (codes "noise ") refl) (bytes_lack 10 bytes (lit< tt) fits)
 step_lacks Open h fits = lacks 10 (codes "open") refl
 step_lacks (Accept partner) h fits = HasNo-append 10 (codes "accept ") (decimal partner) (lacks 10 (codes "accept ") refl) (link_lacks partner h)
 step_lacks (Reject partner) h fits = HasNo-append 10 (codes "reject ") (decimal partner) (lacks 10 (codes "reject ") refl) (link_lacks partner h)
@@ -56,7 +57,7 @@ head_lacks node_a node_b p q =
 number_short : (n : ℕ) → n ≤ MAX_HINT → length (decimal n) ≤ 18
 number_short n small = length-decimal-le 18 n (lit< tt) (omega arith) (omega arith)
 
-step_short : (step : StepValue) → NumbersFit step → length (message_of step) ≤ MAX_MESSAGE → length (step_text step) ≤ 131079
+step_short : (step : StepValue) → NumbersFit step → length (step_bytes step) ≤ most_bytes step → length (step_text step) ≤ 131079
 step_short Start h short = omega arith
 step_short Halt h short = omega arith
 step_short Timer h short = omega arith
@@ -65,6 +66,7 @@ step_short Deliver h short = omega arith
 step_short Refuse h short = omega arith
 step_short Lose h short = omega arith
 step_short (Damage place value) h short = let n = spaced_short (decimal place) (decimal value) 18 18 (number_short place h.0) (number_short value h.1) in omega arith
+step_short (Noise bytes) h short = let n = bytes_short MAX_UNIT bytes (omega arith) short in omega arith
 step_short Open h short = omega arith
 step_short (Accept partner) h short = let n = link_short partner h in omega arith
 step_short (Reject partner) h short = let n = link_short partner h in omega arith

@@ -4,7 +4,6 @@ use Rattle.std.specs.Prelude.{codes, IfSome}
 use Rattle.wire_base.specs.declared.side.Side.{Side}
 use Rattle.wire_base.specs.declared.side.Side.TheVariants.{A, B}
 use Rattle.wire_base.specs.Side.{side_letter}
-use Rattle.capture.specs.declared.limit.TheConstants.{MAX_MESSAGE}
 use Rattle.capture.specs.declared.fault.Departure.{Departure}
 use Rattle.capture.specs.declared.fault.Departure.TheVariants.{Syntax, TooLong, TooMany}
 use Rattle.capture.specs.Text.{spaced}
@@ -13,7 +12,7 @@ use Rattle.capture.proofs.PartLaws.{after_takes}
 use Rattle.capture.proofs.BytesLaws.{limited, limited_then}
 use Rattle.capture.proofs.Shown.{Shows, shows_map, shows_must}
 use Rattle.dna_model.specs.Script.{StepValue, ScriptStep}
-use Rattle.dna_model.specs.ScriptText.{step_text, line_text, message_of, HasSpelling, IsStep, WordsDepart}
+use Rattle.dna_model.specs.ScriptText.{step_text, line_text, step_bytes, most_bytes, HasSpelling, IsStep, WordsDepart}
 use Rattle.pair_player.specs.Reading.{side_at, step_at, line_at}
 use Rattle.pair_player.proofs.StepLaws.{IsStepOf, IsLongStepOf, step_shows, step_again}
 
@@ -25,7 +24,7 @@ abbrev IsLineOf : List ℕ → ScriptStep → Type 0
 IsLineOf text line = (text ≡ line_text line) × IsStep line
 
 abbrev IsLongLineOf : List ℕ → ScriptStep → Type 0
-IsLongLineOf text line = (text ≡ line_text line) × HasSpelling line × (MAX_MESSAGE < length (message_of line.step))
+IsLongLineOf text line = (text ≡ line_text line) × HasSpelling line × (most_bytes line.step < length (step_bytes line.step))
 
 -- ---- the letter
 
@@ -66,9 +65,9 @@ line_shows text =
     (λ step h. (front ∙ ap (spaced (side_letter parts.0)) h.0, record { spelling = record { numbers = h.1; bytes = h.2 }; short = h.3 }))
     (λ step h. (front ∙ ap (spaced (side_letter parts.0)) h.0, record { numbers = h.1; bytes = h.2 }, h.3)))
 
-pub line_again : (side : Side) (step : StepValue) → HasSpelling (at_side side step) → line_at (line_text (at_side side step)) ≡ limited MAX_MESSAGE (message_of step) (at_side side step)
+pub line_again : (side : Side) (step : StepValue) → HasSpelling (at_side side step) → line_at (line_text (at_side side step)) ≡ limited (most_bytes step) (step_bytes step) (at_side side step)
 unfolding line_at
-line_again side step h = rw (side_again side (step_text step), step_again step h.numbers h.bytes) (limited_then MAX_MESSAGE (message_of step) step (at_side side))
+line_again side step h = rw (side_again side (step_text step), step_again step h.numbers h.bytes) (limited_then (most_bytes step) (step_bytes step) step (at_side side))
 
 -- ---- what a reading says of its line
 
@@ -84,7 +83,7 @@ limited_apart most bytes line e = by_test (leb (length bytes) most) e
     by_test false h = cc
 
 pub words_depart : (kind : Departure) (text : List ℕ) → line_at text ≡ Err kind → WordsDepart kind text
-words_depart Syntax text e = λ line h spelled. limited_apart MAX_MESSAGE (message_of line.step) line (sym (line_again line.side line.step h) ∙ ap line_at (sym spelled) ∙ e)
+words_depart Syntax text e = λ line h spelled. limited_apart (most_bytes line.step) (step_bytes line.step) line (sym (line_again line.side line.step h) ∙ ap line_at (sym spelled) ∙ e)
 words_depart TooLong text e =
     let shown = subst (Shows (IsLineOf text) (IsLongLineOf text)) e (line_shows text) in
     long_from shown.0 shown.1

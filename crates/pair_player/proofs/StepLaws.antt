@@ -6,24 +6,24 @@ use Rattle.std.specs.Str.{bytes_eq}
 use Rattle.std.proofs.lemmas.Bool.{cond_both}
 use Rattle.std.proofs.lemmas.Slice.Eq.{bytes_eq-Decides}
 use Rattle.ddcmp_msg.specs.Message.{IsBytes}
-use Rattle.capture.specs.declared.limit.TheConstants.{MAX_HINT, MAX_LINK, MAX_MESSAGE}
+use Rattle.capture.specs.declared.limit.TheConstants.{MAX_HINT, MAX_LINK, MAX_UNIT, MAX_MESSAGE}
 use Rattle.capture.specs.Text.{spaced}
-use Rattle.capture.specs.Reading.{after, cut_at, number_at, positive_at, message_at}
+use Rattle.capture.specs.Reading.{after, cut_at, number_at, positive_at, bytes_at, message_at}
 use Rattle.capture.proofs.PartLaws.{after_takes, cut_takes, cut_again}
 use Rattle.capture.proofs.NumberLaws.{number_takes, number_again, decimal_lacks}
-use Rattle.capture.proofs.BytesLaws.{limited, limited_then}
+use Rattle.capture.proofs.BytesLaws.{IsBytesOf, IsLongOf, bytes_shows, bytes_again, limited, limited_then}
 use Rattle.capture.proofs.EventLaws.{link_takes, link_again, IsMessageOf, IsLongMessageOf, message_shows, message_again, no_bytes}
 use Rattle.capture.proofs.Shown.{Shows, shows_map, shows_must, shows_or_else}
-use Rattle.dna_model.specs.Script.{StepValue, Start, Halt, Timer, Send, Deliver, Refuse, Lose, Damage, Open, Accept, Reject, In, Close, Retry}
-use Rattle.dna_model.specs.ScriptText.{step_text, NumbersFit, message_of}
+use Rattle.dna_model.specs.Script.{StepValue, Start, Halt, Timer, Send, Deliver, Refuse, Lose, Damage, Noise, Open, Accept, Reject, In, Close, Retry}
+use Rattle.dna_model.specs.ScriptText.{step_text, NumbersFit, step_bytes, most_bytes}
 use Rattle.pair_player.specs.Reading.{plain_at, damage_at, link_step_at, step_at}
 
 -- a step that was read, and one that was read but for the length of its message
 abbrev pub IsStepOf : List ℕ → StepValue → Type 0
-IsStepOf text step = (text ≡ step_text step) × NumbersFit step × IsBytes (message_of step) × (length (message_of step) ≤ MAX_MESSAGE)
+IsStepOf text step = (text ≡ step_text step) × NumbersFit step × IsBytes (step_bytes step) × (length (step_bytes step) ≤ most_bytes step)
 
 abbrev pub IsLongStepOf : List ℕ → StepValue → Type 0
-IsLongStepOf text step = (text ≡ step_text step) × NumbersFit step × IsBytes (message_of step) × (MAX_MESSAGE < length (message_of step))
+IsLongStepOf text step = (text ≡ step_text step) × NumbersFit step × IsBytes (step_bytes step) × (most_bytes step < length (step_bytes step))
 
 -- ---- a step of one word
 
@@ -97,12 +97,16 @@ step_shows text =
     (λ rest e. shows_map (IsMessageOf rest) (IsLongMessageOf rest) (IsStepOf text) (IsLongStepOf text) (λ m. In m.0 m.1) (message_at rest) (message_shows rest)
     (λ m h. (after_takes (codes "in ") text rest e ∙ ap (λ (t : List ℕ). codes "in " ++ t) h.0, h.1, h.2, h.3))
     (λ m h. (after_takes (codes "in ") text rest e ∙ ap (λ (t : List ℕ). codes "in " ++ t) h.0, h.1, h.2, h.3)))
+    (shows_or_else (IsStepOf text) (IsLongStepOf text) (after (codes "noise ") text) _ _
+    (λ rest e. shows_map (IsBytesOf MAX_UNIT rest) (IsLongOf MAX_UNIT rest) (IsStepOf text) (IsLongStepOf text) (λ bytes. Noise bytes) (bytes_at MAX_UNIT rest) (bytes_shows MAX_UNIT rest)
+    (λ bytes h. (after_takes (codes "noise ") text rest e ∙ ap (λ (t : List ℕ). codes "noise " ++ t) h.0, tt, h.1, h.2))
+    (λ bytes h. (after_takes (codes "noise ") text rest e ∙ ap (λ (t : List ℕ). codes "noise " ++ t) h.0, tt, h.1, h.2)))
     (shows_or_else (IsStepOf text) (IsLongStepOf text) (after (codes "damage ") text) _ _
     (λ rest e. shows_map (AreNumbersOf rest) Never (IsStepOf text) (IsLongStepOf text) (λ m. Damage m.0 m.1) (damage_at rest) (damage_shows rest)
     (λ m h. (after_takes (codes "damage ") text rest e ∙ ap (λ (t : List ℕ). codes "damage " ++ t) h.0, (h.1, h.2), no_bytes, omega arith)) (λ m h. absurd h))
-    (link_step_shows text)))
+    (link_step_shows text))))
 
-pub step_again : (step : StepValue) → NumbersFit step → IsBytes (message_of step) → step_at (step_text step) ≡ limited MAX_MESSAGE (message_of step) step
+pub step_again : (step : StepValue) → NumbersFit step → IsBytes (step_bytes step) → step_at (step_text step) ≡ limited (most_bytes step) (step_bytes step) step
 unfolding step_at plain_at link_step_at
 step_again Start h fits = refl
 step_again Halt h fits = refl
@@ -112,6 +116,7 @@ step_again Deliver h fits = refl
 step_again Refuse h fits = refl
 step_again Lose h fits = refl
 step_again (Damage place value) h fits = rw (damage_again place value h.0 h.1) refl
+step_again (Noise bytes) h fits = rw (bytes_again MAX_UNIT bytes fits) (limited_then MAX_UNIT bytes bytes (λ b. Noise b))
 step_again Open h fits = refl
 step_again (Accept partner) h fits = rw (link_again partner h) refl
 step_again (Reject partner) h fits = rw (link_again partner h) refl

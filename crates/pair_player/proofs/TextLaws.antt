@@ -11,7 +11,7 @@ use Rattle.capture.specs.Range.{IsNode}
 use Rattle.capture.specs.Departing.{first_line, has_lf, LineDeparts}
 use Rattle.capture.proofs.TextLaws.{ended_first, same_ended, line_some, line_once, whole_or_not}
 use Rattle.dna_model.specs.Script.{ScriptStep}
-use Rattle.dna_model.specs.ScriptText.{line_text, script_head, script_line, message_of, IsStep, WordsDepart, StepDeparts, HeadWordsDepart, ScriptHeadDeparts, MAX_STEPS}
+use Rattle.dna_model.specs.ScriptText.{line_text, script_head, script_line, step_bytes, most_bytes, IsStep, WordsDepart, StepDeparts, HeadWordsDepart, ScriptHeadDeparts, MAX_STEPS}
 use Rattle.pair_player.specs.Reading.{line_at, head_at}
 use Rattle.pair_player.proofs.LineWords.{line_again}
 use Rattle.pair_player.proofs.HeadLaws.{head_again}
@@ -70,7 +70,7 @@ words_fit : (kind : Departure) (line : ScriptStep) → IsStep line → WordsDepa
 words_fit Syntax line h d = d line h.spelling refl
 words_fit TooMany line h d = d
 words_fit TooLong line h d =
-    let long : line_at (line_text d.0) ≡ Err TooLong = line_again d.0.side d.0.step d.1 ∙ rw (lt-leb (length (message_of d.0.step)) MAX_MESSAGE (omega (arith, d.2))) refl in
+    let long : line_at (line_text d.0) ≡ Err TooLong = line_again d.0.side d.0.step d.1 ∙ rw (lt-leb (length (step_bytes d.0.step)) (most_bytes d.0.step) (omega (arith, d.2))) refl in
     let both : ◌≡◌ {A = Result ScriptStep Departure} (Ok line) (Err TooLong) = sym (line_read line h) ∙ ap line_at d.3 ∙ long in
     cc
 

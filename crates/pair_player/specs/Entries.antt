@@ -1,16 +1,16 @@
--- A step in two parts: what its line says beside its message, and the message.
+-- A step in two parts: what its line says beside its noise or message, and these bytes.
 use Rattle.std.specs.Prelude.{ℕ, List, [], take, Option, Some, None, Result, Ok, Err}
-use Rattle.capture.specs.declared.limit.TheConstants.{MAX_MESSAGE}
 use Rattle.capture.specs.declared.fault.Departure.{Departure}
 use Rattle.capture.specs.declared.fault.Departure.TheVariants.{Syntax}
 use Rattle.capture.specs.Reading.{◌>>=◌, bytes_at}
-use Rattle.dna_model.specs.Script.{StepValue, ScriptStep, Start, Halt, Timer, Send, Deliver, Refuse, Lose, Damage, Open, Accept, Reject, In, Close, Retry}
+use Rattle.dna_model.specs.Script.{StepValue, ScriptStep, Start, Halt, Timer, Send, Deliver, Refuse, Lose, Damage, Noise, Open, Accept, Reject, In, Close, Retry}
+use Rattle.dna_model.specs.ScriptText.{most_bytes}
 use Rattle.pair_player.specs.declared.entry.StepEntry.{StepEntry}
 use Rattle.pair_player.specs.declared.entry.StepEntry.TheVariants as entries
 use Rattle.pair_player.specs.declared.entry.LineEntry.{LineEntry}
 use Rattle.pair_player.specs.declared.fault.ScriptFault.{ScriptFault}
 
--- the step of an entry and the message beside it
+-- the step of an entry and the noise or message beside it
 abbrev pub step_with : StepEntry → List ℕ → StepValue
 step_with entries.Start message = Start
 step_with entries.Halt message = Halt
@@ -20,6 +20,7 @@ step_with entries.Deliver message = Deliver
 step_with entries.Refuse message = Refuse
 step_with entries.Lose message = Lose
 step_with (entries.Damage place value) message = Damage place value
+step_with entries.Noise message = Noise message
 step_with entries.Open message = Open
 step_with (entries.Accept partner) message = Accept partner
 step_with (entries.Reject partner) message = Reject partner
@@ -38,7 +39,7 @@ line_with line message = record { side = line.side; step = step_with line.step m
 abbrev pub told : Option (StepEntry × Option (List ℕ)) → Result StepValue Departure
 told None = Err Syntax
 told (Some (entry, None)) = Ok (plain entry)
-told (Some (entry, Some text)) = bytes_at MAX_MESSAGE text >>= λ message. Ok (step_with entry message)
+told (Some (entry, Some text)) = bytes_at (most_bytes (plain entry)) text >>= λ message. Ok (step_with entry message)
 
 -- the step in two parts, its message at the front of the room
 abbrev pub parted : {E : Type 0} → List ℕ → Result (LineEntry × ℕ) E → Result ScriptStep E

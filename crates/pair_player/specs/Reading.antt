@@ -3,11 +3,11 @@ use Rattle.std.specs.Prelude.{ℕ, if◌then◌else◌, List, codes, Option, Som
 use Rattle.std.specs.Str.{bytes_eq}
 use Rattle.wire_base.specs.declared.side.Side.{Side}
 use Rattle.wire_base.specs.declared.side.Side.TheVariants.{A, B}
-use Rattle.capture.specs.declared.limit.TheConstants.{MAX_HINT, MAX_LINK}
+use Rattle.capture.specs.declared.limit.TheConstants.{MAX_HINT, MAX_LINK, MAX_UNIT}
 use Rattle.capture.specs.declared.fault.Departure.{Departure}
 use Rattle.capture.specs.declared.fault.Departure.TheVariants.{Syntax}
-use Rattle.capture.specs.Reading.{◌>>=◌, must, after, cut_at, or_else, number_at, positive_at, address_at, message_at}
-use Rattle.dna_model.specs.Script.{StepValue, ScriptStep, Start, Halt, Timer, Send, Deliver, Refuse, Lose, Damage, Open, Accept, Reject, In, Close, Retry}
+use Rattle.capture.specs.Reading.{◌>>=◌, must, after, cut_at, or_else, number_at, positive_at, address_at, bytes_at, message_at}
+use Rattle.dna_model.specs.Script.{StepValue, ScriptStep, Start, Halt, Timer, Send, Deliver, Refuse, Lose, Damage, Noise, Open, Accept, Reject, In, Close, Retry}
 
 -- a step of one word
 unfoldable pub plain_at : List ℕ → Option StepValue
@@ -44,8 +44,9 @@ unfoldable pub step_at : List ℕ → Result StepValue Departure
 step_at text =
     or_else (plain_at text) (λ step. Ok step)
     (or_else (after (codes "in ") text) (λ rest. message_at rest >>= λ m. Ok (In m.0 m.1))
+    (or_else (after (codes "noise ") text) (λ rest. bytes_at MAX_UNIT rest >>= λ bytes. Ok (Noise bytes))
     (or_else (after (codes "damage ") text) (λ rest. damage_at rest >>= λ m. Ok (Damage m.0 m.1))
-    (link_step_at text)))
+    (link_step_at text))))
 
 -- the side of a step, and what stands behind its letter
 unfoldable pub side_at : List ℕ → Option (Side × List ℕ)

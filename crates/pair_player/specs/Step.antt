@@ -1,5 +1,5 @@
 -- What a step of the code says, without where its message lies in memory.
-use Rattle.dna_model.specs.Script.{StepValue, ScriptStep, Start, Halt, Timer, Send, Deliver, Refuse, Lose, Damage, Open, Accept, Reject, In, Close, Retry}
+use Rattle.dna_model.specs.Script.{StepValue, ScriptStep, Start, Halt, Timer, Send, Deliver, Refuse, Lose, Damage, Noise, Open, Accept, Reject, In, Close, Retry}
 use Rattle.pair_player.specs.declared.step.Step.{Step}
 use Rattle.pair_player.specs.declared.step.Step.TheVariants as steps
 use Rattle.pair_player.specs.declared.step.ScriptStep as lines
@@ -13,6 +13,7 @@ view steps.Deliver = Deliver
 view steps.Refuse = Refuse
 view steps.Lose = Lose
 view (steps.Damage place value) = Damage place value
+view (steps.Noise bytes) = Noise bytes.now
 view steps.Open = Open
 view (steps.Accept partner) = Accept partner
 view (steps.Reject partner) = Reject partner

@@ -1,13 +1,16 @@
-//! What the line of a step says beside its message.
+//! What the line of a step says beside its message or noise.
 
-ghost use Rattle.std.specs.Prelude.{◌≡◌};
+ghost use Rattle.std.specs.Prelude.{◌≡◌, ◌≤◌};
+ghost use Rattle.capture.specs.declared.limit.TheConstants.{MAX_MESSAGE as MOST};
+ghost use Rattle.dna_model.specs.ScriptText.{most_bytes};
 ghost use Rattle.pair_player.specs.Step.{view, view_of_line};
-ghost use Rattle.pair_player.specs.Entries.{line_with, step_with};
+ghost use Rattle.pair_player.specs.Entries.{line_with, plain, step_with};
 
 use crate::step::{ScriptStep, Step};
+use capture::{MAX_MESSAGE, MAX_UNIT};
 use wire_base::Side;
 
-/// A step but for its message, which stands beside it. It is small and lends nothing.
+/// A step but for its message or noise, which stands beside it. It is small and lends nothing.
 #[derive(Clone, Copy, Debug, PartialEq, Eq)]
 pub enum StepEntry {
     Start,
@@ -18,6 +21,7 @@ pub enum StepEntry {
     Refuse,
     Lose,
     Damage { place: u64, value: u64 },
+    Noise,
     Open,
     Accept { partner: u16 },
     Reject { partner: u16 },
@@ -47,12 +51,37 @@ impl StepEntry {
             StepEntry::Refuse => Step::Refuse,
             StepEntry::Lose => Step::Lose,
             StepEntry::Damage { place, value } => Step::Damage { place, value },
+            StepEntry::Noise => Step::Noise { bytes: message },
             StepEntry::Open => Step::Open,
             StepEntry::Accept { partner } => Step::Accept { partner },
             StepEntry::Reject { partner } => Step::Reject { partner },
             StepEntry::In { link } => Step::In { link, message },
             StepEntry::Close { link } => Step::Close { link },
             StepEntry::Retry { link } => Step::Retry { link },
+        }
+    }
+
+    /// How many bytes may stand beside it.
+    pub fn most(self) -> usize
+        ensures most { result ≡ most_bytes (plain self) }
+        ensures room { result ≤ MOST }
+    {
+        match self {
+            StepEntry::Noise => MAX_UNIT,
+            StepEntry::Start
+            | StepEntry::Halt
+            | StepEntry::Timer
+            | StepEntry::Send
+            | StepEntry::Deliver
+            | StepEntry::Refuse
+            | StepEntry::Lose
+            | StepEntry::Damage { .. }
+            | StepEntry::Open
+            | StepEntry::Accept { .. }
+            | StepEntry::Reject { .. }
+            | StepEntry::In { .. }
+            | StepEntry::Close { .. }
+            | StepEntry::Retry { .. } => MAX_MESSAGE,
         }
     }
 }

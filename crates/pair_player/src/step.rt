@@ -2,7 +2,7 @@
 
 use wire_base::Side;
 
-/// What an end does, or what becomes of the next unit that is on the line to it. Its message is lent by the reader.
+/// What an end does, or what becomes of the next unit that is on the line to it. Its message or noise is lent by the reader.
 ///
 /// Addresses of links are from 1 to 65,535: `link` is one of this end, `partner` one of the other end.
 #[derive(Clone, Copy, Debug, PartialEq, Eq)]
@@ -27,6 +27,10 @@ pub enum Step<'a> {
         place: u64,
         /// What the byte is changed with, by exclusive or: at most 999,999,999,999,999,999.
         value: u64,
+    },
+    /// Bytes come that nobody sent, at most 16,393; the next unit stays on the line.
+    Noise {
+        bytes: &'a [u8],
     },
     /// The user opens a link.
     Open,

@@ -9,8 +9,7 @@ ghost use Rattle.pair_player.specs.Reading.{damage_at, head_at, line_at, link_st
 
 use crate::entry::{LineEntry, StepEntry};
 use capture::{
-    Departure, MAX_HINT, MAX_MESSAGE, address_of, after, bytes_into, cut_at, link_of, message_of,
-    number_of,
+    Departure, MAX_HINT, address_of, after, bytes_into, cut_at, link_of, message_of, number_of,
 };
 use wire_base::Side;
 
@@ -92,6 +91,9 @@ fn entry_of(text: &[u8]) -> Option<(StepEntry, Option<&[u8]>)>
         let (link, digits) = message_of(rest)?;
         return Some((StepEntry::In { link }, Some(digits)));
     }
+    if let Some(digits) = after(text, b"noise ") {
+        return Some((StepEntry::Noise, Some(digits)));
+    }
     if let Some(rest) = after(text, b"damage ") {
         let (place, value) = damage_of(rest)?;
         return Some((StepEntry::Damage { place, value }, None));
@@ -114,10 +116,10 @@ fn side_of(line: &[u8]) -> Option<(Side, &[u8])>
     None
 }
 
-/// Reads the line's step in two parts: its entry, and its message, which is written to the front of the room, with how many bytes
-/// it has. The line is given without its LF.
+/// Reads the line's step in two parts: its entry, and its message or noise, which is written to the front of the room, with how many
+/// bytes it has. The line is given without its LF.
 ///
-/// `Syntax` where it spells no step; `TooLong` where it would but for too long a message. Takes no memory.
+/// `Syntax` where it spells no step; `TooLong` where it would but for too many bytes. Takes no memory.
 #[tactic(auto, unfolding(crate::specs::Reading::line_at))]
 pub fn line_into(line: &[u8], room: &mut [u8]) -> Result<(LineEntry, usize), Departure>
     requires { length room.old ≡ MAX_MESSAGE }
@@ -134,7 +136,7 @@ pub fn line_into(line: &[u8], room: &mut [u8]) -> Result<(LineEntry, usize), Dep
     let Some(digits) = digits else {
         return Ok((LineEntry { side, step }, 0));
     };
-    let len = bytes_into(digits, MAX_MESSAGE, room)?;
+    let len = bytes_into(digits, step.most(), room)?;
     Ok((LineEntry { side, step }, len))
 }
 

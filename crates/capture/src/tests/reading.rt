@@ -6,7 +6,7 @@ use wire_base::Tally;
 
 #[test]
 fn a_head_is_the_whole_first_line(rt: HostRuntime) {
-    let rows: [(&[u8], Answer); 14] = [
+    let rows: [(&[u8], Answer); 17] = [
         (b"", SYNTAX_1),
         (b"\n", SYNTAX_1),
         (b"u start\n", SYNTAX_1),
@@ -15,7 +15,10 @@ fn a_head_is_the_whole_first_line(rt: HostRuntime) {
         (b"ddcap 1 1.1 1.1\n", Ok(0)),
         (b"ddcap 1 64.1 1.2\n", SYNTAX_1),
         (b"ddcap 1 1.1 1.02\n", SYNTAX_1),
-        (b"ddcap 2 1.1 1.2\n", SYNTAX_1),
+        (b"ddcap 2 1.1 1.2\n", Ok(0)),
+        (b"ddcap 2 1.1 1.02\n", SYNTAX_1),
+        (b"ddcap 3 1.1 1.2\n", SYNTAX_1),
+        (b"ddcap 02 1.1 1.2\n", SYNTAX_1),
         (b"ddcap 1 1.1\n", SYNTAX_1),
         (b"ddcap 1 1.1 1.2 \n", SYNTAX_1),
         (b" ddcap 1 1.1 1.2\n", SYNTAX_1),

@@ -5,6 +5,8 @@ use std::process::Abort;
 
 pub const HEAD: &[u8] = b"ddcap 1 1.1 1.2\n";
 
+pub const HEAD_2: &[u8] = b"ddcap 2 1.1 1.2\n";
+
 /// How many records a text has, or its fault.
 pub type Answer = Result<u64, CaptureFault>;
 

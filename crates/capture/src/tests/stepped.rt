@@ -1,4 +1,7 @@
-use crate::{CaptureFault, CaptureReader, WriteFault, is_node, write_head, write_record};
+use crate::{
+    CaptureFault, CaptureReader, MAX_MARK, WriteFault, is_node, write_head, write_head_2,
+    write_record, write_record_2,
+};
 use std::alloc::Global;
 use std::io::{self, ErrorKind, Read, Write};
 use wire_base::Tally;
@@ -63,6 +66,12 @@ impl Narrow {
             fails_at,
         }
     }
+
+    /// The bytes that it took.
+    pub fn into_bytes(self) -> Vec<u8> {
+        let Narrow { taken, fails_at: _ } = self;
+        taken
+    }
 }
 
 impl Write for Narrow {
@@ -90,11 +99,10 @@ pub fn copied(alloc: Global, text: &[u8], step: usize) -> (Result<u64, CaptureFa
     let mut reader = Tally::new(Stepped::new(text, step));
     let mut writer = Tally::new(Narrow::new(alloc, usize::MAX));
     let answer = copy(alloc, &mut reader, &mut writer);
-    let Narrow { taken, fails_at: _ } = writer.into_inner();
-    (answer, taken)
+    (answer, writer.into_inner().into_bytes())
 }
 
-/// Reads a whole text and writes what was read.
+/// Reads a whole text and writes what was read, in the same format.
 pub fn copy(
     alloc: Global,
     reader: &mut Tally<Stepped<'_>>,
@@ -103,22 +111,37 @@ pub fn copy(
     let mut capture = CaptureReader::open(alloc, reader)?;
     let (own, peer) = (capture.own(), capture.peer());
     if is_node(own) && is_node(peer) {
-        written(write_head(alloc, own, peer, writer))?;
+        let answer = match capture.format() {
+            1 => write_head(alloc, own, peer, writer),
+            _ => write_head_2(alloc, own, peer, writer),
+        };
+        written(answer)?;
     }
+    let mut mark = 0;
     for records in 0..u64::MAX {
         let Some(record) = capture.next(reader)? else {
             return Ok(records);
         };
-        if record.in_range() {
-            written(write_record(alloc, &record, writer))?;
+        if record.in_range() && mark <= MAX_MARK {
+            mark = match capture.format() {
+                1 => same_mark(mark, written(write_record(alloc, &record, writer)))?,
+                _ => written(write_record_2(alloc, mark, &record, writer))?,
+            };
         }
     }
     Ok(u64::MAX)
 }
 
-fn written(answer: Result<(), WriteFault>) -> Result<(), CaptureFault> {
+fn written<T>(answer: Result<T, WriteFault>) -> Result<T, CaptureFault> {
     match answer {
-        Ok(()) => Ok(()),
+        Ok(done) => Ok(done),
         Err(_) => Err(CaptureFault::OutOfMemory),
+    }
+}
+
+fn same_mark(mark: u64, answer: Result<(), CaptureFault>) -> Result<u64, CaptureFault> {
+    match answer {
+        Ok(()) => Ok(mark),
+        Err(fault) => Err(fault),
     }
 }

@@ -6,7 +6,7 @@ use std::test::Fail;
 
 #[test]
 fn a_number_has_no_leading_zero(rt: HostRuntime) {
-    let rows: [(&[u8], u64, Option<u64>); 12] = [
+    let rows: [(&[u8], u64, Option<u64>); 14] = [
         (b"0", 0, Some(0)),
         (b"7", 6, None),
         (b"7", 7, Some(7)),
@@ -21,7 +21,17 @@ fn a_number_has_no_leading_zero(rt: HostRuntime) {
             999_999_999_999_999_999,
             Some(999_999_999_999_999_999),
         ),
-        (b"1000000000000000000", u64::MAX, None),
+        (
+            b"1000000000000000000",
+            u64::MAX,
+            Some(1_000_000_000_000_000_000),
+        ),
+        (
+            b"9999999999999999999",
+            u64::MAX,
+            Some(9_999_999_999_999_999_999),
+        ),
+        (b"10000000000000000000", u64::MAX, None),
         (b"18446744073709551616", u64::MAX, None),
     ];
     for (text, most, answer) in rows {

@@ -1,5 +1,6 @@
 //! Pairs of captures in memory, and what `check` prints of them.
 
+use super::conversion::expect_in_both;
 use super::units::digits_of;
 use crate::check::check_to;
 use std::alloc::{AllocError, Global};
@@ -167,7 +168,7 @@ pub fn expect_verdict(
     Ok(())
 }
 
-/// Checks two texts, which have a verdict.
+/// Checks two texts of format 1, which have a verdict, and the same in format 2.
 pub fn expect_verdict_of(rt: &impl Abort, alloc: Global, text_a: &str, text_b: &str, out: &str) {
     let status = if out.starts_with("accepted") { 0 } else { 1 };
     let answer = Answer {
@@ -176,4 +177,6 @@ pub fn expect_verdict_of(rt: &impl Abort, alloc: Global, text_a: &str, text_b: &
         status,
     };
     expect(rt, alloc, text_a, text_b, answer);
+    let converted = expect_in_both(rt, alloc, text_a, text_b, answer);
+    assert!(rt; converted.is_ok(), "no memory for {out}");
 }

@@ -36,6 +36,7 @@ fn each_reason_names_its_record(rt: HostRuntime) -> Result<(), Fail> {
             "",
             "refused a 1 line 3: 14 WrongUserEvent\n",
         ),
+        ("n STRT", "", "refused a 0 line 2: 27 NotNoise\n"),
     ];
     for (a, b, printed) in rows {
         expect_verdict(&rt, rt.alloc(), a, b, printed)?;

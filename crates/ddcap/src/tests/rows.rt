@@ -148,7 +148,7 @@ fn reads_a_record_when_its_turn_comes(rt: HostRuntime) -> Result<(), Fail> {
     };
     let rows = [
         ("s STRT", HEAD_B, "x", refused),
-        ("s STRT", "ddcap 2 1.2 1.1", "x", bad_head),
+        ("s STRT", "ddcap 3 1.2 1.1", "x", bad_head),
         (LOST_A, HEAD_B, "u start; x", bad_line),
     ];
     for (a, head_b, b, answer) in rows {

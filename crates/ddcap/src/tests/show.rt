@@ -112,6 +112,10 @@ fn shows_each_kind_of_record(rt: HostRuntime) -> Result<(), Fail> {
             "kept 12 data flags 00 resp 0 num 1 count 1",
         ),
         ("k 3 -", "kept 3 header bad"),
+        ("n -", "noise header bad"),
+        ("n 810100000101e381", "noise data bad"),
+        ("n STRT", "noise strt flags c0"),
+        ("n 0000000000000000", "noise malformed 1"),
         ("u start", "user start"),
         ("u halt", "user halt"),
         ("u open 1", "user open 1"),
@@ -145,7 +149,7 @@ fn a_fault_stands_behind_the_lines_before_it(rt: HostRuntime) -> Result<(), Fail
     let rows = [
         ("", "", "a: line 1: syntax\n"),
         ("ddcap 1 1.1 1.2", "", "a: line 1: syntax\n"),
-        ("ddcap 2 1.1 1.2\nu start\n", "", "a: line 1: syntax\n"),
+        ("ddcap 3 1.1 1.2\nu start\n", "", "a: line 1: syntax\n"),
         ("ddcap 1 1.1 1.2\nu starts\n", "", "a: line 2: syntax\n"),
         ("ddcap 1 1.1 1.2\nu start", "", "a: line 2: syntax\n"),
         (

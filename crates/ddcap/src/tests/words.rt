@@ -1,6 +1,7 @@
 //! The words of the program.
 
 use crate::words::{Task, WordsFault, task_of};
+use capture::Format;
 
 #[test]
 fn a_check_has_two_words(rt: HostRuntime) {
@@ -41,8 +42,41 @@ fn a_show_has_one_word(rt: HostRuntime) {
 }
 
 #[test]
+fn a_conversion_has_a_format_and_two_words(rt: HostRuntime) {
+    let rows: [(&[&str], Task<'_>); 3] = [
+        (
+            &["ddcap", "convert", "1", "x", "y"],
+            Task::Convert {
+                to: Format::One,
+                a: "x",
+                b: "y",
+            },
+        ),
+        (
+            &["ddcap", "convert", "2", "--", "-x", "1"],
+            Task::Convert {
+                to: Format::Two,
+                a: "-x",
+                b: "1",
+            },
+        ),
+        (
+            &["ddcap", "convert", "2", "", ""],
+            Task::Convert {
+                to: Format::Two,
+                a: "",
+                b: "",
+            },
+        ),
+    ];
+    for (words, task) in rows {
+        assert_eq!(rt; task_of(rt.alloc(), words), Ok(task));
+    }
+}
+
+#[test]
 fn other_words_are_bad_words(rt: HostRuntime) {
-    let rows: [&[&str]; 20] = [
+    let rows: [&[&str]; 32] = [
         &[],
         &["ddcap"],
         &["ddcap", "check"],
@@ -56,6 +90,18 @@ fn other_words_are_bad_words(rt: HostRuntime) {
         &["ddcap", "show", "-x"],
         &["ddcap", "show", "--help"],
         &["ddcap", "shows", "x"],
+        &["ddcap", "convert"],
+        &["ddcap", "convert", "1"],
+        &["ddcap", "convert", "1", "x"],
+        &["ddcap", "convert", "1", "x", "y", "z"],
+        &["ddcap", "convert", "0", "x", "y"],
+        &["ddcap", "convert", "3", "x", "y"],
+        &["ddcap", "convert", "01", "x", "y"],
+        &["ddcap", "convert", "+1", "x", "y"],
+        &["ddcap", "convert", "", "x", "y"],
+        &["ddcap", "convert", "12", "x", "y"],
+        &["ddcap", "convert", "1", "-x", "y"],
+        &["ddcap", "convert", "--help"],
         &["ddcap", "--help"],
         &["ddcap", "-V"],
         &["ddcap", "--version"],

@@ -4,7 +4,7 @@ use crate::Reason;
 use std::test::Fail;
 
 #[test]
-fn each_of_the_26_reasons_has_its_number_and_its_name(rt: HostRuntime) -> Result<(), Fail> {
+fn each_of_the_27_reasons_has_its_number_and_its_name(rt: HostRuntime) -> Result<(), Fail> {
     let rows = [
         (Reason::NotAMessage, 1, "NotAMessage"),
         (Reason::HintOrder, 2, "HintOrder"),
@@ -32,6 +32,7 @@ fn each_of_the_26_reasons_has_its_number_and_its_name(rt: HostRuntime) -> Result
         (Reason::WrongDelivery, 24, "WrongDelivery"),
         (Reason::CrossedLink, 25, "CrossedLink"),
         (Reason::AddressInUse, 26, "AddressInUse"),
+        (Reason::NotNoise, 27, "NotNoise"),
     ];
     for (reason, number, name) in rows {
         assert_eq!(rt; reason.number(), number, "the number of {reason:?}");

@@ -84,6 +84,21 @@ fn a_message_has_at_most_65535_bytes(rt: HostRuntime) -> Result<(), Fail> {
 }
 
 #[test]
+fn noise_has_at_most_16393_bytes(rt: HostRuntime) -> Result<(), Fail> {
+    let rows: [(usize, &[u8], Answer); 4] = [
+        (16_393, b"\n", Ok(1)),
+        (16_394, b"\n", too_long(2)),
+        (16_394, b"a\n", syntax(2)),
+        (16_394, b"", syntax(2)),
+    ];
+    for (count, back, answer) in rows {
+        let text = with_many(rt.alloc(), &[HEAD, b"b noise "], b"a5", count, back)?;
+        check(&rt, rt.alloc(), text.as_slice(), answer);
+    }
+    Ok(())
+}
+
+#[test]
 fn a_line_has_at_most_131081_bytes(rt: HostRuntime) -> Result<(), Fail> {
     let rows: [(usize, &[u8], Answer, Answer); 4] = [
         (131_081, b"\n", syntax(1), syntax(2)),

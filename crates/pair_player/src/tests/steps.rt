@@ -91,6 +91,19 @@ fn lines_with_a_message_are_read_as_their_steps(rt: HostRuntime) -> Result<(), F
 }
 
 #[test]
+fn lines_of_noise_are_read_as_their_steps(rt: HostRuntime) -> Result<(), Fail> {
+    let rows: [(&[u8], &[u8]); 3] = [
+        (b"a noise -\n", &[]),
+        (b"a noise 05\n", &[5]),
+        (b"a noise 00ff10\n", &[0, 255, 16]),
+    ];
+    for (line, bytes) in rows {
+        expect_steps(&rt, rt.alloc(), &[(line, Side::A, Step::Noise { bytes })])?;
+    }
+    Ok(())
+}
+
+#[test]
 fn the_head_names_node_a_and_then_node_b(rt: HostRuntime) -> Result<(), Fail> {
     let mut reader = Tally::new(Stepped::new(b"ddplay 1 1.2 63.1023\n", 3));
     let script = ScriptReader::open(rt.alloc(), &mut reader)?;

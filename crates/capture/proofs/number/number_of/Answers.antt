@@ -19,12 +19,12 @@ returns-then-not-is_ascii_digit-clause-value c = number_none c.args.most c.args.
 
 pub overflow_mul-value : goal.overflow_mul-value
 overflow_mul-value c =
-    let below = read_fits c.loop-digit.value c.loop-digit.digit-index c.args.text.now c.loop-digit.invariant c.loop-digit-test.true c.if-text-gt18.false in
+    let below = read_fits c.loop-digit.value c.loop-digit.digit-index c.args.text.now c.loop-digit.invariant c.loop-digit-test.true c.if-text-gt19.false in
     omega arith
 
 pub overflow_add-value : goal.overflow_add-value
 overflow_add-value c =
-    let below = read_fits c.loop-digit.value c.loop-digit.digit-index c.args.text.now c.loop-digit.invariant c.loop-digit-test.true c.if-text-gt18.false in
+    let below = read_fits c.loop-digit.value c.loop-digit.digit-index c.args.text.now c.loop-digit.invariant c.loop-digit-test.true c.if-text-gt19.false in
     let byte = c.type_inv.text c.loop-digit.digit-index in
     let value = c.from.ensures in
     omega arith
@@ -42,11 +42,11 @@ returns-then-value-most-clause-value c =
     let e : take c.loop-digit.digit-index c.args.text.now ≡ c.args.text.now = take_all _ _ (omega arith) in
     let read = rw e at c.loop-digit.invariant in
     let some : 0 < length c.args.text.now = nonempty (length c.args.text.now) (c.if-is_empty.ensures) in
-    number_above c.args.most c.loop-digit.value c.args.text.now (number_read c.loop-digit.value c.args.text.now read some c.if-text-gt18.false (lead_from (get_or c.args.text.now 0 0) (length c.args.text.now) c.else-text-eq48.either)) read.worth (omega arith)
+    number_above c.args.most c.loop-digit.value c.args.text.now (number_read c.loop-digit.value c.args.text.now read some c.if-text-gt19.false (lead_from (get_or c.args.text.now 0 0) (length c.args.text.now) c.else-text-eq48.either)) read.worth (omega arith)
 
 pub returns-clause-value : goal.returns-clause-value
 returns-clause-value c =
     let e : take c.loop-digit.digit-index c.args.text.now ≡ c.args.text.now = take_all _ _ (omega arith) in
     let read = rw e at c.loop-digit.invariant in
     let some : 0 < length c.args.text.now = nonempty (length c.args.text.now) (c.if-is_empty.ensures) in
-    number_some c.args.most c.loop-digit.value c.args.text.now (number_read c.loop-digit.value c.args.text.now read some c.if-text-gt18.false (lead_from (get_or c.args.text.now 0 0) (length c.args.text.now) c.else-text-eq48.either)) read.worth (omega arith)
+    number_some c.args.most c.loop-digit.value c.args.text.now (number_read c.loop-digit.value c.args.text.now read some c.if-text-gt19.false (lead_from (get_or c.args.text.now 0 0) (length c.args.text.now) c.else-text-eq48.either)) read.worth (omega arith)

@@ -1,7 +1,6 @@
 use Rattle.std.proofs.Common.{refl, ap, sym, ◌∙◌, arith}
 use Rattle.wire_base.specs.Tally.{tally_lent}
 use Rattle.capture.specs.Reading.{record_at}
-use Rattle.capture.specs.declared.hint.HintForm.TheVariants.{Number}
 use Rattle.capture.proofs.TakeLaws.{line_is, line_within, line_consumed, record_ok, record_departs}
 use Rattle.capture.proofs.reader.take_record.Goals as goal
 
@@ -24,7 +23,7 @@ returns-in-Ok-clause-takes g c =
     let lt = found.0 in
     let is = line_is c.next.new.self.unread c.in-Ok-Some.len found.1 found.2 in
     let words = c.line.ensures ∙ is in
-    let read = record_ok _ c.in-Ok.record (ap (record_at Number) (sym words) ∙ c.in-Ok.ensures) in (
+    let read = record_ok c.args.form _ c.in-Ok.record c.requires.form (ap (record_at c.args.form) (sym words) ∙ c.in-Ok.ensures) in (
       read.0,
       omega arith,
       omega arith,
@@ -38,5 +37,5 @@ returns-in-Err-Departs-record_of-clause-takes g c =
     let head = c.requires.head in
     let lt = found.0 in
     let read = rw (c.in-Err-Departs-record_of.field-0-is, c.line.ensures) at c.in-Err-Departs-record_of.ensures in
-    let departs = record_departs c.in-Err-Departs-record_of.kind c.next.new.self.unread c.in-Ok-Some.len c.args.lines.now.taken _ (g.R.Read.remaining (tally_lent c.next.new.reader)) (omega arith) head found.1 found.2 found.3 read in
+    let departs = record_departs c.args.form c.in-Err-Departs-record_of.kind c.next.new.self.unread c.in-Ok-Some.len c.args.lines.now.taken _ (g.R.Read.remaining (tally_lent c.next.new.reader)) c.requires.form (omega arith) head found.1 found.2 found.3 read in
     (rw c.taken-number.ensures (refl, departs), same)

@@ -52,9 +52,11 @@ pub const OF_REASONS: [&str; 3] = [
 ];
 
 /// What comes of a receipt before the station sees it, and of bytes that are sent.
-pub const OF_LINE: [&str; 2] = [
+pub const OF_LINE: [&str; 3] = [
     "sent a bad header, sent bad data, sent malformed, the last hint again, an earlier hint, never sent, not sent yet by either",
     "received another message, received malformed, received a bad header, received bad data",
+    "noise leaves the front, noise that reads as sound, noise that reads as malformed, noise in HALTED, noise in a start, \
+     noise with a bad header, noise with bad data",
 ];
 
 /// Whether a list of words, which commas part, has this one.

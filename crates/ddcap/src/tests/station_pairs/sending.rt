@@ -149,4 +149,11 @@ not sent yet by either | r 0 STRT | r 0 STRT | a 0: 4 NoOrder
 received another message | u start; s STRT | r 0 STACK | b 0: 5 Undetected
 received malformed | u start; s STRT | r 0 MALFORMED | b 0: 5 Undetected
 received a bad header | u start; s STRT | r 0 BAD_HEADER | accepted
-received bad data | u start; s STRT | r 0 BAD_DATA1 | accepted";
+received bad data | u start; s STRT | r 0 BAD_DATA1 | accepted
+noise leaves the front | u start; s STRT | n -; r 0 STRT | accepted
+noise that reads as sound | n STRT |  | a 0: 27 NotNoise
+noise that reads as malformed | n MALFORMED |  | a 0: 27 NotNoise
+noise in HALTED | n - |  | accepted
+noise in a start | u start; n -; s STRT; r 0 STACK; s NAK1 | answered | a 4: 11 NoCause
+noise with a bad header | started; n -; s NAK1 | answered | accepted
+noise with bad data | started; n 810100000101e381; s NAK1 | answered | a 4: 11 NoCause";

@@ -24,12 +24,13 @@ returns-in-Some-clause-opens g c =
     let same = c.in-Ok-Some.ensures.taken in
     let more = c.skip.ensures.taken in
     let is = line_is c.next.new.self.unread c.in-Ok-Some.len found.1 found.2 in
-    let head = head_takes _ c.in-Some.own c.in-Some.peer (ap head_at (sym (c.line.ensures ∙ is)) ∙ sym c.in-Some.ensures) in (
+    let head = head_takes _ c.in-Some.format c.in-Some.own c.in-Some.peer (ap head_at (sym (c.line.ensures ∙ is)) ∙ sym c.in-Some.ensures) in (
       head.own_fits,
       head.peer_fits,
       omega arith,
       refl,
-      rw c.skip.ensures.unread (line_consumed c.next.new.self.unread c.in-Ok-Some.len _ (g.R.Read.remaining (tally_lent c.next.new.reader)) _ found.1 found.2 head.spelled kept),
+      rw (c.skip.ensures.unread, c.first_form.ensures.format) (line_consumed c.next.new.self.unread c.in-Ok-Some.len _ (g.R.Read.remaining (tally_lent c.next.new.reader)) _ found.1 found.2 head.spelled kept),
+      rw c.first_form.ensures.format c.first_form.ensures.form,
     )
 
 pub returns-in-Ok-Some-clause-opens : goal.returns-in-Ok-Some-clause-opens

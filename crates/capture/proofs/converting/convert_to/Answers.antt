@@ -1,0 +1,53 @@
+use Rattle.std.proofs.Common.{refl, ◌∙◌}
+use Rattle.capture.specs.Entries.{record_with}
+use Rattle.capture.proofs.SoFarLaws.{form_marked}
+use Rattle.capture.proofs.ConvertLaws.{begun, counts_either, counts_fault, counts_no_write, finished, head_begun, head_stopped, line_on, line_short, some_taken, stopped}
+use Rattle.std.proofs.KnownBytes.{Keeps-refl}
+use Rattle.capture.proofs.converting.convert_to.Goals as goal
+
+pub returns-in_default-make_room-clause-converts :
+    goal.returns-in_default-make_room-clause-converts
+returns-in_default-make_room-clause-converts g c =
+    let h = c.loop-count.invariant.0 in
+    some_taken c.args.to _ _ _ h _ c.in_default-make_room.ensures.err
+
+pub put_line-requires-clause-short : goal.put_line-requires-clause-short
+put_line-requires-clause-short g c =
+    let h = c.loop-count.invariant.0 in
+    let gives = rw c.in-Ok-Some.field-0-is at c.in-Ok-Some.ensures.gives h.reading in
+    let line = rw c.in-Ok-Some.field-0-is at c.in-Ok-Some.ensures.line in
+    line_short _ _ (record_with c.in-Ok-Some.entry c.advance.new.self.bytes) _ h.read gives.0 (c.line.ensures ∙ line)
+
+pub returns-in-Ok-write_out-clause-converts : goal.returns-in-Ok-write_out-clause-converts
+returns-in-Ok-write_out-clause-converts g c =
+    let h = c.loop-count.invariant.0 in
+    let gives = rw c.in-Ok-None.field-0-is at c.in-Ok-None.ensures.gives h.reading in
+    finished c.args.to _ _ _ h _ _ gives.0 c.in-Ok-write_out.ensures.ok c.in-Ok-write_out.ensures.empty
+
+pub returns-in-Err-write_out-clause-converts : goal.returns-in-Err-write_out-clause-converts
+returns-in-Err-write_out-clause-converts g c =
+    let h = c.loop-count.invariant.0 in
+    some_taken c.args.to _ _ _ h _ c.in-Err-write_out.ensures.err
+
+pub returns-in-Ok-write_out-2-clause-converts : goal.returns-in-Ok-write_out-2-clause-converts
+returns-in-Ok-write_out-2-clause-converts g c =
+    let h = c.loop-count.invariant.0 in
+    rw c.fault_of-in-Ok-write_out-2.ensures
+    (stopped c.args.to _ _ _ h c.in-Err-advance.fault _ _ (λ e. c.in-Err-advance.ensures.memory (rw e refl)) (c.in-Err-advance.ensures.gives h.reading).0 c.in-Ok-write_out-2.ensures.ok c.in-Ok-write_out-2.ensures.empty)
+
+pub returns-in-Err-write_out-2-clause-converts : goal.returns-in-Err-write_out-2-clause-converts
+returns-in-Err-write_out-2-clause-converts g c =
+    let h = c.loop-count.invariant.0 in
+    some_taken c.args.to _ _ _ h _ c.in-Err-write_out-2.ensures.err
+
+pub loop-count-preserved : goal.loop-count-preserved
+loop-count-preserved g c =
+    let h = c.loop-count.invariant.0 in
+    let gives = rw c.in-Ok-Some.field-0-is at c.in-Ok-Some.ensures.gives h.reading in
+    let line = rw c.in-Ok-Some.field-0-is at c.in-Ok-Some.ensures.line in
+    let bytes = c.advance.new.self.bytes in
+    let put = c.put_line.ensures c.loop-count.capture.form bytes (form_marked _ _ h.read) gives.0.spelling.numbers (c.line.ensures ∙ line) in (
+      line_on c.args.to _ _ _ h _ c.make_room.new.self (record_with c.in-Ok-Some.entry bytes) c.advance.ensures.head.0 c.advance.ensures.head.1 gives c.in-Ok-make_room.ensures.ok put (c.after-form.ensures bytes) refl,
+      c.in-Ok-Some.ensures.reads ∙ c.loop-count.invariant.1,
+      c.in-Ok-make_room.ensures.faults ∙ c.loop-count.invariant.2,
+    )

@@ -1,0 +1,63 @@
+-- What `convert` reads and writes.
+use Rattle.std.specs.Prelude.{◌≡◌, ℕ, ◌⊎◌, List, length, Option, Result, Ok, Err}
+use Rattle.std.specs.Io.KnownBytes.{Appends, Keeps}
+use Rattle.wire_base.specs.Tally.{AppendsBeginning, CountedFault}
+use Rattle.capture.specs.declared.fault.CaptureFault.{CaptureFault}
+use Rattle.capture.specs.declared.fault.CaptureFault.TheVariants as faults
+use Rattle.capture.specs.declared.fault.ConvertFault.{ConvertFault}
+use Rattle.capture.specs.declared.fault.ConvertFault.TheVariants.{Capture, Write, OutOfMemory}
+use Rattle.capture.specs.declared.format.Format.{Format}
+use Rattle.capture.specs.Text.{capture_text}
+use Rattle.capture.specs.Faulty.{CountsReads, is_read_fault}
+use Rattle.capture.specs.SoFar.{ReadSoFar, TheEnd, IsReadSoFar, DepartsBehind, HeadDepartsAt}
+
+-- the text, in this format, of what was read
+abbrev pub text_of : Format → ReadSoFar → List ℕ
+text_of to read = capture_text to read.own read.peer read.records
+
+-- a head and records were read of the text, and the writer took their text in this format
+pub record HasConverted (to : Format) (text old new : Option (List ℕ)) (read : ReadSoFar) : Type 0 where
+  pub from : IsReadSoFar text read
+  pub taken : Appends old new (text_of to read)
+
+-- the same for some head and records, or nothing was written
+abbrev pub HasBegun : Format → Option (List ℕ) → Option (List ℕ) → Option (List ℕ) → Type 0
+HasBegun to text old new = Keeps old new ⊎ ((read : ReadSoFar) × HasConverted to text old new read)
+
+-- What becomes of the rest of a text, by what its reader answers: its head departs, or the line behind what was converted;
+-- or it can't be read further.
+abbrev pub StopsAt : Format → Option (List ℕ) → Option (List ℕ) → Option (List ℕ) → CaptureFault → Type 0
+StopsAt to text old new (faults.Departs kind line) =
+    (HeadDepartsAt text kind line × Keeps old new) ⊎ ((read : ReadSoFar) × HasConverted to text old new read × DepartsBehind read kind line)
+StopsAt to text old new faults.Read = HasBegun to text old new
+StopsAt to text old new faults.OutOfMemory = ⊥
+StopsAt to text old new faults.Failed = ⊥
+
+-- One call, where the reader had this text left, and the writer had these bytes before and after: what was read to the end was written,
+-- and its records are counted; or all before a fault was written; or, where a write failed, a beginning of what was read, and not all.
+abbrev pub Converts : Format → Option (List ℕ) → Option (List ℕ) → Option (List ℕ) → Result ℕ ConvertFault → Type 0
+Converts to text old new (Ok count) = (read : ReadSoFar) × HasConverted to text old new read × (read.behind ≡ TheEnd) × (count ≡ length read.records)
+Converts to text old new (Err (Capture fault)) = StopsAt to text old new fault
+Converts to text old new (Err Write) = (read : ReadSoFar) × IsReadSoFar text read × AppendsBeginning old new (text_of to read)
+Converts to text old new (Err OutOfMemory) = Keeps old new
+
+-- a fault of the text's reader
+abbrev pub convert_fault : CaptureFault → ConvertFault
+convert_fault (faults.Departs kind line) = Capture (faults.Departs kind line)
+convert_fault faults.Read = Capture faults.Read
+convert_fault faults.OutOfMemory = OutOfMemory
+convert_fault faults.Failed = Capture faults.Failed
+
+-- the reader's count of failed calls: where a write failed, a read may have failed just before
+abbrev pub CountsReadsOf : Result ℕ ConvertFault → ℕ → ℕ → Type 0
+CountsReadsOf (Ok count) old new = new ≡ old
+CountsReadsOf (Err (Capture fault)) old new = CountsReads (is_read_fault fault) old new
+CountsReadsOf (Err Write) old new = (new ≡ old) ⊎ CountedFault old new
+CountsReadsOf (Err OutOfMemory) old new = new ≡ old
+
+-- the writer's count
+abbrev pub CountsWritesOf : Result ℕ ConvertFault → ℕ → ℕ → Type 0
+CountsWritesOf (Ok count) old new = new ≡ old
+CountsWritesOf (Err (Capture fault)) old new = new ≡ old
+CountsWritesOf (Err Write) old new = CountedFault old new
+CountsWritesOf (Err OutOfMemory) old new = new ≡ old

@@ -1,0 +1,23 @@
+-- Where there is no memory for the printed text, nothing is read or written.
+use Rattle.std.proofs.Common.{Err, refl}
+use Rattle.std.proofs.KnownBytes.{Keeps-refl}
+use Rattle.capture.specs.declared.fault.ConvertFault.TheVariants.{Write, OutOfMemory}
+use Rattle.ddcap.proofs.convert.convert_to.Goals as goal
+
+pub returns-in_default : goal.returns-in_default
+returns-in_default g c = λ format is. record {
+  answer = Err OutOfMemory;
+  converts = Keeps-refl _;
+  reads = refl;
+  writes = refl;
+  tells = (c.print_out_of_memory.ensures, refl);
+}
+
+pub returns-in-Write : goal.returns-in-Write
+returns-in-Write g c = λ format is. record {
+  answer = Err Write;
+  converts = rw c.in-Write.is at c.in-Err.ensures.converts format is;
+  reads = rw c.in-Write.is at c.in-Err.ensures.reads;
+  writes = rw c.in-Write.is at c.in-Err.ensures.writes;
+  tells = (c.print.ensures, refl);
+}

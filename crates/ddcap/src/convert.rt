@@ -1,0 +1,64 @@
+//! `convert`: one capture, written in a format that is asked for.
+
+ghost use Rattle.std.specs.Prelude.{◌≡◌, []};
+ghost use Rattle.capture.specs.declared.format.Format.{Format as Layout};
+ghost use Rattle.capture.specs.Text.{format_number};
+ghost use Rattle.ddcap.specs.Conversion.{IsConversion, count_text};
+ghost use Rattle.ddcap.specs.Printed.{Writes, moved, stream_of};
+
+use crate::check::{print, print_out_of_memory};
+use crate::page::Page;
+use crate::show::print_fault;
+use crate::text::FAILED;
+use capture::{ConvertFault, convert};
+use std::alloc::Global;
+use std::io::{Read, Write};
+use wire_base::Tally;
+
+/// The status where the whole capture was converted.
+const CONVERTED: u8 = 0;
+
+/// Writes the capture that a reader gives to `dest`, in the format of the number `n`, which is 1 or 2, prints how many
+/// records it has, and answers the status.
+///
+/// Status 0: `converted R records` is printed to `out`. Else a fault is printed to `err`: a faulty line of the text and its
+/// kind, status 2, or a failed read, `a: read failed`, status 3, where `dest` has the head and the lines of all records
+/// before it, and nothing where no head was read; `b: write failed`, status 3, where `dest` has a beginning of those; or
+/// `out of memory`, status 3, where nothing was written to `dest`. A failed write to `out` or to `err` ends the printing,
+/// with status 3. The memory for the printed text, for the pieces and for the reader's block is asked for before the first
+/// write; after that, nothing takes memory.
+pub fn convert_to<A: Read, B: Write, O: Write, E: Write>(
+    alloc: Global,
+    n: u8,
+    src: &mut Tally<A>,
+    dest: &mut Tally<B>,
+    out: &mut Tally<O>,
+    err: &mut Tally<E>,
+) -> u8
+    requires { (format : Layout) × (n ≡ format_number format) }
+    ensures { (format : Layout) → n ≡ format_number format → IsConversion format (moved A.remaining src.old src.new)
+        (moved B.contents dest.old dest.new) (moved O.contents out.old out.new) (moved E.contents err.old err.new) result }
+{
+    let Ok(mut page) = Page::new(alloc) else {
+        return print_out_of_memory(err);
+    };
+    match convert(alloc, n, src, dest) {
+        Ok(count) => print_count(&mut page, out, count),
+        Err(fault) => match fault {
+            ConvertFault::Capture(fault) => print_fault(&mut page, err, fault),
+            ConvertFault::Write => print(err, b"b: write failed\n", FAILED),
+            ConvertFault::OutOfMemory => print_out_of_memory(err),
+        },
+    }
+}
+
+// Prints how many records were converted, put together on the page, and answers the status.
+fn print_count<W: Write>(page: &mut Page, out: &mut Tally<W>, count: u64) -> u8
+    ensures { Writes (stream_of W.contents out.old) (stream_of W.contents out.new) (count_text count) 0 result }
+{
+    page.clear();
+    page.put(b"converted ");
+    page.put_number(count);
+    page.put(b" records\n");
+    print(out, page.as_slice(), CONVERTED)
+}

@@ -1,0 +1,31 @@
+//! Noise: bytes that came, and that nobody sent.
+
+ghost use Rattle.std.specs.Prelude.{◌≡◌, ◌+◌, ◌^◌, ◌<◌, ◌≤◌, Ok, Err, OnOk, IfErr};
+ghost use Rattle.ddcmp_msg.specs.Reading.{reading};
+ghost use Rattle.dna_model.specs.WireStation.{load};
+ghost use Rattle.pair_judge.specs.Steps.{IfRefused};
+ghost use Rattle.pair_judge.specs.Wire.{judge_hears};
+
+use crate::layers::Layers;
+use crate::step_fault::StepFault;
+use ddcmp_msg::{Reading, read_unit};
+use ddcmp_station::Arrival;
+use dna_model::StepRefusal;
+
+/// These bytes came to the node and nobody sent them: the station meets them as a unit that shows damage. They name no unit, so the
+/// line stays as it is.
+///
+/// `Refused(NotNoise)`: they show no damage, whether they read as a message or not. Takes no memory.
+pub fn hear(layers: &mut Layers, bytes: &[u8]) -> Result<(), StepFault>
+    requires { load layers.old.station < 2 ^ 63 }
+    ensures ok { OnOk result (judge_hears layers.old (reading bytes.now) ≡ Ok layers.new) }
+    ensures refused { IfErr result (IfRefused (λ refusal. judge_hears layers.old (reading bytes.now) ≡ Err refusal)) }
+    ensures load { load layers.new.station ≤ load layers.old.station + 1 }
+{
+    match read_unit(bytes) {
+        Reading::HeaderBad => layers.arrived(Arrival::HeaderBad, None, false),
+        Reading::DataBad => layers.arrived(Arrival::DataBad, None, false),
+        Reading::Sound(_) => Err(StepFault::Refused(StepRefusal::NotNoise)),
+        Reading::Malformed(_) => Err(StepFault::Refused(StepRefusal::NotNoise)),
+    }
+}
