@@ -29,6 +29,7 @@ mod record;
 mod record_words;
 mod so_far;
 mod spelling;
+mod wording;
 mod writer;
 
 pub use address::{address_of, is_node};

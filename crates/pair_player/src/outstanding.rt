@@ -1,8 +1,8 @@
 //! The segments of a link that are given and not acknowledged.
 
-ghost use Rattle.std.specs.Prelude.{◌≡◌, ◌+◌, ◌-◌, ◌<◌, ◌≤◌, ◌++◌, ◌∷◌, [], length, drop, slice_get, option_copied, nat_le, OnOk, OnErr};
+ghost use Rattle.std.specs.Prelude.{◌≡◌, ◌+◌, ◌-◌, ◌<◌, ◌≤◌, ◌++◌, ◌∷◌, [], length, slice_get, option_copied, nat_le, OnOk, OnErr};
 ghost use Rattle.wire_base.specs.Window.{empty_from};
-ghost use Rattle.dna_model.specs.Flow.{wire, distance};
+ghost use Rattle.dna_model.specs.Flow.{distance};
 ghost use Rattle.dna_model.specs.Flow as flow;
 ghost use Rattle.std.specs.List.{AllByRecursion};
 ghost use Rattle.dna_packet.specs.AckWord.{IsAckWord};

@@ -1,9 +1,9 @@
 //! The segments of a link that are received and not delivered.
 
-ghost use Rattle.std.specs.Prelude.{◌≡◌, ◌+◌, ◌-◌, ◌^◌, ◌<◌, ◌≤◌, ◌==◌, ◌++◌, ◌∷◌, [], true, None, Some, length, drop, take, replicate};
+ghost use Rattle.std.specs.Prelude.{◌≡◌, ◌+◌, ◌-◌, ◌^◌, ◌<◌, ◌≤◌, ◌==◌, ◌++◌, ◌∷◌, [], true, None, Some, length, drop, replicate};
 ghost use Rattle.std.specs.Prelude.{option_copied, OnOk, OnErr, IfOk, IfSome};
-ghost use Rattle.std.specs.VecDeque.{deque_len, deque_capacity};
-ghost use Rattle.dna_model.specs.Pieces.{in_order, in_whole_messages};
+ghost use Rattle.std.specs.VecDeque.{deque_len};
+ghost use Rattle.dna_model.specs.Pieces.{in_order};
 ghost use Rattle.dna_model.specs.Pieces as spec;
 ghost use Rattle.pair_player.specs.Segments as received;
 ghost use Rattle.pair_player.specs.Segments.{is_missing_at, next_count};

@@ -1,6 +1,6 @@
 //! What was handed in and is in no segment yet.
 
-ghost use Rattle.std.specs.Prelude.{◌≡◌, ◌≤◌, not, length, OnOk, OnErr};
+ghost use Rattle.std.specs.Prelude.{◌≡◌, ◌≤◌, length, OnOk, OnErr};
 ghost use Rattle.dna_model.specs.Pieces.{none_unsent, with_message, without_piece};
 ghost use Rattle.dna_model.specs.NextSent.{has_more};
 ghost use Rattle.dna_model.specs.Compose.{next_piece};

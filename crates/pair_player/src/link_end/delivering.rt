@@ -1,6 +1,6 @@
 //! What is whole of a link goes to its user.
 
-ghost use Rattle.std.specs.Prelude.{◌≡◌, ◌++◌, ◌≤◌, ◌<◌, true, false, None, Some, length, take, drop, OnOk, IfOk, IfErr};
+ghost use Rattle.std.specs.Prelude.{◌≡◌, ◌++◌, ◌≤◌, ◌<◌, Some, length, take, drop, OnOk, IfOk, IfErr};
 ghost use Rattle.capture.specs.declared.limit.TheConstants.{MAX_MESSAGE};
 ghost use Rattle.dna_model.specs.Pieces.{in_whole_messages};
 ghost use Rattle.dna_model.specs.KeptLinks as kept;

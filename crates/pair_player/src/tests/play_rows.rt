@@ -1,4 +1,4 @@
-use super::played::played;
+use super::played::play_lines;
 use super::rows::{HEAD, joined};
 use crate::StepFault;
 use std::alloc::Global;
@@ -95,9 +95,9 @@ b send
 /// Each row adds what it says.
 pub fn agree(rt: &impl Abort, alloc: Global, rows: &[Row]) -> Result<(), Fail> {
     for row in rows {
-        let before = played(alloc, &[HEAD, row.before[0], row.before[1]])?;
+        let before = play_lines(alloc, &[HEAD, row.before[0], row.before[1]])?;
         assert_eq!(rt; before.fault, None, "before {}", row.name);
-        let after = played(alloc, &[HEAD, row.before[0], row.before[1], row.steps])?;
+        let after = play_lines(alloc, &[HEAD, row.before[0], row.before[1], row.steps])?;
         let fault = if row.is_bad {
             Some(StepFault::BadStep)
         } else {

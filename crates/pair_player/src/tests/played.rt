@@ -15,7 +15,7 @@ pub struct Outcome {
 }
 
 /// Plays the steps of these lines between nodes 1.1 and 1.2.
-pub fn played(alloc: Global, lines: &[&[u8]]) -> Result<Outcome, Fail> {
+pub fn play_lines(alloc: Global, lines: &[&[u8]]) -> Result<Outcome, Fail> {
     let text = joined(alloc, lines)?;
     let mut reader = Tally::new(Stepped::new(text.as_slice(), 4096));
     let mut script = ScriptReader::open(alloc, &mut reader)?;

@@ -1,4 +1,4 @@
-use super::played::played;
+use super::played::play_lines;
 use std::test::Fail;
 
 const SCRIPT: &[u8] = b"ddplay 1 1.1 1.2
@@ -56,7 +56,7 @@ s 81090001010153800201040204002401002cd5
 
 #[test]
 fn the_worked_script_has_its_two_captures(rt: HostRuntime) -> Result<(), Fail> {
-    let played = played(rt.alloc(), &[SCRIPT])?;
+    let played = play_lines(rt.alloc(), &[SCRIPT])?;
     assert_eq!(rt; played.fault, None);
     assert_eq!(rt; played.steps, 24);
     assert!(rt; played.of_a.as_slice() == OF_A);
