@@ -14,7 +14,7 @@ use crate::record::Record;
 use itoa::Buffer;
 use std::alloc::AllocError;
 
-fn put_number(line: &mut Vec<u8>, number: u64) -> Result<(), AllocError>
+pub(crate) fn put_number(line: &mut Vec<u8>, number: u64) -> Result<(), AllocError>
     ensures { OnOk result (line.new.items ≡ line.old.items ++ decimal number) }
 {
     let mut buffer = Buffer::new();
@@ -48,7 +48,7 @@ fn put_address(line: &mut Vec<u8>, address: u16) -> Result<(), AllocError>
     put_number(line, u64::from(address % 1024))
 }
 
-fn put_bytes(line: &mut Vec<u8>, bytes: &[u8]) -> Result<(), AllocError>
+pub(crate) fn put_bytes(line: &mut Vec<u8>, bytes: &[u8]) -> Result<(), AllocError>
     requires { length bytes.now ≤ MAX_MESSAGE }
     ensures { OnOk result (line.new.items ≡ line.old.items ++ bytes_text bytes.now) }
 {
@@ -73,7 +73,7 @@ fn put_digits(line: &mut Vec<u8>, bytes: &[u8]) -> Result<(), AllocError>
     }
 }
 
-fn put_links(line: &mut Vec<u8>, partner: u16, link: u16) -> Result<(), AllocError>
+pub(crate) fn put_links(line: &mut Vec<u8>, partner: u16, link: u16) -> Result<(), AllocError>
     ensures { OnOk result (line.new.items ≡ line.old.items ++ spaced (decimal partner) (decimal link)) }
 {
     put_number(line, u64::from(partner))?;
@@ -81,7 +81,7 @@ fn put_links(line: &mut Vec<u8>, partner: u16, link: u16) -> Result<(), AllocErr
     put_number(line, u64::from(link))
 }
 
-fn put_message(line: &mut Vec<u8>, link: u16, bytes: &[u8]) -> Result<(), AllocError>
+pub(crate) fn put_message(line: &mut Vec<u8>, link: u16, bytes: &[u8]) -> Result<(), AllocError>
     requires { length bytes.now ≤ MAX_MESSAGE }
     ensures { OnOk result (line.new.items ≡ line.old.items ++ spaced (decimal link) (bytes_text bytes.now)) }
 {
@@ -90,7 +90,7 @@ fn put_message(line: &mut Vec<u8>, link: u16, bytes: &[u8]) -> Result<(), AllocE
     put_bytes(line, bytes)
 }
 
-fn put_receipt(
+pub(crate) fn put_receipt(
     line: &mut Vec<u8>,
     form: HintForm,
     hint: u64,

@@ -19,6 +19,7 @@ use crate::phase::Phase;
 use crate::record::Record;
 use crate::record_words::{head_of, line_into, record_of};
 use crate::spelling::Spelling;
+use crate::wording::Wording;
 use std::alloc::Global;
 use std::io::Read;
 use std::marker::Model;
@@ -41,9 +42,8 @@ pub struct CaptureReader {
     lines: LineReader,
     own: u16,
     peer: u16,
-    form: HintForm,
     phase: Phase,
-    spelling: Spelling,
+    wording: Wording,
     // What `advance` read last: that many bytes at the front.
     room: Vec<u8>,
     len: usize,
@@ -96,29 +96,28 @@ fn take_record<R: Read>(
 // One record's turn, with its bytes at the front of the room: how many they are beside its entry.
 #[inline(always)]
 fn take_entry<R: Read>(
-    form: HintForm,
-    spelling: &Spelling,
+    wording: &Wording,
     lines: &mut LineReader,
     room: &mut [u8],
     reader: &mut Tally<R>,
 ) -> Result<Option<(Entry, usize)>, CaptureFault>
-    requires form { FormFits form }
+    requires form { FormFits wording.now.form }
     requires head { 1 ≤ lines.old.taken }
     requires few { lines.old.taken ≤ MAX_RECORDS + 1 }
     requires room { length room.old ≡ MAX_MESSAGE }
-    ensures takes { TakesRecord (record { form = form; taken = lines.old.taken }) lines.new.taken
+    ensures takes { TakesRecord (record { form = wording.now.form; taken = lines.old.taken }) lines.new.taken
         (to_come lines.old.unread (R.remaining (tally_lent reader.old)))
         (to_come lines.new.unread (R.remaining (tally_lent reader.new))) (recorded_in room.new result) }
     ensures room { length room.new ≡ MAX_MESSAGE }
     ensures len { IfOk result (λ taken. IfSome taken (λ entry. entry.1 ≤ MAX_MESSAGE)) }
     ensures line { IfOk result (λ taken. IfSome taken (λ entry.
-        lines.new.last ≡ record_text form (record_with entry.0 (take entry.1 room.new)))) }
+        lines.new.last ≡ record_text wording.now.form (record_with entry.0 (take entry.1 room.new)))) }
     ensures memory { result ≡ Err CaptureFault.OutOfMemory → ⊥ }
     ensures reads { CountsReads (is_failed_read result) (tally_faults reader.old) (tally_faults reader.new) }
 {
     let number = lines.taken() + 1;
     match lines.next(MAX_RECORDS + 1, reader) {
-        Ok(Some(len)) => match line_into(form, spelling, lines.line(len), room) {
+        Ok(Some(len)) => match line_into(wording, lines.line(len), room) {
             Ok(entry) => {
                 lines.skip(len);
                 Ok(Some(entry))
@@ -160,9 +159,11 @@ impl CaptureReader {
                         lines,
                         own,
                         peer,
-                        form: format.first_form(),
                         phase: Phase::Reading,
-                        spelling: Spelling::new(),
+                        wording: Wording {
+                            form: format.first_form(),
+                            spelling: Spelling::new(),
+                        },
                         room,
                         len: 0,
                     })
@@ -186,7 +187,7 @@ impl CaptureReader {
     pub fn format(&self) -> u8
         ensures { result ≡ format_number (format_of self.now.form) }
     {
-        self.form.format().number()
+        self.wording.form.format().number()
     }
 
     /// The address of the node at the other end of the line. Takes no memory.
@@ -216,16 +217,10 @@ impl CaptureReader {
             Phase::Ended => return Ok(None),
             Phase::Failed => return Err(CaptureFault::Failed),
         }
-        match take_entry(
-            self.form,
-            &self.spelling,
-            &mut self.lines,
-            &mut self.room,
-            reader,
-        ) {
+        match take_entry(&self.wording, &mut self.lines, &mut self.room, reader) {
             Ok(Some((entry, len))) => {
                 self.len = len;
-                self.form = self.form.after(entry);
+                self.wording.go_behind(entry);
                 Ok(Some(entry))
             }
             Ok(None) => {
@@ -282,9 +277,9 @@ impl CaptureReader {
             Phase::Failed => return Err(CaptureFault::Failed),
         }
         let alloc = self.alloc;
-        match take_record(alloc, self.form, &mut self.lines, reader) {
+        match take_record(alloc, self.wording.form, &mut self.lines, reader) {
             Ok(Some(record)) => {
-                self.form = self.form.after_record(&record);
+                self.wording.form = self.wording.form.after_record(&record);
                 Ok(Some(record))
             }
             Ok(None) => {

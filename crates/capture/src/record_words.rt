@@ -1,11 +1,12 @@
 //! Reading the words of a record's line, and of the head.
 
-ghost use Rattle.std.specs.Prelude.{◌≡◌, ◌≤◌, length, true, false, IfOk, IfSome};
+ghost use Rattle.std.specs.Prelude.{◌≡◌, ◌≤◌, length, Bool, true, false, IfOk, IfSome};
 ghost use Rattle.capture.specs.Reading.{Gives, hint_at, nodes_at, receipt_at, record_at, head_at};
 ghost use Rattle.capture.specs.Range.{FormFits, IsNode};
 ghost use Rattle.capture.specs.declared.limit.TheConstants.{MAX_MARK, MAX_MESSAGE};
 ghost use Rattle.std.specs.Option.{option_map};
 ghost use Rattle.capture.specs.Entries.{parted, told};
+ghost use Rattle.capture.specs.declared.entry.Entry.TheVariants.{Received};
 
 use crate::address::address_of;
 use crate::bytes::Bytes;
@@ -19,7 +20,7 @@ use crate::limit::MAX_HINT;
 use crate::number::{number_before, number_of, positive_of};
 use crate::part::{after, cut_at};
 use crate::record::Record;
-use crate::spelling::Spelling;
+use crate::wording::Wording;
 use std::alloc::Global;
 
 #[tactic(auto, unfolding(crate::specs::Reading::hint_at))]
@@ -51,38 +52,39 @@ fn hint_by_distance(mark: u64, text: &[u8]) -> Option<u64>
     Some(hint)
 }
 
+// The hint of a receipt and the text of its BYTES. That it is a receipt is told where it is read, so that nothing asks it again.
 #[inline(always)]
-fn receipt_of(form: HintForm, kept: bool, text: &[u8]) -> Option<(Entry, &[u8])>
+fn receipt_of(form: HintForm, text: &[u8]) -> Option<(u64, &[u8])>
     requires { FormFits form }
-    ensures { receipt_at form kept text.now ≡ told (option_map (λ parts. (parts.0, parts.1.now)) result) }
+    ensures { (kept : Bool) → receipt_at form kept text.now ≡ told (option_map (λ parts. (Received kept parts.0, parts.1.now)) result) }
 {
     match form {
-        HintForm::Number => receipt_by_number(kept, text),
-        HintForm::Distance { .. } => match receipt_by_distance(form, kept, text) {
-            Some((entry, bytes)) => Some((entry, bytes)),
+        HintForm::Number => receipt_by_number(text),
+        HintForm::Distance { .. } => match receipt_by_distance(form, text) {
+            Some((hint, bytes)) => Some((hint, bytes)),
             None => None,
         },
     }
 }
 
 #[inline(always)]
-fn receipt_by_number(kept: bool, text: &[u8]) -> Option<(Entry, &[u8])>
-    ensures { receipt_at HintForm.Number kept text.now ≡ told (option_map (λ parts. (parts.0, parts.1.now)) result) }
+fn receipt_by_number(text: &[u8]) -> Option<(u64, &[u8])>
+    ensures { (kept : Bool) → receipt_at HintForm.Number kept text.now ≡ told (option_map (λ parts. (Received kept parts.0, parts.1.now)) result) }
 {
     match number_before(text, MAX_HINT) {
-        Some((hint, bytes)) => Some((Entry::Received { kept, hint }, bytes)),
+        Some((hint, bytes)) => Some((hint, bytes)),
         None => None,
     }
 }
 
 #[tactic(auto, unfolding(crate::specs::Reading::receipt_at))]
-fn receipt_by_distance(form: HintForm, kept: bool, text: &[u8]) -> Option<(Entry, &[u8])>
+fn receipt_by_distance(form: HintForm, text: &[u8]) -> Option<(u64, &[u8])>
     requires { FormFits form }
-    ensures { receipt_at form kept text.now ≡ told (option_map (λ parts. (parts.0, parts.1.now)) result) }
+    ensures { (kept : Bool) → receipt_at form kept text.now ≡ told (option_map (λ parts. (Received kept parts.0, parts.1.now)) result) }
 {
     let (hint, bytes) = cut_at(text, b' ')?;
     let hint = hint_of(form, hint)?;
-    Some((Entry::Received { kept, hint }, bytes))
+    Some((hint, bytes))
 }
 
 /// What the line says beside its BYTES, and the text of BYTES, where it has any; `None` where it can be no record's. The line
@@ -96,10 +98,12 @@ pub fn entry_of(form: HintForm, line: &[u8]) -> Option<(Entry, &[u8])>
         return Some((Entry::Sent, rest));
     }
     if let Some(rest) = after(line, b"r ") {
-        return receipt_of(form, false, rest);
+        let (hint, bytes) = receipt_of(form, rest)?;
+        return Some((Entry::Received { kept: false, hint }, bytes));
     }
     if let Some(rest) = after(line, b"k ") {
-        return receipt_of(form, true, rest);
+        let (hint, bytes) = receipt_of(form, rest)?;
+        return Some((Entry::Received { kept: true, hint }, bytes));
     }
     if let Some(rest) = after(line, b"n ") {
         return Some((Entry::Noise, rest));
@@ -133,24 +137,23 @@ pub fn record_of(alloc: Global, form: HintForm, line: &[u8]) -> Result<Record, P
 /// Reads the line's record in two parts: its entry, and its bytes, which are written to the front of the room, with how many they
 /// are. The line is given without its LF. It departs as for [`record_of`]. Takes no memory.
 pub fn line_into(
-    form: HintForm,
-    spelling: &Spelling,
+    wording: &Wording,
     line: &[u8],
     room: &mut [u8],
 ) -> Result<(Entry, usize), Departure>
-    requires form { FormFits form }
+    requires form { FormFits wording.now.form }
     requires room { length room.old ≡ MAX_MESSAGE }
-    ensures record { record_at form line.now ≡ parted room.new result }
+    ensures record { record_at wording.now.form line.now ≡ parted room.new result }
     ensures len { IfOk result (λ parts. parts.1 ≤ MAX_MESSAGE) }
     ensures room { length room.new ≡ MAX_MESSAGE }
 {
-    let Some((entry, text)) = entry_of(form, line) else {
+    let Some((entry, text)) = entry_of(wording.form, line) else {
         return Err(Departure::Syntax);
     };
     let Some(most) = entry.limit() else {
         return Ok((entry, 0));
     };
-    let len = bytes_by(Some(spelling), text, most, room)?;
+    let len = bytes_by(Some(&wording.spelling), text, most, room)?;
     Ok((entry, len))
 }
 

@@ -2,9 +2,9 @@
 use Rattle.std.proofs.Common.{◌≡◌, refl}
 use Rattle.std.specs.declared.io.ErrorKind.{ErrorKind}
 use Rattle.std.specs.declared.io.ErrorKind.TheVariants as kind
-use Rattle.wire_base.specs.declared.side.Side.{Side}
+use Rattle.ddcap.specs.declared.run.Named.{Named}
 use Rattle.ddcap.specs.Printed.{not_opened_says, not_opened_text}
 
-pub says_side : (side : Side) (why : ErrorKind) → (why ≡ kind.OutOfMemory → ⊥) → not_opened_says side why ≡ not_opened_text side
-says_side side kind.OutOfMemory other = absurd (other refl)
-says_side side _ other = refl
+pub says_file : (file : Named) (why : ErrorKind) → (why ≡ kind.OutOfMemory → ⊥) → not_opened_says file why ≡ not_opened_text file
+says_file file kind.OutOfMemory other = absurd (other refl)
+says_file file _ other = refl

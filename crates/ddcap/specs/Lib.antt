@@ -3,3 +3,4 @@ pub mod Block
 pub mod Shown
 pub mod Showing
 pub mod Conversion
+pub mod Playing

@@ -21,6 +21,8 @@ use Rattle.pair_judge.specs.declared.fault.JudgeFault.{JudgeFault}
 use Rattle.pair_judge.specs.declared.fault.JudgeFault.TheVariants.{Capture, OutOfMemory}
 use Rattle.pair_judge.specs.declared.fault.TextFault.{TextFault}
 use Rattle.pair_judge.specs.declared.fault.TextFault.TheVariants.{Departs, Read}
+use Rattle.ddcap.specs.declared.run.Named.{Named}
+use Rattle.ddcap.specs.declared.run.Named.TheVariants as named
 use Rattle.ddcap.specs.declared.words.WordsFault.{WordsFault}
 use Rattle.ddcap.specs.declared.words.WordsFault.TheVariants as words
 
@@ -72,15 +74,16 @@ abbrev pub words_fault_status : WordsFault → ℕ
 words_fault_status words.BadWords = 2
 words_fault_status words.OutOfMemory = 3
 
--- where a side's file can't be opened
-abbrev pub not_opened_text : Side → List ℕ
-not_opened_text A = codes "a: cannot open\n"
-not_opened_text B = codes "b: cannot open\n"
+-- where a file can't be opened
+abbrev pub not_opened_text : Named → List ℕ
+not_opened_text named.Script = codes "script: cannot open\n"
+not_opened_text named.A = codes "a: cannot open\n"
+not_opened_text named.B = codes "b: cannot open\n"
 
 -- where opening it failed with an error of this kind
-abbrev pub not_opened_says : Side → ErrorKind → List ℕ
-not_opened_says side kind.OutOfMemory = fault_text OutOfMemory
-not_opened_says side _ = not_opened_text side
+abbrev pub not_opened_says : Named → ErrorKind → List ℕ
+not_opened_says file kind.OutOfMemory = fault_text OutOfMemory
+not_opened_says file _ = not_opened_text file
 
 -- What a reader or a writer shows: the bytes that it has left or has taken, where they are known, and how many of its calls failed
 pub record Stream : Type 0 where

@@ -1,6 +1,7 @@
 //! `ddcap` judges whether two text captures of one DDCMP line, between two DECnet Phase IV end nodes, are together a run of
-//! the protocols, and prints the verdict; or it shows what one capture says, or writes it in another format. It reads the files
-//! that it is given, and writes the one that it is told to and its two streams; it never touches a line, a clock or another file.
+//! the protocols, and prints the verdict; or it shows what one capture says, or writes it in another format; or it writes both
+//! captures that a script stands for. It reads the files that it is given, and writes those that it is told to and its two streams; it
+//! never touches a line, a clock or another file.
 #![tactic(auto)]
 
 use std::process::ExitCode;
@@ -9,6 +10,7 @@ use wire_base::Tally;
 mod check;
 mod convert;
 mod page;
+mod play;
 mod run;
 mod show;
 mod shown_line;

@@ -5,6 +5,7 @@ ghost use Rattle.ddcap.specs.Printed.{Writes, not_opened_says, stream_of, words_
 
 use crate::check::{check_to, print, print_out_of_memory};
 use crate::convert::convert_to;
+use crate::play::play_to;
 use crate::show::show_to;
 use crate::text::FAILED;
 use crate::words::{Task, WordsFault, task_of};
@@ -13,10 +14,18 @@ use std::alloc::Global;
 use std::io::{self, ErrorKind, Write};
 use std::rt::{Env, Files};
 use std::{env, fs};
-use wire_base::{Side, Tally};
+use wire_base::Tally;
 
 /// The status of words that are no task.
 const BAD_WORDS: u8 = 2;
+
+/// A file, by the name that it has in what is printed.
+#[derive(Clone, Copy, Debug, PartialEq, Eq)]
+pub enum Named {
+    Script,
+    A,
+    B,
+}
 
 /// Does what the program's words ask for, and answers its status.
 pub fn run<R: Env + Files + AllocGlobal, O: Write, E: Write>(
@@ -31,6 +40,7 @@ pub fn run<R: Env + Files + AllocGlobal, O: Write, E: Write>(
     match task_of(rt.alloc(), words.as_slice()) {
         Ok(Task::Check { a, b }) => check_files(rt, a, b, out, err),
         Ok(Task::Show { a }) => show_file(rt, a, out, err),
+        Ok(Task::Play { script, a, b }) => play_file(rt, script, a, b, out, err),
         Ok(Task::Convert { to, a, b }) => convert_file(rt, to, a, b, out, err),
         Err(fault) => print_words_fault(err, fault),
     }
@@ -71,11 +81,11 @@ fn check_files<R: Files + AllocGlobal, O: Write, E: Write>(
 ) -> u8 {
     let file_a = match fs::open(rt, path_a) {
         Ok(file) => file,
-        Err(error) => return print_not_opened(err, Side::A, &error),
+        Err(error) => return print_not_opened(err, Named::A, &error),
     };
     let file_b = match fs::open(rt, path_b) {
         Ok(file) => file,
-        Err(error) => return print_not_opened(err, Side::B, &error),
+        Err(error) => return print_not_opened(err, Named::B, &error),
     };
     let mut a = Tally::new(file_a);
     let mut b = Tally::new(file_b);
@@ -91,7 +101,7 @@ fn show_file<R: Files + AllocGlobal, O: Write, E: Write>(
 ) -> u8 {
     let file = match fs::open(rt, path) {
         Ok(file) => file,
-        Err(error) => return print_not_opened(err, Side::A, &error),
+        Err(error) => return print_not_opened(err, Named::A, &error),
     };
     let mut a = Tally::new(file);
     show_to(rt.alloc(), &mut a, out, err)
@@ -109,27 +119,56 @@ fn convert_file<R: Files + AllocGlobal, O: Write, E: Write>(
 ) -> u8 {
     let file_a = match fs::open(rt, path_a) {
         Ok(file) => file,
-        Err(error) => return print_not_opened(err, Side::A, &error),
+        Err(error) => return print_not_opened(err, Named::A, &error),
     };
     let file_b = match fs::create(rt, path_b) {
         Ok(file) => file,
-        Err(error) => return print_not_opened(err, Side::B, &error),
+        Err(error) => return print_not_opened(err, Named::B, &error),
     };
     let mut src = Tally::new(file_a);
     let mut dest = Tally::new(file_b);
     convert_to(rt.alloc(), to.number(), &mut src, &mut dest, out, err)
 }
 
-/// Prints that a side's file can't be opened, or that memory was wanting for it, and answers the status.
-fn print_not_opened<W: Write>(err: &mut Tally<W>, side: Side, error: &io::Error) -> u8
+/// Opens the script, creates or empties both captures, a's first, and plays the script into them. The first that can't be opened
+/// ends it.
+fn play_file<R: Files + AllocGlobal, O: Write, E: Write>(
+    rt: &R,
+    path: &str,
+    path_a: &str,
+    path_b: &str,
+    out: &mut Tally<O>,
+    err: &mut Tally<E>,
+) -> u8 {
+    let file = match fs::open(rt, path) {
+        Ok(file) => file,
+        Err(error) => return print_not_opened(err, Named::Script, &error),
+    };
+    let file_a = match fs::create(rt, path_a) {
+        Ok(file) => file,
+        Err(error) => return print_not_opened(err, Named::A, &error),
+    };
+    let file_b = match fs::create(rt, path_b) {
+        Ok(file) => file,
+        Err(error) => return print_not_opened(err, Named::B, &error),
+    };
+    let mut script = Tally::new(file);
+    let mut a = Tally::new(file_a);
+    let mut b = Tally::new(file_b);
+    play_to(rt.alloc(), &mut script, &mut a, &mut b, out, err)
+}
+
+/// Prints that a file can't be opened, or that memory was wanting for it, and answers the status.
+fn print_not_opened<W: Write>(err: &mut Tally<W>, named: Named, error: &io::Error) -> u8
     ensures { Writes (stream_of W.contents err.old) (stream_of W.contents err.new)
-        (not_opened_says side (error_kind error.now)) 3 result }
+        (not_opened_says named (error_kind error.now)) 3 result }
 {
     if error.kind() == ErrorKind::OutOfMemory {
         return print_out_of_memory(err);
     }
-    match side {
-        Side::A => print(err, b"a: cannot open\n", FAILED),
-        Side::B => print(err, b"b: cannot open\n", FAILED),
+    match named {
+        Named::Script => print(err, b"script: cannot open\n", FAILED),
+        Named::A => print(err, b"a: cannot open\n", FAILED),
+        Named::B => print(err, b"b: cannot open\n", FAILED),
     }
 }

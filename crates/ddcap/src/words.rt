@@ -10,11 +10,26 @@ use std::convert::AsStr;
 #[derive(Clone, Copy, Debug, PartialEq, Eq)]
 pub enum Task<'a> {
     /// To judge the captures in two files.
-    Check { a: &'a str, b: &'a str },
+    Check {
+        a: &'a str,
+        b: &'a str,
+    },
     /// To show the records of the capture in a file.
-    Show { a: &'a str },
+    Show {
+        a: &'a str,
+    },
+    /// To play the script in a file, and to write its captures into the files `a` and `b`.
+    Play {
+        script: &'a str,
+        a: &'a str,
+        b: &'a str,
+    },
     /// To write the capture in the file `a` in this format, into the file `b`.
-    Convert { to: Format, a: &'a str, b: &'a str },
+    Convert {
+        to: Format,
+        a: &'a str,
+        b: &'a str,
+    },
 }
 
 /// Why the words ask for nothing.
@@ -41,6 +56,7 @@ pub fn task_of<'a, S: AsStr>(alloc: Global, words: &'a [S]) -> Result<Task<'a>, 
                 Some(a) => Ok(Task::Show { a }),
                 None => Err(WordsFault::BadWords),
             },
+            Some(("play", found)) => played_of(found),
             Some(("convert", found)) => conversion_of(found),
             _ => Err(WordsFault::BadWords),
         },
@@ -75,12 +91,25 @@ fn conversion_of<'a>(found: &ArgMatches<'a>) -> Result<Task<'a>, WordsFault> {
     }
 }
 
+/// The script and the captures that the words behind `play` name.
+fn played_of<'a>(found: &ArgMatches<'a>) -> Result<Task<'a>, WordsFault> {
+    match (
+        found.get_str("SCRIPT"),
+        found.get_str("A"),
+        found.get_str("B"),
+    ) {
+        (Some(script), Some(a), Some(b)) => Ok(Task::Play { script, a, b }),
+        _ => Err(WordsFault::BadWords),
+    }
+}
+
 fn program<'a>(alloc: Global) -> Result<Command<'a>, AllocError> {
     Command::new(alloc, "ddcap")
         .disable_help_subcommand(true)
         .subcommand_required(true)
         .subcommand(check(alloc)?)?
         .subcommand(show(alloc)?)?
+        .subcommand(play(alloc)?)?
         .subcommand(convert(alloc)?)
 }
 
@@ -94,6 +123,14 @@ fn check<'a>(alloc: Global) -> Result<Command<'a>, AllocError> {
 /// `show A`
 fn show<'a>(alloc: Global) -> Result<Command<'a>, AllocError> {
     Command::new(alloc, "show").arg(Arg::new(alloc, "A").required(true))
+}
+
+/// `play SCRIPT A B`
+fn play<'a>(alloc: Global) -> Result<Command<'a>, AllocError> {
+    Command::new(alloc, "play")
+        .arg(Arg::new(alloc, "SCRIPT").required(true))?
+        .arg(Arg::new(alloc, "A").required(true))?
+        .arg(Arg::new(alloc, "B").required(true))
 }
 
 /// `convert N IN OUT`

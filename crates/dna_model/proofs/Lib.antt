@@ -148,6 +148,7 @@ mod StepStages
 mod PlayedStages
 mod ComesMade
 mod LinksMade
+mod StepPhases
 mod StepRuled
 mod PlayedRuled
 pub mod StepTests

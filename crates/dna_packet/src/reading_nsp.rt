@@ -197,6 +197,7 @@ fn disconnect_confirm(bytes: &[u8]) -> Result<Nsp<'_>, NspFault>
 }
 
 /// The message behind a flag byte.
+#[inline(always)]
 fn message(flag: u8, rest: &[u8]) -> Result<Nsp<'_>, NspFault>
     ensures read { Gives view result (message_at flag rest.now) }
     ensures lies { IfOk result (PartsLieIn rest.entry) }
@@ -221,16 +222,6 @@ fn message(flag: u8, rest: &[u8]) -> Result<Nsp<'_>, NspFault>
     }
 }
 
-fn nsp(bytes: &[u8]) -> Result<Nsp<'_>, NspFault>
-    ensures read { Gives view result (nsp_at bytes.now) }
-    ensures lies { IfOk result (PartsLieIn bytes.entry) }
-{
-    match bytes {
-        [flag, rest @ ..] => message(*flag, rest),
-        [] => Err(NspFault::MissingField),
-    }
-}
-
 /// Reads an NSP message, all of the bytes, and takes no memory (NSP 4.0, message formats). The part of what it
 /// answers is a slice of `bytes`.
 ///
@@ -252,5 +243,8 @@ pub fn read_nsp(bytes: &[u8]) -> Result<Nsp<'_>, NspFault>
     // The part is a slice of the bytes.
     ensures lies { IfOk result (PartsLieIn bytes.entry) }
 {
-    nsp(bytes)
+    match bytes {
+        [flag, rest @ ..] => message(*flag, rest),
+        [] => Err(NspFault::MissingField),
+    }
 }

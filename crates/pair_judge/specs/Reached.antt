@@ -1,5 +1,5 @@
 -- Both sides of the judge beside the world that the records made so far led to, and what a turn leads to.
-use Rattle.std.specs.Prelude.{◌≡◌, ◌+◌, ◌≤◌, Bool, true, false, List, length, Option, Some, None}
+use Rattle.std.specs.Prelude.{◌≡◌, ◌+◌, ◌≤◌, Bool, true, false, List, length, Option, Some, None, Result, Ok, Err}
 use Rattle.two_nodes.specs.Nodes.{Run}
 use Rattle.capture.specs.declared.record.Record.{Record}
 use Rattle.capture.specs.SoFar.{GoesOn}
@@ -12,6 +12,7 @@ use Rattle.pair_judge.specs.declared.line.Line.{Line}
 use Rattle.pair_judge.specs.declared.end.End.{End}
 use Rattle.pair_judge.specs.declared.course.Ahead.TheVariants.{Ended}
 use Rattle.pair_judge.specs.declared.course.Course.{Course}
+use Rattle.pair_judge.specs.declared.fault.JudgeFault.{JudgeFault}
 use Rattle.dna_model.specs.WireStation.{load}
 use Rattle.dna_model.specs.WireLayers.{wire_layers_pair, wire_layers_start}
 use Rattle.pair_judge.specs.Wire.{JudgeWorld}
@@ -72,6 +73,12 @@ pub record IsFound (a b : Track) (finding : Finding) : Type 0 where
       → IsVerdict a.course.end.head b.course.end.head all_a all_b finding
   pub ends : EndsWhere finding (read_of a).behind (read_of b).behind
   pub counts : finding ≡ Accepted → IsCounted a.course.end.head b.course.end.head made_a made_b (record { a = summary_at a.course.end; b = summary_at b.course.end })
+
+-- what a turn answers, with what it ends with
+abbrev pub turned : (goes_on : Bool) → Result Finding JudgeFault → Result (Option Finding) JudgeFault
+turned true ending = Ok None
+turned false (Ok finding) = Ok (Some finding)
+turned false (Err fault) = Err fault
 
 abbrev pub TurnIs : Option Finding → Track → Track → Type 0
 TurnIs None a b = HasGoneOn a b

@@ -118,10 +118,13 @@ fn find<R: Read, S: Read>(
         Ok(course) => course,
         Err(fault) => return Err(fault),
     };
+    let mut ending = Ok(Finding::Accepted);
     for _ in 0..MOST_TURNS {
-        match turn(&mut course_a, &mut course_b, a, b) {
-            Ok(None) => {}
-            Ok(Some(finding)) => {
+        if turn(&mut course_a, &mut course_b, a, b, &mut ending) {
+            continue;
+        }
+        match ending {
+            Ok(finding) => {
                 let summary = Summary {
                     a: course_a.end.summary(),
                     b: course_b.end.summary(),

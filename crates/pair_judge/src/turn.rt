@@ -10,7 +10,7 @@ ghost use Rattle.capture.specs.Lines.{to_come};
 ghost use Rattle.pair_judge.specs.Course.{MayRead, along};
 ghost use Rattle.pair_judge.specs.Faulty.{IsJudgeFault, is_failed_read_of, side_fault_of};
 ghost use Rattle.pair_judge.specs.Summary.{HasRoom};
-ghost use Rattle.pair_judge.specs.Reached.{IsStopped, IsUnderWay, TurnIs};
+ghost use Rattle.pair_judge.specs.Reached.{IsStopped, IsUnderWay, TurnIs, turned};
 
 use crate::captures::endings;
 use crate::course::{Advance, Course};
@@ -21,7 +21,8 @@ use std::io::Read;
 use two_nodes::reading_on;
 use wire_base::{Side, Tally};
 
-/// Makes one record, or finds that the judge is at its end: `None` where it is not yet.
+/// Makes one record, or finds that the judge is at its end: `true` where it is not yet. What it ends with is written to `ending`, and only
+/// then, so that on the way of a record that is made no answer goes through memory.
 ///
 /// `Capture`: the next record of that side can't be read. `OutOfMemory`: there is no room for what the record sends, keeps or hands in.
 pub fn turn<R: Read, S: Read>(
@@ -29,35 +30,42 @@ pub fn turn<R: Read, S: Read>(
     b: &mut Course,
     reader_a: &mut Tally<R>,
     reader_b: &mut Tally<S>,
-) -> Result<Option<Finding>, JudgeFault>
+    ending: &mut Result<Finding, JudgeFault>,
+) -> bool
     requires may_read_a { MayRead a.old }
     requires may_read_b { MayRead b.old }
     requires room_a { HasRoom a.old.end }
     requires room_b { HasRoom b.old.end }
-    ensures turn { IfOk result (λ turn. (text_a text_b : Option (List ℕ)) (made_a made_b : List Record) →
+    ensures turn { IfOk (turned result ending.new) (λ turn. (text_a text_b : Option (List ℕ)) (made_a made_b : List Record) →
         IsUnderWay (along text_a a.old (to_come a.old.capture.unread (R.remaining (tally_lent reader_a.old))) made_a)
         (along text_b b.old (to_come b.old.capture.unread (S.remaining (tally_lent reader_b.old))) made_b) →
         TurnIs turn (along text_a a.new (to_come a.new.capture.unread (R.remaining (tally_lent reader_a.new))) made_a)
         (along text_b b.new (to_come b.new.capture.unread (S.remaining (tally_lent reader_b.new))) made_b)) }
-    ensures may_read { IfOk result (λ _. MayRead a.new × MayRead b.new) }
-    ensures fault { IfErr result (λ fault. (text_a text_b : Option (List ℕ)) (made_a made_b : List Record) →
+    ensures may_read { IfOk (turned result ending.new) (λ _. MayRead a.new × MayRead b.new) }
+    ensures fault { IfErr (turned result ending.new) (λ fault. (text_a text_b : Option (List ℕ)) (made_a made_b : List Record) →
         IsUnderWay (along text_a a.old (to_come a.old.capture.unread (R.remaining (tally_lent reader_a.old))) made_a)
         (along text_b b.old (to_come b.old.capture.unread (S.remaining (tally_lent reader_b.old))) made_b) →
         IsJudgeFault text_a text_b fault) }
-    ensures reads_a { CountsReads (is_failed_read_of Side.A result) (tally_faults reader_a.old) (tally_faults reader_a.new) }
-    ensures reads_b { CountsReads (is_failed_read_of Side.B result) (tally_faults reader_b.old) (tally_faults reader_b.new) }
+    ensures reads_a { CountsReads (is_failed_read_of Side.A (turned result ending.new)) (tally_faults reader_a.old) (tally_faults reader_a.new) }
+    ensures reads_b { CountsReads (is_failed_read_of Side.B (turned result ending.new)) (tally_faults reader_b.old) (tally_faults reader_b.new) }
 {
     endings();
     reading_on::<WireLayersNodes>();
     if a.is_held_up(&b.end.line) {
-        return turn_of_b(a, true, b, reader_b);
+        return turn_of_b(a, true, b, reader_b, ending);
     }
     match a.advance(&mut b.end.line, reader_a) {
-        Ok(Advance::Made) => Ok(None),
-        Ok(Advance::Fails(refusal)) => Ok(Some(refused(Side::A, a, Cause::Step(refusal)))),
-        Ok(Advance::Blocked) => turn_of_b(a, true, b, reader_b),
-        Ok(Advance::Ended) => turn_of_b(a, false, b, reader_b),
-        Err(fault) => Err(side_fault(Side::A, fault)),
+        Ok(Advance::Made) => true,
+        Ok(Advance::Fails(refusal)) => {
+            *ending = Ok(refused(Side::A, a, Cause::Step(refusal)));
+            false
+        }
+        Ok(Advance::Blocked) => turn_of_b(a, true, b, reader_b, ending),
+        Ok(Advance::Ended) => turn_of_b(a, false, b, reader_b, ending),
+        Err(fault) => {
+            *ending = Err(side_fault(Side::A, fault));
+            false
+        }
     }
 }
 
@@ -68,34 +76,53 @@ fn turn_of_b<S: Read>(
     a_waits: bool,
     b: &mut Course,
     reader_b: &mut Tally<S>,
-) -> Result<Option<Finding>, JudgeFault>
+    ending: &mut Result<Finding, JudgeFault>,
+) -> bool
     requires may_read { MayRead b.old }
     requires room { HasRoom b.old.end }
-    ensures turn { IfOk result (λ turn. (text_a text_b come_a : Option (List ℕ)) (made_a made_b : List Record) →
+    ensures turn { IfOk (turned result ending.new) (λ turn. (text_a text_b come_a : Option (List ℕ)) (made_a made_b : List Record) →
         IsUnderWay (along text_a a.old come_a made_a)
         (along text_b b.old (to_come b.old.capture.unread (S.remaining (tally_lent reader_b.old))) made_b) →
         IsStopped a_waits a.old b.old.end.line →
         TurnIs turn (along text_a a.new come_a made_a)
         (along text_b b.new (to_come b.new.capture.unread (S.remaining (tally_lent reader_b.new))) made_b)) }
     ensures same { (a.new.capture ≡ a.old.capture) × (a.new.ahead ≡ a.old.ahead) }
-    ensures may_read { IfOk result (λ _. MayRead b.new) }
-    ensures fault { IfErr result (λ fault. (text_a text_b come_a : Option (List ℕ)) (made_a made_b : List Record) →
+    ensures may_read { IfOk (turned result ending.new) (λ _. MayRead b.new) }
+    ensures fault { IfErr (turned result ending.new) (λ fault. (text_a text_b come_a : Option (List ℕ)) (made_a made_b : List Record) →
         IsUnderWay (along text_a a.old come_a made_a)
         (along text_b b.old (to_come b.old.capture.unread (S.remaining (tally_lent reader_b.old))) made_b) →
         IsJudgeFault text_a text_b fault) }
-    ensures reads { CountsReads (is_failed_read_of Side.B result) (tally_faults reader_b.old) (tally_faults reader_b.new) }
-    ensures other { is_failed_read_of Side.A result ≡ false }
+    ensures reads { CountsReads (is_failed_read_of Side.B (turned result ending.new)) (tally_faults reader_b.old) (tally_faults reader_b.new) }
+    ensures other { is_failed_read_of Side.A (turned result ending.new) ≡ false }
 {
     endings();
     reading_on::<WireLayersNodes>();
     match b.advance(&mut a.end.line, reader_b) {
-        Ok(Advance::Made) => Ok(None),
-        Ok(Advance::Fails(refusal)) => Ok(Some(refused(Side::B, b, Cause::Step(refusal)))),
-        Ok(Advance::Blocked) if a_waits => Ok(Some(refused(Side::A, a, Cause::NoOrder))),
-        Ok(Advance::Blocked) => Ok(Some(refused(Side::B, b, Cause::NoSuchUnit))),
-        Ok(Advance::Ended) if a_waits => Ok(Some(refused(Side::A, a, Cause::NoSuchUnit))),
-        Ok(Advance::Ended) => Ok(Some(Finding::Accepted)),
-        Err(fault) => Err(side_fault(Side::B, fault)),
+        Ok(Advance::Made) => true,
+        Ok(Advance::Fails(refusal)) => {
+            *ending = Ok(refused(Side::B, b, Cause::Step(refusal)));
+            false
+        }
+        Ok(Advance::Blocked) if a_waits => {
+            *ending = Ok(refused(Side::A, a, Cause::NoOrder));
+            false
+        }
+        Ok(Advance::Blocked) => {
+            *ending = Ok(refused(Side::B, b, Cause::NoSuchUnit));
+            false
+        }
+        Ok(Advance::Ended) if a_waits => {
+            *ending = Ok(refused(Side::A, a, Cause::NoSuchUnit));
+            false
+        }
+        Ok(Advance::Ended) => {
+            *ending = Ok(Finding::Accepted);
+            false
+        }
+        Err(fault) => {
+            *ending = Err(side_fault(Side::B, fault));
+            false
+        }
     }
 }
 

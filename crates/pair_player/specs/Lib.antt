@@ -5,3 +5,16 @@ pub mod Faulty
 pub mod Reader
 pub mod Fields
 pub mod SoFar
+pub mod Playing
+pub mod Making
+pub mod Waiting
+pub mod Beginning
+-- The ends: what a contract sees of their parts, and of a step
+pub mod Owing
+pub mod Arriving
+pub mod Composing
+pub mod Segments
+pub mod Links
+pub mod Delivering
+pub mod Stepping
+pub mod Line

@@ -1,11 +1,15 @@
 //! Laws of a script's text, as functions that do nothing: it is read in one way alone.
 
-ghost use Rattle.std.specs.Prelude.{◌≡◌, ℕ, ◌<◌, length, List, Option, Some, Ok};
+ghost use Rattle.std.specs.Prelude.{◌≡◌, ℕ, ◌<◌, [], length, List, Option, Result, Some, Ok};
 ghost use Rattle.std.specs.Io.KnownBytes.{Consumes, IsAtEnd};
 ghost use Rattle.capture.specs.declared.fault.Departure.{Departure as Kind};
 ghost use Rattle.capture.specs.Lines.{to_come};
+ghost use Rattle.dna_model.specs.KeptPlayed.{KeptPlayed, kept_play};
 ghost use Rattle.dna_model.specs.Script.{Script, ScriptStep as Line};
 ghost use Rattle.dna_model.specs.ScriptText.{BeginsWithScript, IsScriptText, IsStep, ScriptHeadDeparts, StepDeparts, script_line, MAX_STEPS as MOST};
+ghost use Rattle.pair_player.specs.declared.fault.PlayFault.{PlayFault};
+ghost use Rattle.pair_player.specs.declared.played.Played.{Played};
+ghost use Rattle.pair_player.specs.Playing.{AnswersWhole, Held, Plays, reached};
 ghost use Rattle.pair_player.specs.Reader.{Opens, ScriptState};
 ghost use Rattle.pair_player.specs.SoFar.{IsBegun, IsReadSoFar, no_steps, with_step};
 
@@ -47,4 +51,12 @@ pub fn one_script_departure()
         BeginsWithScript bytes script rest → StepDeparts (length script.steps) kind rest → BeginsWithScript bytes begun rest' →
         IsBegun begun script }
     ensures head { (bytes : List ℕ) (a b : Kind) → ScriptHeadDeparts a bytes → ScriptHeadDeparts b bytes → a ≡ b }
+{}
+
+/// What is answered of the text of a script that is played whole: its steps are counted and both captures are written, or a device or
+/// the memory failed.
+pub fn played_whole()
+    ensures { (bytes : List ℕ) (script : Script) (played : KeptPlayed) (old new : Held) (answer : Result Played PlayFault) →
+        IsScriptText script bytes → kept_play script ≡ Ok played → Plays (Some bytes) old new answer →
+        AnswersWhole (reached script played (Some [])) old new answer }
 {}

@@ -1,20 +1,45 @@
-//! The script of a player: its head and its steps, read line by line.
+//! The player: a script is read line by line, its steps are made by two ends of a line, and the captures of both are written.
 //!
-//! The crate decides which bytes are a script, which steps they spell, and where and how a text departs from the format. It
-//! never touches a file or a clock, nor what a step makes of the two ends.
+//! The crate decides which bytes are a script, which steps they spell, where and how a text departs from the format, and what each
+//! step makes of the two ends. It never touches a file or a clock, nor a judge.
 #![tactic(auto)]
 
+mod choice;
+mod debt;
+mod end;
+mod ends;
 mod entry;
 mod fault;
+mod held_packet;
 mod laws;
 mod limit;
+mod line;
+mod link_end;
+mod link_ends;
+mod link_owed;
+mod outstanding;
+mod owed;
+mod owed_confirm;
+mod passes;
+mod piece;
+mod played;
+mod playing;
+mod received;
 mod script_reader;
+mod station_end;
+mod station_variables;
 mod step;
+mod texts;
+mod turn;
+mod unsent;
 mod words;
 
-pub use fault::ScriptFault;
-pub use laws::{known_script, one_script, one_script_departure, script_read_on};
+pub use ends::Ends;
+pub use fault::{PlayFault, ScriptFault, StepFault};
+pub use laws::{known_script, one_script, one_script_departure, played_whole, script_read_on};
 pub use limit::MAX_STEPS;
+pub use played::Played;
+pub use playing::play;
 pub use script_reader::ScriptReader;
 pub use step::{ScriptStep, Step};
 

@@ -42,6 +42,39 @@ fn a_show_has_one_word(rt: HostRuntime) {
 }
 
 #[test]
+fn a_play_has_three_words(rt: HostRuntime) {
+    let rows: [(&[&str], Task<'_>); 3] = [
+        (
+            &["ddcap", "play", "x", "y", "z"],
+            Task::Play {
+                script: "x",
+                a: "y",
+                b: "z",
+            },
+        ),
+        (
+            &["ddcap", "play", "--", "-x", "play", "--help"],
+            Task::Play {
+                script: "-x",
+                a: "play",
+                b: "--help",
+            },
+        ),
+        (
+            &["ddcap", "play", "", "", ""],
+            Task::Play {
+                script: "",
+                a: "",
+                b: "",
+            },
+        ),
+    ];
+    for (words, task) in rows {
+        assert_eq!(rt; task_of(rt.alloc(), words), Ok(task));
+    }
+}
+
+#[test]
 fn a_conversion_has_a_format_and_two_words(rt: HostRuntime) {
     let rows: [(&[&str], Task<'_>); 3] = [
         (
@@ -76,7 +109,7 @@ fn a_conversion_has_a_format_and_two_words(rt: HostRuntime) {
 
 #[test]
 fn other_words_are_bad_words(rt: HostRuntime) {
-    let rows: [&[&str]; 32] = [
+    let rows: [&[&str]; 38] = [
         &[],
         &["ddcap"],
         &["ddcap", "check"],
@@ -102,6 +135,12 @@ fn other_words_are_bad_words(rt: HostRuntime) {
         &["ddcap", "convert", "12", "x", "y"],
         &["ddcap", "convert", "1", "-x", "y"],
         &["ddcap", "convert", "--help"],
+        &["ddcap", "play"],
+        &["ddcap", "play", "x"],
+        &["ddcap", "play", "x", "y"],
+        &["ddcap", "play", "x", "y", "z", "w"],
+        &["ddcap", "play", "-x", "y", "z"],
+        &["ddcap", "play", "--help"],
         &["ddcap", "--help"],
         &["ddcap", "-V"],
         &["ddcap", "--version"],

@@ -3,7 +3,7 @@
 use super::pair::{Answer, Given, NEVER, expect_from, expect_verdict_of};
 use wire_base::Tally;
 
-const TEXT_A: &str = "ddcap 1 1.1 1.2
+pub const TEXT_A: &str = "ddcap 1 1.1 1.2
 u start
 s 0506c00000017595
 s 0506c00000017595
@@ -18,7 +18,7 @@ s 810f000001018a40020204010400180000010001020002ed98
 k 3 81090001010153800201040204002401002cd5
 ";
 
-const TEXT_B: &str = "ddcap 1 1.2 1.1
+pub const TEXT_B: &str = "ddcap 1 1.2 1.1
 u start
 r 1 0506c00000017595
 s 0507c00000014855
@@ -31,7 +31,7 @@ k 5 810f000001018a40020204010400180000010001020002ed98
 s 81090001010153800201040204002401002cd5
 ";
 
-const ACCEPTED: &str = "accepted
+pub const ACCEPTED: &str = "accepted
 a records 12 sent 6 received 4 damaged 0 kept 1 periods 1 links 1 up 0
 b records 10 sent 4 received 5 damaged 1 kept 1 periods 1 links 1 up 0
 ";

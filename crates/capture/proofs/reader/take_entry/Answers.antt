@@ -24,7 +24,7 @@ returns-in-Ok-clause-takes g c =
     let lt = found.0 in
     let is = line_is c.next.new.self.unread c.in-Ok-Some.len found.1 found.2 in
     let words = c.line.ensures ∙ is in
-    let read = record_ok c.args.form _ (record_with c.in-Ok.entry.0 (take c.in-Ok.entry.1 c.line_into.new.room)) c.requires.form (ap (record_at c.args.form) (sym words) ∙ c.in-Ok.ensures.record) in (
+    let read = record_ok c.args.wording.now.form _ (record_with c.in-Ok.entry.0 (take c.in-Ok.entry.1 c.line_into.new.room)) c.requires.form (ap (record_at c.args.wording.now.form) (sym words) ∙ c.in-Ok.ensures.record) in (
       read.0,
       omega arith,
       omega arith,
@@ -36,7 +36,7 @@ returns-in-Ok-clause-line g c =
     let found = rw c.in-Ok-Some.field-0-is at c.in-Ok-Some.ensures.found in
     let is = line_is c.next.new.self.unread c.in-Ok-Some.len found.1 found.2 in
     let words = c.line.ensures ∙ is in
-    let read = record_ok c.args.form _ (record_with c.in-Ok.entry.0 (take c.in-Ok.entry.1 c.line_into.new.room)) c.requires.form (ap (record_at c.args.form) (sym words) ∙ c.in-Ok.ensures.record) in
+    let read = record_ok c.args.wording.now.form _ (record_with c.in-Ok.entry.0 (take c.in-Ok.entry.1 c.line_into.new.room)) c.requires.form (ap (record_at c.args.wording.now.form) (sym words) ∙ c.in-Ok.ensures.record) in
     c.skip.ensures.last ∙ is ∙ read.1
 
 pub returns-in-Err-clause-takes : goal.returns-in-Err-clause-takes
@@ -46,5 +46,5 @@ returns-in-Err-clause-takes g c =
     let head = c.requires.head in
     let lt = found.0 in
     let read = rw c.line.ensures at c.in-Err.ensures.record in
-    let departs = record_departs c.args.form c.in-Err.kind c.next.new.self.unread c.in-Ok-Some.len c.args.lines.now.taken _ (g.R.Read.remaining (tally_lent c.next.new.reader)) c.requires.form (omega arith) head found.1 found.2 found.3 read in
+    let departs = record_departs c.args.wording.now.form c.in-Err.kind c.next.new.self.unread c.in-Ok-Some.len c.args.lines.now.taken _ (g.R.Read.remaining (tally_lent c.next.new.reader)) c.requires.form (omega arith) head found.1 found.2 found.3 read in
     ((rw c.taken-number.ensures refl, departs), same)

@@ -12,25 +12,24 @@ returns-in-Err-clause-fault g c = c.in-Err.ensures.fault (g.R.Read.remaining (ta
 pub returns-in-Err-open-clause-fault : goal.returns-in-Err-open-clause-fault
 returns-in-Err-open-clause-fault g c = c.in-Err-open.ensures.fault (g.R.Read.remaining (tally_lent c.args.a.now)) (g.S.Read.remaining (tally_lent c.args.b.now)) refl
 
-pub returns-in-Ok-Some-clause-found : goal.returns-in-Ok-Some-clause-found
-returns-in-Ok-Some-clause-found g c =
+pub returns-in-Ok-ending-clause-found : goal.returns-in-Ok-ending-clause-found
+returns-in-Ok-ending-clause-found g c =
     let h = c.loop.invariant.0 in
-    let turned = rw c.in-Ok-Some.field-0-is at c.in-Ok-Some.ensures.turn in
-    found_in _ _ _ (turned (g.R.Read.remaining (tally_lent c.args.a.now)) (g.S.Read.remaining (tally_lent c.args.b.now)) h.made_a h.made_b h.under_way) c.summary.ensures c.summary-in-Ok-Some.ensures
+    let ended = rw c.in-Ok-ending.is at c.if-turn.ensures.turn in
+    found_in _ _ _ (ended (g.R.Read.remaining (tally_lent c.args.a.now)) (g.S.Read.remaining (tally_lent c.args.b.now)) h.made_a h.made_b h.under_way) c.summary.ensures c.summary-in-Ok-ending.ensures
 
 pub loop-preserved : goal.loop-preserved
 loop-preserved g c =
     let h = c.loop.invariant.0 in
-    let turned = rw c.in-Ok-None.field-0-is at c.in-Ok-None.ensures.turn in
-    let gone_on = turned (g.R.Read.remaining (tally_lent c.args.a.now)) (g.S.Read.remaining (tally_lent c.args.b.now)) h.made_a h.made_b h.under_way in (
+    let gone_on = c.if-turn.ensures.turn (g.R.Read.remaining (tally_lent c.args.a.now)) (g.S.Read.remaining (tally_lent c.args.b.now)) h.made_a h.made_b h.under_way in (
       record {
         made_a = gone_on.made_a;
         made_b = gone_on.made_b;
         under_way = gone_on.under_way;
         count = omega (arith, gone_on.one_more, h.count);
-        may_read_a = c.in-Ok-None.ensures.may_read.0;
-        may_read_b = c.in-Ok-None.ensures.may_read.1;
+        may_read_a = c.if-turn.ensures.may_read.0;
+        may_read_b = c.if-turn.ensures.may_read.1;
       },
-      c.in-Ok-None.ensures.reads_a ∙ c.loop.invariant.1,
-      c.in-Ok-None.ensures.reads_b ∙ c.loop.invariant.2,
+      c.if-turn.ensures.reads_a ∙ c.loop.invariant.1,
+      c.if-turn.ensures.reads_b ∙ c.loop.invariant.2,
     )

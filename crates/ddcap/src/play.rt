@@ -1,0 +1,95 @@
+//! `play`: a script, and the captures of both sides that it stands for.
+
+ghost use Rattle.std.specs.Prelude.{◌≤◌, length};
+ghost use Rattle.ddcap.specs.Playing.{IsPlaying, failed_write_text, play_fault_status, play_fault_text, script_line_text, steps_text};
+ghost use Rattle.ddcap.specs.Printed.{Writes, moved, stream_of};
+
+use crate::check::{print, print_out_of_memory};
+use crate::page::Page;
+use crate::text::{FAILED, FAULTY};
+use pair_player::{PlayFault, play};
+use std::alloc::Global;
+use std::io::{Read, Write};
+use wire_base::{Side, Tally};
+
+/// The status where the whole script was played.
+const PLAYED: u8 = 0;
+
+/// Plays the script that a reader gives, writes both captures, prints how many steps it has, and answers the status.
+///
+/// Status 0: `played N steps` is printed to `out`. Else a fault is printed to `err`: a line of the script that departs, its kind
+/// behind it, or whose step can't be made, `bad step` or `full`, status 2, or a failed read, `script: read failed`, status 3,
+/// where both captures have their heads and the records of all steps before it, and nothing where no head was read;
+/// `a: write failed` or `b: write failed`, status 3, where each capture has a beginning of those; or `out of memory`, status 3.
+/// A failed write to `out` or to `err` ends the printing, with status 3. The memory for the printed text is asked for first, so that
+/// no growth comes behind a write to `out` or `err`.
+pub fn play_to<S: Read, A: Write, B: Write, O: Write, E: Write>(
+    alloc: Global,
+    script: &mut Tally<S>,
+    a: &mut Tally<A>,
+    b: &mut Tally<B>,
+    out: &mut Tally<O>,
+    err: &mut Tally<E>,
+) -> u8
+    ensures { IsPlaying (moved S.remaining script.old script.new)
+        (moved A.contents a.old a.new, moved B.contents b.old b.new)
+        (moved O.contents out.old out.new) (moved E.contents err.old err.new) result }
+{
+    let Ok(mut page) = Page::new(alloc) else {
+        return print_out_of_memory(err);
+    };
+    match play(alloc, script, a, b) {
+        Ok(played) => print_steps(&mut page, out, played.steps),
+        Err(fault) => print_play_fault(&mut page, err, fault),
+    }
+}
+
+// Prints how many steps were played, put together on the page, and answers the status.
+fn print_steps<W: Write>(page: &mut Page, out: &mut Tally<W>, steps: u64) -> u8
+    ensures { Writes (stream_of W.contents out.old) (stream_of W.contents out.new) (steps_text steps) 0 result }
+{
+    page.clear();
+    page.put(b"played ");
+    page.put_number(steps);
+    page.put(b" steps\n");
+    print(out, page.as_slice(), PLAYED)
+}
+
+// Prints why a script was not played to its end, put together on the page, and answers the status.
+fn print_play_fault<W: Write>(page: &mut Page, err: &mut Tally<W>, fault: PlayFault) -> u8
+    ensures { Writes (stream_of W.contents err.old) (stream_of W.contents err.new)
+        (play_fault_text fault) (play_fault_status fault) result }
+{
+    match fault {
+        PlayFault::Departs { kind, line } => print_script_line(page, err, line, kind.words()),
+        PlayFault::BadStep { line } => print_script_line(page, err, line, b"bad step"),
+        PlayFault::Full { line } => print_script_line(page, err, line, b"full"),
+        PlayFault::Read => print(err, b"script: read failed\n", FAILED),
+        PlayFault::Write { side } => print_failed_write(err, side),
+        PlayFault::OutOfMemory => print_out_of_memory(err),
+    }
+}
+
+// Prints what is wrong with a line of the script.
+fn print_script_line<W: Write>(page: &mut Page, err: &mut Tally<W>, line: u64, words: &[u8]) -> u8
+    requires { length words.now ≤ 8 }
+    ensures { Writes (stream_of W.contents err.old) (stream_of W.contents err.new) (script_line_text line words.now) 2 result }
+{
+    page.clear();
+    page.put(b"script: line ");
+    page.put_number(line);
+    page.put(b": ");
+    page.put(words);
+    page.put(b"\n");
+    print(err, page.as_slice(), FAULTY)
+}
+
+// Prints that a write to the capture of this side failed, from a constant.
+fn print_failed_write<W: Write>(err: &mut Tally<W>, side: Side) -> u8
+    ensures { Writes (stream_of W.contents err.old) (stream_of W.contents err.new) (failed_write_text side) 3 result }
+{
+    match side {
+        Side::A => print(err, b"a: write failed\n", FAILED),
+        Side::B => print(err, b"b: write failed\n", FAILED),
+    }
+}

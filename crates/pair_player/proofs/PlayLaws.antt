@@ -1,0 +1,276 @@
+-- What was played of a script, from one step to the next.
+use Rattle.std.proofs.Common.{◌≡◌, ℕ, ◌+◌, ◌<◌, true, false, inl, inr, List, [], ◌∷◌, ◌++◌, length, Option, Some, None, Result, Ok, Err, refl, sym, ap, subst, ◌∙◌, arith, length-append, append-nil, append_assoc}
+use Rattle.std.specs.Option.{IfSome, IsSomeAnd}
+use Rattle.std.specs.Io.KnownBytes.{Consumes, IsAtEnd}
+use Rattle.wire_base.specs.declared.side.Side.{Side}
+use Rattle.wire_base.specs.declared.side.Side.TheVariants.{A, B}
+use Rattle.capture.specs.declared.format.Format.TheVariants.{One}
+use Rattle.capture.specs.declared.hint.HintForm.TheVariants.{Number}
+use Rattle.capture.specs.declared.phase.Phase.TheVariants.{Reading}
+use Rattle.capture.specs.declared.record.Record.{Record}
+use Rattle.capture.specs.Lines.{to_come}
+use Rattle.capture.specs.Paged.{HandsOver}
+use Rattle.capture.specs.Text.{capture_text, head_line, record_lines, record_line}
+use Rattle.dna_model.specs.Script.{ScriptStep}
+use Rattle.dna_model.specs.ScriptText.{IsStep, StepDeparts, script_line, MAX_STEPS}
+use Rattle.dna_model.specs.KeptPlayed.{KeptMade, KeptPair, KeptPlayed, KeptStopped, if_made, kept_not_begun, kept_plays_all, kept_plays_step, new_pair, with_records}
+use Rattle.dna_model.specs.Stepped.{Stop, BadStep, Full}
+use Rattle.pair_player.specs.declared.fault.PlayFault.{PlayFault}
+use Rattle.pair_player.specs.declared.fault.PlayFault.TheVariants as faults
+use Rattle.pair_player.specs.declared.fault.ScriptFault.{ScriptFault}
+use Rattle.pair_player.specs.declared.fault.ScriptFault.TheVariants as of_script
+use Rattle.pair_player.specs.declared.fault.StepFault.{StepFault}
+use Rattle.pair_player.specs.declared.fault.StepFault.TheVariants as stops
+use Rattle.pair_player.specs.declared.played.Played.{Played}
+use Rattle.pair_player.specs.Beginning.{fault_of, fault_at}
+use Rattle.pair_player.specs.Playing.{DepartsBehind, EndsBehind, HasPlayed, HasWritten, Held, Plays, Reached, StopsBehind, held, text_a, text_b}
+use Rattle.pair_player.specs.Reader.{Advances, FaultShows, Opens, ScriptState}
+use Rattle.pair_player.specs.SoFar.{no_steps, with_step}
+use Rattle.pair_player.specs.Stepping.{StopMeans}
+use Rattle.pair_player.specs.Making.{PutsLines, Standing, Steps, StopsStep, standing}
+use Rattle.pair_player.specs.Waiting.{EndsAll, FailsAt, Outlet, outlet}
+use Rattle.pair_player.proofs.OverLaws.{nothing_over, more_over, on_over, all_over, some_over, beginning_over}
+use Rattle.pair_player.proofs.SoFarLaws.{opened, one_more}
+
+-- ---- texts
+
+lines-append : (rs more : List Record) → record_lines Number (rs ++ more) ≡ record_lines Number rs ++ record_lines Number more
+lines-append [] more = refl
+lines-append (r ∷ rs) more = ap (λ (x : List ℕ). record_line Number r ++ x) (lines-append rs more) ∙ sym (append_assoc (record_line Number r) (record_lines Number rs) (record_lines Number more))
+
+pub text-more : (own peer : ℕ) (rs more : List Record) → capture_text One own peer (rs ++ more) ≡ capture_text One own peer rs ++ record_lines Number more
+text-more own peer rs more = ap (λ (x : List ℕ). head_line One own peer ++ x) (lines-append rs more) ∙ sym (append_assoc (head_line One own peer) (record_lines Number rs) (record_lines Number more))
+
+-- the step that was read
+read_step : (read : Option ScriptStep) (step : ScriptStep) (after come : Option (List ℕ)) → read ≡ Some step → IsSomeAnd read (λ step. IsStep step × Consumes come after (script_line step))
+    → IsStep step × Consumes come after (script_line step)
+read_step read step after come e h = subst (λ (x : Option ScriptStep). IsSomeAnd x (λ step. IsStep step × Consumes come after (script_line step))) e h
+
+-- ---- between two steps
+
+-- what the script's reader is, and what is to come; both ends; the lines that wait and what the writers hold; and how many steps were made
+pub record Place : Type 0 where
+  pub lines : ScriptState
+  pub come : Option (List ℕ)
+  pub pair : KeptPair
+  pub a : List ℕ
+  pub b : List ℕ
+  pub now : Held
+  pub steps : ℕ
+
+abbrev pub place : ScriptState → Option (List ℕ) → Standing → Held → ℕ → Place
+place lines come at now steps = record { lines = lines; come = come; pair = at.pair; a = at.a; b = at.b; now = now; steps = steps }
+
+-- so many steps were read and made; a part of both texts was written, and the rest waits
+pub record IsUnderWay (text : Option (List ℕ)) (old : Held) (p : Place) : Type 0 where
+  pub reached : Reached
+  pub played : HasPlayed text reached
+  pub come_is : reached.come ≡ p.come
+  pub pair_is : reached.played.pair ≡ p.pair
+  pub count : length reached.script.steps ≡ p.steps
+  pub counted : p.lines.steps ≡ p.steps
+  pub reading : p.lines.phase ≡ Reading
+  pub over_a : HandsOver (text_a reached) p.a old.a p.now.a
+  pub over_b : HandsOver (text_b reached) p.b old.b p.now.b
+
+abbrev no_step : ScriptState → Option (List ℕ) → Reached
+no_step lines left = let script = no_steps lines.node_a lines.node_b in record { script = script; played = kept_not_begun script; come = left }
+
+-- the heads wait
+pub under_way : (text left : Option (List ℕ)) (old : Held) (lines : ScriptState) (at : Standing) → Opens text left (Ok lines) → at.pair ≡ new_pair lines.node_a lines.node_b
+    → at.a ≡ head_line One lines.node_a lines.node_b → at.b ≡ head_line One lines.node_b lines.node_a → IsUnderWay text old (place lines (to_come lines.unread left) at old 0)
+under_way text left old lines at opens is head_a head_b = record {
+  reached = no_step lines (to_come lines.unread left);
+  played = record { read = opened text left lines opens; made = refl };
+  come_is = refl;
+  pair_is = sym is;
+  count = refl;
+  counted = opens.2;
+  reading = opens.3;
+  over_a = subst (λ (x : List ℕ). HandsOver x at.a old.a old.a) (head_a ∙ sym (append-nil (head_line One lines.node_a lines.node_b))) (nothing_over at.a old.a);
+  over_b = subst (λ (x : List ℕ). HandsOver x at.b old.b old.b) (head_b ∙ sym (append-nil (head_line One lines.node_b lines.node_a))) (nothing_over at.b old.b);
+}
+
+-- ---- one step more
+
+pub same_Ok : (x y : KeptPlayed) → ◌≡◌ {A = Result KeptPlayed KeptStopped} (Ok x) (Ok y) → x ≡ y
+same_Ok x y e = cc
+
+-- where the first step is made, what more steps behind the others make is what they make behind it
+first-made : (n : ℕ) (so_far played after : KeptPlayed) (first : ScriptStep) (steps more : List ScriptStep) (now : Result KeptMade Stop)
+    → ((made : KeptMade) → kept_plays_all (n + 1) (with_records so_far first.side made) steps ≡ Ok played → kept_plays_all (n + 1) (with_records so_far first.side made) more ≡ Ok after)
+    → if_made now (λ made. kept_plays_all (n + 1) (with_records so_far first.side made) steps) (λ stop. record { steps = n; stop = stop; so_far = so_far }) ≡ Ok played
+    → if_made now (λ made. kept_plays_all (n + 1) (with_records so_far first.side made) more) (λ stop. record { steps = n; stop = stop; so_far = so_far }) ≡ Ok after
+first-made n so_far played after first steps more (Ok made) on e = on made e
+first-made n so_far played after first steps more (Err stop) on e = absurd cc
+
+steps-push : (n : ℕ) (so_far played : KeptPlayed) (steps : List ScriptStep) (step : ScriptStep) (made : KeptMade) → kept_plays_all n so_far steps ≡ Ok played → kept_plays_step played.pair step ≡ Ok made
+    → kept_plays_all n so_far (steps ++ step ∷ []) ≡ Ok (with_records played step.side made)
+steps-push n so_far played [] step made e f = rw (same_Ok so_far played e, f) refl
+steps-push n so_far played (first ∷ steps) step made e f =
+    first-made n so_far played (with_records played step.side made) first steps (steps ++ step ∷ []) (kept_plays_step so_far.pair first)
+    (λ now k. steps-push (n + 1) (with_records so_far first.side now) played steps step made k f) e
+
+pair_with : (so_far : KeptPlayed) (side : Side) (made : KeptMade) → (with_records so_far side made).pair ≡ made.pair
+pair_with so_far A made = refl
+pair_with so_far B made = refl
+
+module _ (text : Option (List ℕ)) (old : Held) (p : Place) (h : IsUnderWay text old p) where
+  abbrev reached_on : ScriptStep → KeptMade → Option (List ℕ) → Reached
+  reached_on step made after = record { script = with_step h.reached.script step; played = with_records h.reached.played step.side made; come = after }
+
+  played_on : (step : ScriptStep) (made : KeptMade) (after : Option (List ℕ)) → IsStep step → length h.reached.script.steps < MAX_STEPS → Consumes p.come after (script_line step)
+      → kept_plays_step p.pair step ≡ Ok made → HasPlayed text (reached_on step made after)
+  played_on step made after fits few consumes e = record {
+    read = one_more text h.reached.come after h.reached.script step h.played.read few fits (subst (λ (x : Option (List ℕ)). Consumes x after (script_line step)) (sym h.come_is) consumes);
+    made = steps-push 0 (kept_not_begun h.reached.script) h.reached.played h.reached.script.steps step made h.played.made (ap (λ (x : KeptPair). kept_plays_step x step) h.pair_is ∙ e);
+  }
+
+  -- the lines of its records wait behind those of its side
+  put_on : (side : Side) (made : KeptMade) (a b : List ℕ) → PutsLines side (p.a, p.b) (a, b) (record_lines Number made.records)
+      → HandsOver (capture_text One h.reached.script.node_a h.reached.script.node_b (with_records h.reached.played side made).of_a) a old.a p.now.a
+      × HandsOver (capture_text One h.reached.script.node_b h.reached.script.node_a (with_records h.reached.played side made).of_b) b old.b p.now.b
+  put_on A made a b puts = (
+    more_over _ p.a old.a p.now.a h.over_a (record_lines Number made.records) _ a (text-more h.reached.script.node_a h.reached.script.node_b h.reached.played.of_a made.records) puts.0,
+    subst (λ (x : List ℕ). HandsOver (text_b h.reached) x old.b p.now.b) (sym puts.1) h.over_b,
+  )
+  put_on B made a b puts = (
+    subst (λ (x : List ℕ). HandsOver (text_a h.reached) x old.a p.now.a) (sym puts.0) h.over_a,
+    more_over _ p.b old.b p.now.b h.over_b (record_lines Number made.records) _ b (text-more h.reached.script.node_b h.reached.script.node_a h.reached.played.of_b made.records) puts.1,
+  )
+
+  few_steps : p.lines.steps < MAX_STEPS → length h.reached.script.steps < MAX_STEPS
+  few_steps before = let count = h.count in let counted = h.counted in omega arith
+
+  -- the step that was read is made
+  pub step_on : (step : ScriptStep) (lines : ScriptState) (after : Option (List ℕ)) (at : Standing) → lines.step ≡ Some step → Advances p.lines lines p.come after (Ok true)
+      → Steps step (standing p.pair p.a p.b) at → IsUnderWay text old (place lines after at p.now (p.steps + 1))
+  step_on step lines after at is advances steps =
+      let count = h.count in
+      let counted = h.counted in
+      let found = read_step lines.step step after p.come is advances.0 in
+      let puts = put_on step.side steps.made at.a at.b steps.puts in
+      record {
+        reached = reached_on step steps.made after;
+        played = played_on step steps.made after found.0 (few_steps advances.1) found.1 steps.makes;
+        come_is = refl;
+        pair_is = pair_with h.reached.played step.side steps.made ∙ sym steps.pair;
+        count = omega (arith, length-append h.reached.script.steps (step ∷ []));
+        counted = omega (arith, advances.2);
+        reading = advances.3;
+        over_a = puts.0;
+        over_b = puts.1;
+      }
+
+  -- some of the lines that waited were written
+  pub moved_on : (later : Held) (a b : List ℕ) → HandsOver p.a a p.now.a later.a → HandsOver p.b b p.now.b later.b → IsUnderWay text old (place p.lines p.come (standing p.pair a b) later p.steps)
+  moved_on later a b over_a over_b = record {
+    reached = h.reached;
+    played = h.played;
+    come_is = h.come_is;
+    pair_is = h.pair_is;
+    count = h.count;
+    counted = h.counted;
+    reading = h.reading;
+    over_a = on_over _ _ _ _ h.over_a a later.a over_a;
+    over_b = on_over _ _ _ _ h.over_b b later.b over_b;
+  }
+
+  -- ---- where a write fails, or the rest is written
+
+  pub fails : (side : Side) (n m : ℕ) (new : Outlet × Outlet) → FailsAt side (outlet p.a p.now.a n, outlet p.b p.now.b m) new → Plays text old (held new.0.held new.1.held) (Err (faults.Write side))
+  fails A n m new f = (h.reached, h.played, (beginning_over _ _ _ _ h.over_a new.0.held f.0.some, some_over _ _ _ _ h.over_b new.1.held f.1.some))
+  fails B n m new f = (h.reached, h.played, (some_over _ _ _ _ h.over_a new.0.held f.0.some, beginning_over _ _ _ _ h.over_b new.1.held f.1.some))
+
+  written : (later : Held) (a b : List ℕ) → HandsOver p.a a p.now.a later.a → HandsOver p.b b p.now.b later.b → a ≡ [] → b ≡ [] → HasWritten old later h.reached
+  written later a b over_a over_b none_a none_b = record {
+    a = all_over _ _ _ _ (on_over _ _ _ _ h.over_a a later.a over_a) none_a;
+    b = all_over _ _ _ _ (on_over _ _ _ _ h.over_b b later.b over_b) none_b;
+  }
+
+-- ---- how it ends
+
+-- what the answer says of what was reached
+abbrev pub Meant : Reached → Result Played PlayFault → Type 0
+Meant r (Ok answer) = EndsBehind answer.steps r
+Meant r (Err (faults.Departs kind line)) = DepartsBehind kind line r
+Meant r (Err (faults.BadStep line)) = StopsBehind BadStep line r
+Meant r (Err (faults.Full line)) = StopsBehind Full line r
+Meant r (Err faults.Read) = Unit {0}
+Meant r (Err (faults.Write side)) = ⊥
+Meant r (Err faults.OutOfMemory) = Unit {0}
+
+plays_meant : (text : Option (List ℕ)) (old new : Held) (r : Reached) (answer : Result Played PlayFault) → HasPlayed text r → HasWritten old new r → Meant r answer → Plays text old new answer
+plays_meant text old new r (Ok answer) h k m = (r, h, k, m)
+plays_meant text old new r (Err (faults.Departs kind line)) h k m = inr (r, h, k, m)
+plays_meant text old new r (Err (faults.BadStep line)) h k m = (r, h, k, m)
+plays_meant text old new r (Err (faults.Full line)) h k m = (r, h, k, m)
+plays_meant text old new r (Err faults.Read) h k m = inr (r, h, k, tt)
+plays_meant text old new r (Err (faults.Write side)) h k m = absurd m
+plays_meant text old new r (Err faults.OutOfMemory) h k m = inr (r, h, k, tt)
+
+module _ (text : Option (List ℕ)) (old : Held) (p : Place) (h : IsUnderWay text old p) where
+  pub ended : (meant answer : Result Played PlayFault) (n m : ℕ) (new : Outlet × Outlet) → Meant h.reached meant → EndsAll meant (outlet p.a p.now.a n, outlet p.b p.now.b m) new answer
+      → Plays text old (held new.0.held new.1.held) answer
+  ended meant answer n m new is (inl all) =
+      subst (Plays text old (held new.0.held new.1.held)) (sym all.4)
+      (plays_meant text old (held new.0.held new.1.held) h.reached meant h.played (written text old p h (held new.0.held new.1.held) new.0.text new.1.text all.0.over all.1.over all.2 all.3) is)
+  ended meant answer n m new is (inr some) = subst (Plays text old (held new.0.held new.1.held)) (sym some.2) (fails text old p h some.0 n m new some.1)
+
+  -- the script has ended
+  pub at_end : (lines : ScriptState) (after : Option (List ℕ)) → Advances p.lines lines p.come after (Ok false) → Meant h.reached (Ok (record { steps = p.steps }))
+  at_end lines after advances = record { end = subst IsAtEnd (sym h.come_is) advances.0; steps_are = sym h.count }
+
+  -- its next line is not known
+  pub at_fault : (lines : ScriptState) (after : Option (List ℕ)) (fault : ScriptFault) → Advances p.lines lines p.come after (Err fault) → Meant h.reached (Err (fault_of fault))
+  at_fault lines after fault advances = by_fault fault advances.0
+    where
+      same : p.lines.steps ≡ length h.reached.script.steps
+      same = h.counted ∙ sym h.count
+
+      by_fault : (fault : ScriptFault) → FaultShows (StepDeparts p.lines.steps) (p.lines.steps + 2) p.come fault → Meant h.reached (Err (fault_of fault))
+      by_fault (of_script.Departs kind line) shows = record {
+        departs = subst (λ (x : Option (List ℕ)). IfSome x (StepDeparts (length h.reached.script.steps) kind)) (sym h.come_is)
+            (subst (λ (n : ℕ). IfSome p.come (StepDeparts n kind)) same shows.1);
+        line_is = shows.0 ∙ ap (λ n. n + 2) same;
+      }
+      by_fault of_script.Read shows = tt
+      by_fault of_script.OutOfMemory shows = tt
+      by_fault of_script.Failed shows = absurd shows
+
+  -- its next step isn't made
+  at_stop : (step : ScriptStep) (lines : ScriptState) (after : Option (List ℕ)) (fault : StepFault) → lines.step ≡ Some step → Advances p.lines lines p.come after (Ok true)
+      → StopMeans (kept_plays_step p.pair step) fault → Meant h.reached (Err (fault_at (p.steps + 2) fault))
+  at_stop step lines after fault is advances means = by_fault fault means
+    where
+      behind : (why : Stop) → kept_plays_step p.pair step ≡ Err why → StopsBehind why (p.steps + 2) h.reached
+      behind why e =
+          let found = read_step lines.step step after p.come is advances.0 in
+          record {
+            step = step;
+            fits = found.0;
+            few = few_steps text old p h advances.1;
+            later = after;
+            spelled = subst (λ (x : Option (List ℕ)). Consumes x after (script_line step)) (sym h.come_is) found.1;
+            stops = ap (λ (x : KeptPair). kept_plays_step x step) h.pair_is ∙ e;
+            line_is = ap (λ n. n + 2) (sym h.count);
+          }
+
+      by_fault : (fault : StepFault) → StopMeans (kept_plays_step p.pair step) fault → Meant h.reached (Err (fault_at (p.steps + 2) fault))
+      by_fault stops.BadStep e = behind BadStep e
+      by_fault stops.Full e = behind Full e
+      by_fault stops.OutOfMemory e = tt
+
+  -- the same where the lines that wait are seen behind it
+  pub stopped : (step : ScriptStep) (lines : ScriptState) (after : Option (List ℕ)) (at : Standing) (fault : StepFault) (answer : Result Played PlayFault) (n m : ℕ) (new : Outlet × Outlet) → lines.step ≡ Some step
+      → Advances p.lines lines p.come after (Ok true) → StopsStep step (standing p.pair p.a p.b) at fault → EndsAll (Err (fault_at (p.steps + 2) fault)) (outlet at.a p.now.a n, outlet at.b p.now.b m) new answer
+      → Plays text old (held new.0.held new.1.held) answer
+  stopped step lines after at fault answer n m new is advances stops ends =
+      ended (Err (fault_at (p.steps + 2) fault)) answer n m new (at_stop step lines after fault is advances stops.means)
+      (subst (λ (x : List ℕ). EndsAll (Err (fault_at (p.steps + 2) fault)) (outlet p.a p.now.a n, outlet x p.now.b m) new answer) stops.b
+      (subst (λ (x : List ℕ). EndsAll (Err (fault_at (p.steps + 2) fault)) (outlet x p.now.a n, outlet at.b p.now.b m) new answer) stops.a ends))
+
+-- a step that was read is some step
+pub some_step : (read : Option ScriptStep) (come after : Option (List ℕ)) → IsSomeAnd read (λ step. IsStep step × Consumes come after (script_line step)) → (step : ScriptStep) × (read ≡ Some step)
+some_step None come after h = absurd h
+some_step (Some step) come after h = (step, refl)

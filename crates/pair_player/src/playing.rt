@@ -1,0 +1,159 @@
+//! A script is read, its steps are made, and both captures are written.
+
+ghost use Rattle.std.specs.Prelude.{◌≡◌, Some, Ok, IfOk, IfErr, IsSomeAnd};
+ghost use Rattle.wire_base.specs.Tally.{tally_faults, tally_lent};
+ghost use Rattle.wire_base.specs.declared.side.Side.TheVariants as of_side;
+ghost use Rattle.capture.specs.declared.format.Format.TheVariants as Layout;
+ghost use Rattle.capture.specs.Faulty.{CountsReads};
+ghost use Rattle.capture.specs.Text.{head_line};
+ghost use Rattle.dna_model.specs.KeptPlayed.{new_pair};
+ghost use Rattle.dna_model.specs.Script.{ScriptStep as Line};
+ghost use Rattle.dna_model.specs.ScriptText.{IsStep};
+ghost use Rattle.pair_player.specs.Beginning.{HeadFault, fault_at, fault_of, is_failed_read};
+ghost use Rattle.pair_player.specs.Playing.{CountsReadsOf, CountsWritesOf, Plays, held};
+ghost use Rattle.pair_player.specs.Reader.{Opens};
+ghost use Rattle.pair_player.specs.Making.{StepsOrStops, standing};
+ghost use Rattle.pair_player.specs.Waiting.{EndsAll, outlet};
+
+use crate::ends::Ends;
+use crate::fault::{PlayFault, ScriptFault, StepFault};
+use crate::limit::MAX_STEPS;
+use crate::played::Played;
+use crate::script_reader::ScriptReader;
+use crate::texts::Texts;
+use std::alloc::Global;
+use std::io::{Read, Write};
+use wire_base::{Side, Tally};
+
+// A script whose head was read, both ends before its first step, and the heads of both captures.
+#[derive(Drop)]
+struct Begun {
+    lines: ScriptReader,
+    ends: Ends,
+    texts: Texts,
+}
+
+/// Reads a script to its end, makes its steps, and writes the captures of both sides.
+pub fn play<R: Read, A: Write, B: Write>(
+    alloc: Global,
+    script: &mut Tally<R>,
+    a: &mut Tally<A>,
+    b: &mut Tally<B>,
+) -> Result<Played, PlayFault>
+    ensures plays { Plays (R.remaining (tally_lent script.old))
+        (held (A.contents (tally_lent a.old)) (B.contents (tally_lent b.old)))
+        (held (A.contents (tally_lent a.new)) (B.contents (tally_lent b.new))) result }
+    ensures reads { CountsReadsOf result (tally_faults script.old) (tally_faults script.new) }
+    ensures writes_a { CountsWritesOf of_side.A result (tally_faults a.old) (tally_faults a.new) }
+    ensures writes_b { CountsWritesOf of_side.B result (tally_faults b.old) (tally_faults b.new) }
+{
+    let Begun {
+        mut lines,
+        mut ends,
+        mut texts,
+    } = match begin(alloc, script) {
+        Ok(begun) => begun,
+        Err(fault) => return Err(fault),
+    };
+    if let Err(side) = texts.write_out(a, b) {
+        return Err(PlayFault::Write { side });
+    }
+    for steps in 0..MAX_STEPS + 1 {
+        match lines.advance(script) {
+            Ok(true) => match make_step(&lines, &mut ends, &mut texts) {
+                Ok(()) => {
+                    if let Err(side) = texts.write_full(a, b) {
+                        return Err(PlayFault::Write { side });
+                    }
+                }
+                Err(stop) => return end(&mut texts, a, b, Err(stop_fault(stop, steps + 2))),
+            },
+            Ok(false) => return end(&mut texts, a, b, Ok(Played { steps })),
+            Err(fault) => return end(&mut texts, a, b, Err(play_fault(fault))),
+        }
+    }
+    unreachable!()
+}
+
+// Reads the head, and takes the memory for both ends and for the heads of both captures.
+fn begin<R: Read>(alloc: Global, script: &mut Tally<R>) -> Result<Begun, PlayFault>
+    ensures opens { IfOk result (λ begun. Opens (R.remaining (tally_lent script.old)) (R.remaining (tally_lent script.new)) (Ok begun.lines)) }
+    ensures ends { IfOk result (λ begun. begun.ends ≡ new_pair begun.lines.node_a begun.lines.node_b) }
+    ensures head_a { IfOk result (λ begun. begun.texts.a.items ≡ head_line Layout.One begun.lines.node_a begun.lines.node_b) }
+    ensures head_b { IfOk result (λ begun. begun.texts.b.items ≡ head_line Layout.One begun.lines.node_b begun.lines.node_a) }
+    ensures fault { IfErr result (HeadFault (R.remaining (tally_lent script.old))) }
+    ensures reads { CountsReads (is_failed_read result) (tally_faults script.old) (tally_faults script.new) }
+{
+    let Ok(mut texts) = Texts::new(alloc) else {
+        return Err(PlayFault::OutOfMemory);
+    };
+    let lines = match ScriptReader::open(alloc, script) {
+        Ok(lines) => lines,
+        Err(fault) => return Err(play_fault(fault)),
+    };
+    let Ok(ends) = Ends::new(alloc, lines.node_a(), lines.node_b()) else {
+        return Err(PlayFault::OutOfMemory);
+    };
+    let Ok(()) = texts.put_heads(lines.node_a(), lines.node_b()) else {
+        return Err(PlayFault::OutOfMemory);
+    };
+    Ok(Begun { lines, ends, texts })
+}
+
+// Makes the step that was read last: the lines of its records stand behind those of its side.
+fn make_step(lines: &ScriptReader, ends: &mut Ends, texts: &mut Texts) -> Result<(), StepFault>
+    requires { IsSomeAnd lines.now.step IsStep }
+    ensures { (step : Line) → lines.now.step ≡ Some step → StepsOrStops step
+        (standing ends.old texts.old.a.items texts.old.b.items) (standing ends.new texts.new.a.items texts.new.b.items) result }
+{
+    let Some(step) = lines.step() else {
+        unreachable!()
+    };
+    texts.step.clear();
+    match ends.play_step(step, &mut texts.step) {
+        Ok(()) => match texts.put_step(step.side) {
+            Ok(()) => Ok(()),
+            Err(_) => Err(StepFault::OutOfMemory),
+        },
+        Err(fault) => Err(fault),
+    }
+}
+
+// Writes what waits, and gives this answer; or tells that the writer of a side failed.
+fn end<A: Write, B: Write>(
+    texts: &mut Texts,
+    a: &mut Tally<A>,
+    b: &mut Tally<B>,
+    answer: Result<Played, PlayFault>,
+) -> Result<Played, PlayFault>
+    ensures { EndsAll answer
+        (outlet texts.old.a.items (A.contents (tally_lent a.old)) (tally_faults a.old), outlet texts.old.b.items (B.contents (tally_lent b.old)) (tally_faults b.old))
+        (outlet texts.new.a.items (A.contents (tally_lent a.new)) (tally_faults a.new), outlet texts.new.b.items (B.contents (tally_lent b.new)) (tally_faults b.new)) result }
+{
+    match texts.write_out(a, b) {
+        Ok(()) => answer,
+        Err(side) => Err(PlayFault::Write { side }),
+    }
+}
+
+// A fault of the script's reader, which did not fail before.
+fn play_fault(fault: ScriptFault) -> PlayFault
+    ensures { result ≡ fault_of fault }
+{
+    match fault {
+        ScriptFault::Departs { kind, line } => PlayFault::Departs { kind, line },
+        ScriptFault::Read | ScriptFault::Failed => PlayFault::Read,
+        ScriptFault::OutOfMemory => PlayFault::OutOfMemory,
+    }
+}
+
+// Why the step of this line isn't made.
+fn stop_fault(stop: StepFault, line: u64) -> PlayFault
+    ensures { result ≡ fault_at line stop }
+{
+    match stop {
+        StepFault::BadStep => PlayFault::BadStep { line },
+        StepFault::Full => PlayFault::Full { line },
+        StepFault::OutOfMemory => PlayFault::OutOfMemory,
+    }
+}

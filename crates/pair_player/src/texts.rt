@@ -1,0 +1,138 @@
+//! The texts of both captures on the way to their writers.
+
+ghost use Rattle.std.specs.Prelude.{◌≡◌, [], ◌++◌, IfOk, OnOk, OnErr};
+ghost use Rattle.wire_base.specs.Tally.{tally_faults, tally_lent};
+ghost use Rattle.capture.specs.declared.format.Format.TheVariants as Layout;
+ghost use Rattle.capture.specs.Text.{head_line};
+ghost use Rattle.pair_player.specs.Making.{PutsLines};
+ghost use Rattle.pair_player.specs.Waiting.{PassBoth, Passes, Fails, outlet};
+
+use capture::{Format, put_head};
+use std::alloc::{AllocError, Global};
+use std::io::Write;
+use wire_base::{Side, Tally, WriteFailed, write_whole};
+
+// So many bytes are written together.
+const FULL: usize = 65_536;
+
+// What is asked for at first: a step's lines are mostly shorter than the rest.
+const ROOM: usize = 131_072;
+
+/// The lines of both captures that are not written yet.
+#[derive(Drop)]
+pub struct Texts {
+    pub a: Vec<u8>,
+    pub b: Vec<u8>,
+    // The lines of the step at hand.
+    pub step: Vec<u8>,
+}
+
+impl Texts {
+    /// No lines. `AllocError` where there is no memory for them.
+    pub fn new(alloc: Global) -> Result<Texts, AllocError>
+        ensures { IfOk result (λ texts. (texts.a.items ≡ []) × (texts.b.items ≡ [])) }
+    {
+        let a = Vec::with_capacity(alloc, ROOM)?;
+        let b = Vec::with_capacity(alloc, ROOM)?;
+        let step = Vec::new(alloc);
+        Ok(Texts { a, b, step })
+    }
+
+    /// Appends the heads of both captures. `AllocError` where there is no memory for them.
+    pub fn put_heads(&mut self, node_a: u16, node_b: u16) -> Result<(), AllocError>
+        ensures a { OnOk result (self.new.a.items ≡ self.old.a.items ++ head_line Layout.One node_a node_b) }
+        ensures b { OnOk result (self.new.b.items ≡ self.old.b.items ++ head_line Layout.One node_b node_a) }
+    {
+        put_head(&mut self.a, Format::One, node_a, node_b)?;
+        self.a.push(b'\n')?;
+        put_head(&mut self.b, Format::One, node_b, node_a)?;
+        self.b.push(b'\n')?;
+        Ok(())
+    }
+
+    /// Puts the lines of the step at hand behind those of its side. `AllocError` where there is no memory for them; then no line is put.
+    pub fn put_step(&mut self, side: Side) -> Result<(), AllocError>
+        ensures ok { OnOk result (PutsLines side (self.old.a.items, self.old.b.items) (self.new.a.items, self.new.b.items) self.old.step.items) }
+        ensures err_a { OnErr result (self.new.a.items ≡ self.old.a.items) }
+        ensures err_b { OnErr result (self.new.b.items ≡ self.old.b.items) }
+    {
+        match side {
+            Side::A => self.a.extend_from_slice(self.step.as_slice()),
+            Side::B => self.b.extend_from_slice(self.step.as_slice()),
+        }
+    }
+
+    /// Writes all lines, those of a first. `Err`: the writer of this side failed in this call.
+    pub fn write_out<A: Write, B: Write>(
+        &mut self,
+        a: &mut Tally<A>,
+        b: &mut Tally<B>,
+    ) -> Result<(), Side>
+        ensures empty_a { OnOk result (self.new.a.items ≡ []) }
+        ensures empty_b { OnOk result (self.new.b.items ≡ []) }
+        ensures writes { PassBoth
+            (outlet self.old.a.items (A.contents (tally_lent a.old)) (tally_faults a.old), outlet self.old.b.items (B.contents (tally_lent b.old)) (tally_faults b.old))
+            (outlet self.new.a.items (A.contents (tally_lent a.new)) (tally_faults a.new), outlet self.new.b.items (B.contents (tally_lent b.new)) (tally_faults b.new)) result }
+    {
+        let Ok(()) = write_text(&mut self.a, a) else {
+            return Err(Side::A);
+        };
+        let Ok(()) = write_text(&mut self.b, b) else {
+            return Err(Side::B);
+        };
+        Ok(())
+    }
+
+    /// Writes the lines of each side that has many. `Err`: the writer of this side failed in this call.
+    pub fn write_full<A: Write, B: Write>(
+        &mut self,
+        a: &mut Tally<A>,
+        b: &mut Tally<B>,
+    ) -> Result<(), Side>
+        ensures { PassBoth
+            (outlet self.old.a.items (A.contents (tally_lent a.old)) (tally_faults a.old), outlet self.old.b.items (B.contents (tally_lent b.old)) (tally_faults b.old))
+            (outlet self.new.a.items (A.contents (tally_lent a.new)) (tally_faults a.new), outlet self.new.b.items (B.contents (tally_lent b.new)) (tally_faults b.new)) result }
+    {
+        let Ok(()) = write_if_full(&mut self.a, a) else {
+            return Err(Side::A);
+        };
+        let Ok(()) = write_if_full(&mut self.b, b) else {
+            return Err(Side::B);
+        };
+        Ok(())
+    }
+}
+
+// Writes a side's lines, and drops them. `WriteFailed`: the writer failed in this call, and took a beginning that is not all.
+fn write_text<W: Write>(text: &mut Vec<u8>, writer: &mut Tally<W>) -> Result<(), WriteFailed>
+    ensures empty { OnOk result (text.new.items ≡ []) }
+    ensures ok { OnOk result (Passes
+        (outlet text.old.items (W.contents (tally_lent writer.old)) (tally_faults writer.old))
+        (outlet text.new.items (W.contents (tally_lent writer.new)) (tally_faults writer.new))) }
+    ensures err { OnErr result (Fails
+        (outlet text.old.items (W.contents (tally_lent writer.old)) (tally_faults writer.old))
+        (outlet text.new.items (W.contents (tally_lent writer.new)) (tally_faults writer.new))) }
+{
+    match write_whole(writer, text.as_slice()) {
+        Ok(()) => {
+            text.clear();
+            Ok(())
+        }
+        Err(failed) => Err(failed),
+    }
+}
+
+// Writes a side's lines where they are many.
+fn write_if_full<W: Write>(text: &mut Vec<u8>, writer: &mut Tally<W>) -> Result<(), WriteFailed>
+    ensures ok { OnOk result (Passes
+        (outlet text.old.items (W.contents (tally_lent writer.old)) (tally_faults writer.old))
+        (outlet text.new.items (W.contents (tally_lent writer.new)) (tally_faults writer.new))) }
+    ensures err { OnErr result (Fails
+        (outlet text.old.items (W.contents (tally_lent writer.old)) (tally_faults writer.old))
+        (outlet text.new.items (W.contents (tally_lent writer.new)) (tally_faults writer.new))) }
+{
+    if text.len() >= FULL {
+        return write_text(text, writer);
+    }
+    Ok(())
+}
