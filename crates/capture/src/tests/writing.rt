@@ -1,5 +1,7 @@
 use super::stepped::Narrow;
-use crate::{Bytes, Record, WriteFault, write_head, write_record};
+use crate::{
+    Bytes, Entry, Format, Record, WriteFault, put_head, put_line, write_head, write_record,
+};
 use std::test::Fail;
 use wire_base::Tally;
 
@@ -47,4 +49,23 @@ fn the_writer_has_the_head_or_a_beginning_of_it(rt: HostRuntime) {
         );
         assert!(rt; writer.into_inner().taken.as_slice() == &line[..fails_at]);
     }
+}
+
+#[test]
+fn the_head_and_lines_are_put_behind_a_text(rt: HostRuntime) -> Result<(), Fail> {
+    let mut text = Vec::new(rt.alloc());
+    put_head(&mut text, Format::One, 1025, 65_535)?;
+    text.push(b'\n')?;
+    put_line(
+        &mut text,
+        Entry::Received {
+            kept: true,
+            hint: 3,
+        },
+        &[5],
+    )?;
+    put_line(&mut text, Entry::Noise, &[])?;
+    put_line(&mut text, Entry::Open { link: 65_535 }, &[])?;
+    assert!(rt; text.as_slice() == b"ddcap 1 1.1 63.1023\nk 3 05\nn -\nu open 65535\n".as_slice());
+    Ok(())
 }
