@@ -183,3 +183,7 @@ mod KeptLaw
 mod PlayRowsBounds
 mod PlayRowsScripts
 mod PlayRowsText
+mod WaitingPieces
+mod WaitingRecords
+mod PlayedFew
+pub mod FewRecords
