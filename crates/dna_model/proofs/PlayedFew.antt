@@ -69,7 +69,8 @@ all_ups address (message ∷ later) = all_ups address later
 segment_ups : (s : Links) (address far : ℕ) → AreUps (with_link (ActedOn address far) s []
     (λ number link. map (λ (message : List ℕ). events.Up address message) (complete [] (owing.variables_of link).pieces)))
 segment_ups s address far =
-    looked (ActedOn address far) s [] (λ number link. map (λ (message : List ℕ). events.Up address message) (complete [] (owing.variables_of link).pieces)) _ refl
+    looked (ActedOn address far) s []
+    (λ number link. map (λ (message : List ℕ). events.Up address message) (complete [] (owing.variables_of link).pieces)) _ refl
     (λ none e. subst AreUps e tt) (λ number link found e. subst AreUps e (all_ups address (complete [] (owing.variables_of link).pieces)))
 
 message_ups : (s : Links) (m : NspValue) → AreUps (delivered_by s m)
@@ -103,7 +104,8 @@ module _ (most : ℕ) (other : PlayHalf) where
 
   then_few : (message : Option NspValue) (result : Result Stepped Stop) → Few most result → Few most (then_gets other message result)
   then_few message (Err stop) few = tt
-  then_few message (Ok so_far) few = gets_few (delivered_now (links_of so_far.end.half) message) (now_ups (links_of so_far.end.half) message) so_far few
+  then_few message (Ok so_far) few =
+      gets_few (delivered_now (links_of so_far.end.half) message) (now_ups (links_of so_far.end.half) message) so_far few
 
 -- ---- the steps
 
@@ -114,7 +116,8 @@ module _ (own : End) (other : PlayHalf) where
   receives_few : (bytes : List ℕ) (read : ReadingValue) (kept : Bool) → FewNow (receives own other bytes read kept)
   receives_few bytes read kept =
       let r = Received own.passed kept bytes in
-      then_few (waiting_at own.half + 2) other (carried kept read) _ (made_few own other r (after_receipt own read kept) (λ e. refl) (makes own.half other r) refl)
+      then_few (waiting_at own.half + 2) other (carried kept read) _
+      (made_few own other r (after_receipt own read kept) (λ e. refl) (makes own.half other r) refl)
 
   unit_few : (o : Option LayersUnit) (next : List ℕ → Result Stepped Stop) → ((bytes : List ℕ) → FewNow (next bytes)) → FewNow (on_unit o next)
   unit_few None next all = tt
@@ -135,7 +138,8 @@ module _ (own : End) (other : PlayHalf) where
 
   message_few : (next : Choice) (o : Option MessageValue) → FewNow (sends_message own other next o)
   message_few next None = tt
-  message_few next (Some m) = made_few own other (Sent (spelling m)) (after_sending next) (after_sending_keeps next) (makes own.half other (Sent (spelling m))) refl
+  message_few next (Some m) =
+      made_few own other (Sent (spelling m)) (after_sending next) (after_sending_keeps next) (makes own.half other (Sent (spelling m))) refl
 
   choice_few : (o : Option Choice) → FewNow (sends_choice own other o)
   choice_few None = tt

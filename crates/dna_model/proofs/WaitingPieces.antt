@@ -63,14 +63,17 @@ message_fills (Some p ∷ later) w e = go p.ends (next_message later) refl (mess
         more : (n : ℕ) → n + 1 ≡ suc n
         more n = omega arith
 
-    go : (b : Bool) (o : Option Whole) → next_message later ≡ o → ((w : Whole) → next_message later ≡ Some w → filled (drop w.pieces later) + 1 ≤ filled later) →
-        cond b (Some (record { pieces = 1; message = p.body })) (with_piece p o) ≡ Some w → filled (drop w.pieces (Some p ∷ later)) + 1 ≤ filled (Some p ∷ later)
+    go : (b : Bool) (o : Option Whole) → next_message later ≡ o →
+        ((w : Whole) → next_message later ≡ Some w → filled (drop w.pieces later) + 1 ≤ filled later) →
+        cond b (Some (record { pieces = 1; message = p.body })) (with_piece p o) ≡ Some w →
+        filled (drop w.pieces (Some p ∷ later)) + 1 ≤ filled (Some p ∷ later)
     go true o is fills e =
         let many : 1 ≡ w.pieces = ap (λ (x : Whole). x.pieces) (same_Some (record { pieces = 1; message = p.body }) w e) in
         subst (λ (n : ℕ). filled (drop n (Some p ∷ later)) + 1 ≤ filled (Some p ∷ later)) many (omega arith)
     go false None is fills e = absurd cc
     go false (Some v) is fills e =
-        let many : v.pieces + 1 ≡ w.pieces = ap (λ (x : Whole). x.pieces) (same_Some (record { pieces = v.pieces + 1; message = p.body ++ v.message }) w e) in
+        let many : v.pieces + 1 ≡ w.pieces = ap (λ (x : Whole). x.pieces)
+        (same_Some (record { pieces = v.pieces + 1; message = p.body ++ v.message }) w e) in
         let f = fills v is in
         let less : filled (drop (v.pieces + 1) (Some p ∷ later)) ≡ filled (drop v.pieces later) = ap filled (one_less v.pieces) in
         subst (λ (n : ℕ). filled (drop n (Some p ∷ later)) + 1 ≤ filled (Some p ∷ later)) many (omega arith)
@@ -88,11 +91,13 @@ delivery_takes message f g e =
     omega arith
 
 -- acknowledgements change nothing of it
-acks_keep : (acks : List ℕ) (f : TrueFlow) → ((fold flow.acknowledged_through f acks).received ≡ f.received) × ((fold flow.acknowledged_through f acks).passed ≡ f.passed)
+acks_keep : (acks : List ℕ) (f : TrueFlow) →
+    ((fold flow.acknowledged_through f acks).received ≡ f.received) × ((fold flow.acknowledged_through f acks).passed ≡ f.passed)
 acks_keep [] f = (refl, refl)
 acks_keep (ack ∷ acks) f = let r = acks_keep acks (flow.acknowledged_through f ack) in let t = one _ in (r.0 ∙ t.0, r.1 ∙ t.1)
   where
-    one : (b : Bool) → ((cond b (record f { acknowledged = ack }) f).received ≡ f.received) × ((cond b (record f { acknowledged = ack }) f).passed ≡ f.passed)
+    one : (b : Bool) →
+        ((cond b (record f { acknowledged = ack }) f).received ≡ f.received) × ((cond b (record f { acknowledged = ack }) f).passed ≡ f.passed)
     one true = (refl, refl)
     one false = (refl, refl)
 
@@ -119,7 +124,8 @@ waiting (link ∷ links) = waiting_in link.flow + waiting links
 set_waits : (links : List (LinkOf TrueFlow)) (number : ℕ) (link left : LinkOf TrueFlow) → slice_get links number ≡ Some link →
     waiting (slice_set links number left) + waiting_in link.flow ≡ waiting links + waiting_in left.flow
 set_waits [] number link left at = absurd cc
-set_waits (x ∷ links) zero link left at = let e : waiting_in x.flow ≡ waiting_in link.flow = ap (λ (l : LinkOf TrueFlow). waiting_in l.flow) (same_Some x link at) in omega arith
+set_waits (x ∷ links) zero link left at =
+    let e : waiting_in x.flow ≡ waiting_in link.flow = ap (λ (l : LinkOf TrueFlow). waiting_in l.flow) (same_Some x link at) in omega arith
 set_waits (x ∷ links) (suc number) link left at = let e = set_waits links number link left at in omega arith
 
 -- a link changes, and as many wait there
@@ -139,14 +145,16 @@ module _ (s : Links) where
   freed_waits : (own : ℕ) → waiting (freed true_flows own s).links ≡ waiting s.links
   freed_waits own = looked (HasAddress own) s s (λ number link. changed number (forgotten true_flows link) s) (freed true_flows own s) refl
       (λ none e. ap (λ (x : Links). waiting x.links) (sym e))
-      (λ number link found e. ap (λ (x : Links). waiting x.links) (sym e) ∙ set_same_waits s.links number link (forgotten true_flows link) found.there refl)
+      (λ number link found e. ap (λ (x : Links). waiting x.links) (sym e)
+      ∙ set_same_waits s.links number link (forgotten true_flows link) found.there refl)
 
   freed_at : (own number : ℕ) (link : LinkOf TrueFlow) → slice_get s.links number ≡ Some link → AsMany number link (freed true_flows own s)
   freed_at own number link at = looked (HasAddress own) s s (λ n l. changed n (forgotten true_flows l) s) (freed true_flows own s) refl
       (λ none e. subst (AsMany number link) e (link, at, refl))
       (λ n l found e. subst (AsMany number link) e (go n l found.there (cases_eq number n)))
     where
-      go : (n : ℕ) (l : LinkOf TrueFlow) → slice_get s.links n ≡ Some l → (number ≡ n) ⊎ (number ≡ n → ⊥) → AsMany number link (changed n (forgotten true_flows l) s)
+      go : (n : ℕ) (l : LinkOf TrueFlow) → slice_get s.links n ≡ Some l → (number ≡ n) ⊎ (number ≡ n → ⊥) →
+          AsMany number link (changed n (forgotten true_flows l) s)
       go n l there (inl e) = (
         forgotten true_flows l,
         ap (slice_get (slice_set s.links n (forgotten true_flows l))) e ∙ set_same s.links n l (forgotten true_flows l) there,
@@ -161,8 +169,10 @@ module _ (s : Links) where
       set_same_waits (freed true_flows own s).links number f.0 (answered true_flows phase own link) f.1 (sym f.2) ∙ freed_waits own
 
   -- each delivery takes one
-  pub user_waits : (event : LinkEventValue) (left : Links) → UserDid true_flows s event left → waiting left.links + delivery_count event ≤ waiting s.links
-  user_waits event left (Opens own free) = let e = begun_waits (freed true_flows own s).links (opened true_flows own) refl in let f = freed_waits own in omega arith
+  pub user_waits : (event : LinkEventValue) (left : Links) → UserDid true_flows s event left →
+      waiting left.links + delivery_count event ≤ waiting s.links
+  user_waits event left (Opens own free) =
+      let e = begun_waits (freed true_flows own s).links (opened true_flows own) refl in let f = freed_waits own in omega arith
   user_waits event left (Accepts far own number link found free) = let e = answered_waits Confirming own number link found.there in omega arith
   user_waits event left (Rejects far own number link found free) = let e = answered_waits Disconnecting own number link found.there in omega arith
   user_waits event left (HandsIn own message number link found may) =
@@ -171,7 +181,8 @@ module _ (s : Links) where
       let e = set_waits s.links number link (with_flow next link) found.there in
       let t = delivery_takes message link.flow next delivers in
       omega arith
-  user_waits event left (Closes own number link found connected) = let e = set_same_waits s.links number link (in_phase Disconnecting link) found.there refl in omega arith
+  user_waits event left (Closes own number link found connected) =
+      let e = set_same_waits s.links number link (in_phase Disconnecting link) found.there refl in omega arith
 
   pub sent_waits : (m : NspValue) (made : Sent TrueFlow Numbers) → SentDid true_flows s m made → waiting made.links.links ≡ waiting s.links
   sent_waits m made (OfNone none) = refl
@@ -184,12 +195,15 @@ module _ (s : Links) where
       set_same_waits s.links number link (with_flow sent.flow link) found.there (ap waiting_in (acks_did link.flow acks sent does).1)
 
   -- what comes adds at most one
-  pub arrived_waits : (m : NspValue) (truth : LinkTruth Numbers) (left : Links) → ArrivedDid true_flows of_anyone s m truth left → waiting left.links ≤ waiting s.links + 1
+  pub arrived_waits : (m : NspValue) (truth : LinkTruth Numbers) (left : Links) → ArrivedDid true_flows of_anyone s m truth left →
+      waiting left.links ≤ waiting s.links + 1
   arrived_waits m truth left Ignores = omega arith
-  arrived_waits m truth left (Begins far segsize none) = let e = begun_waits s.links (called true_flows of_anyone far segsize truth.tag) refl in omega arith
+  arrived_waits m truth left (Begins far segsize none) =
+      let e = begun_waits s.links (called true_flows of_anyone far segsize truth.tag) refl in omega arith
   arrived_waits m truth left (Confirms own far segsize number link found for) =
       let e = set_same_waits s.links number link (confirmed true_flows of_anyone far segsize truth.tag link) found.there refl in omega arith
-  arrived_waits m truth left (Ends test number link found) = let e = set_same_waits s.links number link (ended true_flows link) found.there refl in omega arith
+  arrived_waits m truth left (Ends test number link found) =
+      let e = set_same_waits s.links number link (ended true_flows link) found.there refl in omega arith
   arrived_waits m truth left (TakesSegment own far segment number link is found pair) =
       let e = set_waits s.links number link (with_flow (flow.takes_segment segment truth.known link.flow) (in_phase Running link)) found.there in
       let a = segment_adds segment truth.known link.flow in

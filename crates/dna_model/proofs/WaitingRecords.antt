@@ -64,9 +64,11 @@ module _ (s : Layers) where
 
   -- ---- a message is sent
 
-  message_waits : (after : Station × Truth) (packet : Carried) (o : Result (sending.Sent TrueFlow Numbers) LinkRefusal) → links_sent s.links packet ≡ o →
+  message_waits : (after : Station × Truth) (packet : Carried) (o : Result (sending.Sent TrueFlow Numbers) LinkRefusal) →
+      links_sent s.links packet ≡ o →
       SendingWaits more (with_message s after packet o)
-  message_waits after packet (Ok made) is = let e = sent_waits s.links packet.message made (sent_did true_flows s.links made packet is) in omega arith
+  message_waits after packet (Ok made) is =
+      let e = sent_waits s.links packet.message made (sent_did true_flows s.links made packet is) in omega arith
   message_waits after packet (Err refusal) is = tt
 
   first_waits : (after : Station × Truth) (o : Result (Option Carried) StepRefusal) → SendingWaits more (sends_first s after o)
@@ -84,15 +86,19 @@ module _ (s : Layers) where
 
   -- ---- an arrival
 
-  links_wait : (message : SentMessage) (o : Result Links LinkRefusal) → links_arrived of_anyone s.links message.packet message.truth ≡ o → LayersWait more (with_links s o)
-  links_wait message (Ok links) is = arrived_waits s.links message.packet.message message.truth links (arrived_did true_flows of_anyone s.links links message.truth message.packet is)
+  links_wait : (message : SentMessage) (o : Result Links LinkRefusal) → links_arrived of_anyone s.links message.packet message.truth ≡ o →
+      LayersWait more (with_links s o)
+  links_wait message (Ok links) is =
+      arrived_waits s.links message.packet.message message.truth links
+      (arrived_did true_flows of_anyone s.links links message.truth message.packet is)
   links_wait message (Err refusal) is = tt
 
   keeping_waits : (o : Option SentMessage) → LayersWait more (keeps by_bytes s o)
   keeping_waits (Some message) = links_wait message (links_arrived of_anyone s.links message.packet message.truth) refl
   keeping_waits None = omega arith
 
-meeting_waits : (s : Layers) (arrival : ArrivalValue LayersTruth) (kept : Bool) (o : Result Station StepRefusal) → LayersWait (waiting s.links.links + 1) (meets_on by_bytes s arrival kept o)
+meeting_waits : (s : Layers) (arrival : ArrivalValue LayersTruth) (kept : Bool) (o : Result Station StepRefusal) →
+    LayersWait (waiting s.links.links + 1) (meets_on by_bytes s arrival kept o)
 meeting_waits s arrival kept (Err refusal) = tt
 meeting_waits s arrival true (Ok station) = keeping_waits (record s { station = station }) (carried_by arrival)
 meeting_waits s arrival false (Ok station) = omega arith
@@ -115,7 +121,8 @@ module _ (own other : PlayHalf) where
   sent_waits_by bytes m (Ok after) w = w
   sent_waits_by bytes m (Err refusal) w = tt
 
-  sent_message : (bytes : List ℕ) (r : ReadingValue) → Waiting one_more (answered own other (machines.sent_step (layers_machine by_bytes) own.state bytes r))
+  sent_message : (bytes : List ℕ) (r : ReadingValue) →
+      Waiting one_more (answered own other (machines.sent_step (layers_machine by_bytes) own.state bytes r))
   sent_message bytes (read_as.Sound m) = sent_waits_by bytes m (sends_on layers m ((station_machine by_bytes).sends layers.station m))
       (sending_waits layers m ((station_machine by_bytes).sends layers.station m))
   sent_message bytes HeaderBad = tt
@@ -126,16 +133,21 @@ module _ (own other : PlayHalf) where
   met_waits front (Ok s) w = w
   met_waits front (Err refusal) w = tt
 
-  comes_waits : (front : ℕ) (kept : Bool) (o : Option (ArrivalValue LayersTruth)) → Waiting one_more (concluded own (machines.comes (layers_machine by_bytes) own.state front kept o))
+  comes_waits : (front : ℕ) (kept : Bool) (o : Option (ArrivalValue LayersTruth)) →
+      Waiting one_more (concluded own (machines.comes (layers_machine by_bytes) own.state front kept o))
   comes_waits front kept None = tt
-  comes_waits front kept (Some arrival) = met_waits front (meets_on by_bytes layers arrival kept ((station_machine by_bytes).arrives layers.station (to_station arrival) kept))
+  comes_waits front kept (Some arrival) = met_waits front
+      (meets_on by_bytes layers arrival kept ((station_machine by_bytes).arrives layers.station (to_station arrival) kept))
       (meeting_waits layers arrival kept ((station_machine by_bytes).arrives layers.station (to_station arrival) kept))
 
-  receipt_waits : (hint : ℕ) (kept : Bool) (bytes : List ℕ) (o : Option LayersUnit) → Waiting one_more (read own (machines.receives (layers_machine by_bytes) own.state hint kept bytes) o)
+  receipt_waits : (hint : ℕ) (kept : Bool) (bytes : List ℕ) (o : Option LayersUnit) →
+      Waiting one_more (read own (machines.receives (layers_machine by_bytes) own.state hint kept bytes) o)
   receipt_waits hint kept bytes None = tt
   receipt_waits hint kept bytes (Some unit) = go (nat_lt hint own.state.front)
     where
-      go : (b : Bool) → Waiting one_more (concluded own (cond b (Err HintOrder) (machines.comes (layers_machine by_bytes) own.state (hint + 1) kept (coming unit bytes))))
+      go : (b : Bool) →
+          Waiting one_more (concluded own (cond b (Err HintOrder)
+          (machines.comes (layers_machine by_bytes) own.state (hint + 1) kept (coming unit bytes))))
       go true = tt
       go false = comes_waits (hint + 1) kept (coming unit bytes)
 
@@ -146,7 +158,8 @@ module _ (own other : PlayHalf) where
   -- ---- records that are made
 
   module _ (half : PlayHalf) where
-    made_waits : (r : Record) → Waiting one_more (advance end_step own other r) → makes own other r ≡ Some half → waiting_at half ≤ waiting_at own + 1
+    made_waits : (r : Record) → Waiting one_more (advance end_step own other r) →
+        makes own other r ≡ Some half → waiting_at half ≤ waiting_at own + 1
     made_waits r w e = subst (Waiting one_more) (makes_tells own other r half e).1 w
 
     -- an event of the links
@@ -159,10 +172,12 @@ module _ (own other : PlayHalf) where
         omega arith
 
     -- a delivery takes one
-    pub delivery_waits : (address : ℕ) (message : List ℕ) → makes own other (User (events.Up address message)) ≡ Some half → waiting_at half + 1 ≤ waiting_at own
+    pub delivery_waits : (address : ℕ) (message : List ℕ) → makes own other (User (events.Up address message)) ≡ Some half →
+        waiting_at half + 1 ≤ waiting_at own
     delivery_waits address message e = event_waits (events.Up address message) (of_links.Up address message) refl e
 
-    user_event_waits : (event : Event) (value : LinkEventValue) → link_event event ≡ Some value → makes own other (User event) ≡ Some half → waiting_at half ≤ waiting_at own + 1
+    user_event_waits : (event : Event) (value : LinkEventValue) → link_event event ≡ Some value →
+        makes own other (User event) ≡ Some half → waiting_at half ≤ waiting_at own + 1
     user_event_waits event value is e = let w = event_waits event value is e in omega arith
 
     by_event : (event : Event) → makes own other (User event) ≡ Some half → waiting_at half ≤ waiting_at own + 1

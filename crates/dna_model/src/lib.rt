@@ -40,7 +40,10 @@ pub use link_run_laws::{
 };
 pub use link_tag::LinkTag;
 pub use nodes::{TrueLayersNodes, TrueNodes, WireLayersNodes, WireNodes};
-pub use play_laws::{played_captures_are_a_run, played_records_are_made, steps_go_by_their_rules};
+pub use play_laws::{
+    played_captures_are_a_run, played_captures_are_few, played_records_are_made,
+    steps_go_by_their_rules,
+};
 pub use port::{LinkTest, Phase, Port};
 pub use refusal::{StationRefusal, StepRefusal};
 pub use state::{State, StationEvent};

@@ -1,7 +1,8 @@
 //! What holds of the captures that a script stands for, whatever the code does, for the proofs of callers to cite.
 
-ghost use Rattle.std.specs.Prelude.{◌≡◌, take, Ok, Err};
+ghost use Rattle.std.specs.Prelude.{◌≡◌, ◌*◌, ◌≤◌, length, take, Ok, Err};
 ghost use Rattle.two_nodes.specs.Nodes.{Run};
+ghost use Rattle.capture.specs.declared.limit.TheConstants.{MAX_RECORDS};
 ghost use Rattle.dna_model.specs.LayersPair.{layers_pair, layers_start};
 ghost use Rattle.dna_model.specs.Script.{ScriptStep, Script};
 ghost use Rattle.dna_model.specs.ScriptText.{IsScript};
@@ -16,6 +17,19 @@ ghost use Rattle.dna_model.specs.KeptRun.{kept_of};
 pub fn played_records_are_made()
     ensures played { (script : Script) (played : Played) → play script ≡ Ok played → ArePlayed script played }
     ensures stopped { (script : Script) (stopped : Stopped) → play script ≡ Err stopped → ArePlayed script stopped.so_far }
+{}
+
+/// The captures of a script have few records: each at most two for each step of the script, whether it ends or a step can't be made. So they are
+/// never too long for their texts, where the script has one.
+pub fn played_captures_are_few()
+    ensures played { (script : Script) (played : Played) → play script ≡ Ok played
+        → (length played.of_a ≤ 2 * length script.steps) × (length played.of_b ≤ 2 * length script.steps) }
+    ensures stopped { (script : Script) (stopped : Stopped) → play script ≡ Err stopped
+        → (length stopped.so_far.of_a ≤ 2 * length script.steps) × (length stopped.so_far.of_b ≤ 2 * length script.steps) }
+    ensures played_fits { (script : Script) (played : Played) → IsScript script → play script ≡ Ok played
+        → (length played.of_a ≤ MAX_RECORDS) × (length played.of_b ≤ MAX_RECORDS) }
+    ensures stopped_fits { (script : Script) (stopped : Stopped) → IsScript script → play script ≡ Err stopped
+        → (length stopped.so_far.of_a ≤ MAX_RECORDS) × (length stopped.so_far.of_b ≤ MAX_RECORDS) }
 {}
 
 /// The captures of a script that starts each side at most once are a run of two nodes as a judge has them; so are those of the steps before one

@@ -1,7 +1,7 @@
-//! The law on the steps of scripts, applied.
+//! The laws on the steps of scripts and on how many records they make, applied.
 
-ghost use Rattle.std.specs.Prelude.{◌≡◌, ◌<◌, Ok};
-ghost use Rattle.capture.specs.declared.limit.TheConstants.{MAX_LINK};
+ghost use Rattle.std.specs.Prelude.{◌≡◌, ◌<◌, ◌≤◌, Ok, length};
+ghost use Rattle.capture.specs.declared.limit.TheConstants.{MAX_LINK, MAX_RECORDS};
 ghost use Rattle.dna_model.specs.Played.{Played, play, plays_step};
 ghost use Rattle.dna_model.specs.PlayRun.{StartsOnce};
 ghost use Rattle.dna_model.specs.Script.{Deliver, Open, Script, ScriptStep};
@@ -9,7 +9,7 @@ ghost use Rattle.dna_model.specs.ScriptText.{IsScript};
 ghost use Rattle.dna_model.specs.StepRule.{HasNext, and_then};
 ghost use Rattle.wire_base.specs.declared.side.Side.TheVariants.{B};
 
-use crate::steps_go_by_their_rules;
+use crate::{played_captures_are_few, steps_go_by_their_rules};
 
 // It comes to b, and is taken.
 fn a_unit_on_the_line_can_be_delivered()
@@ -27,4 +27,11 @@ fn a_link_can_be_opened_while_an_address_is_left()
         → (next : Played) × (plays_step so_far step ≡ Ok next) }
 {
     steps_go_by_their_rules();
+}
+
+// A line for each of its records is left.
+fn the_capture_of_b_has_a_text()
+    ensures { (script : Script) (so_far : Played) → IsScript script → play script ≡ Ok so_far → length so_far.of_b ≤ MAX_RECORDS }
+{
+    played_captures_are_few();
 }
