@@ -1,5 +1,5 @@
 -- So the captures of a whole script have at most two records for each of its steps, and are never too long for their texts.
-use Rattle.std.proofs.Common.{◌≡◌, ℕ, ◌+◌, ◌*◌, ◌≤◌, List, [], ◌∷◌, ◌++◌, length, Result, Ok, Err, subst, arith, length-append}
+use Rattle.std.proofs.Common.{◌≡◌, ℕ, ◌+◌, ◌*◌, ◌≤◌, List, [], ◌∷◌, length, Result, Ok, Err, subst, arith, length-append}
 use Rattle.wire_base.specs.declared.side.Side.{Side}
 use Rattle.wire_base.specs.declared.side.Side.TheVariants.{A, B}
 use Rattle.capture.specs.declared.limit.TheConstants.{MAX_RECORDS}
@@ -84,7 +84,7 @@ module _ (script : Script) where
       let a = h.of_a in let b = h.of_b in
       (omega arith, omega arith)
 
-  -- the records of a script that has a text have a text
+  -- where the script has a text, each capture can have one
   pub few_records : IsScript script → (played : Played) → play script ≡ Ok played →
       (length played.of_a ≤ MAX_RECORDS) × (length played.of_b ≤ MAX_RECORDS)
   few_records fits played e =

@@ -10,7 +10,7 @@ use Rattle.dna_model.specs.declared.port.Phase.TheVariants.{Confirming, Disconne
 use Rattle.dna_model.specs.declared.port.LinkTest.TheVariants.{HasAddress}
 use Rattle.dna_model.specs.Pieces.{Piece, piece_of, hold, Whole, with_piece, next_message}
 use Rattle.dna_model.specs.Links.{LinkOf, LinkTruth, changed, in_phase, with_flow, ended, forgotten, freed}
-use Rattle.dna_model.specs.LinkUser.{LinkEventValue, Up, opened, answered}
+use Rattle.dna_model.specs.LinkUser.{LinkEventValue, opened, answered}
 use Rattle.dna_model.specs.LinkSending.{Sent}
 use Rattle.dna_model.specs.LinkArriving.{of_anyone, called, confirmed}
 use Rattle.dna_model.specs.TrueFlow.{TrueFlow, Numbers, true_flows}

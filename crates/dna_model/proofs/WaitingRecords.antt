@@ -1,5 +1,5 @@
 -- A record that an end of the player makes adds at most one waiting piece to its links, and a delivery takes at least one.
-use Rattle.std.proofs.Common.{◌≡◌, ℕ, ◌+◌, ◌≤◌, Bool, true, false, cond, nat_lt, Option, Some, None, List, Result, Ok, Err, refl, sym, ap, subst, arith}
+use Rattle.std.proofs.Common.{◌≡◌, ℕ, ◌+◌, ◌≤◌, Bool, true, false, cond, nat_lt, Option, Some, None, List, Result, Ok, Err, refl, ap, subst, arith}
 use Rattle.std.specs.Prelude.{slice_get}
 use Rattle.two_nodes.specs.Nodes.{Outcome, Made, Waits, Refused, answered, concluded, read, advance}
 use Rattle.ddcmp_msg.specs.Message.{MessageValue}
