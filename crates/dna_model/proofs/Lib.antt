@@ -97,7 +97,7 @@ mod LinkRunBounds
 -- the player
 mod PlayLines
 mod PlayedSteps
-mod PlayedRuns
+pub mod PlayedRuns
 mod OrderlyRecords
 mod OneStart
 mod OneStartMeets
@@ -106,7 +106,7 @@ mod LinkMessages
 mod LinkAddressRuns
 mod PlayerChecked
 mod PlayedOrder
-mod PlayedChecked
+pub mod PlayedChecked
 pub mod StationPays
 pub mod OwedPays
 pub mod StationOwes
@@ -150,7 +150,7 @@ mod ComesMade
 mod LinksMade
 mod StepPhases
 mod StepRuled
-mod PlayedRuled
+pub mod PlayedRuled
 pub mod StepTests
 mod PlayRowSteps
 mod PlayRows
@@ -179,7 +179,8 @@ mod KeptSteps
 mod SentGrows
 mod KeptLeft
 mod KeptPairs
-mod KeptLaw
+pub mod KeptLaw
+pub mod KeptNext
 mod PlayRowsBounds
 mod PlayRowsScripts
 mod PlayRowsText

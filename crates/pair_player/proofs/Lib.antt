@@ -8,6 +8,8 @@ pub mod SoFarLaws
 pub mod OverLaws
 pub mod PlayLaws
 pub mod WholeLaws
+pub mod RunLaws
+pub mod StopLaws
 pub mod Giving
 pub mod AckWords
 pub mod Acknowledged

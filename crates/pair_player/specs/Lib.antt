@@ -6,6 +6,7 @@ pub mod Reader
 pub mod Fields
 pub mod SoFar
 pub mod Playing
+pub mod Runs
 pub mod Making
 pub mod Waiting
 pub mod Beginning

@@ -25,6 +25,7 @@ mod piece;
 mod played;
 mod playing;
 mod received;
+mod run_laws;
 mod script_reader;
 mod station_end;
 mod station_variables;
@@ -40,6 +41,9 @@ pub use laws::{known_script, one_script, one_script_departure, played_whole, scr
 pub use limit::MAX_STEPS;
 pub use played::Played;
 pub use playing::play;
+pub use run_laws::{
+    answered_as_true_ends, starts_once_throughout, stopped_by_its_rule, written_captures_are_a_run,
+};
 pub use script_reader::ScriptReader;
 pub use step::{ScriptStep, Step};
 

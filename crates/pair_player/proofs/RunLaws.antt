@@ -1,0 +1,100 @@
+-- What was played of a script that starts each side at most once is played by ends on true numbers too, and its captures are a run.
+use Rattle.std.proofs.Common.{◌≡◌, ℕ, ◌+◌, ◌≤◌, List, [], ◌∷◌, ◌++◌, length, Option, Some, None, Result, Ok, Err, refl, sym, ap, subst, ◌∙◌, arith}
+use Rattle.std.specs.List.{AllByRecursion}
+use Rattle.wire_base.specs.declared.side.Side.{Side}
+use Rattle.wire_base.specs.declared.side.Side.TheVariants.{A, B}
+use Rattle.capture.specs.declared.format.Format.TheVariants.{One}
+use Rattle.capture.specs.declared.limit.TheConstants.{MAX_RECORDS}
+use Rattle.capture.specs.declared.record.Record.{Record}
+use Rattle.capture.specs.Range.{IsNode, IsRecord, IsText}
+use Rattle.capture.specs.Text.{capture_text}
+use Rattle.dna_model.specs.LayersPair.{IsLayersRun}
+use Rattle.dna_model.specs.Script.{ScriptStep, Script}
+use Rattle.dna_model.specs.ScriptText.{IsScriptText}
+use Rattle.dna_model.specs.Played.{Played, Stopped, head_a, head_b, play}
+use Rattle.dna_model.specs.PlayRun.{StartsOnce, starts_of}
+use Rattle.dna_model.specs.KeptPlayed.{KeptPlayed, KeptStopped, kept_play}
+use Rattle.dna_model.specs.KeptRun.{kept_of, kept_played}
+use Rattle.dna_model.proofs.KeptLaw.{whole_kept}
+use Rattle.dna_model.proofs.PlayedChecked.{whole_is_run}
+use Rattle.dna_model.proofs.PlayedRuns.{whole_is_played}
+use Rattle.pair_player.specs.declared.fault.PlayFault.{PlayFault}
+use Rattle.pair_player.specs.declared.played.Played as answers
+use Rattle.pair_player.specs.Playing.{AnswersWhole, HasPlayed, Held, Plays, Reached, reached}
+use Rattle.pair_player.specs.Runs.{AreARun, AreFew, IsOfTruth, StartsOnceThroughout}
+use Rattle.pair_player.specs.SoFar.{IsReadSoFar}
+use Rattle.pair_player.proofs.PlayLaws.{same_Ok}
+use Rattle.pair_player.proofs.SoFarLaws.{goes_on}
+use Rattle.pair_player.proofs.WholeLaws.{whole_played}
+
+-- ---- starts
+
+-- steps start a side no more often than those that begin with them
+starts_less : (side : Side) (steps more : List ScriptStep) → starts_of side steps ≤ starts_of side (steps ++ more)
+starts_less side [] more = omega arith
+starts_less side (step ∷ steps) more = let l = starts_less side steps more in omega arith
+
+once_begun : (steps more all : List ScriptStep) → all ≡ steps ++ more → StartsOnce all → StartsOnce steps
+once_begun steps more all e once =
+    let of_a = once.of_a in
+    let of_b = once.of_b in
+    let less_a = subst (λ (x : List ScriptStep). starts_of A steps ≤ starts_of A x) (sym e) (starts_less A steps more) in
+    let less_b = subst (λ (x : List ScriptStep). starts_of B steps ≤ starts_of B x) (sym e) (starts_less B steps more) in
+    record { of_a = omega arith; of_b = omega arith }
+
+pub once_throughout : (bytes : List ℕ) (script : Script) → IsScriptText script bytes → StartsOnce script.steps → StartsOnceThroughout (Some bytes)
+once_throughout bytes script is_text once r h = go r.come h.read
+  where
+    go : (come : Option (List ℕ)) → IsReadSoFar (Some bytes) r.script come → StartsOnce r.script.steps
+    go None read = absurd read.begins
+    go (Some rest) read =
+        let begun = goes_on bytes rest r.script script is_text (record { fits = read.fits; spelled = read.begins }) in
+        once_begun r.script.steps begun.more script.steps begun.steps once
+
+-- ---- true numbers
+
+-- what is kept of a whole play is of a whole play
+of_whole : (result : Result Played Stopped) (played : KeptPlayed) → kept_of result ≡ Ok played →
+    (so_far : Played) × (result ≡ Ok so_far) × (kept_played so_far ≡ played)
+of_whole (Ok so_far) played e = (so_far, refl, same_Ok (kept_played so_far) played e)
+of_whole (Err stopped) played e = absurd cc
+
+pub of_truth : (text : Option (List ℕ)) (r : Reached) → HasPlayed text r → StartsOnce r.script.steps → (so_far : Played) × IsOfTruth r so_far
+of_truth text r h once =
+    let found = of_whole (play r.script) r.played (whole_kept r.script h.read.fits once ∙ h.made) in
+    (found.0, record { makes = found.1; keeps = found.2 })
+
+pub whole_of_truth : (bytes : List ℕ) (script : Script) (played : Played) (old new : Held) (answer : Result answers.Played PlayFault) →
+    IsScriptText script bytes → StartsOnce script.steps → play script ≡ Ok played → Plays (Some bytes) old new answer →
+    AnswersWhole (reached script (kept_played played) (Some [])) old new answer
+whole_of_truth bytes script played old new answer is_text once e h =
+    whole_played bytes script (kept_played played) is_text (sym (whole_kept script is_text.fits once) ∙ ap kept_of e) old new answer h
+
+-- ---- the captures
+
+its_text : (own peer : ℕ) (records : List Record) → IsNode own → IsNode peer → AllByRecursion IsRecord records → length records ≤ MAX_RECORDS →
+    IsText own peer records (capture_text One own peer records)
+its_text own peer records own_fits peer_fits each few = record {
+  format = One;
+  is_text = record { fits = record { own_fits = own_fits; peer_fits = peer_fits; each = each; few = few }; spelled = refl };
+}
+
+-- how many records there are is asked for here alone
+pub a_run : (text : Option (List ℕ)) (r : Reached) → HasPlayed text r → StartsOnce r.script.steps → AreFew r → AreARun r
+a_run text r h once few =
+    let found = of_truth text r h once in
+    let so_far : Played = found.0 in
+    let makes = found.1.makes in
+    let made = whole_is_played r.script so_far makes in
+    let same_a : so_far.of_a ≡ r.played.of_a = ap (λ (p : KeptPlayed). p.of_a) found.1.keeps in
+    let same_b : so_far.of_b ≡ r.played.of_b = ap (λ (p : KeptPlayed). p.of_b) found.1.keeps in
+    let fits = h.read.fits in
+    record {
+      run = subst (λ (of_a : List Record). IsLayersRun (head_a r.script) (head_b r.script) of_a r.played.of_b) same_a
+          (subst (λ (of_b : List Record). IsLayersRun (head_a r.script) (head_b r.script) so_far.of_a of_b) same_b
+          (_, whole_is_run r.script so_far makes once));
+      is_text_a = its_text r.script.node_a r.script.node_b r.played.of_a fits.node_a fits.node_b
+          (subst (AllByRecursion IsRecord) same_a made.lines_a) few.of_a;
+      is_text_b = its_text r.script.node_b r.script.node_a r.played.of_b fits.node_b fits.node_a
+          (subst (AllByRecursion IsRecord) same_b made.lines_b) few.of_b;
+    }

@@ -1,0 +1,33 @@
+-- A step that can't be made, behind steps that start each side at most once, goes by its rule on true numbers.
+use Rattle.std.proofs.Common.{◌≡◌, ℕ, List, Option, Result, Err, ap, subst, ◌∙◌}
+use Rattle.dna_model.specs.ScriptText.{IsScript}
+use Rattle.dna_model.specs.Stepped.{Stop}
+use Rattle.dna_model.specs.Played.{Played}
+use Rattle.dna_model.specs.PlayRun.{StartsOnce}
+use Rattle.dna_model.specs.StepRule.{StepsByRule}
+use Rattle.dna_model.specs.KeptPlayed.{KeptPlayed, kept_plays_step}
+use Rattle.dna_model.specs.KeptRun.{kept_pair}
+use Rattle.dna_model.proofs.KeptNext.{stops_too}
+use Rattle.dna_model.proofs.PlayedRuled.{next_goes_by_rule}
+use Rattle.pair_player.specs.Playing.{HasPlayed, Reached, StopsBehind}
+use Rattle.pair_player.specs.Runs.{StopsByRule}
+use Rattle.pair_player.specs.SoFar.{with_step}
+use Rattle.pair_player.proofs.SoFarLaws.{one_more}
+use Rattle.pair_player.proofs.RunLaws.{of_truth}
+
+pub by_its_rule : (text : Option (List ℕ)) (r : Reached) (stop : Stop) (line : ℕ) → HasPlayed text r → StartsOnce r.script.steps →
+    (s : StopsBehind stop line r) → StopsByRule r s.step stop
+by_its_rule text r stop line h once s =
+    let found = of_truth text r h once in
+    let so_far : Played = found.0 in
+    let read = h.read.fits in
+    let fits : IsScript (with_step r.script s.step) = (one_more text r.come s.later r.script s.step h.read s.few s.fits s.spelled).fits in
+    let same : kept_plays_step (kept_pair so_far) s.step ≡ Err stop =
+    ap (λ (p : KeptPlayed). kept_plays_step p.pair s.step) found.1.keeps ∙ s.stops in
+    record {
+      so_far = so_far;
+      of_truth = found.1;
+      rule = subst (λ (result : Result Played Stop). StepsByRule so_far s.step result)
+          (stops_too r.script read.node_a read.node_b read.few so_far found.1.makes once s.step stop s.fits same)
+          (next_goes_by_rule r.script s.step so_far fits found.1.makes once);
+    }

@@ -1,0 +1,42 @@
+-- What was played: its captures are a run of two nodes, and ends on true numbers make the same steps.
+use Rattle.std.specs.Prelude.{◌≡◌, ℕ, ◌≤◌, List, length, Option, Ok, Err}
+use Rattle.capture.specs.declared.limit.TheConstants.{MAX_RECORDS}
+use Rattle.capture.specs.Range.{IsText}
+use Rattle.dna_model.specs.LayersPair.{IsLayersRun}
+use Rattle.dna_model.specs.Script.{ScriptStep}
+use Rattle.dna_model.specs.Stepped.{Stop}
+use Rattle.dna_model.specs.Played.{Played, head_a, head_b, play}
+use Rattle.dna_model.specs.PlayRun.{StartsOnce}
+use Rattle.dna_model.specs.StepRule.{StepsByRule}
+use Rattle.dna_model.specs.KeptRun.{kept_played}
+use Rattle.pair_player.specs.Playing.{HasPlayed, Reached, text_a, text_b}
+
+-- no step that is made starts a side that was started before
+abbrev pub StartsOnceThroughout : Option (List ℕ) → Type 0
+StartsOnceThroughout text = (r : Reached) → HasPlayed text r → StartsOnce r.script.steps
+
+-- ---- the captures
+
+-- neither has more records than a text may hold
+pub record AreFew (r : Reached) : Type 0 where
+  pub of_a : length r.played.of_a ≤ MAX_RECORDS
+  pub of_b : length r.played.of_b ≤ MAX_RECORDS
+
+-- their records are a run of two nodes as a judge has them, and the bytes that are written are their texts
+pub record AreARun (r : Reached) : Type 0 where
+  pub run : IsLayersRun (head_a r.script) (head_b r.script) r.played.of_a r.played.of_b
+  pub is_text_a : IsText r.script.node_a r.script.node_b r.played.of_a (text_a r)
+  pub is_text_b : IsText r.script.node_b r.script.node_a r.played.of_b (text_b r)
+
+-- ---- true numbers
+
+-- ends on true numbers make the same steps, and their nodes keep of it what was made
+pub record IsOfTruth (r : Reached) (so_far : Played) : Type 0 where
+  pub makes : play r.script ≡ Ok so_far
+  pub keeps : kept_played so_far ≡ r.played
+
+-- behind what they made, the rule of the next step is why it can't be made
+pub record StopsByRule (r : Reached) (step : ScriptStep) (stop : Stop) : Type 0 where
+  pub so_far : Played
+  pub of_truth : IsOfTruth r so_far
+  pub rule : StepsByRule {X = Played} so_far step (Err stop)

@@ -1,0 +1,44 @@
+//! Laws of what is played, as functions that do nothing: of a script that starts each side at most once the captures that are written are a run
+//! of two nodes, and what is answered is what ends on true numbers make of it.
+
+ghost use Rattle.std.specs.Prelude.{◌≡◌, ℕ, [], List, Option, Result, Some, Ok};
+ghost use Rattle.dna_model.specs.KeptRun.{kept_played};
+ghost use Rattle.dna_model.specs.Played.{Played as TruePlayed, play as true_play};
+ghost use Rattle.dna_model.specs.PlayRun.{StartsOnce};
+ghost use Rattle.dna_model.specs.Script.{Script};
+ghost use Rattle.dna_model.specs.ScriptText.{IsScriptText};
+ghost use Rattle.dna_model.specs.Stepped.{Stop};
+ghost use Rattle.pair_player.specs.declared.fault.PlayFault.{PlayFault};
+ghost use Rattle.pair_player.specs.declared.played.Played.{Played};
+ghost use Rattle.pair_player.specs.Playing.{AnswersWhole, HasPlayed, Held, Plays, Reached, StopsBehind, reached};
+ghost use Rattle.pair_player.specs.Runs.{AreARun, AreFew, IsOfTruth, StartsOnceThroughout, StopsByRule};
+
+/// Behind steps that were read and made, and that start each side at most once, the records of both sides are a run of two nodes over both
+/// layers as a judge has them, and the bytes that are written are texts of these captures, as long as neither has more records than a text
+/// may hold.
+pub fn written_captures_are_a_run()
+    ensures { (text : Option (List ℕ)) (r : Reached) → HasPlayed text r → StartsOnce r.script.steps → AreFew r → AreARun r }
+{}
+
+/// The text of a script that starts each side at most once, and whose steps ends on true numbers all make, is answered by the count of its
+/// steps, with the captures of these ends written, or a device or the memory failed. And whatever steps were read and made, ends on true
+/// numbers make them too, where they start each side at most once.
+pub fn answered_as_true_ends()
+    ensures whole { (bytes : List ℕ) (script : Script) (played : TruePlayed) (old new : Held) (answer : Result Played PlayFault) →
+        IsScriptText script bytes → StartsOnce script.steps → true_play script ≡ Ok played → Plays (Some bytes) old new answer →
+        AnswersWhole (reached script (kept_played played) (Some [])) old new answer }
+    ensures made { (text : Option (List ℕ)) (r : Reached) → HasPlayed text r → StartsOnce r.script.steps →
+        (so_far : TruePlayed) × IsOfTruth r so_far }
+{}
+
+/// Where a step can't be made behind steps that start each side at most once, it is by its rule on true numbers: it is bad only where it breaks
+/// the rule, and full only where it keeps the rule but needs a link address and all of its end are given.
+pub fn stopped_by_its_rule()
+    ensures { (text : Option (List ℕ)) (r : Reached) (stop : Stop) (line : ℕ) → HasPlayed text r → StartsOnce r.script.steps →
+        (stops : StopsBehind stop line r) → StopsByRule r stops.step stop }
+{}
+
+/// All that the text of a script begins with starts each side at most once, where the script does.
+pub fn starts_once_throughout()
+    ensures { (bytes : List ℕ) (script : Script) → IsScriptText script bytes → StartsOnce script.steps → StartsOnceThroughout (Some bytes) }
+{}
