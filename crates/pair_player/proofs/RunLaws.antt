@@ -15,13 +15,14 @@ use Rattle.dna_model.specs.Played.{Played, Stopped, head_a, head_b, play}
 use Rattle.dna_model.specs.PlayRun.{StartsOnce, starts_of}
 use Rattle.dna_model.specs.KeptPlayed.{KeptPlayed, KeptStopped, kept_play}
 use Rattle.dna_model.specs.KeptRun.{kept_of, kept_played}
+use Rattle.dna_model.proofs.FewRecords.{few_records}
 use Rattle.dna_model.proofs.KeptLaw.{whole_kept}
 use Rattle.dna_model.proofs.PlayedChecked.{whole_is_run}
 use Rattle.dna_model.proofs.PlayedRuns.{whole_is_played}
 use Rattle.pair_player.specs.declared.fault.PlayFault.{PlayFault}
 use Rattle.pair_player.specs.declared.played.Played as answers
 use Rattle.pair_player.specs.Playing.{AnswersWhole, HasPlayed, Held, Plays, Reached, reached}
-use Rattle.pair_player.specs.Runs.{AreARun, AreFew, IsOfTruth, StartsOnceThroughout}
+use Rattle.pair_player.specs.Runs.{AreARun, IsOfTruth, StartsOnceThroughout}
 use Rattle.pair_player.specs.SoFar.{IsReadSoFar}
 use Rattle.pair_player.proofs.PlayLaws.{same_Ok}
 use Rattle.pair_player.proofs.SoFarLaws.{goes_on}
@@ -79,9 +80,8 @@ its_text own peer records own_fits peer_fits each few = record {
   is_text = record { fits = record { own_fits = own_fits; peer_fits = peer_fits; each = each; few = few }; spelled = refl };
 }
 
--- how many records there are is asked for here alone
-pub a_run : (text : Option (List ℕ)) (r : Reached) → HasPlayed text r → StartsOnce r.script.steps → AreFew r → AreARun r
-a_run text r h once few =
+pub a_run : (text : Option (List ℕ)) (r : Reached) → HasPlayed text r → StartsOnce r.script.steps → AreARun r
+a_run text r h once =
     let found = of_truth text r h once in
     let so_far : Played = found.0 in
     let makes = found.1.makes in
@@ -89,12 +89,13 @@ a_run text r h once few =
     let same_a : so_far.of_a ≡ r.played.of_a = ap (λ (p : KeptPlayed). p.of_a) found.1.keeps in
     let same_b : so_far.of_b ≡ r.played.of_b = ap (λ (p : KeptPlayed). p.of_b) found.1.keeps in
     let fits = h.read.fits in
+    let few = few_records r.script fits so_far makes in
     record {
       run = subst (λ (of_a : List Record). IsLayersRun (head_a r.script) (head_b r.script) of_a r.played.of_b) same_a
           (subst (λ (of_b : List Record). IsLayersRun (head_a r.script) (head_b r.script) so_far.of_a of_b) same_b
           (_, whole_is_run r.script so_far makes once));
       is_text_a = its_text r.script.node_a r.script.node_b r.played.of_a fits.node_a fits.node_b
-          (subst (AllByRecursion IsRecord) same_a made.lines_a) few.of_a;
+          (subst (AllByRecursion IsRecord) same_a made.lines_a) (subst (λ (of_a : List Record). length of_a ≤ MAX_RECORDS) same_a few.0);
       is_text_b = its_text r.script.node_b r.script.node_a r.played.of_b fits.node_b fits.node_a
-          (subst (AllByRecursion IsRecord) same_b made.lines_b) few.of_b;
+          (subst (AllByRecursion IsRecord) same_b made.lines_b) (subst (λ (of_b : List Record). length of_b ≤ MAX_RECORDS) same_b few.1);
     }

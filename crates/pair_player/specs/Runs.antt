@@ -1,6 +1,5 @@
 -- What was played: its captures are a run of two nodes, and ends on true numbers make the same steps.
-use Rattle.std.specs.Prelude.{◌≡◌, ℕ, ◌≤◌, List, length, Option, Ok, Err}
-use Rattle.capture.specs.declared.limit.TheConstants.{MAX_RECORDS}
+use Rattle.std.specs.Prelude.{◌≡◌, ℕ, List, Option, Ok, Err}
 use Rattle.capture.specs.Range.{IsText}
 use Rattle.dna_model.specs.LayersPair.{IsLayersRun}
 use Rattle.dna_model.specs.Script.{ScriptStep}
@@ -16,11 +15,6 @@ abbrev pub StartsOnceThroughout : Option (List ℕ) → Type 0
 StartsOnceThroughout text = (r : Reached) → HasPlayed text r → StartsOnce r.script.steps
 
 -- ---- the captures
-
--- neither has more records than a text may hold
-pub record AreFew (r : Reached) : Type 0 where
-  pub of_a : length r.played.of_a ≤ MAX_RECORDS
-  pub of_b : length r.played.of_b ≤ MAX_RECORDS
 
 -- their records are a run of two nodes as a judge has them, and the bytes that are written are their texts
 pub record AreARun (r : Reached) : Type 0 where

@@ -11,13 +11,12 @@ ghost use Rattle.dna_model.specs.Stepped.{Stop};
 ghost use Rattle.pair_player.specs.declared.fault.PlayFault.{PlayFault};
 ghost use Rattle.pair_player.specs.declared.played.Played.{Played};
 ghost use Rattle.pair_player.specs.Playing.{AnswersWhole, HasPlayed, Held, Plays, Reached, StopsBehind, reached};
-ghost use Rattle.pair_player.specs.Runs.{AreARun, AreFew, IsOfTruth, StartsOnceThroughout, StopsByRule};
+ghost use Rattle.pair_player.specs.Runs.{AreARun, IsOfTruth, StartsOnceThroughout, StopsByRule};
 
 /// Behind steps that were read and made, and that start each side at most once, the records of both sides are a run of two nodes over both
-/// layers as a judge has them, and the bytes that are written are texts of these captures, as long as neither has more records than a text
-/// may hold.
+/// layers as a judge has them, and the bytes that are written are texts of these captures.
 pub fn written_captures_are_a_run()
-    ensures { (text : Option (List ℕ)) (r : Reached) → HasPlayed text r → StartsOnce r.script.steps → AreFew r → AreARun r }
+    ensures { (text : Option (List ℕ)) (r : Reached) → HasPlayed text r → StartsOnce r.script.steps → AreARun r }
 {}
 
 /// The text of a script that starts each side at most once, and whose steps ends on true numbers all make, is answered by the count of its
