@@ -4,6 +4,8 @@ use super::conversion::Kept;
 use super::pair::{Given, HEAD_A, HEAD_B, NEVER, expect_verdict_of, text_of};
 use super::player::{HEAD, expect_played, expect_printed, faulty, played, script_of};
 use super::worked_session::{ACCEPTED, TEXT_A, TEXT_B};
+use std::alloc::Global;
+use std::process::Abort;
 use std::test::Fail;
 use wire_base::Tally;
 
@@ -164,34 +166,113 @@ fn a_faulty_head_leaves_nothing(rt: HostRuntime) {
     }
 }
 
+/// Whose record each step of the worked session makes; a loss and a timer make none.
+const RECORDED: &str = "aba  abbaabaabbaabbaabba";
+
+/// How many of these records are of this side.
+fn records_of(side: u8, recorded: &[u8]) -> usize {
+    let mut count = 0usize;
+    for of in recorded {
+        if *of == side {
+            count = count.saturating_add(1);
+        }
+    }
+    count
+}
+
 #[test]
 fn every_beginning_that_ends_behind_a_line_is_played(rt: HostRuntime) -> Result<(), Fail> {
     let script = script_of(rt.alloc(), WORKED)?;
     for steps in 0..25usize {
         let text = lines(script.as_str(), steps.saturating_add(1));
         let said = format!(in rt.alloc(); "played {steps} steps\n")?;
-        let mut given = Tally::new(Given::new(text.as_bytes(), NEVER, NEVER));
-        let mut a = Tally::new(Kept::new(rt.alloc(), NEVER, NEVER));
-        let mut b = Tally::new(Kept::new(rt.alloc(), NEVER, NEVER));
-        expect_printed(
-            &rt,
-            rt.alloc(),
-            &mut given,
-            &mut a,
-            &mut b,
-            played(said.as_str()),
-        );
-        let (a, b) = (a.into_inner(), b.into_inner());
-        assert!(rt;
-            TEXT_A.as_bytes().starts_with(a.bytes.as_slice()),
-            "a's capture of {steps}"
-        );
-        assert!(rt;
-            TEXT_B.as_bytes().starts_with(b.bytes.as_slice()),
-            "b's capture of {steps}"
-        );
+        let recorded = &RECORDED.as_bytes()[..steps];
+        let of_a = lines(TEXT_A, records_of(b'a', recorded).saturating_add(1));
+        let of_b = lines(TEXT_B, records_of(b'b', recorded).saturating_add(1));
+        expect_played(&rt, rt.alloc(), text, of_a, of_b, played(said.as_str()));
     }
     Ok(())
+}
+
+/// Looks at both captures of a script, whose records are written as in `text_of`, and at the verdict on them.
+fn expect_captures(
+    rt: &impl Abort,
+    alloc: Global,
+    steps: &str,
+    said: &str,
+    records: [&str; 2],
+    verdict: &str,
+) -> Result<(), Fail> {
+    let script = script_of(alloc, steps)?;
+    let a = text_of(alloc, HEAD_A, records[0])?;
+    let b = text_of(alloc, HEAD_B, records[1])?;
+    expect_played(
+        rt,
+        alloc,
+        script.as_str(),
+        a.as_str(),
+        b.as_str(),
+        played(said),
+    );
+    expect_verdict_of(rt, alloc, a.as_str(), b.as_str(), verdict);
+    Ok(())
+}
+
+#[test]
+fn noise_that_comes_is_answered(rt: HostRuntime) -> Result<(), Fail> {
+    expect_captures(
+        &rt,
+        rt.alloc(),
+        "a start; b start; a send; b deliver; b send; a deliver; a send; b deliver; b noise -; b send; a deliver",
+        "played 11 steps\n",
+        [
+            "u start; s STRT; r 0 STACK; s ACK0; r 1 050201000001b9a9",
+            "u start; r 0 STRT; s STACK; r 1 ACK0; n -; s 050201000001b9a9",
+        ],
+        "accepted
+a records 5 sent 2 received 2 damaged 0 kept 0 periods 1 links 0 up 0
+b records 6 sent 2 received 3 damaged 1 kept 0 periods 1 links 0 up 0
+",
+    )
+}
+
+#[test]
+fn noise_that_is_no_damage_cannot_come(rt: HostRuntime) -> Result<(), Fail> {
+    let script = script_of(
+        rt.alloc(),
+        "a start; b start; a send; b deliver; b send; a deliver; a send; b deliver; b noise 0506c00000017595; b send; a deliver",
+    )?;
+    let a = text_of(rt.alloc(), HEAD_A, "u start; s STRT; r 0 STACK; s ACK0")?;
+    let b = text_of(rt.alloc(), HEAD_B, "u start; r 0 STRT; s STACK; r 1 ACK0")?;
+    let answer = faulty("script: line 10: bad step\n");
+    expect_played(
+        &rt,
+        rt.alloc(),
+        script.as_str(),
+        a.as_str(),
+        b.as_str(),
+        answer,
+    );
+    Ok(())
+}
+
+#[test]
+fn a_restart_gives_two_texts(rt: HostRuntime) -> Result<(), Fail> {
+    expect_captures(
+        &rt,
+        rt.alloc(),
+        "a start; b start; a send; b deliver; b send; a deliver; a send; b deliver; a halt; a start; a send; b deliver; \
+b start; b send; a deliver; a send; b deliver; b send; a deliver",
+        "played 19 steps\n",
+        [
+            "u start; s STRT; r 0 STACK; s ACK0; u halt; u start; s STRT; r 1 STRT; s STACK; r 2 ACK0",
+            "u start; r 0 STRT; s STACK; r 1 ACK0; r 2 STRT; u start; s STRT; r 3 STACK; s ACK0",
+        ],
+        "accepted
+a records 10 sent 4 received 3 damaged 0 kept 0 periods 2 links 0 up 0
+b records 9 sent 3 received 4 damaged 0 kept 0 periods 2 links 0 up 0
+",
+    )
 }
 
 #[test]
