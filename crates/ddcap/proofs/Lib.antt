@@ -1,3 +1,4 @@
 mod Listing
 mod NotOpened
 pub mod Answering
+pub mod AcceptLaws

@@ -4,3 +4,4 @@ pub mod Shown
 pub mod Showing
 pub mod Conversion
 pub mod Playing
+pub mod Accepting

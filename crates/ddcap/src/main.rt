@@ -9,6 +9,7 @@ use wire_base::Tally;
 
 mod check;
 mod convert;
+mod laws;
 mod page;
 mod play;
 mod run;

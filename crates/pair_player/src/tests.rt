@@ -9,6 +9,7 @@ mod played;
 mod playing;
 mod reading;
 mod rows;
+mod run_laws;
 mod scripted_example;
 mod station_owes;
 mod station_sends;

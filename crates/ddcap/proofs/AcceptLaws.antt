@@ -1,0 +1,93 @@
+-- What `play` wrote into two empty captures, `check` accepts.
+use Rattle.std.proofs.Common.{◌≡◌, ℕ, ◌+◌, ◌<◌, inl, inr, List, [], Option, Some, None, Result, Ok, Err, refl, sym, subst, ◌∙◌, arith}
+use Rattle.std.specs.Io.KnownBytes.{Appends}
+use Rattle.capture.specs.Range.{IsText}
+use Rattle.dna_model.specs.Played.{head_a, head_b}
+use Rattle.dna_model.specs.PlayRun.{StartsOnce}
+use Rattle.pair_judge.specs.declared.fault.JudgeFault.TheVariants as judge
+use Rattle.pair_judge.specs.declared.fault.TextFault.TheVariants as of_text
+use Rattle.pair_judge.specs.declared.verdict.Verdict.TheVariants.{Accepted, Refused}
+use Rattle.pair_judge.specs.Judged.{AcceptsOrFails, Answer, IfTold, IsAnswer, IsExact}
+use Rattle.pair_player.specs.declared.fault.PlayFault.{PlayFault}
+use Rattle.pair_player.specs.declared.fault.PlayFault.TheVariants.{Departs, BadStep, Full, Read, Write, OutOfMemory}
+use Rattle.pair_player.specs.declared.played.Played.{Played}
+use Rattle.pair_player.specs.Playing.{HasPlayed, HasWritten, Held, Plays, PlaysTo, Reached, held, text_a, text_b}
+use Rattle.pair_player.specs.Runs.{AreARun, AreFew, StartsOnceThroughout}
+use Rattle.pair_player.proofs.RunLaws.{a_run}
+use Rattle.ddcap.specs.Accepting.{AreFewThroughout, HasCaptures, IsAcceptedStatus, PlaysThenChecks, empty_captures}
+use Rattle.ddcap.specs.Playing.{IsPlaying, TellsPlayed}
+use Rattle.ddcap.specs.Printed.{Checks, Moved, Prints}
+
+-- ---- of what was played
+
+told : (r : Reached) (a b : Option (List ℕ)) (answer : Answer) → AreARun r → Appends (Some []) a (text_a r) → Appends (Some []) b (text_b r) →
+    IfTold a b (λ bytes_a bytes_b. IsExact bytes_a bytes_b answer) → AcceptsOrFails answer
+told r None b answer run of_a of_b exact = absurd of_a
+told r (Some a) None answer run of_a of_b exact = absurd of_b
+told r (Some a) (Some b) answer run of_a of_b exact =
+    exact (head_a r.script) (head_b r.script) r.played.of_a r.played.of_b
+    (subst (IsText r.script.node_a r.script.node_b r.played.of_a) (sym of_a) run.is_text_a)
+    (subst (IsText r.script.node_b r.script.node_a r.played.of_b) (sym of_b) run.is_text_b) run.run
+
+pub reached : (text : Option (List ℕ)) (r : Reached) (written : Held) (answer : Answer) → HasPlayed text r → StartsOnce r.script.steps → AreFew r →
+    HasWritten empty_captures written r → IsAnswer written.a written.b answer → AcceptsOrFails answer
+reached text r written answer h once few wrote judged =
+    told r written.a written.b answer (a_run text r h once few) wrote.a wrote.b judged.exact
+
+-- ---- of what was answered
+
+module _ (text : Option (List ℕ)) (written : Held) (answer : Answer) (once : StartsOnceThroughout text) (few : AreFewThroughout text)
+    (judged : IsAnswer written.a written.b answer) where
+  played_to : {Behind : Reached → Type 0} → PlaysTo text empty_captures written Behind → AcceptsOrFails answer
+  played_to plays = reached text plays.0 written answer plays.1 (once plays.0 plays.1) (few plays.0 plays.1) plays.2 judged
+
+  pub answered : (played : Result Played PlayFault) → Plays text empty_captures written played → HasCaptures played → AcceptsOrFails answer
+  answered (Ok played) plays has = played_to plays
+  answered (Err (Departs kind line)) (inl head) has = let first = head.0.line_is in absurd (omega arith)
+  answered (Err (Departs kind line)) (inr plays) has = played_to plays
+  answered (Err (BadStep line)) plays has = played_to plays
+  answered (Err (Full line)) plays has = played_to plays
+  answered (Err Read) plays has = absurd has
+  answered (Err (Write side)) plays has = absurd has
+  answered (Err OutOfMemory) plays has = absurd has
+
+-- ---- of what is printed
+
+-- status 0 tells that all was played
+all_played : (out err : Moved) (played : Result Played PlayFault) → TellsPlayed out err played 0 → HasCaptures played
+all_played out err (Ok played) tells = tt
+all_played out err (Err (Departs kind line)) (inl tells, same) = absurd (omega (arith, tells.2))
+all_played out err (Err (Departs kind line)) (inr tells, same) = absurd (omega (arith, tells.2))
+all_played out err (Err (BadStep line)) tells = tt
+all_played out err (Err (Full line)) tells = tt
+all_played out err (Err Read) (inl tells, same) = absurd (omega (arith, tells.2))
+all_played out err (Err Read) (inr tells, same) = absurd (omega (arith, tells.2))
+all_played out err (Err (Write side)) (inl tells, same) = absurd (omega (arith, tells.2))
+all_played out err (Err (Write side)) (inr tells, same) = absurd (omega (arith, tells.2))
+all_played out err (Err OutOfMemory) (inl tells, same) = absurd (omega (arith, tells.2))
+all_played out err (Err OutOfMemory) (inr tells, same) = absurd (omega (arith, tells.2))
+
+-- the status of an acceptance, or of a fault of memory or of a device
+accepted_status : (out err : Moved) (answer : Answer) (status : ℕ) → AcceptsOrFails answer → Prints out err answer status → IsAcceptedStatus status
+accepted_status out err (Ok (Accepted summary)) status is (inl prints, same) = inl prints.2
+accepted_status out err (Ok (Accepted summary)) status is (inr prints, same) = inr prints.2
+accepted_status out err (Ok (Refused side place reason)) status is prints = absurd is
+accepted_status out err (Err (judge.Capture side (of_text.Departs kind line))) status is prints = absurd is
+accepted_status out err (Err (judge.Capture side of_text.Read)) status is (inl prints, same) = inr prints.2
+accepted_status out err (Err (judge.Capture side of_text.Read)) status is (inr prints, same) = inr prints.2
+accepted_status out err (Err judge.OutOfMemory) status is (inl prints, same) = inr prints.2
+accepted_status out err (Err judge.OutOfMemory) status is (inr prints, same) = inr prints.2
+
+pub printed : (script : Moved) (captures played_to checked_to : Moved × Moved) (status : ℕ) → PlaysThenChecks script captures played_to checked_to status →
+    StartsOnceThroughout script.old.bytes → AreFewThroughout script.old.bytes → IsAcceptedStatus status
+printed script captures played_to checked_to status h once few =
+    let written : Held = held captures.0.new.bytes captures.1.new.bytes in
+    let plays : Plays script.old.bytes empty_captures written h.plays.answer =
+    subst (λ (b : Option (List ℕ)). Plays script.old.bytes (held (Some []) b) written h.plays.answer) h.empty_b
+    (subst (λ (a : Option (List ℕ)). Plays script.old.bytes (held a captures.1.old.bytes) written h.plays.answer) h.empty_a h.plays.plays) in
+    let judged : IsAnswer captures.0.new.bytes captures.1.new.bytes h.checks.answer =
+    subst (λ (b : Option (List ℕ)). IsAnswer captures.0.new.bytes b h.checks.answer) h.reads_b
+    (subst (λ (a : Option (List ℕ)). IsAnswer a h.b.old.bytes h.checks.answer) h.reads_a h.checks.judged) in
+    accepted_status checked_to.0 checked_to.1 h.checks.answer status
+    (answered script.old.bytes written h.checks.answer once few judged h.plays.answer plays
+    (all_played played_to.0 played_to.1 h.plays.answer h.plays.tells)) h.checks.printed
