@@ -1,5 +1,6 @@
 //! Tests of what no contract says: the worked rows of the protocols from outside, words, and devices that fail.
 
+mod accepting;
 mod contradictory;
 mod conversion;
 mod convert;

@@ -7,7 +7,7 @@ use Rattle.dna_model.specs.Played.{Played}
 use Rattle.dna_model.specs.StepRule.{rule_at}
 use Rattle.pair_player.proofs.tests.run_laws.a_start_that_is_bad_is_of_a_station_that_is_not_halted.Goals as goal
 
-bad : Result Played Stop
+abbrev bad : Result Played Stop
 bad = Err BadStep
 
 pub returns : goal.returns
