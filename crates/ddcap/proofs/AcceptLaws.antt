@@ -12,9 +12,9 @@ use Rattle.pair_player.specs.declared.fault.PlayFault.{PlayFault}
 use Rattle.pair_player.specs.declared.fault.PlayFault.TheVariants.{Departs, BadStep, Full, Read, Write, OutOfMemory}
 use Rattle.pair_player.specs.declared.played.Played.{Played}
 use Rattle.pair_player.specs.Playing.{HasPlayed, HasWritten, Held, Plays, PlaysTo, Reached, held, text_a, text_b}
-use Rattle.pair_player.specs.Runs.{AreARun, AreFew, StartsOnceThroughout}
+use Rattle.pair_player.specs.Runs.{AreARun, StartsOnceThroughout}
 use Rattle.pair_player.proofs.RunLaws.{a_run}
-use Rattle.ddcap.specs.Accepting.{AreFewThroughout, HasCaptures, IsAcceptedStatus, PlaysThenChecks, empty_captures}
+use Rattle.ddcap.specs.Accepting.{HasCaptures, IsAcceptedStatus, PlaysThenChecks, empty_captures}
 use Rattle.ddcap.specs.Playing.{IsPlaying, TellsPlayed}
 use Rattle.ddcap.specs.Printed.{Checks, Moved, Prints}
 
@@ -29,17 +29,17 @@ told r (Some a) (Some b) answer run of_a of_b exact =
     (subst (IsText r.script.node_a r.script.node_b r.played.of_a) (sym of_a) run.is_text_a)
     (subst (IsText r.script.node_b r.script.node_a r.played.of_b) (sym of_b) run.is_text_b) run.run
 
-pub reached : (text : Option (List ℕ)) (r : Reached) (written : Held) (answer : Answer) → HasPlayed text r → StartsOnce r.script.steps → AreFew r →
+pub reached : (text : Option (List ℕ)) (r : Reached) (written : Held) (answer : Answer) → HasPlayed text r → StartsOnce r.script.steps →
     HasWritten empty_captures written r → IsAnswer written.a written.b answer → AcceptsOrFails answer
-reached text r written answer h once few wrote judged =
-    told r written.a written.b answer (a_run text r h once few) wrote.a wrote.b judged.exact
+reached text r written answer h once wrote judged =
+    told r written.a written.b answer (a_run text r h once) wrote.a wrote.b judged.exact
 
 -- ---- of what was answered
 
-module _ (text : Option (List ℕ)) (written : Held) (answer : Answer) (once : StartsOnceThroughout text) (few : AreFewThroughout text)
+module _ (text : Option (List ℕ)) (written : Held) (answer : Answer) (once : StartsOnceThroughout text)
     (judged : IsAnswer written.a written.b answer) where
   played_to : {Behind : Reached → Type 0} → PlaysTo text empty_captures written Behind → AcceptsOrFails answer
-  played_to plays = reached text plays.0 written answer plays.1 (once plays.0 plays.1) (few plays.0 plays.1) plays.2 judged
+  played_to plays = reached text plays.0 written answer plays.1 (once plays.0 plays.1) plays.2 judged
 
   pub answered : (played : Result Played PlayFault) → Plays text empty_captures written played → HasCaptures played → AcceptsOrFails answer
   answered (Ok played) plays has = played_to plays
@@ -79,8 +79,8 @@ accepted_status out err (Err judge.OutOfMemory) status is (inl prints, same) = i
 accepted_status out err (Err judge.OutOfMemory) status is (inr prints, same) = inr prints.2
 
 pub printed : (script : Moved) (captures played_to checked_to : Moved × Moved) (status : ℕ) → PlaysThenChecks script captures played_to checked_to status →
-    StartsOnceThroughout script.old.bytes → AreFewThroughout script.old.bytes → IsAcceptedStatus status
-printed script captures played_to checked_to status h once few =
+    StartsOnceThroughout script.old.bytes → IsAcceptedStatus status
+printed script captures played_to checked_to status h once =
     let written : Held = held captures.0.new.bytes captures.1.new.bytes in
     let plays : Plays script.old.bytes empty_captures written h.plays.answer =
     subst (λ (b : Option (List ℕ)). Plays script.old.bytes (held (Some []) b) written h.plays.answer) h.empty_b
@@ -89,5 +89,5 @@ printed script captures played_to checked_to status h once few =
     subst (λ (b : Option (List ℕ)). IsAnswer captures.0.new.bytes b h.checks.answer) h.reads_b
     (subst (λ (a : Option (List ℕ)). IsAnswer a h.b.old.bytes h.checks.answer) h.reads_a h.checks.judged) in
     accepted_status checked_to.0 checked_to.1 h.checks.answer status
-    (answered script.old.bytes written h.checks.answer once few judged h.plays.answer plays
+    (answered script.old.bytes written h.checks.answer once judged h.plays.answer plays
     (all_played played_to.0 played_to.1 h.plays.answer h.plays.tells)) h.checks.printed

@@ -3,18 +3,13 @@ use Rattle.std.specs.Prelude.{◌≡◌, ℕ, ◌<◌, ◌⊎◌, List, [], Opti
 use Rattle.pair_player.specs.declared.fault.PlayFault.{PlayFault}
 use Rattle.pair_player.specs.declared.fault.PlayFault.TheVariants.{Departs, BadStep, Full, Read, Write, OutOfMemory}
 use Rattle.pair_player.specs.declared.played.Played.{Played}
-use Rattle.pair_player.specs.Playing.{HasPlayed, Held, Reached, held}
-use Rattle.pair_player.specs.Runs.{AreFew}
+use Rattle.pair_player.specs.Playing.{Held, held}
 use Rattle.ddcap.specs.Playing.{IsPlaying}
 use Rattle.ddcap.specs.Printed.{Checks, Moved}
 
 -- two writers that took nothing yet
 abbrev pub empty_captures : Held
 empty_captures = held (Some []) (Some [])
-
--- the captures that are played never have more records than a text may hold
-abbrev pub AreFewThroughout : Option (List ℕ) → Type 0
-AreFewThroughout text = (r : Reached) → HasPlayed text r → AreFew r
 
 -- the answer tells that both captures are written as far as the script goes: all was played, or a line behind the head is at fault
 abbrev pub HasCaptures : Result Played PlayFault → Type 0

@@ -6,21 +6,20 @@ ghost use Rattle.pair_judge.specs.Judged.{AcceptsOrFails, Answer, IsAnswer};
 ghost use Rattle.pair_player.specs.declared.fault.PlayFault.{PlayFault};
 ghost use Rattle.pair_player.specs.declared.played.Played.{Played};
 ghost use Rattle.pair_player.specs.Playing.{HasPlayed, HasWritten, Held, Plays, Reached};
-ghost use Rattle.pair_player.specs.Runs.{AreFew, StartsOnceThroughout};
-ghost use Rattle.ddcap.specs.Accepting.{AreFewThroughout, HasCaptures, IsAcceptedStatus, PlaysThenChecks, empty_captures};
+ghost use Rattle.pair_player.specs.Runs.{StartsOnceThroughout};
+ghost use Rattle.ddcap.specs.Accepting.{HasCaptures, IsAcceptedStatus, PlaysThenChecks, empty_captures};
 ghost use Rattle.ddcap.specs.Printed.{Moved};
 
 /// What is played into two empty captures, of steps that start each side at most once, the judge accepts, where neither memory nor a read fails
-/// him, as long as neither capture has more records than a text may hold. So it is of all that the player answers behind the head of a script,
-/// where no device and no memory failed; and of the program: where `play` ends with status 0, `check` of what it wrote ends with 0, or with 3 for
-/// want of memory or a failed device.
+/// him. So it is of all that the player answers behind the head of a script, where no device and no memory failed; and of the program: where
+/// `play` ends with status 0, `check` of what it wrote ends with 0, or with 3 for want of memory or a failed device.
 pub fn played_is_accepted()
     ensures reached { (text : Option (List ℕ)) (r : Reached) (written : Held) (answer : Answer) → HasPlayed text r → StartsOnce r.script.steps →
-        AreFew r → HasWritten empty_captures written r → IsAnswer written.a written.b answer → AcceptsOrFails answer }
+        HasWritten empty_captures written r → IsAnswer written.a written.b answer → AcceptsOrFails answer }
     ensures answered { (text : Option (List ℕ)) (written : Held) (played : Result Played PlayFault) (answer : Answer) →
-        Plays text empty_captures written played → HasCaptures played → StartsOnceThroughout text → AreFewThroughout text →
+        Plays text empty_captures written played → HasCaptures played → StartsOnceThroughout text →
         IsAnswer written.a written.b answer → AcceptsOrFails answer }
     ensures printed { (script : Moved) (captures played_to checked_to : Moved × Moved) (status : ℕ) →
-        PlaysThenChecks script captures played_to checked_to status → StartsOnceThroughout script.old.bytes → AreFewThroughout script.old.bytes →
+        PlaysThenChecks script captures played_to checked_to status → StartsOnceThroughout script.old.bytes →
         IsAcceptedStatus status }
 {}

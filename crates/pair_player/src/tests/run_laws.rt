@@ -9,7 +9,7 @@ ghost use Rattle.dna_model.specs.StepRule.{IsHalted};
 ghost use Rattle.dna_model.specs.Stepped.{BadStep as Bad};
 ghost use Rattle.pair_player.specs.declared.fault.PlayFault.TheVariants.{BadStep};
 ghost use Rattle.pair_player.specs.Playing.{HasPlayed, Held, Plays, Reached, StopsBehind};
-ghost use Rattle.pair_player.specs.Runs.{AreARun, AreFew, IsOfTruth};
+ghost use Rattle.pair_player.specs.Runs.{AreARun, IsOfTruth};
 ghost use Rattle.pair_player.specs.SoFar.{no_steps, with_step};
 ghost use Rattle.wire_base.specs.declared.side.Side.TheVariants.{A, B};
 
@@ -21,7 +21,7 @@ use crate::{
 fn two_starts_are_written_as_a_run()
     ensures { (bytes : List ℕ) (node_a node_b : ℕ) (r : Reached) →
         IsScriptText (with_step (with_step (no_steps node_a node_b) (record { side = A; step = Start })) (record { side = B; step = Start })) bytes →
-        HasPlayed (Some bytes) r → AreFew r → AreARun r }
+        HasPlayed (Some bytes) r → AreARun r }
 {
     starts_once_throughout();
     written_captures_are_a_run();
