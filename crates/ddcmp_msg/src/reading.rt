@@ -51,7 +51,7 @@ pub fn read_unit(bytes: &[u8]) -> Reading<'_>
 
 /// The message of a unit that is known to be sound, as a unit is whose bytes are those of one that was read. No check is
 /// computed again. Takes no memory.
-#[inline(always)]
+#[inline(never)]
 pub fn read_sound(bytes: &[u8]) -> Message<'_>
     requires { IsSound (reading bytes.now) }
     ensures value { reading bytes.now ≡ Sound (view result) }

@@ -54,10 +54,10 @@ impl HeldUnit {
 
     /// The tag of its packet.
     #[inline(always)]
-    pub fn link(&self) -> Option<LinkTag>
-        ensures { result ≡ self.now.link }
+    pub fn link(&self) -> &HeldLink
+        ensures { result.now ≡ self.now.link }
     {
-        self.link.get()
+        &self.link
     }
 
     /// Its bytes, in the memory that they have. Takes no memory.

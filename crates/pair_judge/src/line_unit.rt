@@ -3,8 +3,9 @@
 ghost use Rattle.std.specs.Prelude.{◌≡◌};
 ghost use Rattle.ddcmp_msg.specs.Reading.{reading};
 
+use crate::held_link::HeldLink;
 use crate::held_unit::HeldUnit;
-use dna_model::{LinkTag, Tag};
+use dna_model::Tag;
 use std::marker::Model;
 
 /// A unit that was sent, as a line lends it: its bytes, which are a sound message, and its tags. A contract sees it as the unit of the
@@ -56,8 +57,8 @@ impl<'a> LineUnit<'a> {
 
     /// The tag of its packet, if it has one.
     #[inline(always)]
-    pub fn link(&self) -> Option<LinkTag>
-        ensures { result ≡ self.now.known.link }
+    pub fn link(&self) -> &HeldLink
+        ensures { result.now ≡ self.now.known.link }
     {
         self.unit.link()
     }

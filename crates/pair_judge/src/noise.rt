@@ -6,6 +6,7 @@ ghost use Rattle.dna_model.specs.WireStation.{load};
 ghost use Rattle.pair_judge.specs.Steps.{IfRefused};
 ghost use Rattle.pair_judge.specs.Wire.{judge_hears};
 
+use crate::held_link::HeldLink;
 use crate::layers::Layers;
 use crate::step_fault::StepFault;
 use ddcmp_msg::{Reading, read_unit};
@@ -22,9 +23,10 @@ pub fn hear(layers: &mut Layers, bytes: &[u8]) -> Result<(), StepFault>
     ensures refused { IfErr result (IfRefused (λ refusal. judge_hears layers.old (reading bytes.now) ≡ Err refusal)) }
     ensures load { load layers.new.station ≤ load layers.old.station + 1 }
 {
+    let no_tag = HeldLink::new(&None);
     match read_unit(bytes) {
-        Reading::HeaderBad => layers.arrived(Arrival::HeaderBad, None, false),
-        Reading::DataBad => layers.arrived(Arrival::DataBad, None, false),
+        Reading::HeaderBad => layers.arrived(Arrival::HeaderBad, &no_tag, false),
+        Reading::DataBad => layers.arrived(Arrival::DataBad, &no_tag, false),
         Reading::Sound(_) => Err(StepFault::Refused(StepRefusal::NotNoise)),
         Reading::Malformed(_) => Err(StepFault::Refused(StepRefusal::NotNoise)),
     }

@@ -11,6 +11,7 @@ ghost use Rattle.pair_judge.specs.Steps.{IfRefused, with_link};
 ghost use Rattle.pair_judge.specs.Wire.{judge_machine};
 
 use super::{Layers, OF_NO_LINK};
+use crate::held_link::HeldLink;
 use crate::packet::{Carried, content};
 use crate::step_fault::StepFault;
 use ddcmp_station::{Arrival, StationFault};
@@ -28,13 +29,13 @@ impl Layers {
     pub fn arrived(
         &mut self,
         arrival: Arrival,
-        link: Option<LinkTag>,
+        link: &HeldLink,
         kept: bool,
     ) -> Result<(), StepFault>
         requires { load self.old.station < 2 ^ 63 }
-        ensures ok { OnOk result (judge_machine.arrives self.old (with_link link (arrival_view arrival.entry)) kept ≡ Ok self.new) }
+        ensures ok { OnOk result (judge_machine.arrives self.old (with_link link.now (arrival_view arrival.entry)) kept ≡ Ok self.new) }
         ensures refused { IfErr result (IfRefused (λ refusal.
-            judge_machine.arrives self.old (with_link link (arrival_view arrival.entry)) kept ≡ Err refusal)) }
+            judge_machine.arrives self.old (with_link link.now (arrival_view arrival.entry)) kept ≡ Err refusal)) }
         ensures load { load self.new.station ≤ load self.old.station + 1 }
     {
         match self.station.arrived(arrival, kept) {
@@ -83,10 +84,10 @@ impl Layers {
 }
 
 // The tag beside a packet. Each packet that was sent has one.
-fn tag_of(link: Option<LinkTag>) -> LinkTag
-    ensures { result ≡ tag_or_none link }
+fn tag_of(link: &HeldLink) -> LinkTag
+    ensures { result ≡ tag_or_none link.now }
 {
-    match link {
+    match link.get() {
         Some(tag) => tag,
         None => OF_NO_LINK,
     }

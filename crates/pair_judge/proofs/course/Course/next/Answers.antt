@@ -1,9 +1,7 @@
-use Rattle.std.proofs.Common.{sym, refl, subst}
-use Rattle.capture.specs.Lines.{to_come}
-use Rattle.wire_base.specs.Tally.{tally_lent}
+use Rattle.std.proofs.Common.{refl, subst}
 use Rattle.pair_judge.specs.declared.course.Ahead.{Ahead}
 use Rattle.pair_judge.specs.Course.{MayReadAhead}
-use Rattle.pair_judge.proofs.Courses.{GrowingLaws, taken_up, read_on, ended, faulty}
+use Rattle.pair_judge.proofs.Courses.{GrowingLaws, read_on}
 use Rattle.pair_judge.proofs.course.Course.next.Goals as goal
 
 pub returns-in-Ok-Some-clause-next : goal.returns-in-Ok-Some-clause-next
