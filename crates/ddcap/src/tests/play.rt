@@ -170,9 +170,9 @@ fn a_faulty_head_leaves_nothing(rt: HostRuntime) {
 const RECORDED: &str = "aba  abbaabaabbaabbaabba";
 
 /// How many of these records are of this side.
-fn records_of(side: u8, recorded: &[u8]) -> usize {
+fn records_of(side: u8, recorded: &str) -> usize {
     let mut count = 0usize;
-    for of in recorded {
+    for of in recorded.as_bytes() {
         if *of == side {
             count = count.saturating_add(1);
         }
@@ -186,7 +186,7 @@ fn every_beginning_that_ends_behind_a_line_is_played(rt: HostRuntime) -> Result<
     for steps in 0..25usize {
         let text = lines(script.as_str(), steps.saturating_add(1));
         let said = format!(in rt.alloc(); "played {steps} steps\n")?;
-        let recorded = &RECORDED.as_bytes()[..steps];
+        let recorded = RECORDED.get(..steps).unwrap_or("");
         let of_a = lines(TEXT_A, records_of(b'a', recorded).saturating_add(1));
         let of_b = lines(TEXT_B, records_of(b'b', recorded).saturating_add(1));
         expect_played(&rt, rt.alloc(), text, of_a, of_b, played(said.as_str()));
