@@ -59,7 +59,6 @@ pub mod Receipt
 pub mod Play
 pub mod Played
 pub mod ScriptText
-pub mod PlayedText
 pub mod PlayRun
 pub mod StepRule
 -- The same of ends as their nodes keep them, on numbers that wrap: what an end keeps, what happens to it, and what a script stands for by that
