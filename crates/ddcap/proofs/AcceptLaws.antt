@@ -78,8 +78,8 @@ accepted_status out err (Err (judge.Capture side of_text.Read)) status is (inr p
 accepted_status out err (Err judge.OutOfMemory) status is (inl prints, same) = inr prints.2
 accepted_status out err (Err judge.OutOfMemory) status is (inr prints, same) = inr prints.2
 
-pub printed : (script : Moved) (captures played_to checked_to : Moved × Moved) (status : ℕ) → PlaysThenChecks script captures played_to checked_to status →
-    StartsOnceThroughout script.old.bytes → IsAcceptedStatus status
+pub printed : (script : Moved) (captures played_to checked_to : Moved × Moved) (status : ℕ) →
+    PlaysThenChecks script captures played_to checked_to status → StartsOnceThroughout script.old.bytes → IsAcceptedStatus status
 printed script captures played_to checked_to status h once =
     let written : Held = held captures.0.new.bytes captures.1.new.bytes in
     let plays : Plays script.old.bytes empty_captures written h.plays.answer =

@@ -8,7 +8,7 @@ use Rattle.dna_model.specs.ScriptText.{MAX_STEPS, IsStep}
 use Rattle.dna_model.specs.Stepped.{Stop}
 use Rattle.dna_model.specs.Played.{Played, Stopped, not_begun, if_made, plays_all, plays_step, play}
 use Rattle.dna_model.specs.PlayRun.{StartsOnce}
-use Rattle.dna_model.specs.KeptPlayed.{KeptMade, kept_plays_step}
+use Rattle.dna_model.specs.KeptPlayed.{kept_plays_step}
 use Rattle.dna_model.specs.KeptRun.{kept_pair}
 use Rattle.dna_model.proofs.KeptPairs.{AreTidy, GoesAlong, TidyNext, kept_at, step_along, step_tidy}
 use Rattle.dna_model.proofs.KeptSteps.{step_kept}

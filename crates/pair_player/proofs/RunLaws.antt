@@ -1,5 +1,5 @@
 -- What was played of a script that starts each side at most once is played by ends on true numbers too, and its captures are a run.
-use Rattle.std.proofs.Common.{◌≡◌, ℕ, ◌+◌, ◌≤◌, List, [], ◌∷◌, ◌++◌, length, Option, Some, None, Result, Ok, Err, refl, sym, ap, subst, ◌∙◌, arith}
+use Rattle.std.proofs.Common.{◌≡◌, ℕ, ◌≤◌, List, [], ◌∷◌, ◌++◌, length, Option, Some, None, Result, Ok, Err, refl, sym, ap, subst, ◌∙◌, arith}
 use Rattle.std.specs.List.{AllByRecursion}
 use Rattle.wire_base.specs.declared.side.Side.{Side}
 use Rattle.wire_base.specs.declared.side.Side.TheVariants.{A, B}
@@ -13,7 +13,7 @@ use Rattle.dna_model.specs.Script.{ScriptStep, Script}
 use Rattle.dna_model.specs.ScriptText.{IsScriptText}
 use Rattle.dna_model.specs.Played.{Played, Stopped, head_a, head_b, play}
 use Rattle.dna_model.specs.PlayRun.{StartsOnce, starts_of}
-use Rattle.dna_model.specs.KeptPlayed.{KeptPlayed, KeptStopped, kept_play}
+use Rattle.dna_model.specs.KeptPlayed.{KeptPlayed}
 use Rattle.dna_model.specs.KeptRun.{kept_of, kept_played}
 use Rattle.dna_model.proofs.FewRecords.{few_records}
 use Rattle.dna_model.proofs.KeptLaw.{whole_kept}

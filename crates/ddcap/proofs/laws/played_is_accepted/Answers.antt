@@ -5,7 +5,7 @@ pub returns-clause-reached : goal.returns-clause-reached
 returns-clause-reached c = reached
 
 pub returns-clause-answered : goal.returns-clause-answered
-returns-clause-answered c = λ text written played answer plays has once few judged. answered text written answer once few judged played plays has
+returns-clause-answered c = λ text written played answer plays has once judged. answered text written answer once judged played plays has
 
 pub returns-clause-printed : goal.returns-clause-printed
 returns-clause-printed c = printed
