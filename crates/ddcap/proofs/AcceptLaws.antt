@@ -1,5 +1,5 @@
 -- What `play` wrote into two empty captures, `check` accepts.
-use Rattle.std.proofs.Common.{◌≡◌, ℕ, ◌+◌, ◌<◌, inl, inr, List, [], Option, Some, None, Result, Ok, Err, refl, sym, subst, ◌∙◌, arith}
+use Rattle.std.proofs.Common.{ℕ, inl, inr, List, [], Option, Some, None, Result, Ok, Err, sym, subst, arith}
 use Rattle.std.specs.Io.KnownBytes.{Appends}
 use Rattle.capture.specs.Range.{IsText}
 use Rattle.dna_model.specs.Played.{head_a, head_b}
@@ -15,8 +15,8 @@ use Rattle.pair_player.specs.Playing.{HasPlayed, HasWritten, Held, Plays, PlaysT
 use Rattle.pair_player.specs.Runs.{AreARun, StartsOnceThroughout}
 use Rattle.pair_player.proofs.RunLaws.{a_run}
 use Rattle.ddcap.specs.Accepting.{HasCaptures, IsAcceptedStatus, PlaysThenChecks, empty_captures}
-use Rattle.ddcap.specs.Playing.{IsPlaying, TellsPlayed}
-use Rattle.ddcap.specs.Printed.{Checks, Moved, Prints}
+use Rattle.ddcap.specs.Playing.{TellsPlayed}
+use Rattle.ddcap.specs.Printed.{Moved, Prints}
 
 -- ---- of what was played
 
