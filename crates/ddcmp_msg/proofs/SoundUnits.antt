@@ -1,13 +1,15 @@
 -- A unit that is known to be sound: what its fields alone tell.
-use Rattle.std.proofs.Common.{◌≡◌, ◌≢◌, ℕ, ◌+◌, ◌≤◌, List, length, take, refl, sym, subst, arith}
+use Rattle.std.proofs.Common.{◌≡◌, ◌≢◌, ℕ, ◌+◌, ◌≤◌, List, length, take, refl, sym, subst, ◌∙◌, arith}
 use Rattle.std.specs.Prelude.{slice_index, slice_range, nat_eq, nat_lt}
-use Rattle.std.proofs.lemmas.Bool.{cond_both, ltb-false, eqb-true}
+use Rattle.std.proofs.lemmas.Bool.{cond_both, ltb-false, eqb-true, eqb-false}
 use Rattle.wire_base.specs.BlockCheck.{is_good}
-use Rattle.ddcmp_msg.specs.declared.departure.Departure.TheVariants.{UnknownStart, Maintenance, WrongLength, WrongField}
+use Rattle.ddcmp_msg.specs.declared.departure.Departure.TheVariants.{UnknownStart, Maintenance, WrongLength, UnknownType, WrongField}
 use Rattle.ddcmp_msg.specs.declared.reading.Reading.{Reading}
 use Rattle.ddcmp_msg.specs.declared.reading.Reading.TheVariants as variants
 use Rattle.ddcmp_msg.specs.declared.message.Message.{Message}
-use Rattle.ddcmp_msg.specs.Reading.{ReadingValue, reading_view, Sound, HeaderBad, DataBad, Malformed, reading, count_of, data_message, data_reading, control_reading, checked_reading, IsSound}
+use Rattle.ddcmp_msg.specs.Reading.{ReadingValue, reading_view, Sound, HeaderBad, DataBad, Malformed, reading, count_of, data_message, data_reading, control_reading, checked_reading, type_of, subtype_of, unit_flags, receiver_of, sender_of, address_of, IsSound}
+use Rattle.ddcmp_msg.specs.Message.{Ack}
+use Rattle.ddcmp_msg.specs.Spelling.{ADDRESS}
 
 -- a fact of every sound reading of the unit, that holds once it is told by its first byte
 by_start : (unit : List ℕ) (P : ReadingValue → Type 0) → (8 ≤ length unit → IsSound (checked_reading (slice_index unit 0) unit) → P (checked_reading (slice_index unit 0) unit)) → IsSound (reading unit) → P (reading unit)
@@ -51,6 +53,27 @@ control_unit unit sound other =
         cond_both (nat_eq b 129) _ _ P (λ e. absurd (other (eqb-true b 129 e))) (λ _.
         cond_both (nat_eq b 5) _ _ P (λ _ _. refl) (λ _.
         cond_both (nat_eq b 144) (Malformed Maintenance) (Malformed UnknownStart) P (λ _ s. absurd s) (λ _ s. absurd s)))
+
+-- one of TYPE 1 is the ACK of its fields
+pub ack_unit : (unit : List ℕ) → IsSound (reading unit) → slice_index unit 0 ≢ 129 → type_of unit ≡ 1 → reading unit ≡ Sound (Ack (unit_flags unit) (receiver_of unit))
+ack_unit unit sound other is_ack =
+    let same = control_unit unit sound other in
+    same ∙ in_ack (subst IsSound same sound)
+  where
+    in_ack : IsSound (control_reading unit) → control_reading unit ≡ Sound (Ack (unit_flags unit) (receiver_of unit))
+    in_ack =
+        let ack = Sound (Ack (unit_flags unit) (receiver_of unit)) in
+        let P : ReadingValue → Type 0 = λ r. IsSound r → r ≡ ack in
+        let t = type_of unit in
+        cond_both (nat_lt 8 (length unit)) (Malformed WrongLength) _ P (λ _ s. absurd s) (λ _.
+        cond_both (nat_eq t 2) _ _ P (λ e. let no : ⊥ = omega (arith, eqb-true t 2 e, is_ack) in absurd no) (λ _.
+        cond_both (nat_eq (subtype_of unit) 0) _ (Malformed UnknownType) P (λ _.
+        cond_both (nat_eq t 1) _ _ P (λ _.
+        cond_both (nat_eq (sender_of unit) 0) _ (Malformed WrongField) P (λ _.
+        cond_both (nat_eq (address_of unit) ADDRESS) ack (Malformed WrongField) P (λ _ _. refl) (λ _ s. absurd s))
+        (λ _ s. absurd s))
+        (λ e. absurd (eqb-false t 1 e is_ack)))
+        (λ _ s. absurd s)))
 
 pub no_departure : (result : Reading) → ((message : Message) → result ≡ variants.Sound message → ⊥) → IsSound (reading_view result) → ⊥
 no_departure (variants.Sound message) other sound = other message refl

@@ -1,9 +1,9 @@
 //! A unit, from its bytes to what they say.
 
-ghost use Rattle.std.specs.Prelude.{◌≡◌, ◌↔◌, ◌<◌, ◌≤◌, ℕ, List, length};
+ghost use Rattle.std.specs.Prelude.{◌≡◌, ◌≢◌, ◌↔◌, ◌<◌, ◌≤◌, ℕ, List, length, slice_index};
 ghost use Rattle.std.specs.Borrow.{Bor};
 ghost use Rattle.ddcmp_msg.specs.Message.{MessageValue, view, reason_of};
-ghost use Rattle.ddcmp_msg.specs.Spelling.{IsUnit};
+ghost use Rattle.ddcmp_msg.specs.Spelling.{SOH, IsUnit};
 ghost use Rattle.ddcmp_msg.specs.ReadingRule.{IsReading};
 ghost use Rattle.ddcmp_msg.specs.Reading.{Sound, IsSound, reading_view, BodyLiesIn, LiesIn, count_of, data_reading, control_reading, nak_reading, plain_reading, if_zero, if_address, reading};
 
@@ -51,7 +51,7 @@ pub fn read_unit(bytes: &[u8]) -> Reading<'_>
 
 /// The message of a unit that is known to be sound, as a unit is whose bytes are those of one that was read. No check is
 /// computed again. Takes no memory.
-#[inline(never)]
+#[inline(always)]
 pub fn read_sound(bytes: &[u8]) -> Message<'_>
     requires { IsSound (reading bytes.now) }
     ensures value { reading bytes.now ≡ Sound (view result) }
@@ -65,6 +65,23 @@ pub fn read_sound(bytes: &[u8]) -> Message<'_>
             body: &bytes[HEADER_LEN..bytes.len() - CHECK_LEN],
         };
     }
+    if bytes[1] == ACK {
+        return Message::Ack {
+            flags: Flags::from_byte(bytes[2]),
+            resp: bytes[3],
+        };
+    }
+    read_sound_control(bytes)
+}
+
+// The same of a control message. Most of them are ACKs, and are read without it.
+#[inline(never)]
+fn read_sound_control(bytes: &[u8]) -> Message<'_>
+    requires sound { IsSound (reading bytes.now) }
+    requires control { slice_index bytes.now 0 ≢ SOH }
+    ensures value { reading bytes.now ≡ Sound (view result) }
+    ensures body { BodyLiesIn result bytes.entry }
+{
     match read_control(bytes) {
         Reading::Sound(message) => message,
         _ => unreachable!(),

@@ -1,6 +1,6 @@
-use Rattle.std.proofs.Common.{◌≡◌, ◌+◌, ◌-◌, ◌∙◌, refl, sym, ap, subst, arith}
-use Rattle.ddcmp_msg.specs.Reading.{IsSound, reading_view, count_of}
-use Rattle.ddcmp_msg.proofs.SoundUnits.{long_unit, data_unit, control_unit, no_departure}
+use Rattle.std.proofs.Common.{◌≡◌, ◌+◌, ◌-◌, ◌∙◌, refl, arith}
+use Rattle.ddcmp_msg.specs.Reading.{count_of}
+use Rattle.ddcmp_msg.proofs.SoundUnits.{long_unit, data_unit, ack_unit}
 use Rattle.ddcmp_msg.proofs.reading.read_sound.Goals as goal
 
 pub bounds-bytes-0 : goal.bounds-bytes-0
@@ -31,13 +31,15 @@ returns-then-bytes-clause-value c =
     let room : n + 10 - 2 - 8 ≡ 8 + n - 8 = omega arith in
     known.message ∙ rw (known.whole, room, c.from_byte.ensures) refl
 
-pub read_control-requires : goal.read_control-requires
-read_control-requires c = long_unit c.args.bytes.now c.requires
+pub bounds-bytes-1 : goal.bounds-bytes-1
+bounds-bytes-1 c = omega (arith, long_unit c.args.bytes.now c.requires)
 
-pub unreachable-requires : goal.unreachable-requires
-unreachable-requires c =
-    let same = control_unit c.args.bytes.now c.requires c.if-bytes.false ∙ sym c.read_control.ensures.value in
-    no_departure c.read_control.result c.in_default.not-Sound (subst IsSound same c.requires)
+pub bounds-bytes-2-then-bytes-eq-ACK : goal.bounds-bytes-2-then-bytes-eq-ACK
+bounds-bytes-2-then-bytes-eq-ACK c = omega (arith, long_unit c.args.bytes.now c.requires)
 
-pub returns-clause-value : goal.returns-clause-value
-returns-clause-value c = control_unit c.args.bytes.now c.requires c.if-bytes.false ∙ sym c.read_control.ensures.value ∙ ap reading_view c.in-Sound.is
+pub bounds-bytes-3-then-bytes-eq-ACK : goal.bounds-bytes-3-then-bytes-eq-ACK
+bounds-bytes-3-then-bytes-eq-ACK c = omega (arith, long_unit c.args.bytes.now c.requires)
+
+pub returns-then-bytes-eq-ACK-clause-value : goal.returns-then-bytes-eq-ACK-clause-value
+returns-then-bytes-eq-ACK-clause-value c =
+    ack_unit c.args.bytes.now c.requires c.if-bytes.false c.if-bytes-eq-ACK.true ∙ rw c.from_byte-then-bytes-eq-ACK.ensures refl
