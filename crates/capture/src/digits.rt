@@ -231,6 +231,7 @@ pub fn bytes_into(text: &[u8], most: usize, room: &mut [u8]) -> Result<usize, De
 
 /// The same; the digits of few bytes are told by how each is spelled, if that is there.
 #[tactic(auto, unfolding(crate::specs::Reading::bytes_at, crate::specs::Reading::any_bytes_at))]
+#[inline(always)]
 pub(crate) fn bytes_by(
     spelling: Option<&Spelling>,
     text: &[u8],
