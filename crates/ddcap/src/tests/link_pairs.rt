@@ -1,5 +1,7 @@
 //! A pair of captures for each rule of the links, whose answer is another where that rule alone is turned. They were searched for over
 //! turned rules, the shortest first, with a judge that was written apart from this one.
+//!
+//! Units go by the names of `message_units`: `D2.DC1>2` is data number 2, which carries the DC of link 1 to link 2.
 
 mod arriving;
 mod layers;
