@@ -10,6 +10,7 @@ use crate::fields;
 use arrayvec::ArrayVec;
 
 /// A word that must be an acknowledgement word.
+#[inline(always)]
 fn ack(bytes: &[u8]) -> Result<(AckWord, &[u8]), NspFault>
     ensures read { Gives (λ x. (x.0, x.1.now)) result (ack_at bytes.now) }
     ensures lies { IfOk result (λ x. IsEndOf bytes.entry x.1) }
@@ -20,6 +21,7 @@ fn ack(bytes: &[u8]) -> Result<(AckWord, &[u8]), NspFault>
 }
 
 /// Whether a whole word with bit 15 set comes next.
+#[inline(always)]
 fn is_ack(bytes: &[u8]) -> bool
     ensures { result ≡ is_ack_next bytes.now }
 {
@@ -30,6 +32,7 @@ fn is_ack(bytes: &[u8]) -> bool
 }
 
 /// The acknowledgement words of a segment: as many as come next, but no more than two.
+#[inline(always)]
 pub(crate) fn acks(bytes: &[u8]) -> Result<(ArrayVec<AckWord, 2>, &[u8]), NspFault>
     ensures read { Gives (λ x. (x.0.items, x.1.now)) result (acks_at 2 bytes.now) }
     ensures lies { IfOk result (λ x. IsEndOf bytes.entry x.1) }
@@ -49,6 +52,7 @@ pub(crate) fn acks(bytes: &[u8]) -> Result<(ArrayVec<AckWord, 2>, &[u8]), NspFau
 }
 
 /// One acknowledgement word, and a second if any byte follows.
+#[inline(always)]
 pub(crate) fn data_acks(bytes: &[u8]) -> Result<(ArrayVec<AckWord, 2>, &[u8]), NspFault>
     ensures { Gives (λ x. (x.0.items, x.1.now)) result (data_acks_at bytes.now) }
 {

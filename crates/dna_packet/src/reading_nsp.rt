@@ -14,6 +14,7 @@ use crate::nsp::{
 use crate::reading_acks::{acks, data_acks};
 
 /// DSTADDR and SRCADDR, and the bytes after them.
+#[inline(always)]
 fn addresses(bytes: &[u8]) -> Result<(u16, u16, &[u8]), NspFault>
     ensures read { Gives (λ x. (x.0, x.1, x.2.now)) result (addresses_at bytes.now) }
     ensures lies { IfOk result (λ x. IsEndOf bytes.entry x.2) }
@@ -24,6 +25,7 @@ fn addresses(bytes: &[u8]) -> Result<(u16, u16, &[u8]), NspFault>
 }
 
 /// SEGNUM: its number, and whether bit 12 is set.
+#[inline(always)]
 fn segnum(bytes: &[u8]) -> Result<(u16, bool, &[u8]), NspFault>
     ensures read { Gives (λ x. (x.0, x.1, x.2.now)) result (segnum_at bytes.now) }
     ensures lies { IfOk result (λ x. IsEndOf bytes.entry x.2) }
@@ -35,6 +37,7 @@ fn segnum(bytes: &[u8]) -> Result<(u16, bool, &[u8]), NspFault>
     Ok((word & 0x0fff, word >= 0x1000, rest))
 }
 
+#[inline(always)]
 fn segment(begins: bool, ends: bool, bytes: &[u8]) -> Result<Nsp<'_>, NspFault>
     ensures read { Gives view result (segment_at begins ends bytes.now) }
     ensures lies { IfOk result (PartsLieIn bytes.entry) }
@@ -54,6 +57,7 @@ fn segment(begins: bool, ends: bool, bytes: &[u8]) -> Result<Nsp<'_>, NspFault>
     }))
 }
 
+#[inline(always)]
 fn link_service(interrupt: bool, bytes: &[u8]) -> Result<Nsp<'_>, NspFault>
     ensures read { Gives view result (link_service_at interrupt bytes.now) }
     ensures lies { IfOk result (PartsLieIn bytes.entry) }
@@ -68,6 +72,7 @@ fn link_service(interrupt: bool, bytes: &[u8]) -> Result<Nsp<'_>, NspFault>
 }
 
 /// Whether no byte stands after the end.
+#[inline(always)]
 fn ends(rest: &[u8]) -> Result<(), NspFault>
     ensures { Gives (λ _. tt) result (no_more_at rest.now) }
 {
@@ -77,6 +82,7 @@ fn ends(rest: &[u8]) -> Result<(), NspFault>
     }
 }
 
+#[inline(always)]
 fn data_ack(bytes: &[u8]) -> Result<Nsp<'_>, NspFault>
     ensures read { Gives view result (data_ack_at bytes.now) }
     ensures lies { IfOk result (PartsLieIn bytes.entry) }
@@ -91,6 +97,7 @@ fn data_ack(bytes: &[u8]) -> Result<Nsp<'_>, NspFault>
     }))
 }
 
+#[inline(always)]
 fn other_data_ack(bytes: &[u8]) -> Result<Nsp<'_>, NspFault>
     ensures read { Gives view result (other_data_ack_at bytes.now) }
     ensures lies { IfOk result (PartsLieIn bytes.entry) }
@@ -103,6 +110,7 @@ fn other_data_ack(bytes: &[u8]) -> Result<Nsp<'_>, NspFault>
     }))
 }
 
+#[inline(always)]
 fn connect_ack(bytes: &[u8]) -> Result<Nsp<'_>, NspFault>
     ensures read { Gives view result (connect_ack_at bytes.now) }
     ensures lies { IfOk result (PartsLieIn bytes.entry) }
@@ -113,6 +121,7 @@ fn connect_ack(bytes: &[u8]) -> Result<Nsp<'_>, NspFault>
 }
 
 /// SERVICES, INFO and SEGSIZE, and the bytes after them.
+#[inline(always)]
 fn connect_fields(bytes: &[u8]) -> Result<(u8, u8, u16, &[u8]), NspFault>
     ensures read { Gives (λ x. (x.0, x.1, x.2, x.3.now)) result (connect_fields_at bytes.now) }
     ensures lies { IfOk result (λ x. IsEndOf bytes.entry x.3) }
@@ -124,6 +133,7 @@ fn connect_fields(bytes: &[u8]) -> Result<(u8, u8, u16, &[u8]), NspFault>
 }
 
 /// The bytes after DSTADDR of a CI, which is 0.
+#[inline(always)]
 fn zero_address(bytes: &[u8]) -> Result<&[u8], NspFault>
     ensures read { Gives (λ x. x.now) result (zero_address_at bytes.now) }
     ensures lies { IfOk result (IsEndOf bytes.entry) }
@@ -135,6 +145,7 @@ fn zero_address(bytes: &[u8]) -> Result<&[u8], NspFault>
     Ok(rest)
 }
 
+#[inline(always)]
 fn connect_initiate(retransmitted: bool, bytes: &[u8]) -> Result<Nsp<'_>, NspFault>
     ensures read { Gives view result (connect_initiate_at retransmitted bytes.now) }
     ensures lies { IfOk result (PartsLieIn bytes.entry) }
@@ -152,6 +163,7 @@ fn connect_initiate(retransmitted: bool, bytes: &[u8]) -> Result<Nsp<'_>, NspFau
     }))
 }
 
+#[inline(always)]
 fn connect_confirm(bytes: &[u8]) -> Result<Nsp<'_>, NspFault>
     ensures read { Gives view result (connect_confirm_at bytes.now) }
     ensures lies { IfOk result (PartsLieIn bytes.entry) }
@@ -168,6 +180,7 @@ fn connect_confirm(bytes: &[u8]) -> Result<Nsp<'_>, NspFault>
     }))
 }
 
+#[inline(always)]
 fn disconnect_initiate(bytes: &[u8]) -> Result<Nsp<'_>, NspFault>
     ensures read { Gives view result (disconnect_initiate_at bytes.now) }
     ensures lies { IfOk result (PartsLieIn bytes.entry) }
@@ -182,6 +195,7 @@ fn disconnect_initiate(bytes: &[u8]) -> Result<Nsp<'_>, NspFault>
     }))
 }
 
+#[inline(always)]
 fn disconnect_confirm(bytes: &[u8]) -> Result<Nsp<'_>, NspFault>
     ensures read { Gives view result (disconnect_confirm_at bytes.now) }
     ensures lies { IfOk result (PartsLieIn bytes.entry) }

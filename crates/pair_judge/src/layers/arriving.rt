@@ -69,16 +69,15 @@ impl Layers {
         ensures refused { IfErr result (IfRefused (λ refusal. wire_keeps_packet judged self.old tag (lent_content carried.entry) ≡ Err refusal)) }
         ensures station { self.new.station ≡ self.old.station }
     {
-        let read = read_nsp(carried.message);
-        let Ok(message) = &read else {
-            return Err(StepFault::Refused(StepRefusal::BadNsp));
-        };
-        match self.links.arrived(carried.dst, carried.src, message, tag) {
-            Ok(()) => Ok(()),
-            Err(LinkFault::Refused(refusal)) => Err(StepFault::Refused(StepRefusal::Links(
-                refusal,
-            ))),
-            Err(LinkFault::OutOfMemory) => Err(StepFault::OutOfMemory),
+        match &read_nsp(carried.message) {
+            Ok(message) => match self.links.arrived(carried.dst, carried.src, message, tag) {
+                Ok(()) => Ok(()),
+                Err(LinkFault::Refused(refusal)) => Err(StepFault::Refused(StepRefusal::Links(
+                    refusal,
+                ))),
+                Err(LinkFault::OutOfMemory) => Err(StepFault::OutOfMemory),
+            },
+            Err(_) => Err(StepFault::Refused(StepRefusal::BadNsp)),
         }
     }
 }

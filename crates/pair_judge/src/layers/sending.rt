@@ -88,16 +88,15 @@ impl Layers {
             before.links ≡ self.old.links → wire_sends_first before after (lent_content carried.entry) ≡ Err refusal)) }
         ensures station { self.new.station ≡ self.old.station }
     {
-        let read = read_nsp(carried.message);
-        let Ok(message) = &read else {
-            return Err(StepFault::Refused(StepRefusal::BadNsp));
-        };
-        match self.links.sent(carried.dst, carried.src, message) {
-            Ok(tag) => Ok(tag),
-            Err(LinkFault::Refused(refusal)) => Err(StepFault::Refused(StepRefusal::Links(
-                refusal,
-            ))),
-            Err(LinkFault::OutOfMemory) => Err(StepFault::OutOfMemory),
+        match &read_nsp(carried.message) {
+            Ok(message) => match self.links.sent(carried.dst, carried.src, message) {
+                Ok(tag) => Ok(tag),
+                Err(LinkFault::Refused(refusal)) => Err(StepFault::Refused(StepRefusal::Links(
+                    refusal,
+                ))),
+                Err(LinkFault::OutOfMemory) => Err(StepFault::OutOfMemory),
+            },
+            Err(_) => Err(StepFault::Refused(StepRefusal::BadNsp)),
         }
     }
 }
