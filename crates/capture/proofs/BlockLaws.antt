@@ -1,10 +1,10 @@
 -- The bytes read ahead, in their block.
-use Rattle.std.proofs.Common.{◌≡◌, ◌≢◌, ℕ, ◌+◌, ◌-◌, ◌<◌, ◌≤◌, true, false, eqb, not, List, [], ◌++◌, length, get_or, take, drop, Option, Some, None, ◌⊎◌, refl, sym, ap, ◌∙◌, inl, inr, arith}
+use Rattle.std.proofs.Common.{◌≡◌, ◌≢◌, ℕ, ◌+◌, ◌-◌, ◌<◌, ◌≤◌, true, false, eqb, not, List, [], ◌++◌, length, get_or, take, drop, Option, Some, None, ◌⊎◌, refl, sym, ap, subst, ◌∙◌, inl, inr, arith}
 use Rattle.std.specs.Prelude.{MatchBool}
 use Rattle.std.specs.List.{between}
 use Rattle.std.specs.Io.KnownBytes.{Consumes, IsAtEnd}
 use Rattle.std.proofs.lemmas.Slice.{between_is}
-use Rattle.std.proofs.lemmas.List.{take_at, drop_at, drop-take, take-take, take-append-le, drop-append-le, drop-drop, length-take, length-take-le, length-append, length-drop, get_or-drop, nil_from_length}
+use Rattle.std.proofs.lemmas.List.{take_at, drop_at, drop-take, take-take, take-append-le, drop-append-le, drop-drop, length-take, length-take-le, length-append, length-drop, get_or-drop, append-nil, nil_from_length}
 use Rattle.std.proofs.lemmas.Bool.{eqb-true, eqb-false, cases_Bool}
 use Rattle.std.proofs.Math.Seq.{take-add}
 use borrow.Rule.Slice.PartMut.{post_of}
@@ -66,6 +66,16 @@ filled items lent buf old len start end count before after same size room order 
     read_ahead old _ (take count buf) count before after
     (between-read items lent buf len start end count same size (omega arith) order buf-len few ∙ ap (λ (t : List ℕ). t ++ take count buf) was)
     (length-take-le count buf few) took (λ none. at_end none some)
+
+-- a read that failed: whatever it wrote stands behind the bytes read ahead
+pub unfilled : (items lent buf old : List ℕ) (len start end : ℕ) → lent ≡ items → length items ≡ len → end < len → start ≤ end → length buf ≡ length lent - end → between start end items ≡ old
+    → between start end (take len (take end lent ++ (buf ++ post_of end (length lent - end) lent) ++ drop (length (take end lent ++ (buf ++ post_of end (length lent - end) lent))) items)) ≡ old
+unfilled items lent buf old len start end same size room order buf-len was =
+    let none : end + 0 ≡ end = omega arith in
+    let behind = take len (take end lent ++ (buf ++ post_of end (length lent - end) lent) ++ drop (length (take end lent ++ (buf ++ post_of end (length lent - end) lent))) items) in
+    subst (λ (e : ℕ). between start e behind ≡ between start end items) none
+    (between-read items lent buf len start end 0 same size (omega arith) order buf-len (omega arith) ∙ append-nil (between start end items))
+    ∙ was
 
 -- an LF sought from `searched` on
 pub lf_none : (searched : ℕ) (unread : List ℕ) → searched ≤ length unread

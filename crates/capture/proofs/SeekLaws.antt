@@ -1,5 +1,5 @@
 -- The search for the LF of the line at hand.
-use Rattle.std.proofs.Common.{◌≡◌, ◌≢◌, ℕ, ◌+◌, ◌<◌, ◌≤◌, true, false, eqb, List, ◌++◌, length, get_or, Option, Some, None, refl, sym, ap, ◌∙◌, inl, inr, arith}
+use Rattle.std.proofs.Common.{◌≡◌, ◌≢◌, ℕ, ◌+◌, ◌<◌, ◌≤◌, true, false, eqb, List, ◌++◌, length, get_or, Option, Some, None, refl, sym, ap, subst, ◌∙◌, inl, inr, arith}
 use Rattle.std.specs.Prelude.{IfSome}
 use Rattle.std.specs.Io.KnownBytes.{prepend_known, Keeps, IsAtEnd}
 use Rattle.std.proofs.KnownBytes.{Keeps-refl, prepend_known-end}
@@ -72,6 +72,19 @@ module _ (most searched : ℕ) (unread : List ℕ) (before after : Option (List 
   seek_end new later read none =
       let ended = seek_ended new later read in
       prepend_known-end before later unread ended.0 (nil_from_length unread none) ended.1
+
+-- a reader that fails has what it had left
+left_kept : (before mid after : Option (List ℕ)) (unread : List ℕ) → Keeps before (prepend_known unread mid) → Keeps mid after → Keeps before (prepend_known unread after)
+left_kept None mid after unread kept left = tt
+left_kept (Some xs) None after unread kept left = absurd kept
+left_kept (Some xs) (Some ys) None unread kept left = absurd left
+left_kept (Some xs) (Some ys) (Some zs) unread kept left = ap (λ (t : List ℕ). unread ++ t) left ∙ kept
+
+pub seek_failed : (searched : ℕ) (unread new : List ℕ) (before after later : Option (List ℕ)) (taken old_taken faults old_faults : ℕ) → Seeking searched unread before after taken old_taken faults old_faults
+    → FindsLf searched unread None → new ≡ unread → Keeps after later → (has_lf new ≡ false) × Keeps before (prepend_known new later)
+seek_failed searched unread new before after later taken old_taken faults old_faults s f same left =
+    subst (λ (t : List ℕ). (has_lf t ≡ false) × Keeps before (prepend_known t later)) (sym same)
+    ((seek_open searched searched unread before after taken old_taken faults old_faults s f).1, left_kept before after later unread s.kept left)
 
 pub seek_start : (unread : List ℕ) (after : Option (List ℕ)) (taken faults : ℕ) → Seeking 0 unread (to_come unread after) after taken taken faults faults
 seek_start unread after taken faults =

@@ -3,7 +3,7 @@
 ghost use Rattle.std.specs.Prelude.{◌≡◌, ◌≢◌, ℕ, ◌+◌, ◌<◌, ◌≤◌, ◌^◌, [], ◌++◌, length, take, drop, true, false, slice_index, IfOk, OnOk, OnErr, List, MatchOption, MatchBool, Err};
 ghost use Rattle.std.specs.List.{between};
 ghost use Rattle.capture.specs.declared.line_reader.TheConstants.{BLOCK};
-ghost use Rattle.std.specs.Io.KnownBytes.{Consumes, IsAtEnd};
+ghost use Rattle.std.specs.Io.KnownBytes.{Consumes, IsAtEnd, Keeps};
 ghost use Rattle.capture.specs.declared.limit.TheConstants.{MAX_LINE};
 ghost use Rattle.wire_base.specs.Tally.{CountedFault, tally_faults, tally_lent};
 ghost use Rattle.capture.specs.Faulty.{CountsReads, is_failed_line_read};
@@ -115,7 +115,7 @@ impl LineReader {
     /// Faults, in the order in which they are tested: `Departs(TooMany)` where `most` lines were left
     /// behind and a byte is to come; `Departs(TooLong)` at more than 131,081 bytes before the LF or the
     /// end; `Departs(Syntax)` where the text ends without an LF. `Read` comes only where the reader
-    /// failed, and may come before any of them.
+    /// failed, and may come before any of them; then no whole line was read ahead.
     #[inline(always)]
     pub fn next<R: Read>(
         &mut self,
@@ -183,6 +183,8 @@ impl LineReader {
         ensures more { IfOk result (ReadsAhead self.old.unread self.new.unread
             (R.remaining (tally_lent reader.old)) (R.remaining (tally_lent reader.new))) }
         ensures faults { OnOk result (tally_faults reader.new ≡ tally_faults reader.old) }
+        ensures same { OnErr result (self.new.unread ≡ self.old.unread) }
+        ensures left { OnErr result (Keeps (R.remaining (tally_lent reader.old)) (R.remaining (tally_lent reader.new))) }
         ensures failed { OnErr result (CountedFault (tally_faults reader.old) (tally_faults reader.new)) }
     {
         let (start, end) = (self.start, self.end);

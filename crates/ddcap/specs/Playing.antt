@@ -8,7 +8,7 @@ use Rattle.pair_judge.specs.declared.fault.JudgeFault.TheVariants as judge
 use Rattle.pair_player.specs.declared.fault.PlayFault.{PlayFault}
 use Rattle.pair_player.specs.declared.fault.PlayFault.TheVariants.{Departs, BadStep, Full, Read, Write, OutOfMemory}
 use Rattle.pair_player.specs.declared.played.Played.{Played}
-use Rattle.pair_player.specs.Playing.{CountsReadsOf, CountsWritesOf, Plays, held}
+use Rattle.pair_player.specs.Playing.{CountsReadsOf, CountsWritesOf, Plays, PlaysWholeLines, held}
 use Rattle.ddcap.specs.Printed.{Moved, Writes, fault_text}
 
 -- `played 24 steps`
@@ -50,6 +50,7 @@ TellsPlayed out err (Err fault) status = Writes err.old err.new (play_fault_text
 pub record IsPlaying (script : Moved) (captures : Moved × Moved) (out err : Moved) (status : ℕ) : Type 0 where
   pub answer : Result Played PlayFault
   pub plays : Plays script.old.bytes (held captures.0.old.bytes captures.1.old.bytes) (held captures.0.new.bytes captures.1.new.bytes) answer
+  pub lines : PlaysWholeLines script.old.bytes script.new.bytes (held captures.0.old.bytes captures.1.old.bytes) (held captures.0.new.bytes captures.1.new.bytes) answer
   pub reads : CountsReadsOf answer script.old.faults script.new.faults
   pub writes_a : CountsWritesOf A answer captures.0.old.faults captures.0.new.faults
   pub writes_b : CountsWritesOf B answer captures.1.old.faults captures.1.new.faults

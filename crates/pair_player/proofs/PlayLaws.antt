@@ -8,7 +8,7 @@ use Rattle.capture.specs.declared.format.Format.TheVariants.{One}
 use Rattle.capture.specs.declared.hint.HintForm.TheVariants.{Number}
 use Rattle.capture.specs.declared.phase.Phase.TheVariants.{Reading}
 use Rattle.capture.specs.declared.record.Record.{Record}
-use Rattle.capture.specs.Lines.{to_come}
+use Rattle.capture.specs.Lines.{IsCutBehind, to_come}
 use Rattle.capture.specs.Paged.{HandsOver}
 use Rattle.capture.specs.Text.{capture_text, head_line, record_lines, record_line}
 use Rattle.dna_model.specs.Script.{ScriptStep}
@@ -19,18 +19,19 @@ use Rattle.pair_player.specs.declared.fault.PlayFault.{PlayFault}
 use Rattle.pair_player.specs.declared.fault.PlayFault.TheVariants as faults
 use Rattle.pair_player.specs.declared.fault.ScriptFault.{ScriptFault}
 use Rattle.pair_player.specs.declared.fault.ScriptFault.TheVariants as of_script
-use Rattle.pair_player.specs.declared.fault.StepFault.{StepFault}
-use Rattle.pair_player.specs.declared.fault.StepFault.TheVariants as stops
+use Rattle.player_end.specs.declared.fault.StepFault.{StepFault}
+use Rattle.player_end.specs.declared.fault.StepFault.TheVariants as stops
 use Rattle.pair_player.specs.declared.played.Played.{Played}
 use Rattle.pair_player.specs.Beginning.{fault_of, fault_at}
-use Rattle.pair_player.specs.Playing.{DepartsBehind, EndsBehind, HasPlayed, HasWritten, Held, Plays, Reached, StopsBehind, held, text_a, text_b}
-use Rattle.pair_player.specs.Reader.{Advances, FaultShows, Opens, ScriptState}
+use Rattle.pair_player.specs.Playing.{DepartsBehind, EndsBehind, HasPlayed, HasWritten, Held, Plays, PlaysWholeLines, Reached, StopsBehind, held, text_a, text_b}
+use Rattle.pair_player.specs.Reader.{Advances, FaultShows, IsCut, Opens, ScriptState, WhereReadFails}
 use Rattle.pair_player.specs.SoFar.{no_steps, with_step}
-use Rattle.pair_player.specs.Stepping.{StopMeans}
+use Rattle.player_end.specs.Stepping.{StopMeans}
 use Rattle.pair_player.specs.Making.{PutsLines, Standing, Steps, StopsStep, standing}
 use Rattle.pair_player.specs.Waiting.{EndsAll, FailsAt, Outlet, outlet}
 use Rattle.pair_player.proofs.OverLaws.{nothing_over, more_over, on_over, all_over, some_over, beginning_over}
 use Rattle.pair_player.proofs.SoFarLaws.{opened, one_more}
+use Rattle.pair_player.proofs.TakeLaws.{cut_behind}
 
 -- ---- texts
 
@@ -269,6 +270,39 @@ module _ (text : Option (List ℕ)) (old : Held) (p : Place) (h : IsUnderWay tex
       ended (Err (fault_at (p.steps + 2) fault)) answer n m new (at_stop step lines after fault is advances stops.means)
       (subst (λ (x : List ℕ). EndsAll (Err (fault_at (p.steps + 2) fault)) (outlet p.a p.now.a n, outlet x p.now.b m) new answer) stops.b
       (subst (λ (x : List ℕ). EndsAll (Err (fault_at (p.steps + 2) fault)) (outlet x p.now.a n, outlet at.b p.now.b m) new answer) stops.a ends))
+
+-- ---- where a read failed
+
+-- the writers have what was meant, or one failed
+pub lines_on : (text left : Option (List ℕ)) (old new : Held) (meant answer : Result Played PlayFault) (was now : Outlet × Outlet) → PlaysWholeLines text left old new meant → EndsAll meant was now answer
+    → PlaysWholeLines text left old new answer
+lines_on text left old new meant answer was now is (inl all) = subst (PlaysWholeLines text left old new) (sym all.4) is
+lines_on text left old new meant answer was now is (inr some) = subst (PlaysWholeLines text left old new) (sym some.2) tt
+
+-- no step's fault is a failed read
+pub lines_stopped : (text left : Option (List ℕ)) (old new : Held) (line : ℕ) (fault : StepFault) → PlaysWholeLines text left old new (Err (fault_at line fault))
+lines_stopped text left old new line stops.BadStep = tt
+lines_stopped text left old new line stops.Full = tt
+lines_stopped text left old new line stops.OutOfMemory = tt
+
+module _ (text left : Option (List ℕ)) (old : Held) (p : Place) (h : IsUnderWay text old p) where
+  -- its next line is not known
+  pub lines_at_fault : (lines : ScriptState) (fault : ScriptFault) (answer : Result Played PlayFault) (n m : ℕ) (new : Outlet × Outlet) → Advances p.lines lines p.come (to_come lines.unread left) (Err fault)
+      → EndsAll (Err (fault_of fault)) (outlet p.a p.now.a n, outlet p.b p.now.b m) new answer → PlaysWholeLines text left old (held new.0.held new.1.held) answer
+  lines_at_fault lines fault answer n m new advances (inr some) = subst (PlaysWholeLines text left old (held new.0.held new.1.held)) (sym some.2) tt
+  lines_at_fault lines fault answer n m new advances (inl all) = subst (PlaysWholeLines text left old (held new.0.held new.1.held)) (sym all.4) (by_fault fault advances.0 advances.4)
+    where
+      by_fault : (fault : ScriptFault) → FaultShows (StepDeparts p.lines.steps) (p.lines.steps + 2) p.come fault → WhereReadFails (IsCut lines.unread p.come (to_come lines.unread left)) fault
+          → PlaysWholeLines text left old (held new.0.held new.1.held) (Err (fault_of fault))
+      by_fault (of_script.Departs kind line) shows cut = tt
+      by_fault of_script.Read shows cut = inr (
+        h.reached,
+        h.played,
+        written text old p h (held new.0.held new.1.held) new.0.text new.1.text all.0.over all.1.over all.2 all.3,
+        subst (λ (x : Option (List ℕ)). IsCutBehind x left) (sym h.come_is) (cut_behind lines.unread p.come left cut),
+      )
+      by_fault of_script.OutOfMemory shows cut = tt
+      by_fault of_script.Failed shows cut = absurd shows
 
 -- a step that was read is some step
 pub some_step : (read : Option ScriptStep) (come after : Option (List ℕ)) → IsSomeAnd read (λ step. IsStep step × Consumes come after (script_line step)) → (step : ScriptStep) × (read ≡ Some step)

@@ -6,7 +6,8 @@ use Rattle.dna_model.specs.Stepped.{Stop}
 use Rattle.dna_model.specs.Kept.{KeptEnd}
 use Rattle.dna_model.specs.KeptPlay.{KeptStepped, silent}
 use Rattle.dna_model.specs.KeptPlayed.{KeptPair, left_by, kept_with_a, kept_with_b}
-use Rattle.pair_player.specs.Stepping.{with_lines, sends, sides, with_text}
+use Rattle.player_end.specs.Stepping.{with_lines}
+use Rattle.pair_player.specs.Stepping.{sends, sides, with_text}
 
 abbrev Units : Type 0
 Units = List (List ℕ)

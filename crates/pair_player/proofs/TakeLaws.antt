@@ -1,13 +1,15 @@
 -- One step's turn, and the head's.
 use Rattle.std.proofs.Common.{◌≡◌, ℕ, ◌+◌, ◌-◌, ◌<◌, ◌≤◌, List, length, take, Option, Some, None, Err, refl, sym, ap, subst, ◌∙◌, inl, inr, arith}
 use Rattle.std.specs.Prelude.{IfSome}
-use Rattle.std.specs.Io.KnownBytes.{prepend_known, Keeps, IsAtEnd}
+use Rattle.std.specs.Io.KnownBytes.{prepend_known, Consumes, Keeps, IsAtEnd}
 use Rattle.capture.specs.declared.fault.Departure.{Departure}
 use Rattle.capture.specs.declared.fault.Departure.TheVariants.{Syntax, TooLong, TooMany}
 use Rattle.capture.specs.Departing.{first_line, IsWhole, LineDeparts}
+use Rattle.capture.specs.Lines.{IsCutBehind, to_come}
 use Rattle.capture.proofs.LineLaws.{if_known}
 use Rattle.capture.proofs.TakeLaws.{line_is, whole-append}
 use Rattle.dna_model.specs.ScriptText.{WordsDepart, StepDeparts, HeadWordsDepart, ScriptHeadDeparts, MAX_STEPS}
+use Rattle.pair_player.specs.Reader.{IsCut}
 use Rattle.pair_player.specs.Reading.{line_at, head_at}
 use Rattle.pair_player.proofs.LineWords.{words_depart}
 use Rattle.pair_player.proofs.HeadLaws.{head_again}
@@ -30,6 +32,17 @@ line_departs Syntax taken bytes some h = let lt = h.0 in inl (omega arith, h.1, 
 pub lines_depart : (kind : Departure) (taken : ℕ) (before : Option (List ℕ)) → 1 ≤ taken → IfSome before (LineDeparts (MAX_STEPS + 1) taken kind) → IfSome before (StepDeparts (taken - 1) kind)
 lines_depart kind taken None some h = tt
 lines_depart kind taken (Some bytes) some h = line_departs kind taken bytes some h
+
+-- ---- where a read failed
+
+consumed : (unread : List ℕ) (come left : Option (List ℕ)) → Keeps come (prepend_known unread left) → Consumes come left unread
+consumed unread None left kept = tt
+consumed unread (Some xs) None kept = absurd kept
+consumed unread (Some xs) (Some ys) kept = sym kept
+
+-- what was read ahead is a piece of a line
+pub cut_behind : (unread : List ℕ) (come left : Option (List ℕ)) → IsCut unread come (to_come unread left) → IsCutBehind come left
+cut_behind unread come left cut = (unread, cut.0, consumed unread come left cut.1)
 
 -- ---- the head
 

@@ -1,11 +1,12 @@
 -- What a player has before the first step of a script.
 use Rattle.std.specs.Prelude.{ℕ, Bool, true, false, List, Option, Result, Ok, Err}
+use Rattle.capture.specs.Lines.{IsCutBehind}
 use Rattle.pair_player.specs.declared.fault.PlayFault.{PlayFault}
 use Rattle.pair_player.specs.declared.fault.PlayFault.TheVariants as faults
 use Rattle.pair_player.specs.declared.fault.ScriptFault.{ScriptFault}
 use Rattle.pair_player.specs.declared.fault.ScriptFault.TheVariants as of_script
-use Rattle.pair_player.specs.declared.fault.StepFault.{StepFault}
-use Rattle.pair_player.specs.declared.fault.StepFault.TheVariants as stops
+use Rattle.player_end.specs.declared.fault.StepFault.{StepFault}
+use Rattle.player_end.specs.declared.fault.StepFault.TheVariants as stops
 use Rattle.pair_player.specs.Playing.{HeadDepartsAt}
 
 -- ---- faults
@@ -37,11 +38,11 @@ is_failed_read (Err fault) = is_read_fault fault
 
 -- ---- before the first step
 
--- Where no head was read: this text departs from one, or can't be read further, or memory was wanting
-abbrev pub HeadFault : Option (List ℕ) → PlayFault → Type 0
-HeadFault text (faults.Departs kind line) = HeadDepartsAt text kind line
-HeadFault text (faults.BadStep line) = ⊥
-HeadFault text (faults.Full line) = ⊥
-HeadFault text faults.Read = Unit {0}
-HeadFault text (faults.Write side) = ⊥
-HeadFault text faults.OutOfMemory = Unit {0}
+-- Where no head was read: this text departs from one, or can't be read further behind a piece of its first line, or memory was wanting
+abbrev pub HeadFault : (text left : Option (List ℕ)) → PlayFault → Type 0
+HeadFault text left (faults.Departs kind line) = HeadDepartsAt text kind line
+HeadFault text left (faults.BadStep line) = ⊥
+HeadFault text left (faults.Full line) = ⊥
+HeadFault text left faults.Read = IsCutBehind text left
+HeadFault text left (faults.Write side) = ⊥
+HeadFault text left faults.OutOfMemory = Unit {0}

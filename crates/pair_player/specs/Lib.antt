@@ -10,12 +10,6 @@ pub mod Runs
 pub mod Making
 pub mod Waiting
 pub mod Beginning
--- The ends: what a contract sees of their parts, and of a step
-pub mod Owing
-pub mod Arriving
-pub mod Composing
-pub mod Segments
-pub mod Links
-pub mod Delivering
+-- A step of both ends
 pub mod Stepping
 pub mod Line

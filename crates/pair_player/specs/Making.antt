@@ -6,8 +6,8 @@ use Rattle.capture.specs.declared.hint.HintForm.TheVariants.{Number}
 use Rattle.capture.specs.Text.{record_lines}
 use Rattle.dna_model.specs.Script.{ScriptStep}
 use Rattle.dna_model.specs.KeptPlayed.{KeptPair, KeptMade, kept_plays_step}
-use Rattle.pair_player.specs.declared.fault.StepFault.{StepFault}
-use Rattle.pair_player.specs.Stepping.{StopMeans}
+use Rattle.player_end.specs.declared.fault.StepFault.{StepFault}
+use Rattle.player_end.specs.Stepping.{StopMeans}
 
 -- both ends, and the lines of both captures that are not written yet
 pub record Standing : Type 0 where

@@ -6,6 +6,7 @@ use Rattle.wire_base.specs.declared.side.Side.{Side}
 use Rattle.wire_base.specs.declared.side.Side.TheVariants.{A, B}
 use Rattle.capture.specs.declared.fault.Departure.{Departure}
 use Rattle.capture.specs.declared.format.Format.TheVariants.{One}
+use Rattle.capture.specs.Lines.{IsCutBehind}
 use Rattle.capture.specs.Text.{capture_text}
 use Rattle.dna_model.specs.Script.{ScriptStep, Script}
 use Rattle.dna_model.specs.ScriptText.{IsStep, ScriptHeadDeparts, StepDeparts, script_line, MAX_STEPS}
@@ -111,6 +112,12 @@ Plays text old new (Err (faults.Full line)) = PlaysTo text old new (StopsBehind 
 Plays text old new (Err faults.Read) = PlaysSome text old new
 Plays text old new (Err (faults.Write side)) = (r : Reached) × HasPlayed text r × HasCut side old new r
 Plays text old new (Err faults.OutOfMemory) = PlaysSome text old new
+
+-- Where a read failed: each whole line that the reader had given until then was read, its step made, and its records written. `left` is what it
+-- has left. Behind the steps, or where no head was read, it had given a piece of a line.
+abbrev pub PlaysWholeLines : (text left : Option (List ℕ)) → Held → Held → Result Played PlayFault → Type 0
+PlaysWholeLines text left old new (Err faults.Read) = (TakesNothing old new × IsCutBehind text left) ⊎ PlaysTo text old new (λ r. IsCutBehind r.come left)
+PlaysWholeLines text left old new answer = Unit {0}
 
 -- ---- of a script that is played whole
 

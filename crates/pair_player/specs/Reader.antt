@@ -1,10 +1,11 @@
 -- What a contract sees of a reader of a script, and what one call of it gives.
 use Rattle.std.specs.Prelude.{◌≡◌, ℕ, ◌+◌, ◌-◌, ◌<◌, ◌≤◌, Bool, true, false, List, Option, Some, None, Result, Ok, Err, IfSome, IsSomeAnd}
-use Rattle.std.specs.Io.KnownBytes.{Consumes, IsAtEnd}
+use Rattle.std.specs.Io.KnownBytes.{Consumes, IsAtEnd, Keeps}
 use Rattle.capture.specs.declared.fault.Departure.{Departure}
 use Rattle.capture.specs.declared.phase.Phase.{Phase}
 use Rattle.capture.specs.declared.phase.Phase.TheVariants as phases
-use Rattle.capture.specs.Lines.{LineState, to_come}
+use Rattle.capture.specs.Departing.{has_lf}
+use Rattle.capture.specs.Lines.{IsCutBehind, LineState, to_come}
 use Rattle.capture.specs.Range.{IsNode}
 use Rattle.capture.specs.Text.{ended}
 use Rattle.dna_model.specs.Script.{ScriptStep}
@@ -28,19 +29,29 @@ FaultShows departs number before Read = Unit {0}
 FaultShows departs number before OutOfMemory = Unit {0}
 FaultShows departs number before Failed = ⊥
 
+-- this, where a read failed
+abbrev pub WhereReadFails : Type 0 → ScriptFault → Type 0
+WhereReadFails told Read = told
+WhereReadFails told fault = Unit {0}
+
+-- The bytes that were read ahead are no whole line, and nothing that was to come is lost.
+abbrev pub IsCut : List ℕ → (before after : Option (List ℕ)) → Type 0
+IsCut unread before after = (has_lf unread ≡ false) × Keeps before after
+
 -- What `open` gives, where these bytes were to come, and these are.
 abbrev pub Opens : Option (List ℕ) → Option (List ℕ) → Result ScriptState ScriptFault → Type 0
 Opens before after (Ok state) =
     IsNode state.node_a × IsNode state.node_b × (state.steps ≡ 0) × (state.phase ≡ phases.Reading) × (state.step ≡ None)
     × Consumes before (to_come state.unread after) (ended (script_head state.node_a state.node_b))
-Opens before after (Err fault) = FaultShows ScriptHeadDeparts 1 before fault
+Opens before after (Err fault) = FaultShows ScriptHeadDeparts 1 before fault × WhereReadFails (IsCutBehind before after) fault
 
 -- The lines taken and the bytes to come, before and after one step's turn.
 abbrev pub TakesStep : LineState → LineState → Option (List ℕ) → Option (List ℕ) → Result (Option ScriptStep) ScriptFault → Type 0
 TakesStep old new before after (Ok (Some step)) =
     IsStep step × (old.taken ≤ MAX_STEPS) × (new.taken ≡ old.taken + 1) × Consumes before after (script_line step)
 TakesStep old new before after (Ok None) = IsAtEnd before × (new.taken ≡ old.taken)
-TakesStep old new before after (Err fault) = FaultShows (StepDeparts (old.taken - 1)) (old.taken + 1) before fault × (new.taken ≡ old.taken)
+TakesStep old new before after (Err fault) =
+    FaultShows (StepDeparts (old.taken - 1)) (old.taken + 1) before fault × (new.taken ≡ old.taken) × WhereReadFails (IsCut new.unread before after) fault
 
 -- What `advance` gives while more may come: a step, whose line was the first of what was to come; the end, where nothing was to
 -- come; or a fault of the line at hand.
@@ -51,3 +62,4 @@ Advances old new before after (Ok true) =
 Advances old new before after (Ok false) = IsAtEnd before × (new.step ≡ None) × (new.steps ≡ old.steps) × (new.phase ≡ phases.Ended)
 Advances old new before after (Err fault) =
     FaultShows (StepDeparts old.steps) (old.steps + 2) before fault × (new.step ≡ None) × (new.steps ≡ old.steps) × (new.phase ≡ phases.Failed)
+    × WhereReadFails (IsCut new.unread before after) fault

@@ -1,22 +1,14 @@
--- What a contract says of a step: what it makes of an end, with the text of the lines that its records add; or why it is not made.
-use Rattle.std.specs.Prelude.{◌≡◌, ℕ, ◌++◌, List, Option, None, Result, Ok, Err}
+-- What a contract says of a step of an end, beside the line to it and the line from it, and of a step of both ends.
+use Rattle.std.specs.Prelude.{ℕ, ◌++◌, List, Result, Ok, Err}
 use Rattle.capture.specs.declared.hint.HintForm.TheVariants.{Number}
 use Rattle.capture.specs.Text.{record_lines}
 use Rattle.dna_model.specs.Stepped.{Stop}
-use Rattle.dna_model.specs.Stepped as stops
 use Rattle.dna_model.specs.Kept.{KeptEnd}
 use Rattle.dna_model.specs.KeptPlay.{KeptStepped}
 use Rattle.dna_model.specs.KeptPlayed.{KeptPair, KeptMade, left_by}
 use Rattle.dna_model.specs.Script.{StepValue}
-use Rattle.pair_player.specs.declared.fault.StepFault.{StepFault}
-use Rattle.pair_player.specs.declared.fault.StepFault.TheVariants.{BadStep, Full, OutOfMemory}
 
--- the end after a step, the units that it sends, and a text with the lines of its records behind it
-abbrev pub with_lines : List ℕ → Result KeptStepped Stop → Result (KeptEnd × List (List ℕ) × List ℕ) Stop
-with_lines text (Ok made) = Ok (made.end, made.sent, text ++ record_lines Number made.records)
-with_lines text (Err stop) = Err stop
-
--- the same, with the units on the line from the end
+-- the end after a step, the units on the line from it, and a text with the lines of the step's records behind it
 abbrev pub sends : (going : List (List ℕ)) → List ℕ → Result KeptStepped Stop → Result (KeptEnd × List (List ℕ) × List ℕ) Stop
 sends going text (Ok made) = Ok (made.end, going ++ made.sent, text ++ record_lines Number made.records)
 sends going text (Err stop) = Err stop
@@ -30,15 +22,3 @@ sides step coming going text (Err stop) = Err stop
 abbrev pub with_text : List ℕ → Result KeptMade Stop → Result (KeptPair × List ℕ) Stop
 with_text text (Ok made) = Ok (made.pair, text ++ record_lines Number made.records)
 with_text text (Err stop) = Err stop
-
--- the step can't be made, for this reason; or memory was refused
-abbrev pub StopMeans : {M : Type 0} → Result M Stop → StepFault → Type 0
-StopMeans made BadStep = made ≡ Err stops.BadStep
-StopMeans made Full = made ≡ Err stops.Full
-StopMeans made OutOfMemory = Unit {0}
-
--- the same of what may be None where a step is bad
-abbrev pub Stopped : {M : Type 0} → Option M → StepFault → Type 0
-Stopped made BadStep = made ≡ None
-Stopped made Full = ⊥
-Stopped made OutOfMemory = Unit {0}

@@ -6,15 +6,13 @@ ghost use Rattle.dna_model.specs.KeptPlay.{kept_plays};
 ghost use Rattle.dna_model.specs.KeptPlay as kept;
 ghost use Rattle.dna_model.specs.KeptPlayed.{kept_plays_step, new_pair};
 ghost use Rattle.pair_player.specs.Step.{view, view_of_line};
-ghost use Rattle.pair_player.specs.Stepping.{StopMeans, sends, sides, with_text, with_lines};
+ghost use Rattle.player_end.specs.Stepping.{StopMeans, with_lines};
+ghost use Rattle.pair_player.specs.Stepping.{sends, sides, with_text};
 
-use crate::end::End;
-use crate::fault::StepFault;
-use crate::held_packet::HeldPacket;
 use crate::line::Line;
-use crate::piece::GivenPiece;
 use crate::step::{ScriptStep, Step};
 use dna_model::Head;
+use player_end::{End, GivenPiece, HeldPacket, StepFault};
 use std::alloc::{AllocError, Global};
 use std::marker::Model;
 use wire_base::{RingWindow, Side};

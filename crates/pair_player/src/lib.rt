@@ -4,42 +4,26 @@
 //! step makes of the two ends. It never touches a file or a clock, nor a judge.
 #![tactic(auto)]
 
-mod choice;
-mod debt;
-mod end;
 mod ends;
 mod entry;
 mod fault;
-mod held_packet;
 mod laws;
 mod limit;
 mod line;
-mod link_end;
-mod link_ends;
-mod link_owed;
-mod outstanding;
-mod owed;
-mod owed_confirm;
-mod passes;
-mod piece;
 mod played;
 mod playing;
-mod received;
 mod run_laws;
 mod script_reader;
-mod station_end;
-mod station_variables;
 mod step;
 mod texts;
-mod turn;
-mod unsent;
 mod words;
 
 pub use ends::Ends;
-pub use fault::{PlayFault, ScriptFault, StepFault};
+pub use fault::{PlayFault, ScriptFault};
 pub use laws::{known_script, one_script, one_script_departure, played_whole, script_read_on};
 pub use limit::MAX_STEPS;
 pub use played::Played;
+pub use player_end::StepFault;
 pub use playing::play;
 pub use run_laws::{
     answered_as_true_ends, starts_once_throughout, stopped_by_its_rule, written_captures_are_a_run,

@@ -10,17 +10,18 @@ ghost use Rattle.dna_model.specs.KeptPlayed.{new_pair};
 ghost use Rattle.dna_model.specs.Script.{ScriptStep as Line};
 ghost use Rattle.dna_model.specs.ScriptText.{IsStep};
 ghost use Rattle.pair_player.specs.Beginning.{HeadFault, fault_at, fault_of, is_failed_read};
-ghost use Rattle.pair_player.specs.Playing.{CountsReadsOf, CountsWritesOf, Plays, held};
+ghost use Rattle.pair_player.specs.Playing.{CountsReadsOf, CountsWritesOf, Plays, PlaysWholeLines, held};
 ghost use Rattle.pair_player.specs.Reader.{Opens};
 ghost use Rattle.pair_player.specs.Making.{StepsOrStops, standing};
 ghost use Rattle.pair_player.specs.Waiting.{EndsAll, outlet};
 
 use crate::ends::Ends;
-use crate::fault::{PlayFault, ScriptFault, StepFault};
+use crate::fault::{PlayFault, ScriptFault};
 use crate::limit::MAX_STEPS;
 use crate::played::Played;
 use crate::script_reader::ScriptReader;
 use crate::texts::Texts;
+use player_end::StepFault;
 use std::alloc::Global;
 use std::io::{Read, Write};
 use wire_base::{Side, Tally};
@@ -33,7 +34,14 @@ struct Begun {
     texts: Texts,
 }
 
-/// Reads a script to its end, makes its steps, and writes the captures of both sides.
+/// Reads a script to its end, makes its steps, and writes the captures of both sides, in format 1. The answer counts the steps.
+///
+/// A fault of a line names the first one that has any, counted from 1: `Departs` where it departs from the format, as `ScriptReader::open` and
+/// `advance` say; `BadStep` where its step breaks its rule (the table of docs/PLAYER.md); `Full` where it needs a link address, and all
+/// 65,535 of its end are given. Both writers then took the head of a capture and the records of all steps before that line, and nothing where
+/// it is line 1. `Read`, a call of the script's reader failed: they took those of all whole lines that it had given, or nothing where it had
+/// given no head. `OutOfMemory`, memory was refused: those of some first steps, or nothing. `Write`, a call of the writer of that side failed:
+/// each took a beginning of its capture, and the one that failed not all of it.
 pub fn play<R: Read, A: Write, B: Write>(
     alloc: Global,
     script: &mut Tally<R>,
@@ -41,6 +49,9 @@ pub fn play<R: Read, A: Write, B: Write>(
     b: &mut Tally<B>,
 ) -> Result<Played, PlayFault>
     ensures plays { Plays (R.remaining (tally_lent script.old))
+        (held (A.contents (tally_lent a.old)) (B.contents (tally_lent b.old)))
+        (held (A.contents (tally_lent a.new)) (B.contents (tally_lent b.new))) result }
+    ensures lines { PlaysWholeLines (R.remaining (tally_lent script.old)) (R.remaining (tally_lent script.new))
         (held (A.contents (tally_lent a.old)) (B.contents (tally_lent b.old)))
         (held (A.contents (tally_lent a.new)) (B.contents (tally_lent b.new))) result }
     ensures reads { CountsReadsOf result (tally_faults script.old) (tally_faults script.new) }
@@ -81,7 +92,7 @@ fn begin<R: Read>(alloc: Global, script: &mut Tally<R>) -> Result<Begun, PlayFau
     ensures ends { IfOk result (λ begun. begun.ends ≡ new_pair begun.lines.node_a begun.lines.node_b) }
     ensures head_a { IfOk result (λ begun. begun.texts.a.items ≡ head_line Layout.One begun.lines.node_a begun.lines.node_b) }
     ensures head_b { IfOk result (λ begun. begun.texts.b.items ≡ head_line Layout.One begun.lines.node_b begun.lines.node_a) }
-    ensures fault { IfErr result (HeadFault (R.remaining (tally_lent script.old))) }
+    ensures fault { IfErr result (HeadFault (R.remaining (tally_lent script.old)) (R.remaining (tally_lent script.new))) }
     ensures reads { CountsReads (is_failed_read result) (tally_faults script.old) (tally_faults script.new) }
 {
     let Ok(mut texts) = Texts::new(alloc) else {

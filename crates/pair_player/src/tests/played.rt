@@ -1,6 +1,7 @@
 use super::rows::joined;
 use super::stepped::Stepped;
-use crate::{Ends, ScriptReader, StepFault};
+use crate::{Ends, ScriptReader};
+use player_end::StepFault;
 use std::alloc::Global;
 use std::test::Fail;
 use wire_base::{Side, Tally};

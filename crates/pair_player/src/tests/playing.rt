@@ -114,17 +114,25 @@ fn steps_are_played_to_the_end_or_to_a_fault(rt: HostRuntime) -> Result<(), Fail
 
 #[test]
 fn a_reader_and_a_writer_that_fail_are_told(rt: HostRuntime) -> Result<(), Fail> {
+    let pieces: [(&[u8], usize); 2] = [(b"", usize::MAX), (b"a deli", 1)];
+    for (piece, step) in pieces {
+        let text = joined(rt.alloc(), &[HEAD, STARTED, piece])?;
+        let calls = if step == 1 { text.len() } else { 1 };
+        let mut script = Tally::new(Stepped::failing(text.as_slice(), step, calls));
+        let mut a = Tally::new(Taken::new(usize::MAX, usize::MAX));
+        let mut b = Tally::new(Taken::new(usize::MAX, usize::MAX));
+        let played = play(rt.alloc(), &mut script, &mut a, &mut b);
+        assert_eq!(rt; played, Err(PlayFault::Read), "the read behind {piece:?}");
+        assert!(rt;
+            a.into_inner().text() == CAPTURE_A,
+            "a's capture of all whole lines"
+        );
+        assert!(rt;
+            b.into_inner().text() == CAPTURE_B,
+            "b's capture of all whole lines"
+        );
+    }
     let text = joined(rt.alloc(), &[HEAD, STARTED])?;
-    let mut script = Tally::new(Stepped::failing(text.as_slice(), usize::MAX, 1));
-    let mut a = Tally::new(Taken::new(usize::MAX, usize::MAX));
-    let mut b = Tally::new(Taken::new(usize::MAX, usize::MAX));
-    let played = play(rt.alloc(), &mut script, &mut a, &mut b);
-    assert_eq!(rt;
-        played,
-        Err(PlayFault::Read),
-        "the read behind the last step"
-    );
-    assert!(rt; a.into_inner().text() == CAPTURE_A, "a's capture");
     for (room_a, room_b, side) in [(20, usize::MAX, Side::A), (usize::MAX, 20, Side::B)] {
         let mut script = Tally::new(Stepped::new(text.as_slice(), usize::MAX));
         let mut a = Tally::new(Taken::new(usize::MAX, room_a));

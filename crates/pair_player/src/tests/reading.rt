@@ -2,6 +2,8 @@ use super::rows::{Answer, HEAD, check, joined, syntax};
 use super::stepped::Stepped;
 use crate::{ScriptFault, ScriptReader};
 use capture::Departure;
+use std::alloc::Global;
+use std::process::Abort;
 use std::test::Fail;
 use wire_base::Tally;
 
@@ -30,92 +32,86 @@ fn a_head_is_the_whole_first_line(rt: HostRuntime) {
     }
 }
 
+// Lines that are steps, each of a word.
+const STEPS_OF_A_WORD: &str = "a start
+b start
+a halt
+b timer
+a send
+b deliver
+a refuse
+b lose
+a open
+b open
+";
+
+// Lines that are no such step; the first is empty.
+const NO_STEPS_OF_A_WORD: &str =
+    "\n \na\na \nstart\nc start\nA start\nab start\na b start\na  start\n a start\na\tstart\na start \na start\r\na starts
+a Start\na stop\na up 1 -\na send 1\na open 1\n# a start\nddplay 1 1.1 1.2";
+
+// Lines that are steps with numbers or bytes.
+const STEPS_WITH_NUMBERS: &str = "a damage 0 0
+b damage 10 255
+a accept 1
+b accept 65535
+a reject 1
+b reject 2
+a close 1
+b close 2
+a retry 1
+b retry 2
+a in 1 -
+b in 65535 0a
+";
+
+// Lines that are no such step.
+const NO_STEPS_WITH_NUMBERS: &str =
+    "a damage\na damage 1\na damage 1 \na damage  1 2\na damage 1  2\na damage 1 2 \na damage 1 2 3\na damage 01 2
+a damage 1 02\na damage -1 2\na damage +1 2\na damage 1 f\na accept\na accept \na accept 01\na accept 1 2\na accept 1 \na reject 1.1\na close x
+a retry\na in\na in 1\na in 1 \na in 01 -\na in 1  -\na in 1 --\na in 1 0\na in 1 0A\na in 1 0g\na in 1 05 ";
+
+// The lines of the first text are so many steps, and none of the second is one.
+fn expect_steps(
+    rt: &impl Abort,
+    alloc: Global,
+    steps: &str,
+    count: u64,
+    others: &str,
+) -> Result<(), Fail> {
+    let text = joined(alloc, &[HEAD, steps.as_bytes()])?;
+    check(rt, alloc, text.as_slice(), Ok(count));
+    for line in others.split("\n") {
+        let text = joined(alloc, &[HEAD, line.as_bytes(), b"\n"])?;
+        check(rt, alloc, text.as_slice(), syntax(2));
+    }
+    Ok(())
+}
+
 #[test]
 fn a_step_of_one_word_has_one_spelling(rt: HostRuntime) -> Result<(), Fail> {
-    let rows: [(&[u8], Answer); 30] = [
-        (b"a start\nb start\n", Ok(2)),
-        (b"a halt\nb timer\n", Ok(2)),
-        (b"a send\nb deliver\n", Ok(2)),
-        (b"a refuse\nb lose\n", Ok(2)),
-        (b"a open\nb open\n", Ok(2)),
-        (b"\n", syntax(2)),
-        (b" \n", syntax(2)),
-        (b"a\n", syntax(2)),
-        (b"a \n", syntax(2)),
-        (b"start\n", syntax(2)),
-        (b"c start\n", syntax(2)),
-        (b"A start\n", syntax(2)),
-        (b"ab start\n", syntax(2)),
-        (b"a b start\n", syntax(2)),
-        (b"a  start\n", syntax(2)),
-        (b" a start\n", syntax(2)),
-        (b"a\tstart\n", syntax(2)),
-        (b"a start \n", syntax(2)),
-        (b"a start\r\n", syntax(2)),
-        (b"a starts\n", syntax(2)),
-        (b"a Start\n", syntax(2)),
-        (b"a stop\n", syntax(2)),
-        (b"a up 1 -\n", syntax(2)),
-        (b"a send 1\n", syntax(2)),
-        (b"a open 1\n", syntax(2)),
-        (b"# a start\n", syntax(2)),
-        (b"ddplay 1 1.1 1.2\n", syntax(2)),
-        (b"a start", syntax(2)),
-        (b"a start\n\n", syntax(3)),
-        (b"a start\nb halt\nx", syntax(4)),
+    expect_steps(&rt, rt.alloc(), STEPS_OF_A_WORD, 10, NO_STEPS_OF_A_WORD)?;
+    let rows: [(&[u8], u64); 3] = [
+        (b"a start", 2),
+        (b"a start\n\n", 3),
+        (b"a start\nb halt\nx", 4),
     ];
-    for (line, answer) in rows {
-        let text = joined(rt.alloc(), &[HEAD, line])?;
-        check(&rt, rt.alloc(), text.as_slice(), answer);
+    for (behind, line) in rows {
+        let text = joined(rt.alloc(), &[HEAD, behind])?;
+        check(&rt, rt.alloc(), text.as_slice(), syntax(line));
     }
     Ok(())
 }
 
 #[test]
 fn a_step_with_numbers_has_one_spelling(rt: HostRuntime) -> Result<(), Fail> {
-    let rows: [(&[u8], Answer); 36] = [
-        (b"a damage 0 0\nb damage 10 255\n", Ok(2)),
-        (b"a damage\n", syntax(2)),
-        (b"a damage 1\n", syntax(2)),
-        (b"a damage 1 \n", syntax(2)),
-        (b"a damage  1 2\n", syntax(2)),
-        (b"a damage 1  2\n", syntax(2)),
-        (b"a damage 1 2 \n", syntax(2)),
-        (b"a damage 1 2 3\n", syntax(2)),
-        (b"a damage 01 2\n", syntax(2)),
-        (b"a damage 1 02\n", syntax(2)),
-        (b"a damage -1 2\n", syntax(2)),
-        (b"a damage +1 2\n", syntax(2)),
-        (b"a damage 1 f\n", syntax(2)),
-        (b"a accept 1\nb accept 65535\n", Ok(2)),
-        (b"a accept\n", syntax(2)),
-        (b"a accept \n", syntax(2)),
-        (b"a accept 01\n", syntax(2)),
-        (b"a accept 1 2\n", syntax(2)),
-        (b"a accept 1 \n", syntax(2)),
-        (b"a reject 1\nb reject 2\n", Ok(2)),
-        (b"a reject 1.1\n", syntax(2)),
-        (b"a close 1\nb close 2\n", Ok(2)),
-        (b"a close x\n", syntax(2)),
-        (b"a retry 1\nb retry 2\n", Ok(2)),
-        (b"a retry\n", syntax(2)),
-        (b"a in 1 -\nb in 65535 0a\n", Ok(2)),
-        (b"a in\n", syntax(2)),
-        (b"a in 1\n", syntax(2)),
-        (b"a in 1 \n", syntax(2)),
-        (b"a in 01 -\n", syntax(2)),
-        (b"a in 1  -\n", syntax(2)),
-        (b"a in 1 --\n", syntax(2)),
-        (b"a in 1 0\n", syntax(2)),
-        (b"a in 1 0A\n", syntax(2)),
-        (b"a in 1 0g\n", syntax(2)),
-        (b"a in 1 05 \n", syntax(2)),
-    ];
-    for (line, answer) in rows {
-        let text = joined(rt.alloc(), &[HEAD, line])?;
-        check(&rt, rt.alloc(), text.as_slice(), answer);
-    }
-    Ok(())
+    expect_steps(
+        &rt,
+        rt.alloc(),
+        STEPS_WITH_NUMBERS,
+        12,
+        NO_STEPS_WITH_NUMBERS,
+    )
 }
 
 #[test]

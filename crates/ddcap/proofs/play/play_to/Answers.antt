@@ -8,6 +8,7 @@ pub returns-in_default : goal.returns-in_default
 returns-in_default g c = record {
   answer = Err OutOfMemory;
   plays = inl (record { a = Keeps-refl _; b = Keeps-refl _ });
+  lines = tt;
   reads = refl;
   writes_a = refl;
   writes_b = refl;

@@ -1,11 +1,11 @@
-use Rattle.std.proofs.Common.{Err, Ok, ◌∙◌}
+use Rattle.std.proofs.Common.{Err, Ok, ◌+◌, ◌∙◌}
 use Rattle.wire_base.specs.Tally.{tally_faults, tally_lent}
 use Rattle.capture.specs.Lines.{to_come}
 use Rattle.pair_player.specs.Beginning.{fault_of}
 use Rattle.pair_player.specs.Making.{standing}
 use Rattle.pair_player.specs.Playing.{held}
 use Rattle.pair_player.specs.Waiting.{outlet}
-use Rattle.pair_player.proofs.PlayLaws.{at_end, at_fault, ended, fails, moved_on, some_step, step_on, stopped, under_way}
+use Rattle.pair_player.proofs.PlayLaws.{at_end, at_fault, ended, fails, lines_at_fault, lines_on, lines_stopped, moved_on, some_step, step_on, stopped, under_way}
 use Rattle.pair_player.proofs.playing.play.Goals as goal
 
 pub returns-in-Err-write_out-clause-plays : goal.returns-in-Err-write_out-clause-plays
@@ -92,3 +92,16 @@ loop-steps-preserved g c =
       passes.0.faults ∙ c.loop-steps.invariant.2,
       passes.1.faults ∙ c.loop-steps.invariant.3,
     )
+
+pub returns-in-Err-make_step-clause-lines : goal.returns-in-Err-make_step-clause-lines
+returns-in-Err-make_step-clause-lines g c =
+    let from = g.R.Read.remaining (tally_lent c.args.script.now) in
+    lines_on from _ _ _ _ c.end.result _ _ (lines_stopped from _ _ _ (c.loop-steps.steps + 2) c.in-Err-make_step.stop) (rw c.stop_fault.ensures at c.end.ensures)
+
+pub returns-in-Err-advance-clause-lines : goal.returns-in-Err-advance-clause-lines
+returns-in-Err-advance-clause-lines g c =
+    let h = c.loop-steps.invariant.0 in
+    lines_at_fault _ (g.R.Read.remaining (tally_lent c.advance.new.reader)) _ _ h c.advance.new.self c.in-Err-advance.fault c.end-in-Err-advance.result (tally_faults c.loop-steps.a) (tally_faults c.loop-steps.b) (
+      outlet c.end-in-Err-advance.new.texts.a.items (g.A.Write.contents (tally_lent c.end-in-Err-advance.new.a)) (tally_faults c.end-in-Err-advance.new.a),
+      outlet c.end-in-Err-advance.new.texts.b.items (g.B.Write.contents (tally_lent c.end-in-Err-advance.new.b)) (tally_faults c.end-in-Err-advance.new.b),
+    ) (c.in-Err-advance.ensures.advances h.reading) (rw c.play_fault.ensures at c.end-in-Err-advance.ensures)

@@ -41,4 +41,4 @@ returns-in-Err-clause-takes g c =
     let lt = found.0 in
     let read = rw c.line.ensures at c.in-Err.ensures.step in
     let departs = step_departs c.in-Err.kind c.next.new.self.unread c.in-Ok-Some.len c.args.lines.now.taken _ (g.R.Read.remaining (tally_lent c.next.new.reader)) (omega arith) head found.1 found.2 found.3 read in
-    ((rw c.taken-number.ensures refl, departs), same)
+    ((rw c.taken-number.ensures refl, departs), same, tt)

@@ -1,6 +1,6 @@
 use Rattle.std.proofs.Common.{arith}
 use Rattle.wire_base.specs.Tally.{tally_lent}
-use Rattle.capture.proofs.SeekLaws.{seek_long, seek_whole, seek_long_open, seek_cut}
+use Rattle.capture.proofs.SeekLaws.{seek_long, seek_whole, seek_long_open, seek_cut, seek_failed}
 use Rattle.capture.proofs.line_reader.LineReader.next.Goals as goal
 
 pub returns-in-Some-clause-found : goal.returns-in-Some-clause-found
@@ -33,3 +33,8 @@ returns-in-Ok-false-2-clause-found g c =
     let read = rw c.in-Ok-false.field-0-test at c.in-Ok-false.ensures.more in
     rw kept (seek_cut c.args.most c.loop-len.searched c.loop-len.self.unread _ (g.R.Read.remaining (tally_lent c.loop-len.reader)) c.loop-len.self.taken c.args.self.now.taken _ _ s
     c.in-None.ensures c.fill.new.self.unread (g.R.Read.remaining (tally_lent c.fill.new.reader)) read (rw c.unread-searched.ensures at c.if-searched-gt-MAX_LINE.false) (rw c.unread-searched.ensures at c.if-searched-eq0.false) (omega arith))
+
+pub returns-in-Err-clause-found : goal.returns-in-Err-clause-found
+returns-in-Err-clause-found g c =
+    seek_failed c.loop-len.searched c.loop-len.self.unread c.fill.new.self.unread _ (g.R.Read.remaining (tally_lent c.loop-len.reader)) _ c.loop-len.self.taken c.args.self.now.taken _ _ c.loop-len.invariant
+    c.in-None.ensures c.in-Err.ensures.same c.in-Err.ensures.left

@@ -38,4 +38,4 @@ pub returns-in-Ok-Some-clause-opens : goal.returns-in-Ok-Some-clause-opens
 returns-in-Ok-Some-clause-opens g c =
     let found = rw c.in-Ok-Some.field-0-is at c.in-Ok-Some.ensures.found in
     let kept = start_kept c.in-Ok.lines.unread (g.R.Read.remaining (tally_lent c.args.reader.now)) _ c.in-Ok.ensures.1 found.3 in
-    (refl, no_head c.next.new.self.unread c.in-Ok-Some.len _ (g.R.Read.remaining (tally_lent c.next.new.reader)) found.1 found.2 kept (ap head_at (sym c.line.ensures) ∙ sym c.in-None.ensures))
+    ((refl, no_head c.next.new.self.unread c.in-Ok-Some.len _ (g.R.Read.remaining (tally_lent c.next.new.reader)) found.1 found.2 kept (ap head_at (sym c.line.ensures) ∙ sym c.in-None.ensures)), tt)

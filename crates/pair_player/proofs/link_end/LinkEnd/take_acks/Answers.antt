@@ -1,8 +1,0 @@
-use Rattle.std.proofs.Common.{ap, ◌∙◌}
-use Rattle.dna_model.specs.declared.port.Phase.TheVariants.{Running}
-use Rattle.dna_model.specs.KeptLinks.{in_phase}
-use Rattle.pair_player.proofs.Acting.{acks_run}
-use Rattle.pair_player.proofs.link_end.LinkEnd.take_acks.Goals as goal
-
-pub returns : goal.returns
-returns g c = c.go_to.ensures ∙ ap (in_phase Running) c.acknowledge.ensures ∙ acks_run c.args.words.now c.args.self.now

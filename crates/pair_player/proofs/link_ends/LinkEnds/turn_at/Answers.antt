@@ -1,6 +1,0 @@
-use Rattle.std.proofs.Common.{ap, ◌∙◌}
-use Rattle.pair_player.specs.Links.{turn_there}
-use Rattle.pair_player.proofs.link_ends.LinkEnds.turn_at.Goals as goal
-
-pub returns-in-Some : goal.returns-in-Some
-returns-in-Some g c = c.turn.ensures ∙ ap turn_there c.in-Some.ensures

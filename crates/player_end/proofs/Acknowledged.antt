@@ -1,0 +1,97 @@
+-- Acknowledgement words that come, one after the other.
+use Rattle.std.proofs.Common.{◌≡◌, ℕ, ◌+◌, ◌-◌, ◌%◌, ◌<◌, ◌≤◌, Bool, true, false, ◌&&◌, List, [], ◌∷◌, length, drop, get_or, refl, ap, ◌∙◌, arith, length-drop, ap₂, sym}
+use Rattle.std.proofs.lemmas.Bool.{leb-true}
+use Rattle.std.specs.Prelude.{nat_le}
+use Rattle.std.proofs.lemmas.List.{drop_more}
+use Rattle.wire_base.specs.Window.{WindowView}
+use Rattle.dna_model.specs.declared.port.Port.{Port}
+use Rattle.dna_model.specs.LinkOwed.{LinkOwed, lowered}
+use Rattle.dna_model.specs.NextSent.{LinkEnd}
+use Rattle.dna_packet.specs.declared.ack_word.AckWord.{AckWord}
+use Rattle.dna_model.specs.Flow.{is_of_data, distance}
+use Rattle.dna_model.specs.Pieces.{Piece}
+use Rattle.dna_model.specs.WireFlow.{LinkVariables, acknowledged_by_all, acknowledged_to as kept_to}
+use Rattle.player_end.specs.Segments.{acknowledged_to}
+use Rattle.player_end.specs.Segments.{acknowledged_word, acknowledged_words}
+use Rattle.player_end.specs.Links.{acknowledged}
+use Rattle.player_end.proofs.AckWords.{first_in_range, later_in_range}
+
+module _ (words : List AckWord) (i : ℕ) (d : AckWord) (h : i < length words) (w : WindowView Piece) where
+  opened : acknowledged_words (drop i words) w ≡ acknowledged_words (drop (i + 1) words) (acknowledged_word w (get_or words i d))
+  opened = ap (λ (ws : List AckWord). acknowledged_words ws w) (drop_more words i d h)
+
+  by_test : (b : Bool) → is_of_data (get_or words i d).qualifier ≡ b → acknowledged_words (drop i words) w ≡ acknowledged_words (drop (i + 1) words) (acknowledged_to (b && nat_le (distance w.first (get_or words i d).number) (length w.items)) (get_or words i d).number w)
+  by_test b e = opened ∙ ap (λ (t : Bool). acknowledged_words (drop (i + 1) words) (acknowledged_to (t && nat_le (distance w.first (get_or words i d).number) (length w.items)) (get_or words i d).number w)) e
+
+  pub word_acknowledges : is_of_data (get_or words i d).qualifier ≡ true → acknowledged_words (drop i words) w ≡ acknowledged_words (drop (i + 1) words) (acknowledged_to (nat_le (distance w.first (get_or words i d).number) (length w.items)) (get_or words i d).number w)
+  word_acknowledges e = by_test true e
+
+  pub word_of_others : is_of_data (get_or words i d).qualifier ≡ false → acknowledged_words (drop i words) w ≡ acknowledged_words (drop (i + 1) words) w
+  word_of_others e = by_test false e
+
+pub ruleset words = (word_acknowledges, word_of_others, first_in_range, later_in_range)
+
+-- ---- what any node keeps, and its window
+
+abbrev pub with_window : WindowView Piece → LinkVariables → LinkVariables
+with_window w k = record k { acknowledged = w.first; outstanding = w.items }
+
+same_by : (b : Bool) (number : ℕ) (w : WindowView Piece) (k : LinkVariables) → kept_to b (with_window w k) number ≡ with_window (acknowledged_to b number w) k
+same_by true number w k = refl
+same_by false number w k = refl
+
+pub same_words : (words : List AckWord) (w : WindowView Piece) (k : LinkVariables) → acknowledged_by_all words (with_window w k) ≡ with_window (acknowledged_words words w) k
+same_words [] w k = refl
+same_words (word ∷ words) w k =
+    ap (λ (l : LinkVariables). acknowledged_by_all words l) (same_by (is_of_data word.qualifier && nat_le (distance w.first word.number) (length w.items)) word.number w k)
+    ∙ same_words words (acknowledged_word w word) k
+
+-- ---- how many are acknowledged
+
+-- the window goes up by what leaves it
+record GoesUp (w v : WindowView Piece) : Type 0 where
+  pub less : length v.items ≤ length w.items
+  pub first : v.first ≡ (w.first + (length w.items - length v.items)) % 4096
+
+one_up : (b : Bool) (number : ℕ) (w : WindowView Piece) → w.first < 4096 → length w.items ≤ 2047 → (b ≡ true → distance w.first number ≤ length w.items) →
+    GoesUp w (acknowledged_to b number w)
+one_up false number w f few near = record { less = omega arith; first = omega (arith, f) }
+one_up true number w f few near =
+    let le = near refl in let left = length-drop (distance w.first number) w.items in
+    record { less = omega (arith, left, le); first = omega (arith, f, few, left, le) }
+
+both_up : (w v u : WindowView Piece) → GoesUp w v → GoesUp v u → GoesUp w u
+both_up w v u h k = record { less = omega (arith, h.less, k.less); first = omega (arith, h.less, k.less, h.first, k.first) }
+
+near_by : (b : Bool) (number : ℕ) (w : WindowView Piece) → (b && nat_le (distance w.first number) (length w.items)) ≡ true → distance w.first number ≤ length w.items
+near_by true number w e = leb-true (distance w.first number) (length w.items) e
+near_by false number w e = absurd cc
+
+words_up : (words : List AckWord) (w : WindowView Piece) → w.first < 4096 → length w.items ≤ 2047 → GoesUp w (acknowledged_words words w)
+words_up [] w f few = record { less = omega arith; first = omega (arith, f) }
+words_up (word ∷ words) w f few =
+    let test = is_of_data word.qualifier && nat_le (distance w.first word.number) (length w.items) in
+    let one = one_up test word.number w f few (near_by (is_of_data word.qualifier) word.number w) in
+    let small : (acknowledged_word w word).first < 4096 = omega (arith, one.first) in
+    let fewer : length (acknowledged_word w word).items ≤ 2047 = omega (arith, one.less, few) in
+    both_up w (acknowledged_word w word) (acknowledged_words words (acknowledged_word w word)) one (words_up words (acknowledged_word w word) small fewer)
+
+pub words_count : (words : List AckWord) (w : WindowView Piece) → w.first < 4096 → length w.items ≤ 2047 →
+    distance w.first (acknowledged_words words w).first + length (acknowledged_words words w).items ≡ length w.items
+words_count words w f few = let up = words_up words w f few in omega (arith, f, few, up.less, up.first)
+
+-- ---- the link with its window and what it owes
+
+abbrev pub end_of : Port → LinkVariables → LinkOwed → LinkEnd
+end_of port variables owed = record { port = port; variables = variables; owed = owed }
+
+module _ (port : Port) (k : LinkVariables) (owed : LinkOwed) (words : List AckWord) (w v : WindowView Piece) (is : v ≡ acknowledged_words words w) where
+  variables_are : with_window v k ≡ acknowledged_by_all words (with_window w k)
+  variables_are = ap (λ (x : WindowView Piece). with_window x k) is ∙ sym (same_words words w k)
+
+  pub acks_taken : (count : ℕ) (after : LinkOwed) → count ≡ distance w.first v.first → after ≡ lowered count owed →
+      end_of port (with_window v k) after ≡ acknowledged words (end_of port (with_window w k) owed)
+  acks_taken count after counted lower =
+      ap₂ (end_of port) variables_are (lower ∙ ap (λ (n : ℕ). lowered n owed) (counted ∙ ap (λ (l : LinkVariables). distance w.first l.acknowledged) variables_are))
+
+pub ruleset counted = (words_count)

@@ -1,0 +1,16 @@
+pub mod Giving
+pub mod AckWords
+pub mod Acknowledged
+pub mod Acting
+pub mod Arrived
+pub mod Holding
+pub mod Searching
+pub mod Answered
+pub mod Choosing
+pub mod Change
+pub mod Lengths
+pub mod Sent
+pub mod Again
+pub mod Bodies
+pub mod Delivered
+pub mod Came

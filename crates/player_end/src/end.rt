@@ -1,0 +1,69 @@
+//! One end of the line.
+
+ghost use Rattle.std.specs.Prelude.{◌≡◌, OnOk, IfOk, IfErr};
+ghost use Rattle.dna_model.specs.Kept.{new_kept_end};
+ghost use Rattle.dna_model.specs.KeptPlay as kept;
+ghost use Rattle.player_end.specs.Stepping.{StopMeans};
+
+mod receiving;
+mod sending;
+mod user;
+
+use crate::fault::StepFault;
+use crate::held_packet::HeldPacket;
+use crate::link_ends::LinkEnds;
+use crate::piece::GivenPiece;
+use crate::station_end::StationEnd;
+use capture::MAX_HINT;
+use dna_model::Head;
+use std::alloc::{AllocError, Global};
+use std::marker::Model;
+use wire_base::Window;
+
+/// One end of the line, as its node keeps it: its station and its links, each with what it owes; how many link addresses it has given, and how
+/// many units of the other end came or were lost.
+#[derive(Drop)]
+pub struct End<W: Window<HeldPacket, 256> + Drop, V: Window<GivenPiece, 4096> + Drop> {
+    head: Head,
+    station: StationEnd<W>,
+    links: LinkEnds<V>,
+    addresses: u16,
+    passed: u64,
+    alloc: Global,
+}
+
+impl<W: Window<HeldPacket, 256> + Drop, V: Window<GivenPiece, 4096> + Drop> Model for End<W, V> {
+    ghost use Rattle.dna_model.specs.Kept.{KeptEnd};
+
+    ghost Value = { KeptEnd };
+
+    ghost view = { λ e. record { head = e.head; station = e.station; links = e.links; addresses = e.addresses; passed = e.passed } };
+}
+
+impl<W: Window<HeldPacket, 256> + Drop, V: Window<GivenPiece, 4096> + Drop> End<W, V> {
+    /// Before any step, with the addresses of its head. It takes the memory that the window of its station takes.
+    pub fn new(alloc: Global, head: Head) -> Result<Self, AllocError>
+        ensures { IfOk result (λ end. end ≡ new_kept_end head) }
+    {
+        Ok(End {
+            head,
+            station: StationEnd::new(alloc)?,
+            links: LinkEnds::new(alloc),
+            addresses: 0,
+            passed: 0,
+            alloc,
+        })
+    }
+
+    /// The next unit is lost. `BadStep`: its number has no line in a capture.
+    pub fn lose(&mut self) -> Result<(), StepFault>
+        ensures ok { OnOk result (kept.loses self.old ≡ kept.silent self.new) }
+        ensures stop { IfErr result (λ fault. StopMeans (kept.loses self.old) fault) }
+    {
+        if self.passed > MAX_HINT {
+            return Err(StepFault::BadStep);
+        }
+        self.passed += 1;
+        Ok(())
+    }
+}

@@ -1,0 +1,209 @@
+//! What the user of an end does, and its timers.
+
+ghost use Rattle.std.specs.Prelude.{◌≡◌, ◌+◌, ◌++◌, ◌<◌, ◌≤◌, [], Ok, length, OnOk, IfErr, IfSome, OnSome, IfNone};
+ghost use Rattle.capture.specs.declared.limit.TheConstants.{MAX_LINK, MAX_MESSAGE};
+ghost use Rattle.capture.specs.Entries.{record_with};
+ghost use Rattle.capture.specs.declared.hint.HintForm.TheVariants as HintForm;
+ghost use Rattle.capture.specs.Text.{record_line};
+ghost use Rattle.dna_model.specs.KeptPlay as kept;
+ghost use Rattle.player_end.specs.Stepping.{StopMeans, with_lines};
+
+use super::End;
+use crate::fault::StepFault;
+use crate::held_packet::HeldPacket;
+use crate::passes::{is_connected, takes_messages};
+use crate::piece::GivenPiece;
+use crate::turn::Turn;
+use capture::{Entry, MAX_LINK, MAX_MESSAGE, put_line};
+use dna_model::{LinkTest, Phase, State};
+use std::alloc::AllocError;
+use wire_base::Window;
+
+impl<W: Window<HeldPacket, 256> + Drop, V: Window<GivenPiece, 4096> + Drop> End<W, V> {
+    /// The user starts the station, which is in HALTED; it owes STRT.
+    pub fn start(&mut self, text: &mut Vec<u8>) -> Result<(), StepFault>
+        ensures ok { OnOk result (with_lines text.old.items (kept.starts self.old) ≡ Ok (self.new, [], text.new.items)) }
+        ensures stop { IfErr result (λ fault. StopMeans (kept.starts self.old) fault) }
+    {
+        match self.station.state() {
+            State::Halted => {
+                put(text, Entry::Start, &[])?;
+                self.station.start();
+                Ok(())
+            }
+            State::Istrt | State::Astrt | State::Running => Err(StepFault::BadStep),
+        }
+    }
+
+    /// The user halts the station.
+    pub fn halt(&mut self, text: &mut Vec<u8>) -> Result<(), StepFault>
+        ensures ok { OnOk result (with_lines text.old.items (kept.halts self.old) ≡ Ok (self.new, [], text.new.items)) }
+        ensures stop { IfErr result (λ fault. StopMeans (kept.halts self.old) fault) }
+    {
+        put(text, Entry::Halt, &[])?;
+        self.station.halt();
+        Ok(())
+    }
+
+    /// The timer of the station runs out.
+    pub fn time_out(&mut self) -> Result<(), StepFault>
+        ensures ok { OnOk result (kept.times_out self.old ≡ kept.silent self.new) }
+        ensures stop { IfErr result (λ fault. StopMeans (kept.times_out self.old) fault) }
+    {
+        let Some(debt) = self.station.timer_debt() else {
+            return Err(StepFault::BadStep);
+        };
+        self.station.owe(debt);
+        Ok(())
+    }
+
+    // The next address, if one is left.
+    fn next_address(&self) -> Option<u16>
+        ensures next { IfSome result (λ address. address ≡ self.now.addresses + 1) }
+        ensures room { OnSome result (self.now.addresses < MAX_LINK) }
+        ensures full { IfNone result (MAX_LINK ≤ self.now.addresses) }
+    {
+        if u64::from(self.addresses) < MAX_LINK {
+            return Some(self.addresses + 1);
+        }
+        None
+    }
+
+    /// The user opens a link, with the next address.
+    pub fn open(&mut self, text: &mut Vec<u8>) -> Result<(), StepFault>
+        ensures ok { OnOk result (with_lines text.old.items (kept.opens self.old) ≡ Ok (self.new, [], text.new.items)) }
+        ensures stop { IfErr result (λ fault. StopMeans (kept.opens self.old) fault) }
+    {
+        let Some(link) = self.next_address() else {
+            return Err(StepFault::Full);
+        };
+        put(text, Entry::Open { link }, &[])?;
+        let Ok(()) = self.links.open(link) else {
+            return Err(StepFault::OutOfMemory);
+        };
+        self.addresses = link;
+        Ok(())
+    }
+
+    /// The user accepts the call from this address: the link gets the next address, and owes CC.
+    #[tactic(auto, using(crate::proofs::Searching::found_ends, crate::proofs::Answered::answered))]
+    pub fn accept(&mut self, partner: u16, text: &mut Vec<u8>) -> Result<(), StepFault>
+        ensures ok { OnOk result (with_lines text.old.items (kept.accepts self.old partner) ≡ Ok (self.new, [], text.new.items)) }
+        ensures stop { IfErr result (λ fault. StopMeans (kept.accepts self.old partner) fault) }
+    {
+        let Some(place) = self.links.find(LinkTest::CalledBy { far: partner }) else {
+            return Err(StepFault::BadStep);
+        };
+        let Some(_link) = self.links.link(place) else {
+            unreachable!();
+        };
+        let Some(link) = self.next_address() else {
+            return Err(StepFault::Full);
+        };
+        put(text, Entry::Accept { partner, link }, &[])?;
+        self.links
+            .answer_at(place, Phase::Confirming, Turn::Confirm, link);
+        self.addresses = link;
+        Ok(())
+    }
+
+    /// The user rejects the call from this address: the link gets the next address, and owes DI.
+    #[tactic(auto, using(crate::proofs::Searching::found_ends, crate::proofs::Answered::answered))]
+    pub fn reject(&mut self, partner: u16, text: &mut Vec<u8>) -> Result<(), StepFault>
+        ensures ok { OnOk result (with_lines text.old.items (kept.rejects self.old partner) ≡ Ok (self.new, [], text.new.items)) }
+        ensures stop { IfErr result (λ fault. StopMeans (kept.rejects self.old partner) fault) }
+    {
+        let Some(place) = self.links.find(LinkTest::CalledBy { far: partner }) else {
+            return Err(StepFault::BadStep);
+        };
+        let Some(_link) = self.links.link(place) else {
+            unreachable!();
+        };
+        let Some(link) = self.next_address() else {
+            return Err(StepFault::Full);
+        };
+        put(text, Entry::Reject { partner, link }, &[])?;
+        self.links
+            .answer_at(place, Phase::Disconnecting, Turn::Disconnect, link);
+        self.addresses = link;
+        Ok(())
+    }
+
+    /// The user hands in a message on the link with this address.
+    #[tactic(auto, using(crate::proofs::Searching::found_ends))]
+    pub fn hand_in(
+        &mut self,
+        link: u16,
+        message: &[u8],
+        text: &mut Vec<u8>,
+    ) -> Result<(), StepFault>
+        ensures ok { OnOk result (with_lines text.old.items (kept.hands_in self.old link message.now) ≡ Ok (self.new, [], text.new.items)) }
+        ensures stop { IfErr result (λ fault. StopMeans (kept.hands_in self.old link message.now) fault) }
+    {
+        let Some(place) = self.links.find(LinkTest::LiveAt { own: link }) else {
+            return Err(StepFault::BadStep);
+        };
+        let Some(found) = self.links.link(place) else {
+            unreachable!();
+        };
+        if !takes_messages(found.port().phase) {
+            return Err(StepFault::BadStep);
+        }
+        if message.len() > MAX_MESSAGE {
+            return Err(StepFault::BadStep);
+        }
+        let Ok(()) = self.links.hand_in_at(place, message) else {
+            return Err(StepFault::OutOfMemory);
+        };
+        put(text, Entry::In { link }, message)
+    }
+
+    /// The user closes the link with this address.
+    #[tactic(auto, using(crate::proofs::Searching::found_ends))]
+    pub fn close(&mut self, link: u16, text: &mut Vec<u8>) -> Result<(), StepFault>
+        ensures ok { OnOk result (with_lines text.old.items (kept.closes self.old link) ≡ Ok (self.new, [], text.new.items)) }
+        ensures stop { IfErr result (λ fault. StopMeans (kept.closes self.old link) fault) }
+    {
+        let Some(place) = self.links.find(LinkTest::LiveAt { own: link }) else {
+            return Err(StepFault::BadStep);
+        };
+        let Some(found) = self.links.link(place) else {
+            unreachable!();
+        };
+        if !is_connected(found.port().phase) {
+            return Err(StepFault::BadStep);
+        }
+        self.links.close_at(place);
+        put(text, Entry::Close { link }, &[])
+    }
+
+    /// The timer of the link with this address runs out.
+    #[tactic(auto, using(crate::proofs::Searching::found_ends))]
+    pub fn retry(&mut self, link: u16) -> Result<(), StepFault>
+        ensures ok { OnOk result (kept.retries self.old link ≡ kept.silent self.new) }
+        ensures stop { IfErr result (λ fault. StopMeans (kept.retries self.old link) fault) }
+    {
+        let Some(place) = self.links.find(LinkTest::LiveAt { own: link }) else {
+            return Err(StepFault::BadStep);
+        };
+        let Some(_found) = self.links.link(place) else {
+            unreachable!();
+        };
+        if !self.links.retry_at(place) {
+            return Err(StepFault::BadStep);
+        }
+        Ok(())
+    }
+}
+
+/// Puts the line of a record behind the text.
+pub fn put(text: &mut Vec<u8>, entry: Entry, bytes: &[u8]) -> Result<(), StepFault>
+    requires { length bytes.now ≤ MAX_MESSAGE }
+    ensures ok { OnOk result (text.new.items ≡ text.old.items ++ record_line HintForm.Number (record_with entry bytes.now)) }
+    ensures err { IfErr result (λ fault. fault ≡ StepFault.OutOfMemory) }
+{
+    match put_line(text, entry, bytes) {
+        Ok(()) => Ok(()),
+        Err(AllocError) => Err(StepFault::OutOfMemory),
+    }
+}

@@ -1,0 +1,33 @@
+//! One end of a line, as the player plays it: a node with its station and its links, what they keep and what they owe, over bytes and
+//! wrapped numbers.
+//!
+//! The crate decides what each step of a script makes of its end: the records that the end adds to its capture, the units that it sends, and
+//! what it owes behind that. It knows nothing of a script's text, of the other end, or of the line between them.
+#![tactic(auto)]
+
+mod choice;
+mod debt;
+mod end;
+mod fault;
+mod held_packet;
+mod link_end;
+mod link_ends;
+mod link_owed;
+mod outstanding;
+mod owed;
+mod owed_confirm;
+mod passes;
+mod piece;
+mod received;
+mod station_end;
+mod station_variables;
+mod turn;
+mod unsent;
+
+pub use end::End;
+pub use fault::StepFault;
+pub use held_packet::HeldPacket;
+pub use piece::GivenPiece;
+
+#[cfg(test)]
+mod tests;

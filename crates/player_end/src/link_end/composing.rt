@@ -1,0 +1,251 @@
+//! What a link sends next, how it is put together, and what sending leaves.
+
+ghost use Rattle.std.specs.Prelude.{◌≡◌, ◌<◌, ◌≤◌, true, length, slice_get, OnOk, IfOk};
+ghost use Rattle.std.specs.Option.{option_map};
+ghost use Rattle.dna_packet.specs.Nsp.{nsp_bytes};
+ghost use Rattle.dna_model.specs.NextSent.{has_segment, turn_of};
+ghost use Rattle.dna_model.specs.Compose.{address, piece_to_send, turn_message};
+ghost use Rattle.dna_model.specs.KeptLinks as kept;
+ghost use Rattle.player_end.specs.Owing.{turn_view};
+ghost use Rattle.player_end.specs.Segments.{slice_view};
+
+use super::LinkEnd;
+use crate::passes::is_running;
+use crate::piece::{GivenPiece, PieceSlice};
+use crate::turn::Turn;
+use arrayvec::ArrayVec;
+use dna_packet::{
+    AckQualifier, AckWord, ConnectAck, ConnectConfirm, ConnectInitiate, DataAck,
+    DisconnectInitiate, Nsp, Segment, write_nsp,
+};
+use std::alloc::{AllocError, Global};
+use wire_base::{Seq, Window};
+
+/// SERVICES and INFO of CI and CC, and the most data bytes that a segment has.
+const SERVICES: u8 = 1;
+
+const INFO: u8 = 2;
+
+const SEGSIZE: u16 = 512;
+
+/// The user data of CC and DI.
+const USER_DATA: [u8; 1] = [0];
+
+/// The most segments that are outstanding.
+const REACH: usize = 2047;
+
+impl<V: Window<GivenPiece, 4096> + Drop> LinkEnd<V> {
+    /// What it has to send: the first of connect ack, CI, CC, DI, data ack and a segment.
+    pub fn turn(&self) -> Option<Turn>
+        ensures { option_map turn_view result ≡ turn_of self.now }
+    {
+        if self.owed.owes(Turn::ConnectAck) {
+            return Some(Turn::ConnectAck);
+        }
+        if self.owed.owes(Turn::Initiate) {
+            return Some(Turn::Initiate);
+        }
+        if self.owed.owes(Turn::Confirm) {
+            return Some(Turn::Confirm);
+        }
+        if self.owed.owes(Turn::Disconnect) {
+            return Some(Turn::Disconnect);
+        }
+        if self.owed.owes(Turn::DataAck) {
+            return Some(Turn::DataAck);
+        }
+        if self.has_segment() {
+            return Some(Turn::Segment);
+        }
+        None
+    }
+
+    // A segment is to be sent, in RUN alone: one that is outstanding, or a new one.
+    fn has_segment(&self) -> bool
+        ensures { result ≡ has_segment self.now }
+    {
+        if !is_running(self.port.phase) {
+            return false;
+        }
+        if self.owed.ahead() < self.outstanding.len() {
+            return true;
+        }
+        if self.outstanding.len() >= REACH {
+            return false;
+        }
+        self.unsent.has_more()
+    }
+
+    // The piece that goes next: one that is outstanding, as it was given, or the next one.
+    fn piece(&self) -> PieceSlice<'_>
+        ensures piece { slice_view result ≡ piece_to_send (slice_get self.now.variables.outstanding self.now.owed.ahead) self.now.variables.unsent }
+        ensures short { length result.body.now ≤ 512 }
+    {
+        match self.outstanding.segment(self.owed.ahead()) {
+            Some(again) => again.as_slice(),
+            None => self.unsent.next(),
+        }
+    }
+
+    // The own and the far address, and 0 for one that is not known.
+    fn own(&self) -> u16
+        ensures { result ≡ address self.now.port.own }
+    {
+        match self.port.own {
+            Some(own) => own,
+            None => 0,
+        }
+    }
+
+    fn far(&self) -> u16
+        ensures { result ≡ address self.now.port.far }
+    {
+        match self.port.far {
+            Some(far) => far,
+            None => 0,
+        }
+    }
+
+    /// The bytes of its message of this kind. `AllocError` where there is no memory for them.
+    pub fn message(&self, alloc: Global, turn: Turn) -> Result<Vec<u8>, AllocError>
+        ensures bytes { IfOk result (λ bytes. bytes.items ≡ nsp_bytes (turn_message (turn_view turn) self.now)) }
+        ensures short { IfOk result (λ bytes. length bytes.items ≤ 1024) }
+    {
+        match turn {
+            Turn::ConnectAck => {
+                write_nsp(
+                    alloc,
+                    &Nsp::ConnectAck(ConnectAck {
+                        dstaddr: self.far(),
+                    }),
+                )
+            }
+            Turn::Initiate => {
+                write_nsp(
+                    alloc,
+                    &Nsp::ConnectInitiate(ConnectInitiate {
+                        retransmitted: self.owed.initiated(),
+                        srcaddr: self.own(),
+                        services: SERVICES,
+                        info: INFO,
+                        segsize: SEGSIZE,
+                        user_data: &[],
+                    }),
+                )
+            }
+            Turn::Confirm => {
+                write_nsp(
+                    alloc,
+                    &Nsp::ConnectConfirm(ConnectConfirm {
+                        dstaddr: self.far(),
+                        srcaddr: self.own(),
+                        services: SERVICES,
+                        info: INFO,
+                        segsize: SEGSIZE,
+                        user_data: &USER_DATA,
+                    }),
+                )
+            }
+            Turn::Disconnect => {
+                write_nsp(
+                    alloc,
+                    &Nsp::DisconnectInitiate(DisconnectInitiate {
+                        dstaddr: self.far(),
+                        srcaddr: self.own(),
+                        reason: 0,
+                        user_data: &USER_DATA,
+                    }),
+                )
+            }
+            Turn::DataAck => self.data_ack(alloc),
+            Turn::Segment => self.segment(alloc),
+        }
+    }
+
+    fn data_ack(&self, alloc: Global) -> Result<Vec<u8>, AllocError>
+        ensures bytes { IfOk result (λ bytes. bytes.items ≡ nsp_bytes (turn_message (turn_view Turn.DataAck) self.now)) }
+        ensures short { IfOk result (λ bytes. length bytes.items ≤ 1024) }
+    {
+        let mut acks = ArrayVec::new();
+        acks.push(AckWord {
+            qualifier: AckQualifier::Ack,
+            number: self.received.value(),
+        });
+        write_nsp(
+            alloc,
+            &Nsp::DataAck(DataAck {
+                dstaddr: self.far(),
+                srcaddr: self.own(),
+                acks,
+            }),
+        )
+    }
+
+    fn segment(&self, alloc: Global) -> Result<Vec<u8>, AllocError>
+        ensures bytes { IfOk result (λ bytes. bytes.items ≡ nsp_bytes (turn_message (turn_view Turn.Segment) self.now)) }
+        ensures short { IfOk result (λ bytes. length bytes.items ≤ 1024) }
+    {
+        let piece = self.piece();
+        let above = 1 + self.owed.ahead() as u64;
+        let number = Seq::<4096>::of(
+            u64::from(self.outstanding.acknowledged().value()) + above,
+        ).value();
+        write_nsp(
+            alloc,
+            &Nsp::DataSegment(Segment {
+                begins: piece.begins,
+                ends: piece.ends,
+                dstaddr: self.far(),
+                srcaddr: self.own(),
+                acks: ArrayVec::new(),
+                number,
+                bit_12: false,
+                body: piece.body,
+            }),
+        )
+    }
+
+    /// Its message of this kind, which it sends next, was sent. A segment that was not given yet gets the next number; where its memory
+    /// is refused, nothing changes.
+    #[tactic(auto, using(crate::proofs::Choosing::segments))]
+    pub fn sent(&mut self, alloc: Global, turn: Turn) -> Result<(), AllocError>
+        requires { turn_of self.old ≡ Some (turn_view turn) }
+        ensures { OnOk result (self.new ≡ kept.turn_sent (turn_view turn) self.old) }
+    {
+        self.give_by(alloc, turn)?;
+        self.owed.sent(turn);
+        Ok(())
+    }
+
+    #[tactic(auto, using(crate::proofs::Choosing::segments))]
+    fn give_by(&mut self, alloc: Global, turn: Turn) -> Result<(), AllocError>
+        requires { turn_of self.old ≡ Some (turn_view turn) }
+        ensures given { OnOk result (self.new ≡ kept.gave_by (turn_view turn) self.old) }
+        ensures next { turn ≡ Turn.Segment → OnOk result (self.new.owed.ahead < length self.new.variables.outstanding) }
+    {
+        match turn {
+            Turn::Segment => self.give(alloc),
+            Turn::ConnectAck => Ok(()),
+            Turn::Initiate => Ok(()),
+            Turn::Confirm => Ok(()),
+            Turn::Disconnect => Ok(()),
+            Turn::DataAck => Ok(()),
+        }
+    }
+
+    // A segment that is not sent again is the next piece, which gets the next number.
+    #[tactic(auto, using(crate::proofs::Choosing::segments))]
+    fn give(&mut self, alloc: Global) -> Result<(), AllocError>
+        requires { has_segment self.old ≡ true }
+        ensures given { OnOk result (self.new ≡ kept.gave (slice_get self.old.variables.outstanding self.old.owed.ahead) self.old) }
+        ensures next { OnOk result (self.new.owed.ahead < length self.new.variables.outstanding) }
+    {
+        if self.owed.ahead() < self.outstanding.len() {
+            return Ok(());
+        }
+        let piece = GivenPiece::copied(alloc, self.unsent.next())?;
+        self.outstanding.give(alloc, piece)?;
+        self.unsent.give();
+        Ok(())
+    }
+}

@@ -1,0 +1,278 @@
+//! What comes for the links.
+
+ghost use Rattle.std.specs.Prelude.{◌≡◌, ◌<◌, true, false, Some, length, slice_get, OnOk, IfErr};
+ghost use Rattle.std.specs.List.{AllByRecursion};
+ghost use Rattle.dna_packet.specs.AckWord.{IsAckWord};
+ghost use Rattle.dna_packet.specs.Nsp.{segment_view};
+ghost use Rattle.dna_packet.specs.Nsp as nsp;
+ghost use Rattle.dna_model.specs.LinkTests.{is_running};
+ghost use Rattle.dna_model.specs.NextSent.{LinkEnd as KeptLink};
+ghost use Rattle.dna_model.specs.Kept.{KeptLinks};
+ghost use Rattle.dna_model.specs.KeptLinks.{arrives, message_came};
+ghost use Rattle.dna_model.specs.KeptLinks as kept;
+ghost use Rattle.player_end.specs.Delivering.{delivers, delivers_at};
+ghost use Rattle.player_end.specs.Stepping.{Stopped};
+
+use super::LinkEnds;
+use crate::choice::EndConfirm;
+use crate::fault::StepFault;
+use crate::link_end::LinkEnd;
+use crate::owed_confirm::OwedConfirm;
+use crate::piece::GivenPiece;
+use dna_model::LinkTest;
+use dna_packet::{AckWord, ConnectConfirm, ConnectInitiate, Nsp, Segment};
+use std::alloc::AllocError;
+use wire_base::Window;
+
+/// The reasons of a DC: the DI was acted on, or it was not.
+const NO_LINK: u16 = 41;
+
+const DISCONNECTED: u16 = 42;
+
+impl<V: Window<GivenPiece, 4096> + Drop> LinkEnds<V> {
+    /// This message came and was kept: what it does to its link, and what that owes then. What is whole then goes to the user, with a
+    /// line of each message behind the text. `BadStep`: such a message has more than 65,535 bytes, and no line.
+    pub fn arrive(&mut self, message: &Nsp<'_>, text: &mut Vec<u8>) -> Result<(), StepFault>
+        requires { nsp.IsInRange (nsp.view message.now) }
+        ensures ok { OnOk result (delivers (nsp.view message.now) text.old.items (arrives (nsp.view message.now) self.old) ≡ Some (self.new, text.new.items)) }
+        ensures stop { IfErr result (λ fault. Stopped (delivers (nsp.view message.now) text.old.items (arrives (nsp.view message.now) self.old)) fault) }
+    {
+        match message {
+            Nsp::DataSegment(segment) => self.segment_came(segment, text),
+            _ => {
+                let Ok(()) = self.message_came(message) else {
+                    return Err(StepFault::OutOfMemory);
+                };
+                Ok(())
+            }
+        }
+    }
+
+    fn message_came(&mut self, message: &Nsp<'_>) -> Result<(), AllocError>
+        requires { nsp.IsInRange (nsp.view message.now) }
+        ensures { OnOk result (self.new ≡ message_came (nsp.view message.now) self.old) }
+    {
+        match message {
+            Nsp::ConnectInitiate(message) => self.connect_initiate(message.srcaddr),
+            Nsp::ConnectConfirm(message) => {
+                self.connect_confirm(message.dstaddr, message.srcaddr);
+                Ok(())
+            }
+            Nsp::DisconnectInitiate(message) => self.disconnect(message.dstaddr, message.srcaddr),
+            Nsp::DisconnectConfirm(message) => {
+                self.end(message.dstaddr, message.srcaddr);
+                Ok(())
+            }
+            Nsp::DataAck(message) => {
+                self.acks_came(message.dstaddr, message.srcaddr, &message.acks);
+                Ok(())
+            }
+            Nsp::LinkService(message) => {
+                self.act(message.dstaddr, message.srcaddr);
+                Ok(())
+            }
+            Nsp::OtherDataAck(message) => {
+                self.act(message.dstaddr, message.srcaddr);
+                Ok(())
+            }
+            Nsp::ConnectAck(_) | Nsp::NoOperation(_) | Nsp::DataSegment(_) => Ok(()),
+        }
+    }
+
+    // A CI.
+    #[tactic(auto, using(crate::proofs::Searching::found_ends))]
+    fn connect_initiate(&mut self, far: u16) -> Result<(), AllocError>
+        ensures { OnOk result (self.new ≡ kept.with_end (LinkTest.LiveTo far) self.old (kept.begun (kept.called far) self.old)
+            (λ place link. kept.changed place (kept.called_again link.port.phase link) self.old)) }
+    {
+        let Some(place) = self.find(LinkTest::LiveTo { far }) else {
+            let link = LinkEnd::called(self.alloc, far);
+            return self.begin(link);
+        };
+        let Some(_link) = self.link(place) else {
+            unreachable!();
+        };
+        self.call_again_at(place);
+        Ok(())
+    }
+
+    fn call_again_at(&mut self, place: usize)
+        requires { place < length self.old.links }
+        ensures { (link : KeptLink) → slice_get self.old.links place ≡ Some link
+            → self.new ≡ kept.changed place (kept.called_again link.port.phase link) self.old }
+    {
+        self.links[place].call_again();
+    }
+
+    // A CC.
+    #[tactic(auto, using(crate::proofs::Searching::found_ends))]
+    fn connect_confirm(&mut self, own: u16, far: u16)
+        ensures { self.new ≡ kept.confirm_came own far self.old }
+    {
+        if let Some(place) = self.find(LinkTest::CallingAt { own }) {
+            let Some(_link) = self.link(place) else {
+                unreachable!();
+            };
+            self.confirm_at(place, far);
+            return;
+        }
+        let Some(place) = self.find(LinkTest::TheLink { own, far }) else {
+            return;
+        };
+        let Some(_link) = self.link(place) else {
+            unreachable!();
+        };
+        self.confirm_again_at(place);
+    }
+
+    fn confirm_at(&mut self, place: usize, far: u16)
+        requires { place < length self.old.links }
+        ensures { (link : KeptLink) → slice_get self.old.links place ≡ Some link → self.new ≡ kept.changed place (kept.confirmed far link) self.old }
+    {
+        self.links[place].confirm(far);
+    }
+
+    fn confirm_again_at(&mut self, place: usize)
+        requires { place < length self.old.links }
+        ensures { (link : KeptLink) → slice_get self.old.links place ≡ Some link
+            → self.new ≡ kept.changed place (kept.confirmed_again (is_running link.port.phase) link) self.old }
+    {
+        self.links[place].confirm_again();
+    }
+
+    // A DI: its link ends, and a DC is owed.
+    #[tactic(auto, using(crate::proofs::Searching::found_ends))]
+    fn disconnect(&mut self, own: u16, far: u16) -> Result<(), AllocError>
+        ensures { OnOk result (self.new ≡ kept.ends_link own far (kept.confirming far own 41 self.old) (kept.confirming far own 42) self.old) }
+    {
+        let reason = if self.end(own, far) {
+            DISCONNECTED
+        } else {
+            NO_LINK
+        };
+        let confirm = EndConfirm {
+            dst: far,
+            src: own,
+            reason,
+        };
+        match self.confirms.push_back(OwedConfirm::new(confirm)) {
+            Ok(()) => Ok(()),
+            Err(_) => Err(AllocError),
+        }
+    }
+
+    // The link with these addresses, or the one in Calling with the own address, ends; the answer is whether there is one.
+    #[tactic(auto, using(crate::proofs::Searching::found_ends))]
+    fn end(&mut self, own: u16, far: u16) -> bool
+        ensures yes { result ≡ true → (otherwise : KeptLinks) (more : KeptLinks → KeptLinks) → kept.ends_link own far otherwise more self.old ≡ more self.new }
+        ensures no { result ≡ false → (otherwise : KeptLinks) (more : KeptLinks → KeptLinks) → kept.ends_link own far otherwise more self.old ≡ otherwise }
+        ensures same { result ≡ false → self.new ≡ self.old }
+    {
+        if let Some(place) = self.find(LinkTest::TheLink { own, far }) {
+            let Some(_link) = self.link(place) else {
+                unreachable!();
+            };
+            self.end_at(place);
+            return true;
+        }
+        let Some(place) = self.find(LinkTest::CallingAt { own }) else {
+            return false;
+        };
+        let Some(_link) = self.link(place) else {
+            unreachable!();
+        };
+        self.end_at(place);
+        true
+    }
+
+    // Something that has no number which is read.
+    #[tactic(auto, using(crate::proofs::Searching::found_ends))]
+    fn act(&mut self, own: u16, far: u16)
+        ensures { self.new ≡ kept.acts own far (λ link. kept.acted_on link.variables link) self.old }
+    {
+        let Some(place) = self.find(LinkTest::ActedOn { own, far }) else {
+            return;
+        };
+        let Some(_link) = self.link(place) else {
+            unreachable!();
+        };
+        self.act_at(place);
+    }
+
+    fn act_at(&mut self, place: usize)
+        requires { place < length self.old.links }
+        ensures { (link : KeptLink) → slice_get self.old.links place ≡ Some link
+            → self.new ≡ kept.changed place (kept.acted_on link.variables link) self.old }
+    {
+        self.links[place].act();
+    }
+
+    // A data acknowledgement.
+    #[tactic(auto, using(crate::proofs::Searching::found_ends))]
+    fn acks_came(&mut self, own: u16, far: u16, words: &[AckWord])
+        requires { AllByRecursion IsAckWord words.now }
+        ensures { self.new ≡ kept.acts own far (kept.took_acks words.now) self.old }
+    {
+        let Some(place) = self.find(LinkTest::ActedOn { own, far }) else {
+            return;
+        };
+        let Some(_link) = self.link(place) else {
+            unreachable!();
+        };
+        self.take_acks_at(place, words);
+    }
+
+    fn take_acks_at(&mut self, place: usize, words: &[AckWord])
+        requires within { place < length self.old.links }
+        requires acks { AllByRecursion IsAckWord words.now }
+        ensures { (link : KeptLink) → slice_get self.old.links place ≡ Some link
+            → self.new ≡ kept.changed place (kept.took_acks words.now link) self.old }
+    {
+        self.links[place].take_acks(words);
+    }
+
+    // A segment, and what it makes whole.
+    #[tactic(auto, using(crate::proofs::Searching::found_ends))]
+    fn segment_came(&mut self, segment: &Segment<'_>, text: &mut Vec<u8>) -> Result<(), StepFault>
+        requires acks { AllByRecursion IsAckWord segment.now.acks.items }
+        requires number { segment.now.number < 4096 }
+        ensures ok { OnOk result (delivers (nsp.DataSegment (segment_view segment.now)) text.old.items
+            (arrives (nsp.DataSegment (segment_view segment.now)) self.old) ≡ Some (self.new, text.new.items)) }
+        ensures stop { IfErr result (λ fault. Stopped (delivers (nsp.DataSegment (segment_view segment.now)) text.old.items
+            (arrives (nsp.DataSegment (segment_view segment.now)) self.old)) fault) }
+    {
+        let own = segment.dstaddr;
+        let Some(place) = self.find(LinkTest::ActedOn {
+            own,
+            far: segment.srcaddr,
+        }) else {
+            return Ok(());
+        };
+        let Some(_link) = self.link(place) else {
+            unreachable!();
+        };
+        self.take_segment_at(place, segment, text)
+    }
+
+    fn take_segment_at(
+        &mut self,
+        place: usize,
+        segment: &Segment<'_>,
+        text: &mut Vec<u8>,
+    ) -> Result<(), StepFault>
+        requires within { place < length self.old.links }
+        requires acks { AllByRecursion IsAckWord segment.now.acks.items }
+        requires number { segment.now.number < 4096 }
+        ensures ok { (link : KeptLink) → slice_get self.old.links place ≡ Some link → OnOk result (delivers_at segment.now.dstaddr text.old.items
+            (kept.delivering_at place (kept.took_segment (segment_view segment.now) link) self.old) ≡ Some (self.new, text.new.items)) }
+        ensures stop { (link : KeptLink) → slice_get self.old.links place ≡ Some link → IfErr result (λ fault. Stopped (delivers_at segment.now.dstaddr
+            text.old.items (kept.delivering_at place (kept.took_segment (segment_view segment.now) link) self.old)) fault) }
+    {
+        let alloc = self.alloc;
+        let link = &mut self.links[place];
+        let Ok(()) = link.take_segment(alloc, segment) else {
+            return Err(StepFault::OutOfMemory);
+        };
+        link.deliver(alloc, segment.dstaddr, text)
+    }
+}
