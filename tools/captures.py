@@ -209,6 +209,17 @@ def segments(a, b, count, length):
         session.acknowledges(other)
 
 
+def control_packets(a, b, records):
+    """Routing control packets of 1 random byte that side a sends and side b keeps and acknowledges, 200 at a time."""
+    session = Session(a, b)
+    source = random.Random(1)
+    packets = [packet_of(bytes([byte])) for byte in range(1, 128, 2)]
+    for _ in range(records // 200):
+        for _ in range(200):
+            session.carries(0, packets[source.randrange(len(packets))])
+        session.acknowledges(1)
+
+
 def long_segments(a, b, records):
     segments(a, b, records // 2, 512)
 
