@@ -1,7 +1,6 @@
 //! Tests of what no contract says: the rows of the format from outside, and readers that fail.
 
 mod limits;
-mod played;
 mod playing;
 mod reading;
 mod rows;

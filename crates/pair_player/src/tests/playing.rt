@@ -19,7 +19,7 @@ const CAPTURE_B: &[u8] = b"ddcap 1 1.2 1.1\nu start\nr 0 0506c00000017595\n";
 /// Keeps what it takes, at most `step` bytes a call, and fails once it has `room` bytes.
 #[derive(Drop)]
 struct Taken {
-    bytes: [u8; 256],
+    bytes: [u8; 1024],
     count: usize,
     step: usize,
     room: usize,
@@ -28,7 +28,7 @@ struct Taken {
 impl Taken {
     fn new(step: usize, room: usize) -> Taken {
         Taken {
-            bytes: [0; 256],
+            bytes: [0; 1024],
             count: 0,
             step,
             room,
@@ -62,7 +62,7 @@ impl Write for Taken {
 }
 
 /// Plays a script by one byte a call and by all: the same answer, and the same captures.
-fn check_played(
+pub fn check_played(
     rt: &impl Abort,
     alloc: Global,
     text: &[u8],

@@ -1,5 +1,7 @@
-use super::played::play_lines;
-use std::test::Fail;
+//! The worked script: both captures, byte for byte.
+
+use super::playing::check_played;
+use crate::Played;
 
 const SCRIPT: &[u8] = b"ddplay 1 1.1 1.2
 a start
@@ -28,7 +30,8 @@ b send
 a deliver
 ";
 
-const OF_A: &[u8] = b"u start
+const CAPTURE_A: &[u8] = b"ddcap 1 1.1 1.2
+u start
 s 0506c00000017595
 s 0506c00000017595
 r 0 0507c00000014855
@@ -42,7 +45,8 @@ s 810f000001018a40020204010400180000010001020002ed98
 k 3 81090001010153800201040204002401002cd5
 ";
 
-const OF_B: &[u8] = b"u start
+const CAPTURE_B: &[u8] = b"ddcap 1 1.2 1.1
+u start
 r 1 0506c00000017595
 s 0507c00000014855
 r 2 050100000001fc55
@@ -55,11 +59,12 @@ s 81090001010153800201040204002401002cd5
 ";
 
 #[test]
-fn the_worked_script_has_its_two_captures(rt: HostRuntime) -> Result<(), Fail> {
-    let played = play_lines(rt.alloc(), &[SCRIPT])?;
-    assert_eq!(rt; played.fault, None);
-    assert_eq!(rt; played.steps, 24);
-    assert!(rt; played.of_a.as_slice() == OF_A);
-    assert!(rt; played.of_b.as_slice() == OF_B);
-    Ok(())
+fn the_worked_script_has_its_two_captures(rt: HostRuntime) {
+    check_played(
+        &rt,
+        rt.alloc(),
+        SCRIPT,
+        Ok(Played { steps: 24 }),
+        (CAPTURE_A, CAPTURE_B),
+    );
 }

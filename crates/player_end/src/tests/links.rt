@@ -11,7 +11,6 @@ fn a_link_is_opened_used_and_closed(rt: HostRuntime) -> Result<(), Fail> {
     b.carry(&mut a)?;
     a.end.hand_in(1, b"hello", &mut a.text)?;
     a.carry(&mut b)?;
-    a.carry(&mut b)?;
     b.text.clear();
     a.carry(&mut b)?;
     assert!(rt;
