@@ -13,7 +13,7 @@ use Rattle.capture.specs.Paged.{HandsOver}
 use Rattle.capture.specs.Text.{capture_text, head_line, record_lines, record_line}
 use Rattle.dna_model.specs.Script.{ScriptStep}
 use Rattle.dna_model.specs.ScriptText.{IsStep, StepDeparts, script_line, MAX_STEPS}
-use Rattle.dna_model.specs.KeptPlayed.{KeptMade, KeptPair, KeptPlayed, KeptStopped, if_made, kept_not_begun, kept_plays_all, kept_plays_step, new_pair, with_records}
+use Rattle.dna_model.specs.KeptPlayed.{KeptMade, KeptPair, KeptPlayed, KeptStopped, if_made, kept_not_begun, kept_plays_all, kept_plays_step, with_records}
 use Rattle.dna_model.specs.Stepped.{Stop, BadStep, Full}
 use Rattle.pair_player.specs.declared.fault.PlayFault.{PlayFault}
 use Rattle.pair_player.specs.declared.fault.PlayFault.TheVariants as faults
@@ -22,9 +22,9 @@ use Rattle.pair_player.specs.declared.fault.ScriptFault.TheVariants as of_script
 use Rattle.player_end.specs.declared.fault.StepFault.{StepFault}
 use Rattle.player_end.specs.declared.fault.StepFault.TheVariants as stops
 use Rattle.pair_player.specs.declared.played.Played.{Played}
-use Rattle.pair_player.specs.Beginning.{fault_of, fault_at}
+use Rattle.pair_player.specs.Beginning.{IsBegun, fault_of, fault_at}
 use Rattle.pair_player.specs.Playing.{DepartsBehind, EndsBehind, HasPlayed, HasWritten, Held, Plays, PlaysWholeLines, Reached, StopsBehind, held, text_a, text_b}
-use Rattle.pair_player.specs.Reader.{Advances, FaultShows, IsCut, Opens, ScriptState, WhereReadFails}
+use Rattle.pair_player.specs.Reader.{Advances, FaultShows, IsCut, ScriptState, WhereReadFails}
 use Rattle.pair_player.specs.SoFar.{no_steps, with_step}
 use Rattle.player_end.specs.Stepping.{StopMeans}
 use Rattle.pair_player.specs.Making.{PutsLines, Standing, Steps, StopsStep, standing}
@@ -78,18 +78,17 @@ abbrev no_step : ScriptState → Option (List ℕ) → Reached
 no_step lines left = let script = no_steps lines.node_a lines.node_b in record { script = script; played = kept_not_begun script; come = left }
 
 -- the heads wait
-pub under_way : (text left : Option (List ℕ)) (old : Held) (lines : ScriptState) (at : Standing) → Opens text left (Ok lines) → at.pair ≡ new_pair lines.node_a lines.node_b
-    → at.a ≡ head_line One lines.node_a lines.node_b → at.b ≡ head_line One lines.node_b lines.node_a → IsUnderWay text old (place lines (to_come lines.unread left) at old 0)
-under_way text left old lines at opens is head_a head_b = record {
+pub under_way : (text left : Option (List ℕ)) (old : Held) (lines : ScriptState) (at : Standing) → IsBegun text left lines at → IsUnderWay text old (place lines (to_come lines.unread left) at old 0)
+under_way text left old lines at begun = let opens = begun.0 in record {
   reached = no_step lines (to_come lines.unread left);
   played = record { read = opened text left lines opens; made = refl };
   come_is = refl;
-  pair_is = sym is;
+  pair_is = sym begun.1;
   count = refl;
   counted = opens.2;
   reading = opens.3;
-  over_a = subst (λ (x : List ℕ). HandsOver x at.a old.a old.a) (head_a ∙ sym (append-nil (head_line One lines.node_a lines.node_b))) (nothing_over at.a old.a);
-  over_b = subst (λ (x : List ℕ). HandsOver x at.b old.b old.b) (head_b ∙ sym (append-nil (head_line One lines.node_b lines.node_a))) (nothing_over at.b old.b);
+  over_a = subst (λ (x : List ℕ). HandsOver x at.a old.a old.a) (begun.2 ∙ sym (append-nil (head_line One lines.node_a lines.node_b))) (nothing_over at.a old.a);
+  over_b = subst (λ (x : List ℕ). HandsOver x at.b old.b old.b) (begun.3 ∙ sym (append-nil (head_line One lines.node_b lines.node_a))) (nothing_over at.b old.b);
 }
 
 -- ---- one step more

@@ -1,17 +1,14 @@
 //! A script is read, its steps are made, and both captures are written.
 
-ghost use Rattle.std.specs.Prelude.{◌≡◌, Some, Ok, IfOk, IfErr, IsSomeAnd};
+ghost use Rattle.std.specs.Prelude.{◌≡◌, ℕ, List, Option, Some, Ok, IfOk, IfErr, IsSomeAnd};
 ghost use Rattle.wire_base.specs.Tally.{tally_faults, tally_lent};
 ghost use Rattle.wire_base.specs.declared.side.Side.TheVariants as of_side;
-ghost use Rattle.capture.specs.declared.format.Format.TheVariants as Layout;
+ghost use Rattle.capture.specs.declared.phase.Phase.TheVariants as Phase;
 ghost use Rattle.capture.specs.Faulty.{CountsReads};
-ghost use Rattle.capture.specs.Text.{head_line};
-ghost use Rattle.dna_model.specs.KeptPlayed.{new_pair};
 ghost use Rattle.dna_model.specs.Script.{ScriptStep as Line};
 ghost use Rattle.dna_model.specs.ScriptText.{IsStep};
-ghost use Rattle.pair_player.specs.Beginning.{HeadFault, fault_at, fault_of, is_failed_read};
+ghost use Rattle.pair_player.specs.Beginning.{HeadFault, IsBegun, fault_at, fault_of, is_failed_read};
 ghost use Rattle.pair_player.specs.Playing.{CountsReadsOf, CountsWritesOf, Plays, PlaysWholeLines, held};
-ghost use Rattle.pair_player.specs.Reader.{Opens};
 ghost use Rattle.pair_player.specs.Making.{StepsOrStops, standing};
 ghost use Rattle.pair_player.specs.Waiting.{EndsAll, outlet};
 
@@ -58,29 +55,44 @@ pub fn play<R: Read, A: Write, B: Write>(
     ensures writes_a { CountsWritesOf of_side.A result (tally_faults a.old) (tally_faults a.new) }
     ensures writes_b { CountsWritesOf of_side.B result (tally_faults b.old) (tally_faults b.new) }
 {
-    let Begun {
-        mut lines,
-        mut ends,
-        mut texts,
-    } = match begin(alloc, script) {
-        Ok(begun) => begun,
-        Err(fault) => return Err(fault),
-    };
-    if let Err(side) = texts.write_out(a, b) {
+    match begin(alloc, script) {
+        Ok(mut begun) => play_steps(&mut begun, script, a, b),
+        Err(fault) => Err(fault),
+    }
+}
+
+// Makes the steps behind the head, and writes what they make behind the heads of the captures.
+fn play_steps<R: Read, A: Write, B: Write>(
+    begun: &mut Begun,
+    script: &mut Tally<R>,
+    a: &mut Tally<A>,
+    b: &mut Tally<B>,
+) -> Result<Played, PlayFault>
+    requires { (begun.now.lines.phase ≡ Phase.Reading) × (begun.now.lines.steps ≡ 0) }
+    ensures plays { (text : Option (List ℕ)) → IsBegun text (R.remaining (tally_lent script.old)) begun.old.lines (standing begun.old.ends begun.old.texts.a.items begun.old.texts.b.items)
+        → Plays text (held (A.contents (tally_lent a.old)) (B.contents (tally_lent b.old))) (held (A.contents (tally_lent a.new)) (B.contents (tally_lent b.new))) result }
+    ensures lines { (text : Option (List ℕ)) → IsBegun text (R.remaining (tally_lent script.old)) begun.old.lines (standing begun.old.ends begun.old.texts.a.items begun.old.texts.b.items)
+        → PlaysWholeLines text (R.remaining (tally_lent script.new))
+        (held (A.contents (tally_lent a.old)) (B.contents (tally_lent b.old))) (held (A.contents (tally_lent a.new)) (B.contents (tally_lent b.new))) result }
+    ensures reads { CountsReadsOf result (tally_faults script.old) (tally_faults script.new) }
+    ensures writes_a { CountsWritesOf of_side.A result (tally_faults a.old) (tally_faults a.new) }
+    ensures writes_b { CountsWritesOf of_side.B result (tally_faults b.old) (tally_faults b.new) }
+{
+    if let Err(side) = begun.texts.write_out(a, b) {
         return Err(PlayFault::Write { side });
     }
     for steps in 0..MAX_STEPS + 1 {
-        match lines.advance(script) {
-            Ok(true) => match make_step(&lines, &mut ends, &mut texts) {
+        match begun.lines.advance(script) {
+            Ok(true) => match make_step(&begun.lines, &mut begun.ends, &mut begun.texts) {
                 Ok(()) => {
-                    if let Err(side) = texts.write_full(a, b) {
+                    if let Err(side) = begun.texts.write_full(a, b) {
                         return Err(PlayFault::Write { side });
                     }
                 }
-                Err(stop) => return end(&mut texts, a, b, Err(stop_fault(stop, steps + 2))),
+                Err(stop) => return end(&mut begun.texts, a, b, Err(stop_fault(stop, steps + 2))),
             },
-            Ok(false) => return end(&mut texts, a, b, Ok(Played { steps })),
-            Err(fault) => return end(&mut texts, a, b, Err(play_fault(fault))),
+            Ok(false) => return end(&mut begun.texts, a, b, Ok(Played { steps })),
+            Err(fault) => return end(&mut begun.texts, a, b, Err(play_fault(fault))),
         }
     }
     unreachable!()
@@ -88,10 +100,8 @@ pub fn play<R: Read, A: Write, B: Write>(
 
 // Reads the head, and takes the memory for both ends and for the heads of both captures.
 fn begin<R: Read>(alloc: Global, script: &mut Tally<R>) -> Result<Begun, PlayFault>
-    ensures opens { IfOk result (λ begun. Opens (R.remaining (tally_lent script.old)) (R.remaining (tally_lent script.new)) (Ok begun.lines)) }
-    ensures ends { IfOk result (λ begun. begun.ends ≡ new_pair begun.lines.node_a begun.lines.node_b) }
-    ensures head_a { IfOk result (λ begun. begun.texts.a.items ≡ head_line Layout.One begun.lines.node_a begun.lines.node_b) }
-    ensures head_b { IfOk result (λ begun. begun.texts.b.items ≡ head_line Layout.One begun.lines.node_b begun.lines.node_a) }
+    ensures begins { IfOk result (λ begun. IsBegun (R.remaining (tally_lent script.old)) (R.remaining (tally_lent script.new)) begun.lines
+        (standing begun.ends begun.texts.a.items begun.texts.b.items)) }
     ensures fault { IfErr result (HeadFault (R.remaining (tally_lent script.old)) (R.remaining (tally_lent script.new))) }
     ensures reads { CountsReads (is_failed_read result) (tally_faults script.old) (tally_faults script.new) }
 {

@@ -1,6 +1,7 @@
-//! Tests of what no contract says: the rows of the format from outside, and readers that fail.
+//! Tests of what no contract says: the rows of the format from outside, readers that fail, and `player_end`'s one end.
 
 mod limits;
+mod one_end;
 mod playing;
 mod reading;
 mod rows;

@@ -3,6 +3,7 @@
 //!
 //! The crate decides what each step of a script makes of its end: the records that the end adds to its capture, the units that it sends, and
 //! what it owes behind that. It knows nothing of a script's text, of the other end, or of the line between them.
+//! Its tests are `pair_player`'s `one_end`: there they need no second proof of what stands here.
 #![tactic(auto)]
 
 mod choice;
@@ -28,6 +29,3 @@ pub use end::End;
 pub use fault::StepFault;
 pub use held_packet::HeldPacket;
 pub use piece::GivenPiece;
-
-#[cfg(test)]
-mod tests;

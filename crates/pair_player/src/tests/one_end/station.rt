@@ -1,5 +1,5 @@
 use super::line::{Recorded, running};
-use crate::StepFault;
+use player_end::StepFault;
 use std::test::Fail;
 
 const DAMAGED_ACK: [u8; 8] = [5, 1, 0, 0, 0, 2, 0xfc, 0x55];

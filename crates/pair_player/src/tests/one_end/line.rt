@@ -1,5 +1,5 @@
-use crate::{End, GivenPiece, HeldPacket, StepFault};
 use dna_model::Head;
+use player_end::{End, GivenPiece, HeldPacket, StepFault};
 use std::alloc::{AllocError, Global};
 use wire_base::RingWindow;
 

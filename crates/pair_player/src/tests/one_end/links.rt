@@ -1,5 +1,5 @@
 use super::line::running;
-use crate::StepFault;
+use player_end::StepFault;
 use std::test::Fail;
 
 #[test]

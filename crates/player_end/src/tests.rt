@@ -1,5 +1,0 @@
-//! Tests of what no contract says: what ends write of a startup and of a link, as the captures of the standard's messages have it.
-
-mod line;
-mod links;
-mod station;
