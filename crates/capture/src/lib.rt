@@ -59,6 +59,3 @@ pub use record::Record;
 pub use record_words::{head_of, record_of};
 pub use so_far::{text_read_on, whole_text};
 pub use writer::{write_head, write_head_2, write_record, write_record_2};
-
-#[cfg(test)]
-mod tests;

@@ -22,6 +22,3 @@ pub use message::Message;
 pub use nak_reason::NakReason;
 pub use reading::{Reading, read_sound, read_unit};
 pub use writing::write_unit;
-
-#[cfg(test)]
-mod tests;

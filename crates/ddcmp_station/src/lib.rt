@@ -17,6 +17,3 @@ pub use fault::StationFault;
 pub use held_packet::HeldPacket;
 pub use sent_as::SentAs;
 pub use station::Station;
-
-#[cfg(test)]
-mod tests;

@@ -31,6 +31,3 @@ pub use reading_nsp::read_nsp;
 pub use reading_packet::read_packet;
 pub use writing_nsp::write_nsp;
 pub use writing_packet::write_packet;
-
-#[cfg(test)]
-mod tests;

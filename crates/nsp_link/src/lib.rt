@@ -18,6 +18,3 @@ pub use dna_model::{LinkEvent, LinkRefusal, LinkTag};
 pub use fault::LinkFault;
 pub use links::Links;
 pub use piece::Piece;
-
-#[cfg(test)]
-mod tests;
