@@ -1,6 +1,6 @@
 //! The texts of both captures on the way to their writers.
 
-ghost use Rattle.std.specs.Prelude.{◌≡◌, [], ◌++◌, IfOk, OnOk, OnErr};
+ghost use Rattle.std.specs.Prelude.{◌≡◌, ◌<◌, [], ◌++◌, length, IfOk, OnOk, OnErr};
 ghost use Rattle.wire_base.specs.Tally.{tally_faults, tally_lent};
 ghost use Rattle.capture.specs.declared.format.Format.TheVariants as Layout;
 ghost use Rattle.capture.specs.Text.{head_line};
@@ -83,13 +83,15 @@ impl Texts {
         Ok(())
     }
 
-    /// Writes the lines of each side that has many. `Err`: the writer of this side failed in this call.
+    /// Writes the lines of each side that has many, so that few wait. `Err`: the writer of this side failed in this call.
     pub fn write_full<A: Write, B: Write>(
         &mut self,
         a: &mut Tally<A>,
         b: &mut Tally<B>,
     ) -> Result<(), Side>
-        ensures { PassBoth
+        ensures few_a { OnOk result (length self.new.a.items < 65536) }
+        ensures few_b { OnOk result (length self.new.b.items < 65536) }
+        ensures writes { PassBoth
             (outlet self.old.a.items (A.contents (tally_lent a.old)) (tally_faults a.old), outlet self.old.b.items (B.contents (tally_lent b.old)) (tally_faults b.old))
             (outlet self.new.a.items (A.contents (tally_lent a.new)) (tally_faults a.new), outlet self.new.b.items (B.contents (tally_lent b.new)) (tally_faults b.new)) result }
     {
@@ -124,6 +126,7 @@ fn write_text<W: Write>(text: &mut Vec<u8>, writer: &mut Tally<W>) -> Result<(),
 
 // Writes a side's lines where they are many.
 fn write_if_full<W: Write>(text: &mut Vec<u8>, writer: &mut Tally<W>) -> Result<(), WriteFailed>
+    ensures few { OnOk result (length text.new.items < 65536) }
     ensures ok { OnOk result (Passes
         (outlet text.old.items (W.contents (tally_lent writer.old)) (tally_faults writer.old))
         (outlet text.new.items (W.contents (tally_lent writer.new)) (tally_faults writer.new))) }

@@ -45,7 +45,7 @@ returns-in-Err-write_full-clause-plays g c text is =
     fails _ _ _ on c.in-Err-write_full.side (tally_faults c.loop-steps.a) (tally_faults c.loop-steps.b) (
       outlet c.write_full.new.self.a.items (g.A.Write.contents (tally_lent c.write_full.new.a)) (tally_faults c.write_full.new.a),
       outlet c.write_full.new.self.b.items (g.B.Write.contents (tally_lent c.write_full.new.b)) (tally_faults c.write_full.new.b),
-    ) c.in-Err-write_full.ensures
+    ) c.in-Err-write_full.ensures.writes
 
 pub returns-in-Err-make_step-clause-plays : goal.returns-in-Err-make_step-clause-plays
 returns-in-Err-make_step-clause-plays g c text is =
@@ -88,7 +88,7 @@ loop-steps-preserved g c =
     let advances = rw c.in-Ok-true.field-0-test at c.in-Ok-true.ensures.advances c.loop-steps.invariant.1 in
     let some = some_step c.advance.new.self.step _ after advances.0 in
     let made = c.in-Ok.ensures some.0 some.1 in
-    let passes = c.in_default-write_full.ensures in (
+    let passes = c.in_default-write_full.ensures.writes in (
       λ text is.
           let h = c.loop-steps.invariant.0 text is in
           let on = step_on _ _ _ h some.0 c.advance.new.self after (standing c.make_step.new.ends c.make_step.new.texts.a.items c.make_step.new.texts.b.items) some.1 advances made in

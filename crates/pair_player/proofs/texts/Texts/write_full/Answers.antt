@@ -1,7 +1,7 @@
 use Rattle.pair_player.proofs.OverLaws.{begun_over}
 use Rattle.pair_player.proofs.texts.Texts.write_full.Goals as goal
 
-pub returns-in_default-write_if_full : goal.returns-in_default-write_if_full
-returns-in_default-write_if_full g c =
+pub returns-in_default-write_if_full-clause-writes : goal.returns-in_default-write_if_full-clause-writes
+returns-in_default-write_if_full-clause-writes g c =
     let passes = c.in-Ok.ensures.ok in
     (record { some = begun_over _ _ _ _ passes.over; faults = passes.faults }, c.in_default-write_if_full.ensures.err)
