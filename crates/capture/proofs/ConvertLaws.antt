@@ -1,37 +1,34 @@
 -- What was converted of a text, from one record to the next.
-use Rattle.std.proofs.Common.{◌≡◌, ℕ, ◌+◌, ◌<◌, ◌≤◌, Bool, true, false, ◌⊎◌, inl, inr, List, [], ◌∷◌, ◌++◌, length, take, Option, Some, None, Ok, Err, refl, sym, ap, subst, ◌∙◌, arith, length-append, append-nil, append_assoc, lit<}
+use Rattle.std.proofs.Common.{◌≡◌, ℕ, ◌+◌, ◌<◌, ◌≤◌, Bool, true, false, inr, List, [], ◌∷◌, ◌++◌, length, take, Option, Some, None, Ok, Err, refl, sym, ap, subst, ◌∙◌, arith, length-append, append-nil, append_assoc, lit<}
 use Rattle.std.specs.Prelude.{codes}
 use Rattle.std.specs.Option.{IfSome}
-use Rattle.std.specs.Io.KnownBytes.{Appends, Consumes, IsAtEnd, Keeps}
-use Rattle.std.proofs.KnownBytes.{Appends-trans, Keeps-refl}
+use Rattle.std.specs.Io.KnownBytes.{Appends, IsAtEnd}
+use Rattle.std.proofs.KnownBytes.{Appends-trans}
 use Rattle.std.proofs.Math.Seq.{take-append-add}
 use Rattle.std.proofs.lemmas.Option.{same_Some}
-use Rattle.wire_base.specs.Tally.{AppendsBeginning, CountedFault}
-use Rattle.capture.specs.declared.entry.Entry.{Entry}
-use Rattle.capture.specs.declared.entry.Entry.TheVariants as entries
+use Rattle.wire_base.specs.Tally.{AppendsBeginning}
 use Rattle.capture.specs.declared.fault.CaptureFault.{CaptureFault}
 use Rattle.capture.specs.declared.fault.CaptureFault.TheVariants.{Departs, Read, OutOfMemory, Failed}
 use Rattle.capture.specs.declared.format.Format.{Format}
 use Rattle.capture.specs.declared.hint.HintForm.{HintForm}
-use Rattle.capture.specs.declared.limit.TheConstants.{MAX_HINT, MAX_LINE, MAX_RECORDS}
+use Rattle.capture.specs.declared.limit.TheConstants.{MAX_HINT, MAX_LINE}
 use Rattle.capture.specs.declared.phase.Phase.TheVariants.{Reading}
 use Rattle.capture.specs.declared.record.Record.{Record}
 use Rattle.capture.specs.declared.record.Record.TheVariants.{Received}
-use Rattle.capture.specs.Converting.{Converts, CountsReadsOf, CountsWritesOf, HasConverted, convert_fault, text_of}
-use Rattle.capture.specs.Departing.{HeadDeparts, RecordDeparts}
-use Rattle.capture.specs.Entries.{record_with}
-use Rattle.capture.specs.Faulty.{CountsReads, is_read_fault}
-use Rattle.capture.specs.Lines.{to_come}
+use Rattle.capture.specs.Converting.{Converts, ConvertsWholeLines, convert_fault, devices, text_of}
+use Rattle.capture.specs.Departing.{RecordDeparts}
+use Rattle.capture.specs.Faulty.{is_read_fault}
+use Rattle.capture.specs.Lines.{IsCutBehind}
 use Rattle.capture.specs.Paged.{HandsOver}
 use Rattle.capture.specs.Range.{FormFits, IsRecord, IsText, IsTextIn}
-use Rattle.capture.specs.Reader.{CaptureState, FaultShows, NextGives, Opens}
+use Rattle.capture.specs.Reader.{CaptureState, FaultShows, NextGives, WhereReadFails}
 use Rattle.capture.specs.Reading.{cut_at}
 use Rattle.capture.specs.SoFar.{Behind, GoesOnBy, ReadSoFar, ToCome, TheEnd, so_far, IsReadSoFar}
-use Rattle.capture.specs.Text.{bytes_text, capture_text, first_form, form_after, form_behind, head_line, hint_text, record_line, record_text, spaced}
+use Rattle.capture.specs.Text.{bytes_text, capture_text, first_form, form_after, form_behind, hint_text, record_line, record_text, spaced}
 use Rattle.capture.proofs.HintLaws.{hint_lacks}
 use Rattle.capture.proofs.LackLaws.{record_short}
 use Rattle.capture.proofs.PartLaws.{cut_again, cut_takes}
-use Rattle.capture.proofs.SoFarLaws.{form_behind-push, form_marked, goes_on, text-push, ended, one_more, opened}
+use Rattle.capture.proofs.SoFarLaws.{form_behind-push, form_marked, goes_on, text-push, ended, one_more}
 
 -- ---- one line
 
@@ -80,25 +77,6 @@ second_space from hint kept bytes line letter rest e none fits small is =
     let found : ◌≡◌ {A = Option (List ℕ × List ℕ)} None (Some (hint_text from hint, bytes_text bytes)) = none ∙ ap (cut_at 32) behind ∙ cut_again 32 (hint_text from hint) (bytes_text bytes) (hint_lacks from 32 hint (lit< tt) fits small) in
     cc
 
--- no other line has a hint
-pub other_text : (from to : HintForm) (entry : Entry) (bytes : List ℕ) → ((kept : Bool) (hint : ℕ) → entry ≡ entries.Received kept hint → ⊥) → record_text from (record_with entry bytes) ≡ record_text to (record_with entry bytes)
-other_text from to entries.Sent bytes h = refl
-other_text from to (entries.Received kept hint) bytes h = absurd (h kept hint refl)
-other_text from to entries.Noise bytes h = refl
-other_text from to entries.Start bytes h = refl
-other_text from to entries.Halt bytes h = refl
-other_text from to (entries.Open link) bytes h = refl
-other_text from to (entries.Accept partner link) bytes h = refl
-other_text from to (entries.Reject partner link) bytes h = refl
-other_text from to (entries.In link) bytes h = refl
-other_text from to (entries.Up link) bytes h = refl
-other_text from to (entries.Close link) bytes h = refl
-
-pub other_line : (from to : HintForm) (entry : Entry) (bytes line page : List ℕ) → ((kept : Bool) (hint : ℕ) → entry ≡ entries.Received kept hint → ⊥) → line ≡ record_text from (record_with entry bytes)
-    → (page ++ line) ++ 10 ∷ [] ≡ page ++ record_line to (record_with entry bytes)
-other_line from to entry bytes line page h is =
-    append_assoc page line (10 ∷ []) ∙ ap (λ (x : List ℕ). page ++ (x ++ 10 ∷ [])) (is ∙ other_text from to entry bytes h)
-
 pub line_short : (text : Option (List ℕ)) (read : ReadSoFar) (r : Record) (line : List ℕ) → IsReadSoFar text read → IsRecord r → line ≡ record_text read.form r → length line ≤ MAX_LINE
 line_short text read r line h is_record is = omega (arith, record_short read.form r (form_marked text read h) is_record, ap length is)
 
@@ -127,20 +105,6 @@ pub record IsUnderWay (to : Format) (text old : Option (List ℕ)) (at : Place) 
   pub written : List ℕ
   pub text_is : capture_text to at.capture.own at.capture.peer records ≡ written ++ at.page
   pub taken : Appends old at.taken written
-
-pub begun : (to : Format) (text after old new : Option (List ℕ)) (capture : CaptureState) (form : HintForm) (page : List ℕ) → Opens text after (Ok capture) → form ≡ first_form to → page ≡ []
-    → Appends old new (head_line to capture.own capture.peer) → IsUnderWay to text old (place capture (to_come capture.unread after) form 0 page new)
-begun to text after old new capture form page opens is empty head = record {
-  records = [];
-  read = opened text after capture opens;
-  count = refl;
-  counted = opens.2;
-  reading = opens.3;
-  form_is = is;
-  written = head_line to capture.own capture.peer;
-  text_is = ap (λ (x : List ℕ). head_line to capture.own capture.peer ++ x) (sym empty);
-  taken = head;
-}
 
 module _ (to : Format) (text old : Option (List ℕ)) (at : Place) (h : IsUnderWay to text old at) where
   -- one more record was read, and its line put on the page
@@ -216,36 +180,13 @@ module _ (to : Format) (text old : Option (List ℕ)) (at : Place) (h : IsUnderW
   stopped OutOfMemory later rest memory shows over none = absurd (memory refl)
   stopped Failed later rest memory shows over none = absurd shows
 
--- ---- the head
-
-pub head_stopped : (to : Format) (text old : Option (List ℕ)) (fault : CaptureFault) → FaultShows HeadDeparts 1 text fault → Converts to text old old (Err (convert_fault fault))
-head_stopped to text old (Departs kind line) shows = inl (record { departs = shows.1; line_is = shows.0 }, Keeps-refl old)
-head_stopped to text old Read shows = inl (Keeps-refl old)
-head_stopped to text old OutOfMemory shows = Keeps-refl old
-head_stopped to text old Failed shows = absurd shows
-
-pub head_begun : (to : Format) (text after old new : Option (List ℕ)) (capture : CaptureState) → Opens text after (Ok capture) → AppendsBeginning old new (head_line to capture.own capture.peer)
-    → (read : ReadSoFar) × IsReadSoFar text read × AppendsBeginning old new (text_of to read)
-head_begun to text after old new capture opens some =
-    (so_far capture.form capture.own capture.peer [] (ToCome (to_come capture.unread after)), opened text after capture opens, subst (AppendsBeginning old new) (sym (append-nil (head_line to capture.own capture.peer))) some)
-
--- ---- counts
-
-pub counts_fault : (fault : CaptureFault) (old new : ℕ) → CountsReads (is_read_fault fault) old new → CountsReadsOf (Err (convert_fault fault)) old new
-counts_fault (Departs kind line) old new h = h
-counts_fault Read old new h = h
-counts_fault OutOfMemory old new h = h
-counts_fault Failed old new h = h
-
-pub counts_no_write : (fault : CaptureFault) (old new : ℕ) → new ≡ old → CountsWritesOf (Err (convert_fault fault)) old new
-counts_no_write (Departs kind line) old new h = h
-counts_no_write Read old new h = h
-counts_no_write OutOfMemory old new h = h
-counts_no_write Failed old new h = h
-
-pub counts_either : (failed : Bool) (old new : ℕ) → CountsReads failed old new → (new ≡ old) ⊎ CountedFault old new
-counts_either true old new h = inr h
-counts_either false old new h = inl h
+  -- where that is a failed read, each whole line was read and written
+  pub lines_at_fault : (fault : CaptureFault) (left later : Option (List ℕ)) (rest : List ℕ) → WhereReadFails (is_read_fault fault) (IsCutBehind at.come left) → HandsOver at.page rest at.taken later → rest ≡ []
+      → ConvertsWholeLines to (devices text left old later) (Err (convert_fault fault))
+  lines_at_fault (Departs kind line) left later rest cut over none = tt
+  lines_at_fault Read left later rest cut over none = inr (by_then, record { from = h.read; taken = all_taken rest later over none }, cut)
+  lines_at_fault OutOfMemory left later rest cut over none = tt
+  lines_at_fault Failed left later rest cut over none = tt
 
 -- ---- whole texts
 

@@ -179,12 +179,6 @@ pub no_bytes : (most : ℕ) (text : List ℕ) → any_bytes_at text ≡ None →
 unfolding bytes_at
 no_bytes most text e = rw e refl
 
-pub all_bytes : (most : ℕ) (text bytes : List ℕ) → any_bytes_at text ≡ Some bytes → length bytes ≤ most → bytes_at most text ≡ Ok bytes
-unfolding bytes_at
-all_bytes most text bytes e short =
-    let within : leb (length bytes) most ≡ true = grind arith in
-    rw (e, within) refl
-
 -- ---- BYTES that is pairs of digits
 
 some_or_none : (o : Option (List ℕ)) → ((bytes : List ℕ) × (o ≡ Some bytes)) ⊎ (o ≡ None)

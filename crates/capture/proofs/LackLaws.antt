@@ -1,5 +1,5 @@
 -- No LF stands in the words of a line, and they are no longer than a line may be.
-use Rattle.std.proofs.Common.{◌≡◌, ℕ, ◌+◌, ◌*◌, ◌/◌, ◌%◌, ◌^◌, ◌<◌, ◌≤◌, true, false, eqb, not, List, [], ◌∷◌, length, refl, arith, lit<}
+use Rattle.std.proofs.Common.{◌≡◌, ℕ, ◌+◌, ◌*◌, ◌/◌, ◌%◌, ◌≤◌, true, false, eqb, not, List, [], ◌∷◌, length, refl, arith, lit<}
 use Rattle.std.specs.Prelude.{codes}
 use Rattle.std.specs.Fmt.{decimal}
 use Rattle.std.specs.List.{list_all}
@@ -8,7 +8,7 @@ use Rattle.std.proofs.lemmas.List.{length-append}
 use Rattle.std.proofs.lemmas.Fmt.{length-decimal-le}
 use Rattle.hex.specs.Hex.{IsBytes, lower_digits}
 use Rattle.hex.proofs.HexLemmas.{length-encode_with}
-use Rattle.capture.specs.declared.limit.TheConstants.{MAX_HINT, MAX_LINE, MAX_UNIT, MAX_MESSAGE}
+use Rattle.capture.specs.declared.limit.TheConstants.{MAX_LINE, MAX_UNIT, MAX_MESSAGE}
 use Rattle.capture.specs.declared.event.Event.{Event}
 use Rattle.capture.specs.declared.event.Event.TheVariants.{Start, Halt, Open, Accept, Reject, In, Up, Close}
 use Rattle.capture.specs.declared.record.Record.{Record}
@@ -62,9 +62,6 @@ pub head_lacks : (format : Format) (own peer : ℕ) → IsNode own → IsNode pe
 head_lacks format own peer p q = HasNo-append 10 (format_text format) (spaced (address_text own) (address_text peer)) (format_lacks format) (spaced_lacks (address_text own) (address_text peer) (address_lacks 10 own (lit< tt) p) (address_lacks 10 peer (lit< tt) q))
 
 -- ---- lengths
-
-decimal_short : (k n : ℕ) → 0 < k → n < 10 ^ k → n < 2 ^ 64 → length (decimal n) ≤ k
-decimal_short k n some small fits = length-decimal-le k n some small fits
 
 pub link_short : (link : ℕ) → IsLink link → length (decimal link) ≤ 5
 link_short link h = let most = h.most in length-decimal-le 5 link (lit< tt) (omega arith) (omega arith)

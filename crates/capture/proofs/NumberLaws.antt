@@ -1,5 +1,5 @@
 -- Numbers: what is read is the number's one spelling, and its spelling is read.
-use Rattle.std.proofs.Common.{◌≡◌, ℕ, suc, ◌+◌, ◌-◌, ◌*◌, ◌^◌, ◌<◌, ◌≤◌, true, false, cond, eqb, ltb, leb, not, ◌&&◌, ◌||◌, List, [], ◌∷◌, ◌++◌, length, get_or, take, drop, Option, Some, None, refl, sym, ap, ap₂, subst, ◌∙◌, inl, inr, arith, lit<}
+use Rattle.std.proofs.Common.{◌≡◌, ℕ, suc, ◌+◌, ◌-◌, ◌*◌, ◌^◌, ◌<◌, ◌≤◌, true, false, cond, eqb, ltb, leb, not, ◌&&◌, ◌||◌, List, [], ◌∷◌, ◌++◌, length, get_or, take, drop, Option, Some, None, refl, sym, ap, ap₂, ◌∙◌, inl, inr, arith, lit<}
 use Rattle.std.specs.Str.{all_ascii_digits}
 use Rattle.std.specs.Str.Parse.{digits_value, AllDigits}
 use Rattle.std.specs.Fmt.{decimal}
@@ -171,12 +171,6 @@ pub decimal_lacks : (mark n : ℕ) → mark < 48 → n < 2 ^ 64 → HasNo mark (
 decimal_lacks mark n low fits = digits_lack mark (decimal n) low (own.to (decimal n) (digits_decimal own n fits))
 
 -- ---- a number before a space
-
--- its first digit
-pub first_read : (text : List ℕ) → 0 < length text → is_ascii_digit (get_or text 0 0) ≡ true → HasRead (get_or text 0 0 - 48) (take 1 text)
-first_read text some good =
-    let same : 0 * 10 + (get_or text 0 0 - 48) ≡ get_or text 0 0 - 48 = omega arith in
-    subst (λ (value : ℕ). HasRead value (take 1 text)) same (read_more 0 0 text (record { each = tt; worth = refl }) some good)
 
 -- all digits were read as far as a space
 pub number_stands : (most value : ℕ) (text : List ℕ) (at : ℕ) → HasRead value (take at text) → 1 ≤ at → at ≤ 18 → at < length text → get_or text at 0 ≡ 32

@@ -1,5 +1,5 @@
 -- Records: what is read is the record's one spelling, and its spelling is read.
-use Rattle.std.proofs.Common.{◌≡◌, ℕ, ◌<◌, ◌≤◌, Bool, true, false, List, ◌∷◌, ◌++◌, length, Some, Ok, Err, refl, ap, ◌∙◌, arith, lit<}
+use Rattle.std.proofs.Common.{◌≡◌, ℕ, ◌<◌, ◌≤◌, Bool, true, false, List, ◌∷◌, ◌++◌, length, Ok, Err, refl, ap, ◌∙◌, arith, lit<}
 use Rattle.std.specs.Prelude.{codes}
 use Rattle.std.proofs.lemmas.Bool.{le-leb, lt-leb}
 use Rattle.hex.specs.Hex.{IsBytes}
@@ -11,7 +11,7 @@ use Rattle.capture.specs.declared.fault.Departure.TheVariants.{TooLong}
 use Rattle.capture.specs.Text.{spaced, bytes_text, hint_text, record_text}
 use Rattle.capture.specs.Range.{FormFits, NumbersFit, record_bytes, most_bytes, event_bytes, HasSpelling, IsShort, IsRecord}
 use Rattle.capture.specs.Reading.{after, cut_at, hint_at, bytes_at, receipt_at, event_at, record_at}
-use Rattle.capture.proofs.PartLaws.{HasNo, after_takes, cut_takes, cut_again}
+use Rattle.capture.proofs.PartLaws.{after_takes, cut_takes, cut_again}
 use Rattle.capture.proofs.HintLaws.{hint_takes, hint_again, hint_lacks}
 use Rattle.capture.proofs.BytesLaws.{IsBytesOf, IsLongOf, bytes_shows, bytes_again, limited, limited_then}
 use Rattle.capture.proofs.EventLaws.{IsEventOf, IsLongEventOf, event_shows, event_again}

@@ -1,10 +1,10 @@
 -- The search for the LF of the line at hand.
-use Rattle.std.proofs.Common.{◌≡◌, ◌≢◌, ℕ, ◌+◌, ◌<◌, ◌≤◌, true, false, eqb, List, ◌++◌, length, get_or, Option, Some, None, refl, sym, ap, subst, ◌∙◌, inl, inr, arith}
+use Rattle.std.proofs.Common.{◌≡◌, ◌≢◌, ℕ, ◌<◌, ◌≤◌, true, false, eqb, List, ◌++◌, length, get_or, Option, Some, None, sym, ap, subst, ◌∙◌, inl, inr, arith}
 use Rattle.std.specs.Prelude.{IfSome}
 use Rattle.std.specs.Io.KnownBytes.{prepend_known, Keeps, IsAtEnd}
-use Rattle.std.proofs.KnownBytes.{Keeps-refl, prepend_known-end}
-use Rattle.std.proofs.lemmas.Bool.{cases_lt, eqb-true, eqb-false}
-use Rattle.std.proofs.lemmas.List.{length-append, get_or_append_left, append-nil, nil_from_length}
+use Rattle.std.proofs.KnownBytes.{Keeps-refl}
+use Rattle.std.proofs.lemmas.Bool.{cases_lt, eqb-false}
+use Rattle.std.proofs.lemmas.List.{length-append, append-nil}
 use Rattle.capture.specs.declared.limit.TheConstants.{MAX_LINE}
 use Rattle.capture.specs.declared.fault.Departure.TheVariants.{Syntax, TooLong, TooMany}
 use Rattle.capture.specs.Departing.{first_line, has_lf, IsWhole, LineDeparts}
@@ -43,18 +43,6 @@ module _ (most searched : ℕ) (unread : List ℕ) (before after : Option (List 
       let same = line-append_open unread rest open_line.1 in
       (lt, rw same.0 (omega (arith, length-append unread (first_line rest)))))
 
-  pub seek_on : FindsLf searched unread None → (new : List ℕ) (later : Option (List ℕ)) (taken' faults' : ℕ) → ReadsAhead unread new after later true → taken' ≡ taken → faults' ≡ faults
-      → Seeking (length unread) new before later taken' old_taken faults' old_faults
-  seek_on f new later taken' faults' read e1 e2 =
-      let grown : length new ≡ length unread + length read.0 = ap length read.1 ∙ length-append unread read.0 in
-      record {
-        within = omega arith;
-        none = λ j lt. rw (read.1, get_or_append_left unread read.0 0 j lt) (elim (cases_lt j searched) [ inl early ↦ s.none j early | inr late ↦ f j late lt ]);
-        kept = kept_on before after later unread new read.0 s.kept read.1 read.2;
-        same_taken = e1 ∙ s.same_taken;
-        same_faults = e2 ∙ s.same_faults;
-      }
-
   -- the reader is at its end
   pub seek_ended : (new : List ℕ) (later : Option (List ℕ)) → ReadsAhead unread new after later false → Keeps before (prepend_known unread later) × IsAtEnd later
   seek_ended new later read =
@@ -67,11 +55,6 @@ module _ (most searched : ℕ) (unread : List ℕ) (before after : Option (List 
       let open_line = seek_open f in
       let ended = seek_ended new later read in
       if_all_known before later unread (LineDeparts most taken Syntax) ended.0 ended.1 (lt, (λ e. some (ap length e)), rw open_line.0 short, open_line.1)
-
-  pub seek_end : (new : List ℕ) (later : Option (List ℕ)) → ReadsAhead unread new after later false → length unread ≡ 0 → IsAtEnd before
-  seek_end new later read none =
-      let ended = seek_ended new later read in
-      prepend_known-end before later unread ended.0 (nil_from_length unread none) ended.1
 
 -- a reader that fails has what it had left
 left_kept : (before mid after : Option (List ℕ)) (unread : List ℕ) → Keeps before (prepend_known unread mid) → Keeps mid after → Keeps before (prepend_known unread after)
@@ -86,29 +69,9 @@ seek_failed searched unread new before after later taken old_taken faults old_fa
     subst (λ (t : List ℕ). (has_lf t ≡ false) × Keeps before (prepend_known t later)) (sym same)
     ((seek_open searched searched unread before after taken old_taken faults old_faults s f).1, left_kept before after later unread s.kept left)
 
-pub seek_start : (unread : List ℕ) (after : Option (List ℕ)) (taken faults : ℕ) → Seeking 0 unread (to_come unread after) after taken taken faults faults
-seek_start unread after taken faults =
-    record { within = omega arith; none = λ j lt. absurd (omega arith); kept = Keeps-refl (to_come unread after); same_taken = refl; same_faults = refl }
-
 -- ---- where no line may come any more
 
 pub beyond_known : (most taken : ℕ) (unread : List ℕ) (after : Option (List ℕ)) → most ≤ taken → false ≡ eqb (length unread) 0 → IfSome (to_come unread after) (LineDeparts most taken TooMany)
 beyond_known most taken unread after le some =
     if_known (to_come unread after) after unread (LineDeparts most taken TooMany) (Keeps-refl (to_come unread after)) (λ rest.
     (le, λ e. eqb-false (length unread) 0 (sym some) (let none : length (unread ++ rest) ≡ 0 = ap length e in omega (arith, length-append unread rest))))
-
-pub beyond_read : (most taken : ℕ) (unread new : List ℕ) (after later : Option (List ℕ)) → most ≤ taken → ReadsAhead unread new after later true → IfSome (to_come unread after) (LineDeparts most taken TooMany)
-beyond_read most taken unread new after later le read =
-    if_known (to_come unread after) later new (LineDeparts most taken TooMany) (kept_on (to_come unread after) after later unread new read.0 (Keeps-refl (to_come unread after)) read.1 read.2) (λ rest. (
-      le,
-      λ e.
-          let some = read.3 in
-          let grown : length new ≡ length unread + length read.0 = ap length read.1 ∙ length-append unread read.0 in
-          let none : length (new ++ rest) ≡ 0 = ap length e in
-          absurd (omega (arith, length-append new rest)),
-    ))
-
-pub beyond_end : (unread new : List ℕ) (after later : Option (List ℕ)) → true ≡ eqb (length unread) 0 → ReadsAhead unread new after later false → IsAtEnd (to_come unread after)
-beyond_end unread new after later none read =
-    let empty = eqb-true (length unread) 0 (sym none) in
-    seek_end 0 0 unread (to_come unread after) after 0 0 0 0 (seek_start unread after 0 0) new later read empty

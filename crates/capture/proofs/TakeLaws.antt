@@ -1,18 +1,17 @@
 -- One record's turn, and the head's.
-use Rattle.std.proofs.Common.{◌≡◌, ℕ, ◌+◌, ◌-◌, ◌<◌, ◌≤◌, Bool, true, false, cond, leb, List, [], ◌∷◌, ◌++◌, length, take, drop, Option, Some, None, Result, Ok, Err, refl, sym, ap, subst, ◌∙◌, inl, inr, arith}
+use Rattle.std.proofs.Common.{◌≡◌, ℕ, ◌+◌, ◌-◌, ◌<◌, ◌≤◌, Bool, true, false, cond, leb, List, [], ◌∷◌, ◌++◌, length, take, drop, Option, Some, None, Result, Ok, Err, sym, ap, subst, ◌∙◌, inr, arith}
 use Rattle.std.specs.Prelude.{IfSome}
-use Rattle.std.specs.Io.KnownBytes.{prepend_known, Consumes, Keeps, IsAtEnd}
+use Rattle.std.specs.Io.KnownBytes.{prepend_known, Consumes, Keeps}
 use Rattle.std.proofs.KnownBytes.{prepend_known-nil}
 use Rattle.std.proofs.lemmas.List.{append_assoc}
 use Rattle.capture.specs.declared.limit.TheConstants.{MAX_RECORDS}
 use Rattle.capture.specs.declared.fault.Departure.{Departure}
 use Rattle.capture.specs.declared.fault.Departure.TheVariants.{Syntax, TooLong, TooMany}
 use Rattle.capture.specs.declared.hint.HintForm.{HintForm}
-use Rattle.capture.specs.declared.format.Format.{Format}
 use Rattle.capture.specs.declared.record.Record.{Record}
 use Rattle.capture.specs.Text.{record_text, ended}
 use Rattle.capture.specs.Range.{FormFits, IsRecord, record_bytes, most_bytes}
-use Rattle.capture.specs.Departing.{first_line, IsWhole, LineDeparts, WordsDepart, RecordDeparts, HeadWordsDepart, HeadDeparts}
+use Rattle.capture.specs.Departing.{first_line, IsWhole, WordsDepart, RecordDeparts, HeadWordsDepart, HeadDeparts}
 use Rattle.capture.specs.Reading.{record_at, head_at}
 use Rattle.capture.proofs.BytesLaws.{limited}
 use Rattle.capture.proofs.LineLaws.{line-split, line-append, if_known}
@@ -81,25 +80,7 @@ record_departs form kind unread len taken before after fits lt some whole e kept
     let same = whole-append unread rest whole in
     inr (omega arith, same.0, subst (WordsDepart form kind) (sym same.1) departs))
 
-pub line_departs : (form : HintForm) (kind : Departure) (taken : ℕ) (bytes : List ℕ) → 1 ≤ taken → LineDeparts (MAX_RECORDS + 1) taken kind bytes → RecordDeparts form (taken - 1) kind bytes
-line_departs form TooMany taken bytes some h = let le = h.0 in inl (omega arith, h.1)
-line_departs form TooLong taken bytes some h = let lt = h.0 in inl (omega arith, h.1)
-line_departs form Syntax taken bytes some h = let lt = h.0 in inl (omega arith, h.1, h.2, h.3)
-
-pub lines_depart : (form : HintForm) (kind : Departure) (taken : ℕ) (before : Option (List ℕ)) → 1 ≤ taken → IfSome before (LineDeparts (MAX_RECORDS + 1) taken kind) → IfSome before (RecordDeparts form (taken - 1) kind)
-lines_depart form kind taken None some h = tt
-lines_depart form kind taken (Some bytes) some h = line_departs form kind taken bytes some h
-
 -- ---- the head
-
-pub head_line_departs : (kind : Departure) (bytes : List ℕ) → LineDeparts 1 0 kind bytes → HeadDeparts kind bytes
-head_line_departs TooMany bytes h = let le = h.0 in absurd (omega arith)
-head_line_departs TooLong bytes h = h.1
-head_line_departs Syntax bytes h = inl (h.2, h.3)
-
-pub head_lines_depart : (kind : Departure) (before : Option (List ℕ)) → IfSome before (LineDeparts 1 0 kind) → IfSome before (HeadDeparts kind)
-head_lines_depart kind None h = tt
-head_lines_depart kind (Some bytes) h = head_line_departs kind bytes h
 
 pub no_head : (unread : List ℕ) (len : ℕ) (before after : Option (List ℕ)) → IsWhole unread → len ≡ length (first_line unread) → Keeps before (prepend_known unread after)
     → head_at (take len unread) ≡ None → IfSome before (HeadDeparts Syntax)
@@ -109,11 +90,6 @@ no_head unread len before after whole e kept read =
     if_known before after unread (HeadDeparts Syntax) kept (λ rest.
     let same = whole-append unread rest whole in
     inr (same.0, subst (HeadWordsDepart Syntax) (sym same.1) departs))
-
--- a text with no line has no head
-pub empty_head : (before : Option (List ℕ)) → IsAtEnd before → IfSome before (HeadDeparts Syntax)
-empty_head None end = tt
-empty_head (Some xs) end = rw end (inl (omega arith, refl))
 
 -- nothing was read ahead
 pub start_kept : (unread : List ℕ) (before after : Option (List ℕ)) → unread ≡ [] → Keeps (prepend_known unread before) after → Keeps before after

@@ -9,7 +9,8 @@ use Rattle.capture.specs.declared.fault.ConvertFault.TheVariants.{Capture, Write
 use Rattle.capture.specs.declared.format.Format.{Format}
 use Rattle.capture.specs.Text.{capture_text}
 use Rattle.capture.specs.Faulty.{CountsReads, is_read_fault}
-use Rattle.capture.specs.SoFar.{ReadSoFar, TheEnd, IsReadSoFar, DepartsBehind, HeadDepartsAt}
+use Rattle.capture.specs.Lines.{IsCutBehind}
+use Rattle.capture.specs.SoFar.{ReadSoFar, TheEnd, IsReadSoFar, DepartsBehind, HeadDepartsAt, coming}
 
 -- the text, in this format, of what was read
 abbrev pub text_of : Format → ReadSoFar → List ℕ
@@ -40,6 +41,24 @@ Converts to text old new (Ok count) = (read : ReadSoFar) × HasConverted to text
 Converts to text old new (Err (Capture fault)) = StopsAt to text old new fault
 Converts to text old new (Err Write) = (read : ReadSoFar) × IsReadSoFar text read × AppendsBeginning old new (text_of to read)
 Converts to text old new (Err OutOfMemory) = Keeps old new
+
+-- what the reader had left, and has left now; and what the writer held, and holds now
+pub record Devices : Type 0 where
+  pub text : Option (List ℕ)
+  pub left : Option (List ℕ)
+  pub old : Option (List ℕ)
+  pub new : Option (List ℕ)
+
+abbrev pub devices : Option (List ℕ) → Option (List ℕ) → Option (List ℕ) → Option (List ℕ) → Devices
+devices text left old new = record { text = text; left = left; old = old; new = new }
+
+-- Where a read failed: each whole line that the reader had given until then was read, and written in this format. Behind these lines, or where
+-- no head was read, it had given a piece of a line.
+abbrev pub ConvertsWholeLines : Format → Devices → Result ℕ ConvertFault → Type 0
+ConvertsWholeLines to d (Err (Capture faults.Read)) =
+    (Keeps d.old d.new × IsCutBehind d.text d.left)
+    ⊎ ((read : ReadSoFar) × HasConverted to d.text d.old d.new read × IsCutBehind (coming read.behind) d.left)
+ConvertsWholeLines to d answer = Unit {0}
 
 -- a fault of the text's reader
 abbrev pub convert_fault : CaptureFault → ConvertFault

@@ -15,6 +15,10 @@ pub record LineState : Type 0 where
 abbrev pub to_come : List ℕ → Option (List ℕ) → Option (List ℕ)
 to_come unread left = prepend_known unread left
 
+-- The bytes that were read ahead are no whole line, and nothing that was to come is lost.
+abbrev pub IsCut : List ℕ → (before after : Option (List ℕ)) → Type 0
+IsCut unread before after = (has_lf unread ≡ false) × Keeps before after
+
 -- What a search for the next line found, in a text that may have `most` lines. `before` was to come before it and
 -- `after` is to come now, where the reader tells its bytes. A line is found where it was read ahead whole; where the reader
 -- failed none was, and nothing of what it gave is lost.
@@ -23,7 +27,7 @@ FindsLine most state before after (Ok (Some len)) =
     (state.taken < most) × IsWhole state.unread × (len ≡ length (first_line state.unread)) × Keeps before after
 FindsLine most state before after (Ok None) = IsAtEnd before
 FindsLine most state before after (Err (Departs kind)) = IfSome before (LineDeparts most state.taken kind)
-FindsLine most state before after (Err Read) = (has_lf state.unread ≡ false) × Keeps before after
+FindsLine most state before after (Err Read) = IsCut state.unread before after
 
 -- What was to come begins with a piece of a line, which has no LF, and then comes what the reader has left.
 abbrev pub IsCutBehind : Option (List ℕ) → Option (List ℕ) → Type 0

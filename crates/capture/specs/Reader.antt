@@ -1,5 +1,5 @@
 -- What a contract sees of a reader of a capture, and what one call of it gives.
-use Rattle.std.specs.Prelude.{◌≡◌, ℕ, ◌+◌, ◌-◌, ◌<◌, ◌≤◌, List, Option, Some, None, Result, Ok, Err, IfSome}
+use Rattle.std.specs.Prelude.{◌≡◌, ℕ, ◌+◌, ◌-◌, ◌<◌, ◌≤◌, Bool, true, false, List, Option, Some, None, Result, Ok, Err, IfSome}
 use Rattle.std.specs.Io.KnownBytes.{Consumes, IsAtEnd}
 use Rattle.capture.specs.declared.limit.TheConstants.{MAX_RECORDS}
 use Rattle.capture.specs.declared.fault.Departure.{Departure}
@@ -32,6 +32,11 @@ FaultShows departs number before (Departs kind line) = (line ≡ number) × IfSo
 FaultShows departs number before Read = Unit {0}
 FaultShows departs number before OutOfMemory = Unit {0}
 FaultShows departs number before Failed = ⊥
+
+-- this, where a failed read is answered
+abbrev pub WhereReadFails : (failed_read : Bool) → Type 0 → Type 0
+WhereReadFails true told = told
+WhereReadFails false told = Unit {0}
 
 -- What `open` gives, where these bytes were to come, and these are.
 abbrev pub Opens : Option (List ℕ) → Option (List ℕ) → Result CaptureState CaptureFault → Type 0

@@ -1,9 +1,8 @@
 //! The bytes of a unit or of a message, in memory of their own.
 
-ghost use Rattle.std.specs.Prelude.{◌≡◌, ◌↔◌, [], length, IsTrue, IfOk};
+ghost use Rattle.std.specs.Prelude.{◌≡◌, ◌↔◌, [], length, IsTrue};
 ghost use Rattle.hex.specs.Hex.{IsBytes};
 
-use std::alloc::{AllocError, Global};
 use std::marker::Model;
 
 /// Bytes that their record owns. A contract sees them as the list of the bytes.
@@ -28,15 +27,6 @@ impl Bytes {
         Bytes { owned }
     }
 
-    /// A copy of these bytes. `AllocError` where there is no memory for it.
-    pub fn copied(alloc: Global, bytes: &[u8]) -> Result<Bytes, AllocError>
-        ensures { IfOk result (λ copy. copy ≡ bytes.now) }
-    {
-        let mut owned = Vec::with_capacity(alloc, bytes.len())?;
-        owned.extend_from_slice(bytes)?;
-        Ok(Bytes { owned })
-    }
-
     /// The bytes, in the memory that they have. Takes no memory.
     pub fn into_vec(self) -> Vec<u8>
         ensures { result.items ≡ self }
@@ -45,7 +35,7 @@ impl Bytes {
         owned
     }
 
-    /// The bytes, each of which is below 256.
+    /// The bytes, each of which is below 256. Takes no memory.
     pub fn as_slice(&self) -> &[u8]
         ensures value { result.now ≡ self.now }
         ensures bytes { IsBytes self.now }
@@ -54,14 +44,14 @@ impl Bytes {
         bytes
     }
 
-    /// How many bytes there are.
+    /// How many bytes there are. Takes no memory.
     pub fn len(&self) -> usize
         ensures { result ≡ length self.now }
     {
         self.owned.len()
     }
 
-    /// Whether there are none.
+    /// Whether there are none. Takes no memory.
     pub fn is_empty(&self) -> bool
         ensures { IsTrue result ↔ (self.now ≡ []) }
     {

@@ -9,7 +9,7 @@ ghost use Rattle.capture.specs.declared.limit.TheConstants.{MAX_HINT, MAX_LINE};
 ghost use Rattle.capture.specs.declared.page.TheConstants.{SIZE};
 ghost use Rattle.capture.specs.declared.converting.TheConstants.{LINE};
 ghost use Rattle.capture.specs.declared.record.Record.TheVariants as records;
-ghost use Rattle.capture.specs.Converting.{Converts, CountsReadsOf, CountsWritesOf, convert_fault};
+ghost use Rattle.capture.specs.Converting.{Converts, ConvertsWholeLines, CountsReadsOf, CountsWritesOf, convert_fault, devices};
 ghost use Rattle.capture.specs.Entries.{record_with};
 ghost use Rattle.capture.specs.Range.{FormFits, NumbersFit};
 ghost use Rattle.capture.specs.Text.{format_number, hint_text, record_line, record_text};
@@ -35,9 +35,9 @@ const LINE: usize = 131_200;
 /// records it has.
 ///
 /// The head is written first, and then the lines of the records, put together in large pieces. `Capture(Departs)`: this line
-/// departs; `Capture(Read)`: the reader failed. At either the writer has the head and the lines of all records before that, and nothing where
-/// no head was read. `Write`: the writer failed, and has a beginning of those that is not all of them; it comes too where the text's
-/// fault was met before. `OutOfMemory`: there is no memory for a block of the reader or for the pieces, and nothing was
+/// departs; `Capture(Read)`: the reader failed. At either the writer has the head and the lines of all records before that, of each whole line
+/// that the reader had given, and nothing where no head was read. `Write`: the writer failed, and has a beginning of those that is not all of them; it comes too where the text's
+/// fault was met before. `OutOfMemory`: there is no memory for a block of the reader, for the head's line or for the pieces, and nothing was
 /// written. Once the head is written nothing takes memory.
 pub fn convert<R: Read, W: Write>(
     alloc: Global,
@@ -48,6 +48,8 @@ pub fn convert<R: Read, W: Write>(
     requires { (format : Layout) × (to ≡ format_number format) }
     ensures converts { (format : Layout) → to ≡ format_number format → Converts format (R.remaining (tally_lent reader.old))
         (W.contents (tally_lent writer.old)) (W.contents (tally_lent writer.new)) result }
+    ensures lines { (format : Layout) → to ≡ format_number format → ConvertsWholeLines format (devices (R.remaining (tally_lent reader.old))
+        (R.remaining (tally_lent reader.new)) (W.contents (tally_lent writer.old)) (W.contents (tally_lent writer.new))) result }
     ensures reads { CountsReadsOf result (tally_faults reader.old) (tally_faults reader.new) }
     ensures writes { CountsWritesOf result (tally_faults writer.old) (tally_faults writer.new) }
 {
@@ -65,6 +67,8 @@ fn convert_to<R: Read, W: Write>(
 ) -> Result<u64, ConvertFault>
     ensures converts { Converts to (R.remaining (tally_lent reader.old))
         (W.contents (tally_lent writer.old)) (W.contents (tally_lent writer.new)) result }
+    ensures lines { ConvertsWholeLines to (devices (R.remaining (tally_lent reader.old)) (R.remaining (tally_lent reader.new))
+        (W.contents (tally_lent writer.old)) (W.contents (tally_lent writer.new))) result }
     ensures reads { CountsReadsOf result (tally_faults reader.old) (tally_faults reader.new) }
     ensures writes { CountsWritesOf result (tally_faults writer.old) (tally_faults writer.new) }
 {

@@ -11,7 +11,7 @@ use crate::hint::HintForm;
 use crate::line_words::{put_bytes, put_links, put_message, put_number, put_receipt};
 use std::alloc::AllocError;
 
-/// Puts the line of the record of this entry and these bytes, with its LF, behind a text. Bytes beside an entry whose line has no
+/// Puts the line of the record of this entry and these bytes, at most 65,535, with its LF, behind a text. Bytes beside an entry whose line has no
 /// BYTES are not looked at. `AllocError` where a growth of the text was refused; the text may then have a beginning of the line.
 ///
 /// `Received { kept: true, hint: 3 }` and one byte 5 are the line `k 3 05`.

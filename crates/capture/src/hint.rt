@@ -31,7 +31,7 @@ impl HintForm {
         }
     }
 
-    /// The form behind the line of a record of this entry. Takes no memory.
+    /// The form behind the line of a record of this entry, whose hint is at most 999,999,999,999,999,999. Takes no memory.
     #[inline(always)]
     pub fn after(self, entry: Entry) -> HintForm
         requires { NumbersFit (record_with entry []) }
@@ -45,7 +45,7 @@ impl HintForm {
         }
     }
 
-    /// The form behind the record's line. Takes no memory.
+    /// The form behind the record's line; a hint is at most 999,999,999,999,999,999. Takes no memory.
     pub fn after_record(self, record: &Record) -> HintForm
         requires { NumbersFit «record».now }
         ensures { result ≡ form_after self «record».now }
@@ -73,7 +73,7 @@ fn next_mark(mark: u64, entry: Entry) -> u64
     }
 }
 
-/// The mark behind the record's line. Takes no memory.
+/// The mark behind the record's line; a hint is at most 999,999,999,999,999,999. Takes no memory.
 pub fn next_mark_of(mark: u64, record: &Record) -> u64
     requires { NumbersFit «record».now }
     ensures { result ≡ mark_after mark «record».now }

@@ -79,7 +79,7 @@ impl LineReader {
         &self.block[self.start..self.end]
     }
 
-    /// The first `len` bytes that were read ahead.
+    /// The first `len` bytes that were read ahead: the line that `next` found, of the length that it answered. Takes no memory.
     pub fn line(&self, len: usize) -> &[u8]
         requires { len ≤ length self.now.unread }
         ensures { result.now ≡ take len self.now.unread }
@@ -87,14 +87,14 @@ impl LineReader {
         &self.unread()[..len]
     }
 
-    /// The line that was left behind last; after a call of `next` it may be any bytes.
+    /// The line that was left behind last; after a call of `next` it may be any bytes. Takes no memory.
     pub fn last(&self) -> &[u8]
         ensures { result.now ≡ self.now.last }
     {
         &self.block[self.last..self.last_end]
     }
 
-    /// Leaves a line of `len` bytes and its LF behind.
+    /// Leaves a line of `len` bytes and its LF behind: the one that `next` found. Takes no memory.
     pub fn skip(&mut self, len: usize)
         requires whole { len < length self.old.unread }
         requires few { self.old.taken + 1 < 2 ^ 64 }

@@ -3,11 +3,11 @@
 ghost use Rattle.std.specs.Prelude.{◌≡◌, ◌≤◌, ◌+◌, length, take, Ok, Err, None, IfOk, IfSome};
 ghost use Rattle.wire_base.specs.Tally.{tally_faults, tally_lent};
 ghost use Rattle.capture.specs.declared.limit.TheConstants.{MAX_MESSAGE, MAX_RECORDS};
-ghost use Rattle.capture.specs.Lines.{to_come};
+ghost use Rattle.capture.specs.Lines.{IsCutBehind, to_come};
 ghost use Rattle.capture.specs.Entries.{record_with, recorded, recorded_in};
 ghost use Rattle.capture.specs.Faulty.{CountsReads, is_failed_read};
 ghost use Rattle.capture.specs.Range.{FormFits};
-ghost use Rattle.capture.specs.Reader.{NextGives, Opens, TakesRecord};
+ghost use Rattle.capture.specs.Reader.{NextGives, Opens, TakesRecord, WhereReadFails};
 ghost use Rattle.capture.specs.Text.{format_number, format_of, record_text};
 
 use crate::entry::Entry;
@@ -75,6 +75,8 @@ fn take_record<R: Read>(
     ensures takes { TakesRecord (record { form = form; taken = lines.old.taken }) lines.new.taken
         (to_come lines.old.unread (R.remaining (tally_lent reader.old)))
         (to_come lines.new.unread (R.remaining (tally_lent reader.new))) result }
+    ensures cut { WhereReadFails (is_failed_read result)
+        (IsCutBehind (to_come lines.old.unread (R.remaining (tally_lent reader.old))) (R.remaining (tally_lent reader.new))) }
     ensures reads { CountsReads (is_failed_read result) (tally_faults reader.old) (tally_faults reader.new) }
 {
     let number = lines.taken() + 1;
@@ -108,6 +110,8 @@ fn take_entry<R: Read>(
     ensures takes { TakesRecord (record { form = wording.now.form; taken = lines.old.taken }) lines.new.taken
         (to_come lines.old.unread (R.remaining (tally_lent reader.old)))
         (to_come lines.new.unread (R.remaining (tally_lent reader.new))) (recorded_in room.new result) }
+    ensures cut { WhereReadFails (is_failed_read result)
+        (IsCutBehind (to_come lines.old.unread (R.remaining (tally_lent reader.old))) (R.remaining (tally_lent reader.new))) }
     ensures room { length room.new ≡ MAX_MESSAGE }
     ensures len { IfOk result (λ taken. IfSome taken (λ entry. entry.1 ≤ MAX_MESSAGE)) }
     ensures line { IfOk result (λ taken. IfSome taken (λ entry.
@@ -131,17 +135,20 @@ fn take_entry<R: Read>(
 }
 
 impl CaptureReader {
-    /// Reads the head, `ddcap 1 OWN PEER` or `ddcap 2 OWN PEER`.
+    /// Reads the head, `ddcap 1 OWN PEER` or `ddcap 2 OWN PEER`, and what the reader gives with it: a reader of the records behind it.
     ///
-    /// Faults: `Departs` at line 1, with `TooLong` where more than 131,081 bytes stand before the first
+    /// Faults, after which the reader has given what was read ahead: `Departs` at line 1, with `TooLong` where more than 131,081 bytes stand before the first
     /// LF or the end, and with `Syntax` where the first line has no LF, as in an empty text, or is no
     /// head; `Read` where a call of the reader failed, and at any other answer its count of them stands;
-    /// `OutOfMemory` where there is no memory for the reader's block or for its room for bytes.
+    /// `OutOfMemory` where there is no memory for the reader's block or for its room for bytes. Where a read failed the reader had given
+    /// no whole line.
     pub fn open<R: Read>(
         alloc: Global,
         reader: &mut Tally<R>,
     ) -> Result<CaptureReader, CaptureFault>
         ensures opens { Opens (R.remaining (tally_lent reader.old)) (R.remaining (tally_lent reader.new)) result }
+        ensures cut { WhereReadFails (is_failed_read result)
+            (IsCutBehind (R.remaining (tally_lent reader.old)) (R.remaining (tally_lent reader.new))) }
         ensures reads { CountsReads (is_failed_read result) (tally_faults reader.old) (tally_faults reader.new) }
     {
         let Ok(mut lines) = LineReader::new(alloc) else {
@@ -204,6 +211,8 @@ impl CaptureReader {
         ensures gives { self.old.phase ≡ Phase.Reading → NextGives self.old self.new
             (to_come self.old.unread (R.remaining (tally_lent reader.old)))
             (to_come self.new.unread (R.remaining (tally_lent reader.new))) (recorded self.new.bytes result) }
+        ensures cut { self.old.phase ≡ Phase.Reading → WhereReadFails (is_failed_read result)
+            (IsCutBehind (to_come self.old.unread (R.remaining (tally_lent reader.old))) (R.remaining (tally_lent reader.new))) }
         ensures ended { self.old.phase ≡ Phase.Ended → (result ≡ Ok None) × (self.new ≡ self.old) }
         ensures failed { self.old.phase ≡ Phase.Failed → (result ≡ Err CaptureFault.Failed) × (self.new ≡ self.old) }
         ensures head { (self.new.own ≡ self.old.own) × (self.new.peer ≡ self.old.peer) × (format_of self.new.form ≡ format_of self.old.form) }
@@ -239,14 +248,14 @@ impl CaptureReader {
         self.alloc
     }
 
-    /// The line of the record that `advance` read last, without its LF. Takes no memory.
+    /// The line of the record that `advance` read last, without its LF, until the next call. Takes no memory.
     pub fn line(&self) -> &[u8]
         ensures { result.now ≡ self.now.line }
     {
         self.lines.last()
     }
 
-    /// The bytes of the record that `advance` read last. Takes no memory.
+    /// The bytes of the record that `advance` read last, until the next call; none before the first. Takes no memory.
     pub fn bytes(&self) -> &[u8]
         ensures { result.now ≡ self.now.bytes }
     {
@@ -259,13 +268,15 @@ impl CaptureReader {
     /// these kinds: `TooMany` after 1,000,000,000,000 records, whatever the line holds; `TooLong` at
     /// more than 131,081 bytes before its LF or the end; `Syntax` where it has no LF; `Syntax` where
     /// it is no record's, in the format of the head; `TooLong` where it is one but for too many bytes. `OutOfMemory` comes where
-    /// there is no memory for the bytes of the record, and `Read` where a call of the reader failed;
+    /// there is no memory for the bytes of the record, and `Read` where a call of the reader failed, behind a piece of a line;
     /// at any other answer its count of them stands as it stood.
     #[inline(always)]
     pub fn next<R: Read>(&mut self, reader: &mut Tally<R>) -> Result<Option<Record>, CaptureFault>
         ensures gives { self.old.phase ≡ Phase.Reading → NextGives self.old self.new
             (to_come self.old.unread (R.remaining (tally_lent reader.old)))
             (to_come self.new.unread (R.remaining (tally_lent reader.new))) result }
+        ensures cut { self.old.phase ≡ Phase.Reading → WhereReadFails (is_failed_read result)
+            (IsCutBehind (to_come self.old.unread (R.remaining (tally_lent reader.old))) (R.remaining (tally_lent reader.new))) }
         ensures ended { self.old.phase ≡ Phase.Ended → (result ≡ Ok None) × (self.new ≡ self.old) }
         ensures failed { self.old.phase ≡ Phase.Failed → (result ≡ Err CaptureFault.Failed) × (self.new ≡ self.old) }
         ensures head { (self.new.own ≡ self.old.own) × (self.new.peer ≡ self.old.peer) × (format_of self.new.form ≡ format_of self.old.form) }

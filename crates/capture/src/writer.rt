@@ -22,7 +22,7 @@ use wire_base::{Tally, write_whole};
 // or a letter and a hint.
 const WORDS: usize = 64;
 
-/// Writes the head `ddcap 1 OWN PEER`, in one piece.
+/// Writes the head `ddcap 1 OWN PEER`, in one piece. Both have to be node addresses, which `is_node` tells.
 ///
 /// `Write`: the writer failed in this call, and has a beginning of the line that is not all of it.
 /// `OutOfMemory`: there is no memory for the line, and the writer was not called.
@@ -41,7 +41,7 @@ pub fn write_head<W: Write>(
     write_head_in(alloc, Format::One, own, peer, writer)
 }
 
-/// Writes the head `ddcap 2 OWN PEER`, in one piece.
+/// Writes the head `ddcap 2 OWN PEER`, in one piece. Both have to be node addresses, which `is_node` tells.
 ///
 /// `Write`: the writer failed in this call, and has a beginning of the line that is not all of it.
 /// `OutOfMemory`: there is no memory for the line, and the writer was not called.
@@ -92,7 +92,7 @@ fn head_words(alloc: Global, format: Format, own: u16, peer: u16) -> Result<Vec<
     Ok(line)
 }
 
-/// Writes the record's line in format 1, in one piece.
+/// Writes the record's line in format 1, in one piece. The record has to be in range (`Record::in_range`).
 ///
 /// `Write`: the writer failed in this call, and has a beginning of the line that is not all of it.
 /// `OutOfMemory`: there is no memory for the line, and the writer was not called.
@@ -110,10 +110,10 @@ pub fn write_record<W: Write>(
 }
 
 /// Writes the record's line in format 2, in one piece, and answers the mark behind it. The mark before the first record is 0;
-/// it is at most 1,000,000,000,000,000,000.
+/// it is at most 1,000,000,000,000,000,000. The record has to be in range (`Record::in_range`).
 ///
 /// `Write`: the writer failed in this call, and has a beginning of the line that is not all of it.
-/// `OutOfMemory`: there is no memory for the line, and the writer was not called.
+/// `OutOfMemory`: there is no memory for the line, and the writer was not called. At either the old mark still stands.
 pub fn write_record_2<W: Write>(
     alloc: Global,
     mark: u64,

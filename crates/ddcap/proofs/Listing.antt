@@ -14,13 +14,14 @@ use Rattle.capture.specs.declared.hint.HintForm.{HintForm}
 use Rattle.capture.specs.Text.{form_after, record_line}
 use Rattle.capture.specs.Range.{IsRecord}
 use Rattle.capture.specs.Departing.{HeadDeparts, RecordDeparts}
-use Rattle.capture.specs.Lines.{to_come}
-use Rattle.capture.specs.Reader.{CaptureState, FaultShows, Opens, NextGives}
+use Rattle.capture.specs.Faulty.{is_read_fault}
+use Rattle.capture.specs.Lines.{IsCutBehind, to_come}
+use Rattle.capture.specs.Reader.{CaptureState, FaultShows, Opens, NextGives, WhereReadFails}
 use Rattle.capture.specs.SoFar.{ToCome, TheEnd, so_far, IsReadSoFar}
 use Rattle.ddcap.specs.declared.show.Ending.TheVariants.{Faulty}
 use Rattle.ddcap.specs.Printed.{Moved, Stream}
 use Rattle.ddcap.specs.Shown.{shown_line, shown_lines}
-use Rattle.ddcap.specs.Showing.{HasBegun, HasRead, HasReadAll, IsReadTo, WritesAll, WritesSome}
+use Rattle.ddcap.specs.Showing.{HasBegun, HasRead, HasReadAll, IsReadTo, ListsWholeLines, WritesAll, WritesSome}
 
 -- ---- lists of records
 
@@ -149,6 +150,13 @@ module _ (text before : Option (List ℕ)) (capture : CaptureState) (number : �
   read_to_fault OutOfMemory shows = inr has_read
   read_to_fault Failed shows = absurd shows
 
+  -- where that is a failed read, each whole line was read
+  pub whole_to_fault : (fault : CaptureFault) (left : Option (List ℕ)) → WhereReadFails (is_read_fault fault) (IsCutBehind before left) → ListsWholeLines (Faulty fault) text left h.records
+  whole_to_fault (Departs kind line) left cut = tt
+  whole_to_fault Read left cut = inr (has_read, cut)
+  whole_to_fault OutOfMemory left cut = tt
+  whole_to_fault Failed left cut = tt
+
   pub read_by_then : HasBegun text h.records
   read_by_then = inr has_read
 
@@ -157,6 +165,12 @@ head_fault text (Departs kind line) shows = inl (refl, record { departs = shows.
 head_fault text Read shows = inl refl
 head_fault text OutOfMemory shows = inl refl
 head_fault text Failed shows = absurd shows
+
+pub whole_at_head : (text left : Option (List ℕ)) (fault : CaptureFault) → WhereReadFails (is_read_fault fault) (IsCutBehind text left) → ListsWholeLines (Faulty fault) text left []
+whole_at_head text left (Departs kind line) cut = tt
+whole_at_head text left Read cut = inl (refl, cut)
+whole_at_head text left OutOfMemory cut = tt
+whole_at_head text left Failed cut = tt
 
 -- nothing was written
 pub no_lines : (out : Stream) → WritesAll out out []

@@ -1,7 +1,7 @@
 -- What `convert` prints of a capture that it writes in another file, and with which status it ends.
 use Rattle.std.specs.Prelude.{◌≡◌, ℕ, List, ◌++◌, Result, Ok, Err, codes}
 use Rattle.std.specs.Fmt.{decimal}
-use Rattle.capture.specs.Converting.{Converts, CountsReadsOf, CountsWritesOf}
+use Rattle.capture.specs.Converting.{Converts, ConvertsWholeLines, CountsReadsOf, CountsWritesOf, devices}
 use Rattle.capture.specs.declared.fault.ConvertFault.{ConvertFault}
 use Rattle.capture.specs.declared.fault.ConvertFault.TheVariants.{Capture, Write, OutOfMemory}
 use Rattle.capture.specs.declared.format.Format.{Format}
@@ -39,6 +39,7 @@ Tells out err (Err fault) status = Writes err.old err.new (conversion_fault faul
 pub record IsConversion (to : Format) (src dest out err : Moved) (status : ℕ) : Type 0 where
   pub answer : Converted
   pub converts : Converts to src.old.bytes dest.old.bytes dest.new.bytes answer
+  pub lines : ConvertsWholeLines to (devices src.old.bytes src.new.bytes dest.old.bytes dest.new.bytes) answer
   pub reads : CountsReadsOf answer src.old.faults src.new.faults
   pub writes : CountsWritesOf answer dest.old.faults dest.new.faults
   pub tells : Tells out err answer status

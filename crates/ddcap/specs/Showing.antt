@@ -9,6 +9,7 @@ use Rattle.capture.specs.declared.fault.Departure.{Departure}
 use Rattle.capture.specs.declared.hint.HintForm.{HintForm}
 use Rattle.capture.specs.declared.record.Record.{Record}
 use Rattle.capture.specs.Faulty.{CountsReads, is_read_fault}
+use Rattle.capture.specs.Lines.{IsCutBehind}
 use Rattle.capture.specs.SoFar.{ToCome, TheEnd, so_far, IsReadSoFar, DepartsBehind, HeadDepartsAt}
 use Rattle.pair_judge.specs.declared.fault.JudgeFault.TheVariants as judge
 use Rattle.pair_judge.specs.declared.fault.TextFault.TheVariants as of_text
@@ -52,6 +53,12 @@ IsReadTo (Faulty Read) text records = HasBegun text records
 IsReadTo (Faulty OutOfMemory) text records = HasBegun text records
 IsReadTo (Faulty Failed) text records = ⊥
 IsReadTo (Cut met) text records = HasBegun text records
+
+-- Where a read failed: each whole line that the reader had given until then was read. Behind these lines, or where no head was read, it had given a
+-- piece of a line. `left` is what it has left.
+abbrev pub ListsWholeLines : Ending → (text left : Option (List ℕ)) → List Record → Type 0
+ListsWholeLines (Faulty Read) text left records = ((records ≡ []) × IsCutBehind text left) ⊎ ((h : HasRead text records) × IsCutBehind h.come left)
+ListsWholeLines ending text left records = Unit {0}
 
 -- a read had failed by then
 abbrev pub has_failed_to_read : Ending → Bool
@@ -101,6 +108,7 @@ Ends (Cut met) err_old err_new status = (err_new ≡ err_old) × (status ≡ 3)
 pub record Lists (a out : Moved) (ending : Ending) : Type 0 where
   pub records : List Record
   pub read : IsReadTo ending a.old.bytes records
+  pub whole : ListsWholeLines ending a.old.bytes a.new.bytes records
   pub reads : CountsReads (has_failed_to_read ending) a.old.faults a.new.faults
   pub lines : Lines ending out.old out.new (shown_lines 0 records)
 

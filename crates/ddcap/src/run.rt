@@ -16,7 +16,7 @@ use std::rt::{Env, Files};
 use std::{env, fs};
 use wire_base::Tally;
 
-/// The status of words that are no task.
+// The status of words that are no task.
 const BAD_WORDS: u8 = 2;
 
 /// A file, by the name that it has in what is printed.
@@ -46,7 +46,7 @@ pub fn run<R: Env + Files + AllocGlobal, O: Write, E: Write>(
     }
 }
 
-/// The words as text. One that is not UTF-8 makes them bad words.
+// The words as text. One that is not UTF-8 makes them bad words.
 fn words_given<R: Env + AllocGlobal>(rt: &R) -> Result<Vec<String>, WordsFault> {
     match env::args(rt) {
         Ok(words) => match words.collect(rt.alloc()) {
@@ -60,7 +60,7 @@ fn words_given<R: Env + AllocGlobal>(rt: &R) -> Result<Vec<String>, WordsFault> 
     }
 }
 
-/// Prints `bad words`, or `out of memory`, and answers the status.
+// Prints `bad words`, or `out of memory`, and answers the status.
 fn print_words_fault<W: Write>(err: &mut Tally<W>, fault: WordsFault) -> u8
     ensures { Writes (stream_of W.contents err.old) (stream_of W.contents err.new)
         (words_fault_text fault) (words_fault_status fault) result }
@@ -71,7 +71,7 @@ fn print_words_fault<W: Write>(err: &mut Tally<W>, fault: WordsFault) -> u8
     }
 }
 
-/// Opens the two files, a's first, and checks what they hold. The first that can't be opened ends it.
+// Opens the two files, a's first, and checks what they hold. The first that can't be opened ends it.
 fn check_files<R: Files + AllocGlobal, O: Write, E: Write>(
     rt: &R,
     path_a: &str,
@@ -92,7 +92,7 @@ fn check_files<R: Files + AllocGlobal, O: Write, E: Write>(
     check_to(rt.alloc(), &mut a, &mut b, out, err)
 }
 
-/// Opens the file, and shows what it holds.
+// Opens the file, and shows what it holds.
 fn show_file<R: Files + AllocGlobal, O: Write, E: Write>(
     rt: &R,
     path: &str,
@@ -107,8 +107,8 @@ fn show_file<R: Files + AllocGlobal, O: Write, E: Write>(
     show_to(rt.alloc(), &mut a, out, err)
 }
 
-/// Opens the one file, creates or empties the other, and writes into it what the first one holds, in this format. The first that
-/// can't be opened ends it.
+// Opens the one file, creates or empties the other, and writes into it what the first one holds, in this format. The first that
+// can't be opened ends it.
 fn convert_file<R: Files + AllocGlobal, O: Write, E: Write>(
     rt: &R,
     to: Format,
@@ -130,8 +130,8 @@ fn convert_file<R: Files + AllocGlobal, O: Write, E: Write>(
     convert_to(rt.alloc(), to.number(), &mut src, &mut dest, out, err)
 }
 
-/// Opens the script, creates or empties both captures, a's first, and plays the script into them. The first that can't be opened
-/// ends it.
+// Opens the script, creates or empties both captures, a's first, and plays the script into them. The first that can't be opened
+// ends it.
 fn play_file<R: Files + AllocGlobal, O: Write, E: Write>(
     rt: &R,
     path: &str,
@@ -158,7 +158,7 @@ fn play_file<R: Files + AllocGlobal, O: Write, E: Write>(
     play_to(rt.alloc(), &mut script, &mut a, &mut b, out, err)
 }
 
-/// Prints that a file can't be opened, or that memory was wanting for it, and answers the status.
+// Prints that a file can't be opened, or that memory was wanting for it, and answers the status.
 fn print_not_opened<W: Write>(err: &mut Tally<W>, named: Named, error: &io::Error) -> u8
     ensures { Writes (stream_of W.contents err.old) (stream_of W.contents err.new)
         (not_opened_says named (error_kind error.now)) 3 result }

@@ -67,7 +67,7 @@ pub fn task_of<'a, S: AsStr>(alloc: Global, words: &'a [S]) -> Result<Task<'a>, 
     }
 }
 
-/// The conversion that the words behind `convert` ask for: the format's number has one spelling.
+// The conversion that the words behind `convert` ask for: the format's number has one spelling.
 fn conversion_of<'a>(found: &ArgMatches<'a>) -> Result<Task<'a>, WordsFault> {
     let (Some(number), Some(a), Some(b)) = (
         found.get_str("N"),
@@ -91,7 +91,7 @@ fn conversion_of<'a>(found: &ArgMatches<'a>) -> Result<Task<'a>, WordsFault> {
     }
 }
 
-/// The script and the captures that the words behind `play` name.
+// The script and the captures that the words behind `play` name.
 fn played_of<'a>(found: &ArgMatches<'a>) -> Result<Task<'a>, WordsFault> {
     match (
         found.get_str("SCRIPT"),
@@ -113,19 +113,19 @@ fn program<'a>(alloc: Global) -> Result<Command<'a>, AllocError> {
         .subcommand(convert(alloc)?)
 }
 
-/// `check A B`
+// `check A B`
 fn check<'a>(alloc: Global) -> Result<Command<'a>, AllocError> {
     Command::new(alloc, "check")
         .arg(Arg::new(alloc, "A").required(true))?
         .arg(Arg::new(alloc, "B").required(true))
 }
 
-/// `show A`
+// `show A`
 fn show<'a>(alloc: Global) -> Result<Command<'a>, AllocError> {
     Command::new(alloc, "show").arg(Arg::new(alloc, "A").required(true))
 }
 
-/// `play SCRIPT A B`
+// `play SCRIPT A B`
 fn play<'a>(alloc: Global) -> Result<Command<'a>, AllocError> {
     Command::new(alloc, "play")
         .arg(Arg::new(alloc, "SCRIPT").required(true))?
@@ -133,7 +133,7 @@ fn play<'a>(alloc: Global) -> Result<Command<'a>, AllocError> {
         .arg(Arg::new(alloc, "B").required(true))
 }
 
-/// `convert N IN OUT`
+// `convert N IN OUT`
 fn convert<'a>(alloc: Global) -> Result<Command<'a>, AllocError> {
     Command::new(alloc, "convert")
         .arg(Arg::new(alloc, "N").required(true))?

@@ -8,8 +8,8 @@ use dna_model::Tag;
 pub enum Arrival<'a> {
     /// A message, as it was sent, with the tag that it was sent with.
     Sound(Message<'a>, Tag),
-    /// A unit whose header shows damage.
+    /// A unit, or noise, whose header shows damage.
     HeaderBad,
-    /// A unit whose header is good and whose data shows damage.
+    /// A unit, or noise, whose header is good and whose data shows damage.
     DataBad,
 }

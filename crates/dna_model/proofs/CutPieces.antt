@@ -1,6 +1,6 @@
 -- Pieces that are held at their places, from the first on and from the first that is not delivered on.
-use Rattle.std.proofs.Common.{◌≡◌, ℕ, zero, suc, ◌+◌, ◌-◌, ◌<◌, ◌≤◌, Bool, true, false, cond, Option, Some, None, List, [], ◌∷◌, drop, refl, ap, ◌∙◌, arith}
-use Rattle.dna_model.specs.Pieces.{Piece, in_order, hold, Whole, with_piece, next_message}
+use Rattle.std.proofs.Common.{◌≡◌, ℕ, zero, suc, ◌-◌, ◌<◌, ◌≤◌, Option, Some, None, List, [], ◌∷◌, drop, refl, ap, ◌∙◌, arith}
+use Rattle.dna_model.specs.Pieces.{Piece, in_order, hold}
 
 -- a piece that came in order comes again: nothing changes
 pub hold_again : (place : ℕ) (p : Piece) (xs : List (Option Piece)) → place < in_order xs → hold place p xs ≡ xs
@@ -40,21 +40,3 @@ in_order-drop zero xs l = omega arith
 in_order-drop (suc n) [] l = absurd (omega (arith, l))
 in_order-drop (suc n) (None ∷ xs) l = absurd (omega (arith, l))
 in_order-drop (suc n) (Some q ∷ xs) l = omega (arith, in_order-drop n xs (omega (arith, l)))
-
--- the next message lies in what is in order
-abbrev pub Fits : Option Whole → ℕ → Type 0
-Fits None most = Unit {0}
-Fits (Some w) most = w.pieces ≤ most
-
-with_piece_fits : (p : Piece) (o : Option Whole) (most : ℕ) → Fits o most → Fits (with_piece p o) (1 + most)
-with_piece_fits p None most fits = tt
-with_piece_fits p (Some w) most fits = omega (arith, fits)
-
-next_fits : (ends : Bool) (p : Piece) (o : Option Whole) (most : ℕ) → Fits o most → Fits (cond ends (Some (record { pieces = 1; message = p.body })) (with_piece p o)) (1 + most)
-next_fits true p o most fits = omega arith
-next_fits false p o most fits = with_piece_fits p o most fits
-
-pub next_message_fits : (xs : List (Option Piece)) → Fits (next_message xs) (in_order xs)
-next_message_fits [] = tt
-next_message_fits (None ∷ xs) = tt
-next_message_fits (Some p ∷ xs) = next_fits p.ends p (next_message xs) (in_order xs) (next_message_fits xs)

@@ -1,6 +1,6 @@
 -- All that is whole of a link goes to the user at once: what the deliveries make of an end of the player. They change the flow of that link, and
 -- nothing else.
-use Rattle.std.proofs.Common.{◌≡◌, ℕ, ◌+◌, Bool, true, false, cond, Option, Some, None, List, [], ◌∷◌, ◌++◌, map, drop, length, Result, Ok, refl, sym, ap, ap₂, ◌∙◌, arith, append-nil, append_assoc, length-set}
+use Rattle.std.proofs.Common.{◌≡◌, ℕ, ◌+◌, Bool, true, false, cond, Option, Some, None, List, [], ◌∷◌, ◌++◌, map, drop, Ok, refl, sym, ap, ap₂, ◌∙◌, arith, append-nil, append_assoc, length-set}
 use Rattle.std.specs.Prelude.{slice_get, slice_set}
 use Rattle.std.proofs.lemmas.List.{drop-drop, set-set}
 use Rattle.capture.specs.declared.event.Event.TheVariants as events
@@ -14,13 +14,13 @@ use Rattle.dna_model.specs.TrueLinks.{Links}
 use Rattle.dna_model.specs.Owed.{Owed, all_acknowledged}
 use Rattle.dna_model.specs.LinkOwed.{LinkOwed, LinksOwed}
 use Rattle.dna_model.specs.Player.{End, variables_of, links_of, after_record}
-use Rattle.dna_model.specs.Stepped.{Stop, Stepped}
+use Rattle.dna_model.specs.Stepped.{Stepped}
 use Rattle.dna_model.specs.Receipt.{complete, with_half, gets_all}
 use Rattle.dna_model.specs.KeptPlay.{ups}
 use Rattle.dna_model.proofs.PlayedSteps.{PlayHalf}
 use Rattle.dna_model.proofs.CutEnded.{Splits, splits}
 use Rattle.dna_model.proofs.LinkSides.{set_same}
-use Rattle.dna_model.proofs.UpsFollow.{delivering, IsWholeAt, one_delivered, AllLined, up_made}
+use Rattle.dna_model.proofs.UpsFollow.{delivering, one_delivered, AllLined, up_made}
 use Rattle.dna_model.proofs.EndStage.{with_left}
 use Rattle.dna_model.proofs.LiveLists.{set_back}
 use Rattle.dna_model.proofs.LiveEnds.{Counted, with_owed, still_same, left_set}

@@ -1,7 +1,6 @@
 -- What a message that comes, other than a segment, makes of the links of an end of the player, and of what they owe, is the same of those that live.
-use Rattle.std.proofs.Common.{◌≡◌, ℕ, Bool, true, false, cond, Option, Some, None, List, [], ◌∷◌, ◌++◌, length, Result, Ok, Err, refl, sym, ap, ◌∙◌, subst}
+use Rattle.std.proofs.Common.{◌≡◌, ℕ, Bool, true, false, cond, Option, Some, None, List, length, Result, Ok, refl, sym, ap, ◌∙◌, subst}
 use Rattle.std.specs.Prelude.{slice_get}
-use Rattle.dna_packet.specs.declared.ack_word.AckWord.{AckWord}
 use Rattle.dna_packet.specs.Nsp.{NspValue, DataSegment, LinkService, DataAck, OtherDataAck, ConnectAck, NoOperation, ConnectInitiate, ConnectConfirm, DisconnectInitiate, DisconnectConfirm}
 use Rattle.dna_model.specs.declared.link_refusal.LinkRefusal.{LinkRefusal}
 use Rattle.dna_model.specs.declared.link_refusal.LinkRefusal.TheVariants.{CrossedLink}

@@ -17,7 +17,7 @@ use Rattle.dna_model.specs.Content.{link_event}
 use Rattle.dna_model.specs.HasLine.{has_line}
 use Rattle.dna_model.specs.Script.{Open, Accept, Reject}
 use Rattle.dna_model.specs.LinkOwed.{LinkOwed, Owes, Turn, InitiateTurn, ConfirmTurn, DisconnectTurn, with_turn}
-use Rattle.dna_model.specs.Player.{End, makes, links_of}
+use Rattle.dna_model.specs.Player.{End, links_of}
 use Rattle.dna_model.specs.Stepped.{BadStep, links_owing_more}
 use Rattle.dna_model.specs.Play.{by_user, giving, plays}
 use Rattle.dna_model.specs.Kept.{kept}

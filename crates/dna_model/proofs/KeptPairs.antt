@@ -1,21 +1,21 @@
 -- A step at one end of both: what the nodes keep, and what is on both lines, goes along.
-use Rattle.std.proofs.Common.{◌≡◌, ℕ, ◌+◌, ◌≤◌, Bool, true, false, cond, List, [], ◌∷◌, ◌++◌, map, length, drop, Result, Ok, Err, refl, sym, ap, ap₂, ◌∙◌, subst, arith, length-append}
+use Rattle.std.proofs.Common.{◌≡◌, ℕ, ◌+◌, ◌≤◌, Bool, true, false, cond, List, ◌++◌, length, drop, Result, Ok, Err, refl, sym, ap, ap₂, ◌∙◌, subst, arith, length-append}
 use Rattle.std.proofs.lemmas.List.{map-append, drop-drop, drop-append-le, drop_at, length-map}
 use Rattle.wire_base.specs.declared.side.Side.{Side}
 use Rattle.wire_base.specs.declared.side.Side.TheVariants.{A, B}
 use Rattle.dna_model.specs.Layers.{LayersUnit}
 use Rattle.dna_model.specs.Script.{StepValue, ScriptStep}
-use Rattle.dna_model.specs.Player.{End, links_of}
+use Rattle.dna_model.specs.Player.{links_of}
 use Rattle.dna_model.specs.Stepped.{Stop, Stepped}
 use Rattle.dna_model.specs.Play.{plays}
 use Rattle.dna_model.specs.Played.{Played, with_a, with_b, plays_at, plays_step}
-use Rattle.dna_model.specs.KeptPlay.{KeptStepped, kept_plays}
-use Rattle.dna_model.specs.KeptPlayed.{KeptPair, KeptMade, is_of_line, left_by, kept_with_a, kept_with_b, kept_plays_at, kept_plays_step, with_records}
-use Rattle.dna_model.specs.KeptRun.{bytes_of, coming, kept_stepped, IsKept, kept_pair, kept_played}
-use Rattle.dna_model.proofs.PlayedSteps.{PlayHalf, Good, plays_good}
+use Rattle.dna_model.specs.KeptPlay.{KeptStepped}
+use Rattle.dna_model.specs.KeptPlayed.{KeptMade, is_of_line, left_by, kept_with_a, kept_with_b, kept_plays_at, kept_plays_step, with_records}
+use Rattle.dna_model.specs.KeptRun.{bytes_of, kept_stepped, IsKept, kept_pair, kept_played}
+use Rattle.dna_model.proofs.PlayedSteps.{Good, plays_good}
 use Rattle.dna_model.proofs.LiveEnds.{Counted}
 use Rattle.dna_model.proofs.SentGrows.{Grows, all_grows}
-use Rattle.dna_model.proofs.KeptLeft.{Leaves, AllLeave, off_line, plays_leaves, IfMade, plays_there}
+use Rattle.dna_model.proofs.KeptLeft.{AllLeave, off_line, plays_leaves, IfMade, plays_there}
 
 -- ---- the lines
 

@@ -1,7 +1,7 @@
 -- What comes to an end of the player is the same of what its node keeps: a unit as it was sent, with a buffer or without one, or damaged; with what
 -- its user gets then.
-use Rattle.std.proofs.Common.{◌≡◌, ℕ, ◌+◌, ◌<◌, ◌≤◌, Bool, true, false, ◌&&◌, cond, Option, Some, None, List, [], ◌∷◌, ◌++◌, length, drop, Result, Ok, Err, refl, sym, ap, ap₂, ◌∙◌, subst, le-leb, ◌⊎◌, inl, inr}
-use Rattle.std.specs.Prelude.{slice_get, nat_le}
+use Rattle.std.proofs.Common.{◌≡◌, ℕ, ◌+◌, Bool, true, false, ◌&&◌, cond, Option, Some, None, List, [], ◌∷◌, length, drop, Result, Ok, Err, refl, sym, ap, ap₂, ◌∙◌, subst, le-leb, ◌⊎◌, inl, inr}
+use Rattle.std.specs.Prelude.{slice_get}
 use Rattle.two_nodes.specs.Nodes.{Made, advance}
 use Rattle.ddcmp_msg.specs.Reading.{ReadingValue, reading}
 use Rattle.ddcmp_msg.specs.Reading as read_as
@@ -19,16 +19,15 @@ use Rattle.dna_model.specs.StationBook.{arrival_refusal, after_arrival}
 use Rattle.dna_model.specs.WireStation.{StationVariables}
 use Rattle.dna_model.specs.WireNode.{unlabelled}
 use Rattle.dna_model.specs.Links.{LinkOf, Carried}
-use Rattle.dna_model.specs.LinkArriving.{of_anyone, of_partner, message_arrived}
-use Rattle.dna_model.specs.TrueFlow.{TrueFlow, true_flows}
+use Rattle.dna_model.specs.LinkArriving.{of_anyone}
+use Rattle.dna_model.specs.TrueFlow.{TrueFlow}
 use Rattle.dna_model.specs.TrueLinks.{Links, links_arrived}
 use Rattle.dna_model.specs.CutFlow.{IsOrdered}
 use Rattle.dna_model.specs.LinkRuns.{SentMessage}
 use Rattle.dna_model.specs.Content.{content}
 use Rattle.dna_model.specs.LayersPair.{side_of}
 use Rattle.dna_model.specs.Layers.{LayersTruth, LayersUnit}
-use Rattle.dna_model.specs.Owed.{Owed, Debt, all_acknowledged, arrival_debt, can_take, with_debt}
-use Rattle.dna_model.specs.LinkOwed.{LinksOwed}
+use Rattle.dna_model.specs.Owed.{Debt, arrival_debt, can_take, with_debt}
 use Rattle.dna_model.specs.Script.{Deliver, Refuse, Damage}
 use Rattle.dna_model.specs.Player.{End, by_bytes, end_step, makes, links_of, station_of, after_record}
 use Rattle.dna_model.specs.Player as player
@@ -38,7 +37,7 @@ use Rattle.dna_model.specs.Receipt as receiving
 use Rattle.dna_model.specs.Play.{plays}
 use Rattle.dna_model.specs.Kept.{KeptStation, KeptLinks, kept}
 use Rattle.dna_model.specs.KeptStation as of_station
-use Rattle.dna_model.specs.KeptLinks.{Delivering, delivering_none}
+use Rattle.dna_model.specs.KeptLinks.{Delivering}
 use Rattle.dna_model.specs.KeptPlay.{KeptStepped, kept_plays, arrived, up_address, ups, all_short, came_as}
 use Rattle.dna_model.specs.KeptPlay as keeping
 use Rattle.dna_model.specs.KeptRun.{bytes_of, kept_stepped, IsKept}
@@ -51,9 +50,9 @@ use Rattle.dna_model.proofs.LinkAddressRuns.{anyone_same}
 use Rattle.dna_model.proofs.PlayedSteps.{PlayHalf, Nothing, First}
 use Rattle.dna_model.proofs.PlayedOrder.{quiet}
 use Rattle.dna_model.proofs.PlayedFacts.{Facts}
-use Rattle.dna_model.proofs.PlayerChecked.{IsReady, meets_it}
+use Rattle.dna_model.proofs.PlayerChecked.{meets_it}
 use Rattle.dna_model.proofs.DamagedUnits.{Damaged, damage_is_seen}
-use Rattle.dna_model.proofs.ReceiptMakes.{came_left, header_made, data_made, taken_is_data, within, UnitMade, unit_made}
+use Rattle.dna_model.proofs.ReceiptMakes.{came_left, header_made, data_made, taken_is_data, within, unit_made}
 use Rattle.dna_model.proofs.ReceiptStage.{unit_stage}
 use Rattle.dna_model.proofs.StationStage.{cut_of, left_owed}
 use Rattle.dna_model.proofs.EndStage.{Stage}
@@ -61,10 +60,9 @@ use Rattle.dna_model.proofs.ComesStage.{from_here, can_be, are_bytes_of}
 use Rattle.dna_model.proofs.ComesMade.{made_is, unit_line, damaged_line}
 use Rattle.dna_model.proofs.StepStages.{facts_now}
 use Rattle.dna_model.proofs.KeptTimers.{none_behind, kept_on, next_on_line}
-use Rattle.dna_model.proofs.LiveLinks.{kept_links, record_same}
+use Rattle.dna_model.proofs.LiveLinks.{record_same}
 use Rattle.dna_model.proofs.KeptNow.{KeptNow}
 use Rattle.dna_model.proofs.KeptStations.{station_with, sound_came, header_bad_came, data_bad_came, can_keep_same}
-use Rattle.dna_model.proofs.KeptDeliveries.{with_links}
 use Rattle.dna_model.proofs.KeptSegments.{left_half, left_end, Got, nothing_got, message_got}
 
 module _ (own other : End) (now : KeptNow own other) where

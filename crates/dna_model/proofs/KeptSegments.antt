@@ -1,10 +1,9 @@
 -- What a message that came makes of the links of an end of the player, and what its user gets then, is the same of what its node keeps.
-use Rattle.std.proofs.Common.{◌≡◌, ℕ, ◌+◌, Bool, true, false, ◌&&◌, Option, Some, None, List, [], ◌∷◌, ◌++◌, map, drop, length, Result, Ok, Err, refl, sym, ap, ap₂, ◌∙◌, subst, append-nil, length-set}
+use Rattle.std.proofs.Common.{◌≡◌, ℕ, ◌+◌, Bool, true, false, ◌&&◌, Option, Some, None, List, [], ◌∷◌, ◌++◌, map, length, Result, Ok, refl, sym, ap, ap₂, ◌∙◌, subst, append-nil, length-set}
 use Rattle.std.specs.Prelude.{slice_get, slice_set, nat_le}
 use Rattle.std.proofs.lemmas.Bool.{and_parts}
 use Rattle.std.proofs.lemmas.List.{drop-drop, set-set}
 use Rattle.dna_packet.specs.Nsp.{NspValue, SegmentValue, DataSegment, LinkService, DataAck, OtherDataAck, ConnectAck, NoOperation, ConnectInitiate, ConnectConfirm, DisconnectInitiate, DisconnectConfirm}
-use Rattle.capture.specs.declared.limit.TheConstants.{MAX_MESSAGE}
 use Rattle.capture.specs.declared.event.Event.{Event}
 use Rattle.capture.specs.declared.event.Event.TheVariants as events
 use Rattle.capture.specs.declared.record.Record.{Record}
@@ -15,23 +14,23 @@ use Rattle.dna_model.specs.declared.link_refusal.LinkRefusal.TheVariants.{Crosse
 use Rattle.dna_model.specs.declared.port.Phase.TheVariants.{Running}
 use Rattle.dna_model.specs.declared.port.LinkTest.{LinkTest}
 use Rattle.dna_model.specs.declared.port.LinkTest.TheVariants.{ActedOn}
-use Rattle.dna_model.specs.LinkTests.{is_connected, is_at, has_both, passes}
+use Rattle.dna_model.specs.LinkTests.{is_connected, is_at, has_both}
 use Rattle.dna_model.specs.Pieces.{Piece, in_whole_messages}
-use Rattle.dna_model.specs.Links.{LinkOf, LinkTruth, check, number_of, at_number, with_link, changed, in_phase, with_flow}
+use Rattle.dna_model.specs.Links.{LinkOf, LinkTruth, check, number_of, at_number, changed, in_phase, with_flow}
 use Rattle.dna_model.specs.LinkArriving.{of_partner, is_of_pair, running, message_arrived}
 use Rattle.dna_model.specs.TrueFlow.{TrueFlow, Numbers, takes_segment, true_flows}
 use Rattle.dna_model.specs.TrueLinks.{Links}
-use Rattle.dna_model.specs.WireFlow.{WireFlow, LinkVariables, acknowledged_by_all, segment_taken}
+use Rattle.dna_model.specs.WireFlow.{WireFlow, acknowledged_by_all, segment_taken}
 use Rattle.dna_model.specs.CutFlow.{cut, IsOrdered}
 use Rattle.dna_model.specs.CutLinks.{ArrivesNear}
 use Rattle.dna_model.specs.Station.{Station}
-use Rattle.dna_model.specs.HasLine.{numbers_fit, are_bytes, has_line}
+use Rattle.dna_model.specs.HasLine.{numbers_fit, are_bytes}
 use Rattle.dna_model.specs.Owed.{Debt, all_acknowledged}
 use Rattle.dna_model.specs.LinkOwed.{LinkOwed, LinksOwed, LinkDebt, NoDebt, Owes, DataAckTurn, with_turn, with_debt, variables_of, still_owed}
 use Rattle.dna_model.specs.NextSent.{LinkEnd}
 use Rattle.dna_model.specs.Player.{End, links_of, after_record}
 use Rattle.dna_model.specs.Player as player
-use Rattle.dna_model.specs.Stepped.{Stepped, owing_more, links_owing_more}
+use Rattle.dna_model.specs.Stepped.{owing_more, links_owing_more}
 use Rattle.dna_model.specs.Receipt.{complete, delivered_by, delivered_now, carried_debt, gets_all, passing}
 use Rattle.dna_model.specs.Kept.{KeptLinks, kept}
 use Rattle.dna_model.specs.KeptLinks.{Delivering, delivering_none, delivering_at, took_segment, arrives, message_came, with_end}

@@ -1,5 +1,5 @@
 -- A unit that an end of the player sends is the same of what its node keeps.
-use Rattle.std.proofs.Common.{◌≡◌, ℕ, suc, ◌+◌, true, Option, Some, None, option_map, List, [], ◌∷◌, ◌++◌, length, drop, Result, Ok, Err, refl, sym, ap, ap₂, ◌∙◌, subst, arith}
+use Rattle.std.proofs.Common.{◌≡◌, ℕ, true, Option, Some, None, option_map, List, [], ◌∷◌, ◌++◌, length, drop, Result, Ok, refl, sym, ap, ap₂, ◌∙◌, subst, arith}
 use Rattle.std.specs.Prelude.{slice_get}
 use Rattle.std.proofs.lemmas.Option.{same_Some}
 use Rattle.ddcmp_msg.specs.Message.{MessageValue}
@@ -8,8 +8,8 @@ use Rattle.dna_packet.specs.Nsp.{NspValue, DisconnectConfirm}
 use Rattle.capture.specs.declared.record.Record.TheVariants.{Sent}
 use Rattle.dna_model.specs.declared.head.Head.{Head}
 use Rattle.dna_model.specs.declared.port.Port.{Port}
-use Rattle.dna_model.specs.LinkTests.{is_live, is_running}
-use Rattle.dna_model.specs.Links.{LinkOf, Carried, changed}
+use Rattle.dna_model.specs.LinkTests.{is_live}
+use Rattle.dna_model.specs.Links.{LinkOf, Carried}
 use Rattle.dna_model.specs.LinkSending as links_sending
 use Rattle.dna_model.specs.LinkSending.{message_sent}
 use Rattle.dna_model.specs.TrueFlow.{TrueFlow, Numbers, true_flows}
@@ -17,13 +17,13 @@ use Rattle.dna_model.specs.TrueLinks.{Links}
 use Rattle.dna_model.specs.WireStation.{StationVariables}
 use Rattle.dna_model.specs.Layers.{LayersUnit}
 use Rattle.dna_model.specs.Script.{Send}
-use Rattle.dna_model.specs.LinkOwed.{LinkOwed, LinksOwed, EndConfirm, Turn, variables_of, still_owed}
-use Rattle.dna_model.specs.NextSent.{LinkEnd, LinkChoice, Confirms, OfLink, turn_of, first_turn, link_choice, without_turn, after_link_choice}
+use Rattle.dna_model.specs.LinkOwed.{LinkOwed, LinksOwed, EndConfirm, Turn}
+use Rattle.dna_model.specs.NextSent.{LinkEnd, LinkChoice, Confirms, OfLink, turn_of, link_choice, without_turn, after_link_choice}
 use Rattle.dna_model.specs.NextSent.{Choice, SendStrt, SendStack, SendNak, SendRep, SendAgain, SendNew, SendAck, choice, after_choice}
 use Rattle.dna_model.specs.Compose.{link_message, message_at, turn_message, message_of}
 use Rattle.dna_model.specs.Player.{End, makes, links_of, station_of, link_ends_of, after_record}
 use Rattle.dna_model.specs.Player as player
-use Rattle.dna_model.specs.Stepped.{Stop, BadStep, Stepped, made}
+use Rattle.dna_model.specs.Stepped.{Stop, made}
 use Rattle.dna_model.specs.Play.{after_sending, sends_message, sends_choice, sends, plays}
 use Rattle.dna_model.specs.Kept.{KeptStation, KeptLinks, kept, live_ends}
 use Rattle.dna_model.specs.KeptStation as of_station
@@ -32,22 +32,20 @@ use Rattle.dna_model.specs.KeptLinks as of_links
 use Rattle.dna_model.specs.KeptPlay.{KeptStepped, kept_plays}
 use Rattle.dna_model.specs.KeptPlay as keeping
 use Rattle.dna_model.specs.KeptRun.{bytes_of, kept_stepped, IsKept}
-use Rattle.dna_model.proofs.NumberedSteps.{at_pushed}
 use Rattle.dna_model.proofs.PlayedSteps.{PlayHalf}
 use Rattle.dna_model.proofs.PlayedFacts.{Facts}
 use Rattle.dna_model.proofs.LinkTables.{checked}
-use Rattle.dna_model.proofs.LinkAddresses.{LinkList}
 use Rattle.dna_model.proofs.LinkPays.{OwedFits, IsDue, DueConnectAck, DueInitiate, DueConfirm, DueDisconnect, DueDataAck, DueSegment, turn_due, running_is}
 use Rattle.dna_model.proofs.LinkChoices.{IsChosen, end_at, first_chosen}
 use Rattle.dna_model.proofs.LinkStage.{left_links}
 use Rattle.dna_model.proofs.SendMakes.{sent_left, again_after, first_after}
 use Rattle.dna_model.proofs.EndSends.{IsSound, Goes, GoesOld, GoesNew, goes}
-use Rattle.dna_model.proofs.EndStage.{Known, sound_of}
+use Rattle.dna_model.proofs.EndStage.{sound_of}
 use Rattle.dna_model.proofs.StepStages.{facts_now}
 use Rattle.dna_model.proofs.LiveEnds.{end_of, still_same, left_same}
 use Rattle.dna_model.proofs.LiveLinks.{kept_links, place_among, live_there, record_changed, record_same}
 use Rattle.dna_model.proofs.KeptNow.{KeptNow}
-use Rattle.dna_model.proofs.KeptStations.{kept_station, station_sent}
+use Rattle.dna_model.proofs.KeptStations.{station_sent}
 use Rattle.dna_model.proofs.KeptChoices.{lives, NoneOfEnded, among_live, link_choice_live, kept_choice, choice_live, NamesLive, message_live}
 use Rattle.dna_model.proofs.KeptTurns.{TurnMade, confirm_stays, turn_made}
 

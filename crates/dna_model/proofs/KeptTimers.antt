@@ -1,5 +1,5 @@
 -- Steps without a record: the same of an end on true numbers and of what its node keeps.
-use Rattle.std.proofs.Common.{◌≡◌, ℕ, zero, suc, ◌≤◌, Bool, true, Option, Some, None, List, [], ◌∷◌, length, drop, Result, Ok, Err, refl, sym, ap, ◌∙◌, le-leb}
+use Rattle.std.proofs.Common.{◌≡◌, ℕ, zero, suc, ◌≤◌, Bool, Option, Some, None, List, [], ◌∷◌, length, drop, Result, Ok, Err, refl, sym, ap, ◌∙◌, le-leb}
 use Rattle.std.specs.Prelude.{slice_get, if◌then◌else◌}
 use Rattle.two_nodes.specs.Nodes.{Half}
 use Rattle.capture.specs.declared.limit.TheConstants.{MAX_HINT}

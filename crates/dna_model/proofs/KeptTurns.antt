@@ -1,10 +1,10 @@
 -- What a message of the links that is sent makes of the link that has sent it, as its node keeps it.
-use Rattle.std.proofs.Common.{◌≡◌, ℕ, zero, suc, ◌+◌, ◌-◌, ◌<◌, ◌≤◌, Bool, true, false, ◌&&◌, not, cond, nat_lt, nat_le, Option, Some, None, List, [], ◌∷◌, ◌++◌, length, drop, Result, Ok, Err, refl, sym, ap, ap₂, ◌∙◌, subst, arith, eq-eqb, length-drop}
+use Rattle.std.proofs.Common.{◌≡◌, ℕ, zero, suc, ◌+◌, ◌-◌, ◌≤◌, Bool, true, false, ◌&&◌, not, cond, nat_lt, nat_le, Option, Some, None, List, [], ◌∷◌, ◌++◌, length, Result, Ok, Err, refl, sym, ap, ◌∙◌, subst, arith, eq-eqb, length-drop}
 use Rattle.std.specs.Prelude.{slice_get, is_some}
 use Rattle.std.proofs.lemmas.Bool.{and_parts, ne_eqb}
 use Rattle.std.proofs.lemmas.List.{drop-append-le}
 use Rattle.std.proofs.lemmas.Option.{same_Some, slice_get_within}
-use Rattle.dna_packet.specs.Nsp.{NspValue, SegmentValue, DataSegment, DataAck, ConnectAck, ConnectInitiate, ConnectConfirm, DisconnectInitiate, DisconnectConfirm}
+use Rattle.dna_packet.specs.Nsp.{SegmentValue, ConnectAck, DisconnectConfirm}
 use Rattle.dna_model.specs.declared.link_refusal.LinkRefusal.{LinkRefusal}
 use Rattle.dna_model.specs.declared.link_refusal.LinkRefusal.TheVariants.{NoLink, LinkState, WrongSegment, SegmentTooLong, LinkWindowFull}
 use Rattle.dna_model.specs.declared.port.Phase.{Phase}
@@ -19,12 +19,12 @@ use Rattle.dna_model.specs.LinkSending.{Sent, of_no_link, unchanged, ending, con
 use Rattle.dna_model.specs.TrueFlow.{TrueFlow, Numbers, Named, true_flows, highest_given, highest_received, all_named, is_new, is_repeat, sending, sends_new, sends_again, segment_named, sends_segment, sends_acks}
 use Rattle.dna_model.specs.TrueLinks.{Links}
 use Rattle.dna_model.specs.CutFlow.{IsOrdered}
-use Rattle.dna_model.specs.LinkOwed.{LinkOwed, EndConfirm, Turn, ConnectAckTurn, InitiateTurn, ConfirmTurn, DisconnectTurn, DataAckTurn, SegmentTurn, variables_of}
+use Rattle.dna_model.specs.LinkOwed.{LinkOwed, Turn, ConnectAckTurn, InitiateTurn, ConfirmTurn, DisconnectTurn, DataAckTurn, SegmentTurn, variables_of}
 use Rattle.dna_model.specs.NextSent.{LinkEnd}
 use Rattle.dna_model.specs.Compose.{ack_of, address, next_piece, piece_to_send, segment_with, turn_message}
 use Rattle.dna_model.specs.KeptLinks.{gave, gave_by}
 use Rattle.dna_model.proofs.FlowDid.{SegmentDid, GivesIt, GivesAgain, segment_did, acks_did}
-use Rattle.dna_model.proofs.LinkTables.{IsFound, looked, checked}
+use Rattle.dna_model.proofs.LinkTables.{looked, checked}
 use Rattle.dna_model.proofs.LinkReads.{at_is}
 use Rattle.dna_model.proofs.LinkPays.{fits_in, Fits, OwedFits, IsDue, DueDataAck, DueSegment, known_at, running_is}
 use Rattle.dna_model.proofs.LinkAddresses.{LinkList, OwnsIn}

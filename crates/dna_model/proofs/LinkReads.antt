@@ -129,13 +129,6 @@ owned_same events place l m own handed up is_called fresh o = record {
 pub gives_is : (own : ℕ) (event : LinkEventValue) → given_address event ≡ Some own → gives_address own event ≡ true
 gives_is own event e = ap (λ (x : Option ℕ). is_at x own) e ∙ eq-eqb own own refl
 
-is_given : (own : ℕ) (event : LinkEventValue) → gives_address own event ≡ true → given_address event ≡ Some own
-is_given own event e = go (given_address event) refl e
-  where
-    go : (o : Option ℕ) → given_address event ≡ o → is_at o own ≡ true → given_address event ≡ Some own
-    go None is e = absurd cc
-    go (Some n) is e = is ∙ ap Some (eqb-true n own e)
-
 pub at_is : (o : Option ℕ) (own : ℕ) → is_at o own ≡ true → o ≡ Some own
 at_is None own e = absurd cc
 at_is (Some n) own e = ap Some (eqb-true n own e)

@@ -50,11 +50,6 @@ position_passes {X} test xs i x found at =
     let p = (cond_some (nat_lt (prefix_len (λ (y : X). not (test y)) xs) (length xs)) (prefix_len (λ (y : X). not (test y)) xs) i found).1 in
     prefix_passes test xs x (ap (slice_get xs) p ∙ at)
 
-pub position_first : {X : Type 0} (test : X → Bool) (xs : List X) (i j : ℕ) (x : X) → position test xs ≡ Some i → j < i → slice_get xs j ≡ Some x → test x ≡ false
-position_first {X} test xs i j x found less at =
-    let p = (cond_some (nat_lt (prefix_len (λ (y : X). not (test y)) xs) (length xs)) (prefix_len (λ (y : X). not (test y)) xs) i found).1 in
-    prefix_fails test xs j x at (omega arith)
-
 pub position_within : {X : Type 0} (test : X → Bool) (xs : List X) (i : ℕ) → position test xs ≡ Some i → i < length xs
 position_within {X} test xs i found =
     let q = cond_some (nat_lt (prefix_len (λ (y : X). not (test y)) xs) (length xs)) (prefix_len (λ (y : X). not (test y)) xs) i found in

@@ -15,10 +15,6 @@ abbrev pub AreAtMost : ℕ → List ℕ → Type 0
 AreAtMost most [] = Unit {0}
 AreAtMost most (number ∷ numbers) = (number ≤ most) × AreAtMost most numbers
 
-pub at_most_more : (most most' : ℕ) (numbers : List ℕ) → most ≤ most' → AreAtMost most numbers → AreAtMost most' numbers
-at_most_more most most' [] more fits = tt
-at_most_more most most' (number ∷ numbers) more fits = let f = fits.0 in (omega arith, at_most_more most most' numbers more fits.1)
-
 -- the words that are judged, with what they stand for: a word is at most 4,095
 abbrev pub AreWords : List AckWord → List ℕ → Type 0
 AreWords [] numbers = numbers ≡ []

@@ -1,5 +1,5 @@
 -- The links of an end of the player with what each owes, beside what is still owed after a record: of one that changes, of a new one, of all others.
-use Rattle.std.proofs.Common.{◌≡◌, ℕ, zero, suc, ◌-◌, Bool, true, false, Option, Some, None, List, [], ◌∷◌, ◌++◌, length, refl, sym, ap, ap₂, ◌∙◌, arith, option_map}
+use Rattle.std.proofs.Common.{◌≡◌, ℕ, zero, suc, ◌-◌, Bool, true, false, Option, Some, List, [], ◌∷◌, ◌++◌, length, refl, sym, ap, ap₂, ◌∙◌, arith, option_map}
 use Rattle.std.specs.Prelude.{slice_get, slice_set, position}
 use Rattle.std.proofs.lemmas.List.{set-set}
 use Rattle.std.proofs.lemmas.Option.{same_Some}
@@ -16,7 +16,7 @@ use Rattle.dna_model.specs.NextSent.{LinkEnd, link_ends}
 use Rattle.dna_model.proofs.LinkSides.{set_same}
 use Rattle.dna_model.proofs.LinkAddresses.{LinkList}
 use Rattle.dna_model.proofs.LinkStage.{left_links}
-use Rattle.dna_model.proofs.LiveLists.{set_back, position_here, position_later}
+use Rattle.dna_model.proofs.LiveLists.{position_here, position_later}
 
 -- one end of a link, with what it owes
 abbrev pub end_of : LinkOf TrueFlow → LinkOwed → LinkEnd

@@ -1,6 +1,6 @@
 -- The links that live, as a node keeps them, beside all links of an end of the player: a look-up finds the same link, and what becomes of one link
 -- of all becomes of it among those that live.
-use Rattle.std.proofs.Common.{◌≡◌, ℕ, Bool, true, false, ◌&&◌, Option, Some, None, List, [], ◌∷◌, ◌++◌, length, refl, sym, ap, ◌∙◌, option_map}
+use Rattle.std.proofs.Common.{◌≡◌, ℕ, Bool, true, false, Option, Some, None, List, [], ◌∷◌, ◌++◌, length, refl, sym, ap, ◌∙◌, option_map}
 use Rattle.std.specs.Prelude.{slice_get, slice_set}
 use Rattle.std.proofs.lemmas.Bool.{and_parts}
 use Rattle.dna_model.specs.declared.port.Phase.{Phase}
@@ -22,7 +22,7 @@ use Rattle.dna_model.proofs.LinkAddresses.{LinkList}
 use Rattle.dna_model.proofs.LinkStage.{left_links}
 use Rattle.dna_model.proofs.LinkTables.{IsFound, looked}
 use Rattle.dna_model.proofs.LiveLists.{set_back, place_in, filter_get, filter_set, filter_drop, filter_push, position_filter}
-use Rattle.dna_model.proofs.LiveEnds.{end_of, Counted, with_owed, owed_beside, ends_get, ends_set, ends_push, ends_position, owed_changed, left_same, left_set, left_changed, left_pushed, left_begun}
+use Rattle.dna_model.proofs.LiveEnds.{end_of, Counted, with_owed, owed_beside, ends_get, ends_set, ends_push, ends_position, owed_changed, left_same, left_set, left_changed, left_begun}
 
 -- what a node keeps of these links, with what they owe
 abbrev pub kept_links : LinkList → LinksOwed → KeptLinks

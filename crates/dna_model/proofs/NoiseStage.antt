@@ -1,5 +1,5 @@
 -- Bytes that nobody sent: an end of the player hears them exactly where a block check shows that they are damaged, and that keeps what holds of it.
-use Rattle.std.proofs.Common.{◌≡◌, ℕ, Bool, true, false, cond, Option, Some, None, List, refl, sym, ap, ◌∙◌, subst, inl, inr}
+use Rattle.std.proofs.Common.{◌≡◌, ℕ, Bool, true, false, cond, Some, None, List, refl, sym, ap, ◌∙◌, subst, inl, inr}
 use Rattle.std.specs.Prelude.{slice_get}
 use Rattle.two_nodes.specs.Nodes.{Made, stepped, answered, advance}
 use Rattle.ddcmp_msg.specs.Reading.{ReadingValue, reading}

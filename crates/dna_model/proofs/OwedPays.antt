@@ -42,10 +42,6 @@ pub none_owed : (reason : NakReason) → owes_nak reason nothing ≡ false
 none_owed HeaderCheck = refl
 none_owed reason = refl
 
-nak_left : (reason : NakReason) (b : Bool) (owed : Owed) → owes_nak reason (unless_left b owed) ≡ true → owes_nak reason owed ≡ true
-nak_left reason true owed e = e
-nak_left reason false owed e = let f = none_owed reason in absurd cc
-
 -- one that is sent uses up a cause of its own reason alone
 pub used_up : (used reason : NakReason) (c : Causes) (owed : Owed) → (owes_nak reason owed ≡ true → has_cause reason c ≡ true) →
     owes_nak reason (with_nak used false owed) ≡ true → has_cause reason (without_cause used c) ≡ true

@@ -134,3 +134,13 @@ each_di_brings_dc = (refl, refl)
 dc_brings_nothing : BSends (rejected ++ a Deliver ∷ a Send ∷ b Deliver ∷ []) (codes "0501000200015d95")
 unfolding reading spelling is_good check_of after_byte shift end_step plays plays_step kept_plays kept_plays_step
 dc_brings_nothing = (refl, refl)
+
+-- both DCs have the addresses of their DI exchanged
+dcs_go_back : Adds (running ++ a Open ∷ a Open ∷ a Send ∷ a Send ∷ b Deliver ∷ b Deliver ∷ b (Reject 2) ∷ b Send ∷ b Send ∷ b (Retry 1) ∷ b Send ∷ a Deliver ∷ a Deliver ∷ a Deliver ∷ []) (a Send ∷ a Send ∷ a Send ∷ []) (StopsAt 2 BadStep (s (codes "810d0003030102e002020401040048010002002a005fbd") ∷ s (codes "810d0003040100d0020204010400480100020029005f4d") ∷ []) [])
+unfolding reading spelling is_good check_of after_byte shift end_step plays plays_step kept_plays kept_plays_step
+dcs_go_back = (refl, refl)
+
+-- also of a link in RUN
+dc_of_a_link_in_run_goes_back : Adds (running ++ a Open ∷ a Open ∷ a Send ∷ a Send ∷ b Deliver ∷ b Deliver ∷ b (Accept 2) ∷ b Send ∷ b Send ∷ a Deliver ∷ a Deliver ∷ a Send ∷ b Deliver ∷ a (Close 2) ∷ a Send ∷ b Deliver ∷ []) (b Send ∷ b Send ∷ []) (StopsAt 1 BadStep [] (s (codes "810d00040301b32102010402040048020001002a00abc1") ∷ []))
+unfolding reading spelling is_good check_of after_byte shift end_step plays plays_step kept_plays kept_plays_step
+dc_of_a_link_in_run_goes_back = (refl, refl)

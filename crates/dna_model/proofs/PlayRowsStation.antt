@@ -78,6 +78,16 @@ ack_in_astrt_owes_nothing : IsBad running (b Send)
 unfolding reading spelling is_good check_of after_byte shift end_step plays plays_step kept_plays kept_plays_step
 ack_in_astrt_owes_nothing = (refl, refl)
 
+-- nor does an ACK in RUNNING
+ack_in_running_brings_nothing : IsBad (running ++ a Timer ∷ a Send ∷ b Deliver ∷ []) (b Send)
+unfolding reading spelling is_good check_of after_byte shift end_step plays plays_step kept_plays kept_plays_step
+ack_in_running_brings_nothing = (refl, refl)
+
+-- nor a NAK where nothing is outstanding
+nak_brings_nothing : IsBad (running ++ b (Noise []) ∷ b Send ∷ a Deliver ∷ []) (a Send)
+unfolding reading spelling is_good check_of after_byte shift end_step plays plays_step kept_plays kept_plays_step
+nak_brings_nothing = (refl, refl)
+
 -- the timer in RUNNING while nothing is outstanding
 timer_acknowledges : ASends (running ++ a Timer ∷ []) (codes "050100000001fc55")
 unfolding reading spelling is_good check_of after_byte shift end_step plays plays_step kept_plays kept_plays_step
@@ -182,6 +192,11 @@ nak_clears_ack : Adds (running ++ b Open ∷ b Send ∷ a Deliver ∷ a Send ∷
 unfolding reading spelling is_good check_of after_byte shift end_step plays plays_step kept_plays kept_plays_step
 nak_clears_ack = (refl, refl)
 
+-- a number that is given again clears ACK
+data_again_clears_ack : Adds (running ++ a Open ∷ a Open ∷ a Send ∷ a Send ∷ b Deliver ∷ b Refuse ∷ b Send ∷ b Send ∷ a Deliver ∷ a Deliver ∷ []) (a Send ∷ a Send ∷ []) (StopsAt 1 BadStep (s (codes "810f00010201db70020204010400180000020001020002edab") ∷ []) [])
+unfolding reading spelling is_good check_of after_byte shift end_step plays plays_step kept_plays kept_plays_step
+data_again_clears_ack = (refl, refl)
+
 -- a number that was given before a new one
 given_numbers_first : Adds (running ++ a Open ∷ a Send ∷ a Open ∷ b Refuse ∷ b Send ∷ a Deliver ∷ []) (a Send ∷ a Send ∷ []) (Captures (s (codes "810f000001018a40020204010400180000010001020002ed98") ∷ s (codes "810f000002018ab0020204010400180000020001020002edab") ∷ []) [])
 unfolding reading spelling is_good check_of after_byte shift end_step plays plays_step kept_plays kept_plays_step
@@ -197,6 +212,11 @@ rep_stays_owed : ASends (running ++ a Open ∷ a Send ∷ a Open ∷ a Send ∷ 
 unfolding reading spelling is_good check_of after_byte shift end_step plays plays_step kept_plays kept_plays_step
 rep_stays_owed = (refl, refl)
 
+-- a REP clears no ACK
+rep_clears_no_ack : Adds (running ++ a Open ∷ a Send ∷ a Open ∷ a Send ∷ a Timer ∷ b Deliver ∷ b Send ∷ a Deliver ∷ []) (a Send ∷ a Send ∷ a Send ∷ []) (StopsAt 2 BadStep (s (codes "05030000020184f5") ∷ s (codes "050100010001ad95") ∷ []) [])
+unfolding reading spelling is_good check_of after_byte shift end_step plays plays_step kept_plays kept_plays_step
+rep_clears_no_ack = (refl, refl)
+
 -- a state that was left drops what was owed: here NAK 8, over a halt and a new start of both
 halt_drops : IsBad (running ++ b Open ∷ b Send ∷ a Refuse ∷ a Halt ∷ a Start ∷ a Send ∷ b Deliver ∷ b Start ∷ b Send ∷ a Deliver ∷ a Send ∷ b Deliver ∷ b Send ∷ a Deliver ∷ []) (a Send)
 unfolding reading spelling is_good check_of after_byte shift end_step plays plays_step kept_plays kept_plays_step
@@ -206,3 +226,8 @@ halt_drops = (refl, refl)
 strt_drops : Adds (running ++ b Open ∷ b Send ∷ a Refuse ∷ b Halt ∷ b Start ∷ b Send ∷ a Deliver ∷ a Start ∷ a Send ∷ b Deliver ∷ b Send ∷ a Deliver ∷ []) (a Send ∷ a Send ∷ []) (StopsAt 1 BadStep (s (codes "050100000001fc55") ∷ []) [])
 unfolding reading spelling is_good check_of after_byte shift end_step plays plays_step kept_plays kept_plays_step
 strt_drops = (refl, refl)
+
+-- a halt leaves the units on the line
+units_stay_over_a_halt : Adds (a Start ∷ b Start ∷ a Send ∷ a Halt ∷ []) (b Deliver ∷ []) (Captures [] (r 0 (codes "0506c00000017595") ∷ []))
+unfolding reading spelling is_good check_of after_byte shift end_step plays plays_step kept_plays kept_plays_step
+units_stay_over_a_halt = (refl, refl)

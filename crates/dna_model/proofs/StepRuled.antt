@@ -1,5 +1,5 @@
 -- A step of a script is bad only where its rule says so, and full only where the addresses of its end are used up.
-use Rattle.std.proofs.Common.{◌≡◌, ℕ, ◌+◌, ◌<◌, ◌≤◌, Bool, true, false, ◌&&◌, cond, nat_lt, ltb-true, ltb-false, lt-ltb, le-leb, leb-true, inl, inr, Option, Some, None, List, [], ◌∷◌, length, Result, Ok, Err, refl, sym, ap, ap₂, ◌∙◌, subst, arith}
+use Rattle.std.proofs.Common.{◌≡◌, ℕ, ◌+◌, ◌<◌, ◌≤◌, Bool, true, false, ◌&&◌, cond, nat_lt, ltb-true, ltb-false, lt-ltb, le-leb, leb-true, Option, Some, None, List, [], ◌∷◌, length, Result, Ok, Err, refl, sym, ap, ap₂, ◌∙◌, subst, arith}
 use Rattle.std.specs.Prelude.{slice_get, slice_index, nat_le}
 use Rattle.ddcmp_msg.specs.Reading.{reading}
 use Rattle.std.proofs.lemmas.Bool.{and_parts}
@@ -15,10 +15,10 @@ use Rattle.dna_model.specs.declared.state.State.{State}
 use Rattle.dna_model.specs.declared.state.State.TheVariants.{Halted, Istrt, Astrt}
 use Rattle.dna_model.specs.declared.state.State.TheVariants as states
 use Rattle.dna_model.specs.declared.port.Phase.{Phase}
-use Rattle.dna_model.specs.declared.port.Phase.TheVariants.{Calling, Called, Confirming, Running, Disconnecting, Ended}
+use Rattle.dna_model.specs.declared.port.Phase.TheVariants.{Calling, Confirming, Running, Disconnecting}
 use Rattle.dna_model.specs.declared.port.LinkTest.{LinkTest}
 use Rattle.dna_model.specs.declared.port.LinkTest.TheVariants.{LiveAt, CalledBy}
-use Rattle.dna_model.specs.LinkTests.{is_live, is_called, is_connected, takes_messages, is_at}
+use Rattle.dna_model.specs.LinkTests.{is_live, is_called, is_at}
 use Rattle.dna_model.specs.Links.{LinkOf, number_of, with_link}
 use Rattle.dna_model.specs.LinkUser as of_links
 use Rattle.dna_model.specs.TrueFlow.{TrueFlow, true_flows}
@@ -47,7 +47,7 @@ use Rattle.dna_model.proofs.EndUser.{start_made, start_makes, halt_makes, link_e
 use Rattle.dna_model.proofs.StepStages.{facts_now}
 use Rattle.dna_model.proofs.ComesMade.{unit_made_to, damage_made_to}
 use Rattle.dna_model.proofs.NoiseStage.{is_noise, noise_made}
-use Rattle.dna_model.proofs.StepPhases.{takes_is, takes_when, connected_is, connected_when, Retries, retries_live, IsRetried, retried_is, called_is}
+use Rattle.dna_model.proofs.StepPhases.{takes_is, takes_when, connected_is, connected_when, retries_live, IsRetried, retried_is, called_is}
 use Rattle.dna_model.proofs.LinksMade.{event_made, open_line, accept_line, reject_line, close_line, is_there, live_found, open_taken, accept_taken, reject_taken, in_taken, close_taken}
 
 -- ---- one step

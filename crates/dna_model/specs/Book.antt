@@ -27,7 +27,7 @@ abbrev pub body_of : MessageValue → List ℕ
 body_of (Data flags resp num body) = body
 body_of m = []
 
--- What comes to a station: a sound message with what is known of it, or a unit whose header or data shows damage
+-- What comes to a station: a sound message with what is known of it, or a unit, or noise, whose header or data shows damage
 pub data ArrivalValue (K : Type 0) : Type 0 where
   Sound : (message : MessageValue) → (known : K) → ArrivalValue K
   HeaderBad : ArrivalValue K

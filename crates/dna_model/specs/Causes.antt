@@ -6,7 +6,7 @@ use Rattle.ddcmp_msg.specs.declared.nak_reason.NakReason.{NakReason}
 use Rattle.ddcmp_msg.specs.declared.nak_reason.NakReason.TheVariants.{HeaderCheck, DataCheck, RepResponse, NoBuffer}
 
 pub record Causes : Type 0 where
-  -- units that came with a bad header, with bad data
+  -- units, or noise, that came with a bad header, with bad data
   pub header_check : ℕ
   pub data_check : ℕ
   -- REPs that asked for a number other than that of the last packet received

@@ -11,7 +11,6 @@ use Rattle.capture.specs.declared.event.Event.TheVariants as events
 use Rattle.capture.specs.declared.record.Record.{Record}
 use Rattle.capture.specs.declared.record.Record.TheVariants.{Sent, Received, User}
 use Rattle.capture.specs.declared.record.Record.TheVariants as recorded
-use Rattle.dna_model.specs.declared.state.StationEvent.{StationEvent}
 use Rattle.dna_model.specs.declared.state.StationEvent.TheVariants as station_events
 use Rattle.dna_model.specs.declared.refusal.StationRefusal.{StationRefusal}
 use Rattle.dna_model.specs.declared.port.Phase.TheVariants.{Confirming, Disconnecting}
@@ -20,7 +19,7 @@ use Rattle.dna_model.specs.Table.{user_refusal}
 use Rattle.dna_model.specs.LinkTests.{is_connected, takes_messages}
 use Rattle.dna_model.specs.Script.{StepValue, Start, Halt, Timer, Send, Deliver, Refuse, Lose, Damage, Noise, Open, Accept, Reject, In, Close, Retry}
 use Rattle.dna_model.specs.Owed.{Debt, OwesStrt, timer_debt}
-use Rattle.dna_model.specs.LinkOwed.{LinkOwed, Turn, ConfirmTurn, DisconnectTurn, retried}
+use Rattle.dna_model.specs.LinkOwed.{LinkOwed, ConfirmTurn, DisconnectTurn, retried}
 use Rattle.dna_model.specs.NextSent.{LinkEnd, Choice, SendNew, link_choice, choice}
 use Rattle.dna_model.specs.Compose.{message_of}
 use Rattle.dna_model.specs.Stepped.{Stop, BadStep, Full}

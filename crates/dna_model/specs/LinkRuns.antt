@@ -40,7 +40,7 @@ pub data LinkStep (own other : LinkSide) : List LinkEventValue → LinkSide → 
   Sends : (packet : Carried) (made : Sent TrueFlow Numbers) → links_sent own.links packet ≡ Ok made →
       LinkStep own other [] (sends own made.links (Some (record { packet = packet; truth = made.truth })))
   SendsNone : LinkStep own other [] (sends own own.links None)
-  -- a packet is kept: it lies at or behind the last kept place, and is the one that was first sent there, with its truth
+  -- a packet is kept: it lies at or behind the front, and is the one that was first sent there, with its truth
   Keeps : (place : ℕ) (unit : SentMessage) (links : Links) → own.front ≤ place → slice_get other.sent place ≡ Some (Some unit) →
       links_arrived of_partner own.links unit.packet unit.truth ≡ Ok links → LinkStep own other [] (keeps own links place)
   KeepsNone : (place : ℕ) → own.front ≤ place → slice_get other.sent place ≡ Some None → LinkStep own other [] (keeps own own.links place)

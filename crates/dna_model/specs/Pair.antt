@@ -1,4 +1,5 @@
--- The run of two captures: two nodes, each over the records of its own capture, and the two lines that join them.
+-- The run of two captures by their stations alone: two nodes, each over the records of its own capture, and the two lines that join them. What a
+-- verdict speaks of is the run over both layers, in `LayersPair`.
 use Rattle.std.specs.Prelude.{List}
 use Rattle.two_nodes.specs.Nodes.{Nodes, World, start_world}
 use Rattle.two_nodes.specs.Nodes as any

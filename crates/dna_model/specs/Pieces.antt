@@ -85,11 +85,12 @@ next_message [] = None
 next_message (None ∷ later) = None
 next_message (Some p ∷ later) = if p.ends then Some (record { pieces = 1; message = p.body }) else with_piece p (next_message later)
 
--- how many pieces the whole messages at the front have together
+-- one piece more, where a whole message follows
 abbrev pub one_more : ℕ → ℕ
 one_more zero = 0
 one_more (suc n) = n + 2
 
+-- how many pieces the whole messages at the front have together
 abbrev pub in_whole_messages : List (Option Piece) → ℕ
 in_whole_messages [] = 0
 in_whole_messages (None ∷ later) = 0

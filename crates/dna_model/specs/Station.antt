@@ -9,7 +9,8 @@ use Rattle.dna_model.specs.declared.state.StationEvent.TheVariants.{Start, Halt}
 use Rattle.dna_model.specs.Causes.{Causes, no_causes}
 use Rattle.dna_model.specs.Table.{state_after}
 
--- What a period that is over came to: its partner, all packets given in it, and all packets taken. No check and no step goes by it
+-- What a period that is over came to: its partner, all packets given in it, and all packets taken. No check and no step of the station goes by it; the
+-- links find a packet by its place among all packets, which is counted from those given
 pub record PastPeriod : Type 0 where
   pub partner : Option ℕ
   pub given : List (List ℕ)
@@ -32,8 +33,7 @@ pub record Station : Type 0 where
   pub packets : List (List ℕ)
   -- what a NAK may still answer
   pub causes : Causes
-  -- all packets taken in the period, and the periods before it, period 0 first. No check and no step goes by them; the place of a
-  -- packet among all packets is counted from them
+  -- all packets taken in the period, and the periods before it, period 0 first. No check and no step of the station goes by them
   pub taken : List (List ℕ)
   pub earlier : List PastPeriod
 

@@ -111,7 +111,7 @@ row Running (Rep flags num) = record { needs = OfPair; effects = AnswerRep ∷ [
 row Running (Data flags resp num body) = record { needs = OfPair; effects = Respond ∷ TakePacket ∷ [] }
 row state m = ignored
 
--- a unit that shows damage: in RUNNING one more cause, 1 for a bad header and 2 for bad data; in other states nothing
+-- a unit, or noise, that shows damage: in RUNNING one more cause, 1 for a bad header and 2 for bad data; in other states nothing
 abbrev pub counts_damage : State → Bool
 counts_damage Running = true
 counts_damage state = false

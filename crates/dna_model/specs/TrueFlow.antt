@@ -133,7 +133,6 @@ sends_new segsize p names f =
     (check (is_next_piece p f.unsent) WrongSegment
     (Ok (sending (highest_given f + 1) names f (record f { last = names.last; given = f.given ++ p ∷ []; unsent = without_piece p f.unsent })))))
 
--- any other SEGNUM is that of one of the last 2,047 given, else 20: of the one so far below the highest
 abbrev pub is_given : Option Piece → Piece → Bool
 is_given None p = false
 is_given (Some first) p = same_piece p first
@@ -142,6 +141,7 @@ is_given (Some first) p = same_piece p first
 abbrev pub is_repeat : (number : ℕ) → Piece → TrueFlow → Bool
 is_repeat number p f = nat_le number f.acknowledged || is_given (slice_get f.given (number - 1)) p
 
+-- any other SEGNUM is that of one of the last 2,047 given, else 20: of the one so far below the highest
 abbrev pub sends_again : (below : ℕ) → Piece → Named → TrueFlow → Result (Sending TrueFlow Numbers) LinkRefusal
 sends_again below p names f =
     check (nat_lt below REACH && nat_lt below (highest_given f)) WrongSegment

@@ -174,13 +174,13 @@ acknowledged_by k word = acknowledged_to (is_of_data word.qualifier && nat_le (d
 abbrev pub acknowledged_by_all : List AckWord → LinkVariables → LinkVariables
 acknowledged_by_all words k = fold acknowledged_by k words
 
--- SEGNUM that lies 1 to 2,047 above the highest received without a gap is that number; any other counts as received
 abbrev pub held : (above : ℕ) → Piece → LinkVariables → List (Option Piece)
 held above p k = hold (in_order k.pieces + above - 1) p k.pieces
 
 abbrev pub with_pieces : List (Option Piece) → LinkVariables → LinkVariables
 with_pieces pieces k = record k { received = wire (k.received + (in_order pieces - in_order k.pieces)); pieces = pieces }
 
+-- SEGNUM that lies 1 to 2,047 above the highest received without a gap is that number; any other counts as received
 abbrev pub with_segment : (above : ℕ) → Piece → LinkVariables → LinkVariables
 with_segment above p k = if nat_le 1 above && nat_le above REACH then with_pieces (held above p k) k else k
 

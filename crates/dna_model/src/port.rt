@@ -3,7 +3,7 @@
 /// The phase of a link (NSP 4.0, port states; those in which nothing differs here are one phase).
 #[derive(Clone, Copy, Debug, PartialEq, Eq)]
 pub enum Phase {
-    /// Opened from here; nothing has come from the other side yet, but perhaps a connect acknowledgement (CI and CD).
+    /// Opened from here; nothing that it acts on has come yet (CI and CD).
     Calling,
     /// Begun by a CI that came; the user has not answered yet.
     Called,

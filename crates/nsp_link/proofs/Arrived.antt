@@ -3,7 +3,6 @@ use Rattle.std.proofs.Common.{◌≡◌, ℕ, zero, suc, ◌+◌, ◌-◌, ◌�
 use Rattle.std.proofs.lemmas.List.{take-append-drop}
 use Rattle.std.proofs.Math.ListN.{drop_of_length-le}
 use Rattle.std.proofs.Math.Seq.{drop-append_seam, take-append_seam}
-use Rattle.std.specs.Prelude.{is_some}
 use Rattle.std.specs.Str.{bytes_eq}
 use Rattle.std.specs.Bool.{one_answer}
 use Rattle.std.proofs.lemmas.Slice.Eq.{bytes_eq-Decides}
@@ -63,10 +62,6 @@ told_stops message _ (Missing later) = refl
 whole_stops : (xs : List (Option Piece)) → Stops xs → in_whole_messages xs ≡ 0
 whole_stops _ NoMore = refl
 whole_stops _ (Missing later) = refl
-
-in_order_by : (i : ℕ) (xs : List (Option Piece)) (o : Option Piece) → piece_at i xs ≡ o → is_some o ≡ true → in_order (drop i xs) ≡ 1 + in_order (drop (i + 1) xs)
-in_order_by i xs None there e = absurd (cc)
-in_order_by i xs (Some p) there e = ap in_order (step i xs p there)
 
 pub in_order_step : (i : ℕ) (xs : List (Option Piece)) (p : Piece) → piece_at i xs ≡ Some p → in_order (drop i xs) ≡ 1 + in_order (drop (i + 1) xs)
 in_order_step i xs p e = ap in_order (step i xs p e)

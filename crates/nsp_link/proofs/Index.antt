@@ -291,8 +291,6 @@ module _ {D : Type 0} where
 
 pub ruleset searches = (find_hit, find_miss, live_found, address_found)
 
-pub ruleset changes = (indexed_change)
-
 -- ---- what a look-up finds
 
 found_within : {D : Type 0} (test : LinkTest) (links : List (LinkOf D)) (r : Option ℕ) (n : ℕ) → IsFound (λ (l : LinkOf D). passes test l.port) links r → r ≡ Some n → n < length links

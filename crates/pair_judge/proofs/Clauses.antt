@@ -20,6 +20,7 @@ use Rattle.dna_model.specs.LayersPair.{IsLayersRun, layers_pair, layers_start}
 use Rattle.dna_model.specs.Verdict.{IsVerdict, IsWrong, IsWrongOfB}
 use Rattle.pair_judge.specs.declared.judging.Found.{Found}
 use Rattle.pair_judge.specs.declared.summary.Summary.{Summary}
+use Rattle.pair_judge.specs.declared.verdict.Verdict.TheVariants.{Accepted}
 use Rattle.pair_judge.specs.declared.fault.JudgeFault.{JudgeFault}
 use Rattle.pair_judge.specs.declared.fault.JudgeFault.TheVariants.{Capture, OutOfMemory}
 use Rattle.pair_judge.specs.declared.fault.TextFault.TheVariants.{Departs, Read}
@@ -30,8 +31,8 @@ use Rattle.pair_judge.specs.Heads.{head_of}
 use Rattle.pair_judge.specs.Finding.{EndsFor, EndsWhere, IsCounted, IsFoundIn, IsVerdictBehind, of_side}
 use Rattle.pair_judge.specs.Faulty.{IsFaultyText, IsJudgeFault}
 use Rattle.pair_judge.specs.Reason.{reason_of}
-use Rattle.pair_judge.specs.Refusal.{AreRefused, IsRefusal, OffendsFor, WholeCapture}
-use Rattle.pair_judge.specs.Judged.{AcceptsOrFails, AreARun, HasDelivered, IfTold, IsAcceptance, IsExact, IsFaultyWhere, IsRefusalWhere}
+use Rattle.pair_judge.specs.Refusal.{AreRefused, AreTexts, IsRefusal, OffendsFor, WholeCapture}
+use Rattle.pair_judge.specs.Judged.{AcceptsOrFails, Answer, AreARun, HasDelivered, IfTold, IsAcceptance, IsExact, IsRefusalWhere}
 use Rattle.pair_judge.proofs.Found.{at_heads}
 
 -- the laws of whole texts
@@ -133,11 +134,6 @@ accepted_of_found laws runs None text_b found f = tt
 accepted_of_found laws runs (Some bytes_a) None found f = tt
 accepted_of_found laws runs (Some bytes_a) (Some bytes_b) found f = accepted_by laws runs bytes_a bytes_b f.read_a f.read_b f.from_a f.from_b found.finding found.summary f.ends f.counts
 
-pub accepted_of_fault : (text_a text_b : Option (List ℕ)) (fault : JudgeFault) → IfTold text_a text_b (λ bytes_a bytes_b. IsAcceptance bytes_a bytes_b (Err fault))
-accepted_of_fault None text_b fault = tt
-accepted_of_fault (Some bytes_a) None fault = tt
-accepted_of_fault (Some bytes_a) (Some bytes_b) fault = tt
-
 -- ---- refused
 
 -- the named record is there
@@ -176,16 +172,6 @@ refused_by text_a text_b read_a read_b from_a from_b (findings.Refused side plac
 pub refused_of_found : (text_a text_b : Option (List ℕ)) (found : Found) → IsFoundIn text_a text_b found → IsRefusalWhere text_a text_b (Ok (verdict_of found))
 refused_of_found text_a text_b found f = refused_by text_a text_b f.read_a f.read_b f.from_a f.from_b found.finding found.summary f.verdict f.ends
 
--- ---- faulty
-
-pub faulty_of_found : (text_a text_b : Option (List ℕ)) (found : Found) → IsFaultyWhere text_a text_b (Ok (verdict_of found))
-faulty_of_found text_a text_b found = tt
-
-pub faulty_of_fault : (text_a text_b : Option (List ℕ)) (fault : JudgeFault) → IsJudgeFault text_a text_b fault → IsFaultyWhere text_a text_b (Err fault)
-faulty_of_fault text_a text_b (Capture side (Departs kind line)) f = f
-faulty_of_fault text_a text_b (Capture side Read) f = tt
-faulty_of_fault text_a text_b OutOfMemory f = tt
-
 -- ---- of two whole captures
 
 offends_for : (a b : WholeCapture) (side : Side) (place : ℕ) (reason : Reason) (cause : Cause) → reason ≡ reason_of cause → IsVerdict a.head b.head a.records b.records (findings.Refused side place cause) → reason ≢ reasons.NoSuchUnit → reason ≢ reasons.NoOrder → OffendsFor a b side place reason
@@ -205,3 +191,33 @@ refused_captures laws a b bytes_a bytes_b side place reason is_a is_b r =
       verdict = v;
       offends = offends_for a b side place reason r.cause r.is_reason v;
     }
+
+-- ---- of texts in either format
+
+-- a text has one head and one list
+abbrev OneList : Type 0
+OneList = (own peer own' peer' : ℕ) (rs ss : List Record) (bytes : List ℕ) → IsText own peer rs bytes → IsText own' peer' ss bytes → (own ≡ own') × (peer ≡ peer') × (rs ≡ ss)
+
+same_text : (own peer own' peer' : ℕ) (rs ss : List Record) (other : List ℕ) → (own ≡ own') × (peer ≡ peer') × (rs ≡ ss) → IsText own' peer' ss other → IsText own peer rs other
+same_text own peer own' peer' rs ss other same is = rw (same.0, same.1, same.2) is
+
+pub still_accepted : OneList → (a b : WholeCapture) (bytes_a bytes_b other_a other_b : List ℕ) (summary : Summary) (answer : Answer) → AreTexts a b bytes_a bytes_b → AreTexts a b other_a other_b
+    → IsAcceptance bytes_a bytes_b (Ok (Accepted summary)) → IsExact other_a other_b answer → AcceptsOrFails answer
+still_accepted one a b bytes_a bytes_b other_a other_b summary answer here there run exact =
+    exact (record { own = run.own_a; peer = run.peer_a }) (record { own = run.own_b; peer = run.peer_b }) run.of_a run.of_b
+    (same_text run.own_a run.peer_a a.head.own a.head.peer run.of_a a.records other_a (one run.own_a run.peer_a a.head.own a.head.peer run.of_a a.records bytes_a run.is_text_a here.of_a) there.of_a)
+    (same_text run.own_b run.peer_b b.head.own b.head.peer run.of_b b.records other_b (one run.own_b run.peer_b b.head.own b.head.peer run.of_b b.records bytes_b run.is_text_b here.of_b) there.of_b)
+    run.run
+
+at_captures : (own_a peer_a own_b peer_b : ℕ) (of_a of_b : List Record) (a b : WholeCapture) → (own_a ≡ a.head.own) × (peer_a ≡ a.head.peer) × (of_a ≡ a.records) → (own_b ≡ b.head.own) × (peer_b ≡ b.head.peer) × (of_b ≡ b.records)
+    → IsLayersRun (record { own = own_a; peer = peer_a }) (record { own = own_b; peer = peer_b }) of_a of_b → IsLayersRun a.head b.head a.records b.records
+at_captures own_a peer_a own_b peer_b of_a of_b a b same_a same_b run = rw (sym same_a.0, sym same_a.1, sym same_a.2, sym same_b.0, sym same_b.1, sym same_b.2) run
+
+pub never_accepted : WholeLaws → OneList → (a b : WholeCapture) (bytes_a bytes_b other_a other_b : List ℕ) (side : Side) (place : ℕ) (reason : Reason) (summary : Summary) → AreTexts a b bytes_a bytes_b
+    → AreTexts a b other_a other_b → IsRefusal (Some bytes_a) (Some bytes_b) side place reason → IsAcceptance other_a other_b (Ok (Accepted summary)) → ⊥
+never_accepted laws one a b bytes_a bytes_b other_a other_b side place reason summary here there refusal run =
+    (refused_captures laws a b bytes_a bytes_b side place reason here.of_a here.of_b refusal).no_run
+    (at_captures run.own_a run.peer_a run.own_b run.peer_b run.of_a run.of_b a b
+    (one run.own_a run.peer_a a.head.own a.head.peer run.of_a a.records other_a run.is_text_a there.of_a)
+    (one run.own_b run.peer_b b.head.own b.head.peer run.of_b b.records other_b run.is_text_b there.of_b)
+    run.run)

@@ -1,39 +1,13 @@
 -- What a node makes of a receipt, by the bytes that came beside the unit.
-use Rattle.std.proofs.Common.{◌≡◌, ℕ, ◌+◌, ◌<◌, ◌≤◌, Bool, true, false, List, Option, Some, Ok, Err, refl, sym, ap, ◌∙◌, cond, subst}
-use Rattle.std.specs.Str.{bytes_eq}
+use Rattle.std.proofs.Common.{◌≡◌, ℕ, ◌+◌, ◌<◌, ◌≤◌, Bool, List, Option, Some, Ok, Err, sym, ap, ◌∙◌, cond}
 use Rattle.std.proofs.lemmas.Bool.{lt-ltb, le-ltb}
-use Rattle.std.proofs.lemmas.Slice.Eq.{bytes_eq-Decides}
-use Rattle.ddcmp_msg.specs.Message.{MessageValue}
-use Rattle.ddcmp_msg.specs.Reading.{ReadingValue, reading}
-use Rattle.ddcmp_msg.specs.Reading as read
 use Rattle.dna_model.specs.declared.refusal.StepRefusal.{StepRefusal}
 use Rattle.dna_model.specs.declared.refusal.StepRefusal.TheVariants.{HintOrder}
-use Rattle.dna_model.specs.Book.{ArrivalValue, Sound}
-use Rattle.dna_model.specs.Line.{damage, coming_by, coming}
+use Rattle.dna_model.specs.Book.{ArrivalValue}
+use Rattle.dna_model.specs.Line.{coming}
 use Rattle.dna_model.specs.Machine.{met, comes}
 use Rattle.dna_model.specs.WireLayers.{LayersTag, WireLayers, WireLayersNode, WireLayersUnit}
-use Rattle.pair_judge.specs.Unit.{IsSoundReading, message_of, unit_of}
 use Rattle.pair_judge.specs.Wire.{judge_machine, judge_receives}
-
--- ---- what comes
-
--- the unit's own bytes
-pub coming_same : (unit : WireLayersUnit) (bytes : List ℕ) (m : MessageValue) → unit ≡ unit_of unit.bytes unit.known → bytes_eq bytes unit.bytes ≡ true → reading bytes ≡ read.Sound m → coming unit bytes ≡ Some (Sound m unit.known)
-coming_same unit bytes m is same reads =
-    let equal : bytes ≡ unit.bytes = (bytes_eq-Decides bytes unit.bytes).0 same in
-    let says : unit.message ≡ m = ap (λ (u : WireLayersUnit). u.message) is ∙ ap (λ bs. message_of (reading bs)) (sym equal) ∙ ap message_of reads in
-    ap (λ b. coming_by b unit (reading bytes)) same ∙ ap (λ x. Some (Sound x unit.known)) says
-
--- bytes that are not the unit's
-pub coming_other : (unit : WireLayersUnit) (bytes : List ℕ) → bytes_eq bytes unit.bytes ≡ false → coming unit bytes ≡ damage (reading bytes)
-coming_other unit bytes other = ap (λ b. coming_by b unit (reading bytes)) other
-
--- bytes that are not sound are not the unit's
-pub coming_unsound : (unit : WireLayersUnit) (bytes : List ℕ) → IsSoundReading (reading unit.bytes) → (IsSoundReading (reading bytes) → ⊥) → coming unit bytes ≡ damage (reading bytes)
-coming_unsound unit bytes sound unsound = by_test (bytes_eq bytes unit.bytes) refl where
-  by_test : (b : Bool) → bytes_eq bytes unit.bytes ≡ b → coming unit bytes ≡ damage (reading bytes)
-  by_test true e = absurd (unsound (subst (λ bs. IsSoundReading (reading bs)) (sym ((bytes_eq-Decides bytes unit.bytes).0 e)) sound))
-  by_test false e = coming_other unit bytes e
 
 -- ---- what a node makes of it
 

@@ -1,25 +1,21 @@
 -- How what was read of a text grows with a side's next record.
 use Rattle.std.proofs.Common.{◌≡◌, ℕ, ◌+◌, ◌<◌, List, [], ◌∷◌, ◌++◌, length, Option, Some, None, Ok, refl, sym, ap, ap₂, subst, ◌∙◌, arith, length-append, append-nil}
-use Rattle.std.specs.Option.{IfSome}
 use Rattle.std.specs.Io.KnownBytes.{Consumes, IsAtEnd}
 use Rattle.capture.specs.declared.limit.TheConstants.{MAX_RECORDS}
-use Rattle.capture.specs.declared.fault.CaptureFault.{CaptureFault}
-use Rattle.capture.specs.declared.fault.CaptureFault.TheVariants.{Departs, Read, OutOfMemory, Failed}
 use Rattle.capture.specs.declared.record.Record.{Record}
 use Rattle.capture.specs.declared.entry.Entry.{Entry}
 use Rattle.capture.specs.Entries.{record_with}
 use Rattle.capture.specs.declared.hint.HintForm.{HintForm}
 use Rattle.capture.specs.Text.{form_after, record_line}
 use Rattle.capture.specs.Range.{IsRecord}
-use Rattle.capture.specs.Departing.{RecordDeparts}
-use Rattle.capture.specs.Reader.{CaptureState, FaultShows, NextGives}
-use Rattle.capture.specs.SoFar.{ToCome, TheEnd, coming, so_far, IsReadSoFar}
+use Rattle.capture.specs.Reader.{CaptureState, NextGives}
+use Rattle.capture.specs.SoFar.{ToCome, TheEnd, so_far, IsReadSoFar}
 use Rattle.dna_model.specs.declared.head.Head.{Head}
 use Rattle.pair_judge.specs.declared.course.Ahead.{Ahead}
 use Rattle.pair_judge.specs.declared.course.Ahead.TheVariants.{Unread, Waits, Ended}
 use Rattle.pair_judge.specs.declared.course.Course.{Course}
 use Rattle.pair_judge.specs.declared.end.End.{End}
-use Rattle.pair_judge.specs.Course.{IsRead, IsFaultOf, along, behind, waiting}
+use Rattle.pair_judge.specs.Course.{IsRead, along, behind, waiting}
 
 -- ---- what was read, by what comes next
 
@@ -41,13 +37,6 @@ module _ (text : Option (List ℕ)) (course : Course) (come : Option (List ℕ))
     head = head;
   }
 
-  pub read_waits : (entry : Entry) → course.ahead ≡ Waits entry → IsRead (along text course come made)
-      → IsReadSoFar text (so_far course.capture.form course.capture.own course.capture.peer (made ++ record_with entry course.capture.bytes ∷ []) (ToCome come)) × (course.capture.records ≡ length (made ++ record_with entry course.capture.bytes ∷ []))
-  read_waits entry is h = (
-    subst (λ (a : Ahead). IsReadSoFar text (so_far course.capture.form course.capture.own course.capture.peer (made ++ waiting course.capture.bytes a) (behind a come))) is h.so_far,
-    subst (λ (a : Ahead). course.capture.records ≡ length (made ++ waiting course.capture.bytes a)) is h.count,
-  )
-
   pub from_waits : (entry : Entry) → course.ahead ≡ Waits entry → IsReadSoFar text (so_far course.capture.form course.capture.own course.capture.peer (made ++ record_with entry course.capture.bytes ∷ []) (ToCome come)) → course.capture.records ≡ length (made ++ record_with entry course.capture.bytes ∷ [])
       → course.end.head ≡ record { own = course.capture.own; peer = course.capture.peer } → IsRead (along text course come made)
   from_waits entry is so count head = record {
@@ -66,13 +55,6 @@ module _ (text : Option (List ℕ)) (course : Course) (come : Option (List ℕ))
   }
 
 -- ---- the next record
-
--- a record that waited goes on as one that was read
-pub taken_up : (text : Option (List ℕ)) (course : Course) (come : Option (List ℕ)) (made : List Record) (entry : Entry) → course.ahead ≡ Waits entry → IsRead (along text course come made)
-    → IsRead (along text (record course { ahead = Unread }) come (made ++ record_with entry course.capture.bytes ∷ []))
-taken_up text course come made entry is h =
-    let read = read_waits text course come made entry is h in
-    from_unread text (record course { ahead = Unread }) come (made ++ record_with entry course.capture.bytes ∷ []) refl read.0 read.1 h.head
 
 -- a record that was read goes on as one that waits
 pub put_back : (text : Option (List ℕ)) (course : Course) (come : Option (List ℕ)) (made : List Record) (entry : Entry) → course.ahead ≡ Unread
@@ -109,18 +91,3 @@ module _ (laws : GrowingLaws) (text : Option (List ℕ)) (old new : Course) (bef
   ended is gives =
       let read = read_unread text old before made unread h in
       from_ended text new after made is (rw (own, peer, gives.3) (laws.ended text before old.capture.form old.capture.own old.capture.peer made read.0 gives.0)) (gives.1 ∙ read.1) head_on
-
--- the line at hand departs
-pub faulty : (text : Option (List ℕ)) (course : Course) (come : Option (List ℕ)) (made : List Record) (fault : CaptureFault) → course.ahead ≡ Unread → IsRead (along text course come made) → FaultShows (RecordDeparts course.capture.form course.capture.records) (course.capture.records + 2) come fault → IsFaultOf (along text course come made) fault
-faulty text course come made (Departs kind line) is h shows =
-    let count = h.count in (
-      is,
-      record {
-        departs = subst (λ (a : Ahead). IfSome (coming (behind a come)) (RecordDeparts course.capture.form (length (made ++ waiting course.capture.bytes course.ahead)) kind)) (sym is)
-            (subst (λ (n : ℕ). IfSome come (RecordDeparts course.capture.form n kind)) h.count shows.1);
-        line_is = shows.0 ∙ ap (λ n. n + 2) h.count;
-      },
-    )
-faulty text course come made Read is h shows = tt
-faulty text course come made OutOfMemory is h shows = tt
-faulty text course come made Failed is h shows = tt

@@ -1,14 +1,12 @@
 -- A reader's fault, beside what was read before it, is a departure of the text; and what was made by then is a run.
-use Rattle.std.proofs.Common.{◌≡◌, ℕ, List, ◌++◌, Option, inl, inr, refl, sym, ap, subst, ◌∙◌, append-nil}
+use Rattle.std.proofs.Common.{◌≡◌, ℕ, List, ◌++◌, inr, refl, sym, ap, subst, ◌∙◌, append-nil}
 use Rattle.wire_base.specs.declared.side.Side.TheVariants.{A, B}
 use Rattle.wire_base.specs.declared.side.Side.{Side}
 use Rattle.capture.specs.declared.fault.CaptureFault.{CaptureFault}
 use Rattle.capture.specs.declared.fault.CaptureFault.TheVariants.{Departs, Read, OutOfMemory, Failed}
 use Rattle.capture.specs.declared.record.Record.{Record}
 use Rattle.capture.specs.declared.fault.Departure.{Departure}
-use Rattle.capture.specs.Departing.{HeadDeparts}
 use Rattle.capture.specs.SoFar.{DepartsBehind}
-use Rattle.capture.specs.Reader.{FaultShows}
 use Rattle.dna_model.specs.declared.head.Head.{Head}
 use Rattle.dna_model.specs.LayersPair.{IsLayersRun}
 use Rattle.pair_judge.specs.declared.course.Ahead.{Ahead}
@@ -51,11 +49,3 @@ module _ (a b : Track) (read_a : IsRead a) (read_b : IsRead b) (run : IsLayersRu
   faulty side Read is = tt
   faulty side OutOfMemory is = tt
   faulty side Failed is = tt
-
--- ---- heads
-
-pub head_faulty : (side : Side) (text_a text_b : Option (List ℕ)) (fault : CaptureFault) → FaultShows HeadDeparts 1 (of_side side text_a text_b) fault → IsJudgeFault text_a text_b (side_fault_of side fault)
-head_faulty side text_a text_b (Departs kind line) shows = inl (record { departs = shows.1; line_is = shows.0 })
-head_faulty side text_a text_b Read shows = tt
-head_faulty side text_a text_b OutOfMemory shows = tt
-head_faulty side text_a text_b Failed shows = tt

@@ -22,10 +22,6 @@ behind_all [] newest number past = refl
 behind_all (run ∷ runs) newest number past =
     ap (λ b. cond b run.tag (tag_at runs newest number)) (le-ltb number run.end (omega arith)) ∙ behind_all runs newest number (omega arith)
 
--- a run that ends in front of a number is not asked
-pub let_go : (run : TagRun) (runs : List TagRun) (newest : Tag) (number : ℕ) → run.end ≤ number → tag_at (run ∷ runs) newest number ≡ tag_at runs newest number
-let_go run runs newest number past = ap (λ b. cond b run.tag (tag_at runs newest number)) (le-ltb number run.end past)
-
 pub behind-append : (runs : List TagRun) (run : TagRun) (number : ℕ) → behind runs ≤ number → run.end ≤ number → behind (runs ++ run ∷ []) ≤ number
 behind-append [] run number runs_end run_ends = omega arith
 behind-append (r ∷ runs) run number runs_end run_ends = omega (arith, behind-append runs run number (omega arith) run_ends)

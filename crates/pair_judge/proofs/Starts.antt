@@ -1,30 +1,25 @@
 -- Two sides whose heads have been read, and what holds of the two between turns.
-use Rattle.std.proofs.Common.{◌≡◌, ℕ, ◌+◌, ◌≤◌, List, [], ◌++◌, length, drop, Option, refl, sym, ap₂, subst, ◌∙◌, arith, append-nil, length-append}
-use Rattle.std.proofs.lemmas.List.Sums.{count_by-le-length}
-use Rattle.capture.specs.declared.limit.TheConstants.{MAX_RECORDS}
+use Rattle.std.proofs.Common.{◌≡◌, ℕ, ◌+◌, ◌≤◌, List, [], ◌++◌, length, drop, Option, refl, sym, ap₂, subst, ◌∙◌, arith, append-nil}
 use Rattle.capture.specs.SoFar.{TheEnd}
 use Rattle.dna_model.specs.declared.finding.Finding.{Finding}
 use Rattle.dna_model.specs.declared.finding.Finding.TheVariants.{Accepted}
-use Rattle.dna_model.specs.Machine.{is_sent}
 use Rattle.pair_judge.specs.declared.course.Ahead.{Ahead}
 use Rattle.pair_judge.specs.declared.course.Ahead.TheVariants.{Unread, Waits, Ended}
 use Rattle.pair_judge.specs.declared.judging.Found.{Found}
 use Rattle.pair_judge.specs.declared.summary.SideSummary.{SideSummary}
-use Rattle.pair_judge.specs.Counting.{is_received, is_damaged, is_kept, is_start, is_delivery}
 use Rattle.pair_judge.specs.Finding.{EndsWhere, IsCounted, IsFoundIn}
-use Rattle.pair_judge.specs.Summary.{counts_of, summary_at, HasRoom, HasRoomFor}
+use Rattle.pair_judge.specs.Summary.{summary_at}
 use Rattle.pair_judge.proofs.Found.{at_heads}
 use Rattle.two_nodes.specs.Nodes.{Done}
 use Rattle.dna_model.specs.declared.head.Head.{Head}
 use Rattle.dna_model.specs.WireStation.{load}
 use Rattle.dna_model.specs.WireLayers.{WireLayers, WireLayersUnit, new_wire_layers_node, wire_layers_start}
 use Rattle.pair_judge.specs.declared.summary.Summary.{Summary}
-use Rattle.pair_judge.specs.declared.end.End.{End}
 use Rattle.pair_judge.specs.Heads.{head_of}
 use Rattle.capture.specs.declared.record.Record.{Record}
 use Rattle.pair_judge.specs.declared.course.Course.{Course}
 use Rattle.pair_judge.specs.declared.line.Line.{Line}
-use Rattle.pair_judge.specs.Course.{IsRead, MayRead, Track, along, behind, having_made, read_of, waiting}
+use Rattle.pair_judge.specs.Course.{MayRead, Track, along, behind, having_made, read_of, waiting}
 use Rattle.pair_judge.specs.Lines.{held, Shows}
 use Rattle.pair_judge.specs.Making.{StandsFor}
 use Rattle.pair_judge.specs.Reached.{IsFound, IsUnderWay}
@@ -115,19 +110,3 @@ found_in a b found f counts_a counts_b = record {
     counted is ends counts =
         let both = subst (λ (finding : Finding). EndsWhere finding (read_of a).behind (read_of b).behind) is ends in
         counted_so f.read_a.head f.read_b.head (nothing_waits a f.made_a both.0) (nothing_waits b f.made_b both.1) (sym (ap₂ (λ (x y : SideSummary). record { a = x; b = y }) counts_a counts_b)) counts
-
--- ---- room
-
-pub has_room : (end : End) (made : List Record) → end.counts ≡ counts_of made → load end.layers.station ≤ length made → length made ≤ MAX_RECORDS → HasRoom end
-has_room end made e loaded few =
-    let sent = count_by-le-length is_sent made in
-    let received = count_by-le-length is_received made in
-    let damaged = count_by-le-length is_damaged made in
-    let kept = count_by-le-length is_kept made in
-    let periods = count_by-le-length is_start made in
-    let up = count_by-le-length is_delivery made in
-    let room : HasRoomFor (counts_of made) = record { records = omega arith; sent = omega arith; received = omega arith; damaged = omega arith; kept = omega arith; periods = omega arith; up = omega arith } in
-    record { counts = subst (λ (s : SideSummary). HasRoomFor s) (sym e) room; station = omega arith }
-
-pub few_made : (t : Track) → IsRead t → length t.made ≤ MAX_RECORDS
-few_made t h = omega (arith, h.so_far.fits.few, length-append t.made (waiting t.course.capture.bytes t.course.ahead))

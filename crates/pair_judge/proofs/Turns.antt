@@ -12,10 +12,10 @@ use Rattle.dna_model.specs.WireStation.{load}
 use Rattle.dna_model.specs.WireLayers.{WireLayers, wire_layers_pair, wire_layers_start}
 use Rattle.pair_judge.specs.Counting.{is_received, is_damaged, is_kept, is_start, is_delivery, more_if}
 use Rattle.pair_judge.specs.Summary.{counts_of, counted}
-use Rattle.pair_judge.specs.Making.{IsMade, Move, StandsFor, move}
+use Rattle.pair_judge.specs.Making.{IsMade, StandsFor, move}
 use Rattle.pair_judge.specs.declared.course.Course.{Course}
-use Rattle.pair_judge.specs.Course.{IsBlocked, IsRead, MayRead, Track, WaitsAt, along}
-use Rattle.pair_judge.specs.Reached.{HasReached, IsHeldUp}
+use Rattle.pair_judge.specs.Course.{IsRead, along}
+use Rattle.pair_judge.specs.Reached.{HasReached}
 use Rattle.pair_judge.specs.Wire.{JudgeWorld, JudgeHalf}
 
 -- ---- counts
@@ -110,17 +110,6 @@ same_end old new same = record {
   counts = ap (λ (e : End). e.counts) same;
   line = ap (λ (e : End). e.line) same;
 }
-
--- a side that is blocked is held up
-pub held_up : (m : Move) (t : Track) → IsBlocked m t → m.new ≡ t.course.end → IsHeldUp t.course m.after
-held_up m t blocked is = record {
-  next = blocked.next;
-  ahead = blocked.ahead;
-  waits = subst (λ (e : End). WaitsAt e m.after blocked.next) (sym blocked.still.same_end ∙ is) (subst (λ (l : Line). WaitsAt m.old l blocked.next) (sym blocked.still.same_line) blocked.waits);
-}
-
-pub may_read_still : (old new : Course) → new.capture ≡ old.capture → new.ahead ≡ old.ahead → MayRead old → MayRead new
-may_read_still old new capture ahead may = rw (capture, ahead) may
 
 -- of a side of which nothing moved but its line the same was read
 pub same_read : (text : Option (List ℕ)) (old new : Course) (come : Option (List ℕ)) (made : List Record) → new.capture ≡ old.capture → new.ahead ≡ old.ahead → new.end.head ≡ old.end.head → IsRead (along text old come made) → IsRead (along text new come made)

@@ -4,6 +4,7 @@ use Rattle.wire_base.specs.Side.{other_side}
 use Rattle.wire_base.specs.declared.side.Side.{Side}
 use Rattle.two_nodes.specs.Past.{Offends}
 use Rattle.capture.specs.declared.record.Record.{Record}
+use Rattle.capture.specs.Range.{IsText}
 use Rattle.capture.specs.SoFar.{ReadSoFar, IsReadSoFar}
 use Rattle.dna_model.specs.declared.finding.Cause.{Cause}
 use Rattle.dna_model.specs.declared.finding.Cause.TheVariants.{Step}
@@ -40,6 +41,11 @@ pub record IsRefusal (text_a text_b : Option (List ℕ)) (side : Side) (place : 
 pub record WholeCapture : Type 0 where
   pub head : Head
   pub records : List Record
+
+-- these bytes are their texts, each in either format
+pub record AreTexts (a b : WholeCapture) (bytes_a bytes_b : List ℕ) : Type 0 where
+  pub of_a : IsText a.head.own a.head.peer a.records bytes_a
+  pub of_b : IsText b.head.own b.head.peer b.records bytes_b
 
 -- the record of this side offends, and this is the reason
 pub record OffendsFor (a b : WholeCapture) (side : Side) (place : ℕ) (reason : Reason) : Type 0 where

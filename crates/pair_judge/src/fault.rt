@@ -17,6 +17,7 @@ pub enum TextFault {
 pub enum JudgeFault {
     /// A text was faulty, or could not be read, as far as it was read by then.
     Capture { side: Side, fault: TextFault },
-    /// There was no memory for a reader's block, a station's window, a record's bytes, a packet, or a unit that may still be received.
+    /// There was no memory for a reader's block or its room for bytes, a station's window, a packet, a link, a message that was handed in, a segment
+    /// that is held, or a unit that may still be received, its tag, and the lists of those.
     OutOfMemory,
 }

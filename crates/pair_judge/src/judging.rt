@@ -40,7 +40,7 @@ pub struct Found {
 }
 
 /// Decides whether the texts that two readers give up to their ends are captures that together are a run of two nodes, each a DDCMP
-/// station with its NSP links on top, over a line that loses, damages and adds noise but never reorders.
+/// station with its NSP links on top, over a line that loses, damages and adds noise but never repeats or reorders units.
 ///
 /// Both texts are opened, a's first. Then a record is read only when its turn comes: side a's next one as long as a is
 /// neither blocked nor at its end, and otherwise one of b; a side is blocked where its next record is the receipt of a unit not

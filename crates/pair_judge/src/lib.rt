@@ -1,6 +1,6 @@
 //! The judge of a pair of captures: whether the records of both are together a run of the two nodes of one line, each a DDCMP station with
-//! its NSP links on top, where the line loses and damages units and adds noise, but never reorders them; and if not, which record of which
-//! side can't be made, and why. It reads two counted readers, each once from its front on, and takes memory of the allocator that it is passed. It
+//! its NSP links on top, where the line loses and damages units and adds noise, but never repeats or reorders them; and if not, which record of
+//! which side can't be made, and why. It reads two counted readers, each once from its front on, and takes memory of the allocator that it is passed. It
 //! touches no file, clock or thread, writes and prints nothing, and looks at no order but that of each capture's own records.
 #![tactic(auto)]
 
@@ -8,6 +8,7 @@ mod captures;
 mod course;
 mod end;
 mod fault;
+mod formats;
 mod held_link;
 mod held_unit;
 mod judging;
@@ -25,13 +26,12 @@ mod spare;
 mod step_fault;
 mod summary;
 mod tags;
-#[cfg(test)]
-mod tests;
 mod turn;
 mod unit_tag;
 mod verdict;
 
 pub use fault::{JudgeFault, TextFault};
+pub use formats::judged_in_any_format;
 pub use judging::judge;
 pub use reason::Reason;
 pub use refusal::refused_captures;

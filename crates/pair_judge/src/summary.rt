@@ -13,9 +13,9 @@ pub struct SideSummary {
     pub records: u64,
     /// Units that the side sent.
     pub sent: u64,
-    /// Receipts, damaged ones among them.
+    /// Receipts and noise, damaged ones among them.
     pub received: u64,
-    /// Receipts whose bytes show damage.
+    /// Receipts whose bytes show damage, and all noise.
     pub damaged: u64,
     /// Receipts whose packet was taken.
     pub kept: u64,

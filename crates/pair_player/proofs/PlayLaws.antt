@@ -8,7 +8,7 @@ use Rattle.capture.specs.declared.format.Format.TheVariants.{One}
 use Rattle.capture.specs.declared.hint.HintForm.TheVariants.{Number}
 use Rattle.capture.specs.declared.phase.Phase.TheVariants.{Reading}
 use Rattle.capture.specs.declared.record.Record.{Record}
-use Rattle.capture.specs.Lines.{IsCutBehind, to_come}
+use Rattle.capture.specs.Lines.{IsCut, IsCutBehind, to_come}
 use Rattle.capture.specs.Paged.{HandsOver}
 use Rattle.capture.specs.Text.{capture_text, head_line, record_lines, record_line}
 use Rattle.dna_model.specs.Script.{ScriptStep}
@@ -24,7 +24,7 @@ use Rattle.player_end.specs.declared.fault.StepFault.TheVariants as stops
 use Rattle.pair_player.specs.declared.played.Played.{Played}
 use Rattle.pair_player.specs.Beginning.{IsBegun, fault_of, fault_at}
 use Rattle.pair_player.specs.Playing.{DepartsBehind, EndsBehind, HasPlayed, HasWritten, Held, Plays, PlaysWholeLines, Reached, StopsBehind, held, text_a, text_b}
-use Rattle.pair_player.specs.Reader.{Advances, FaultShows, IsCut, ScriptState, WhereReadFails}
+use Rattle.pair_player.specs.Reader.{Advances, FaultShows, ScriptState, WhereReadFails}
 use Rattle.pair_player.specs.SoFar.{no_steps, with_step}
 use Rattle.player_end.specs.Stepping.{StopMeans}
 use Rattle.pair_player.specs.Making.{PutsLines, Standing, Steps, StopsStep, standing}

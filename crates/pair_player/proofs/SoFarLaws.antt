@@ -10,7 +10,7 @@ use Rattle.capture.proofs.SoFarLaws.{All-push, All-behind}
 use Rattle.dna_model.specs.Script.{ScriptStep, Script}
 use Rattle.dna_model.specs.ScriptText.{BeginsWithScript, IsScriptText, IsStep, StepDeparts, ScriptHeadDeparts, script_head, script_line, script_text, MAX_STEPS}
 use Rattle.pair_player.specs.Reader.{Opens, ScriptState}
-use Rattle.pair_player.specs.SoFar.{IsReadSoFar, IsBegun, no_steps, with_step}
+use Rattle.pair_player.specs.SoFar.{IsReadSoFar, IsBeginningOf, no_steps, with_step}
 use Rattle.pair_player.proofs.TextLaws.{one_line, one_head, begun_lines, nothing_more, no_departure, no_end_departure, no_head_departure}
 
 -- ---- lists of steps
@@ -72,7 +72,7 @@ split bytes rest begun all is_text h =
     let behind = begun_lines begun.steps all.steps rest h.fits.each is_text.fits.each heads.rest in
     record { same_a = heads.node_a; same_b = heads.node_b; more = behind.0; steps = behind.1; spelled = behind.2 }
 
-pub goes_on : (bytes rest : List ℕ) (begun all : Script) → IsScriptText all bytes → BeginsWithScript bytes begun rest → IsBegun begun all
+pub goes_on : (bytes rest : List ℕ) (begun all : Script) → IsScriptText all bytes → BeginsWithScript bytes begun rest → IsBeginningOf begun all
 goes_on bytes rest begun all is_text h = let s = split bytes rest begun all is_text h in record { node_a = s.same_a; node_b = s.same_b; more = s.more; steps = s.steps }
 
 abbrev script_of : (node_a node_b : ℕ) (steps : List ScriptStep) → Script
@@ -130,7 +130,7 @@ comes_before steps (p ∷ ps) (q ∷ qs) rest rest' kind all all' few e departs 
     let tail : ps ≡ qs ++ ih.0 = ih.1 in
     (ih.0, cc)
 
-pub departs_first : (bytes rest rest' : List ℕ) (script begun : Script) (kind : Departure) → BeginsWithScript bytes script rest → StepDeparts (length script.steps) kind rest → BeginsWithScript bytes begun rest' → IsBegun begun script
+pub departs_first : (bytes rest rest' : List ℕ) (script begun : Script) (kind : Departure) → BeginsWithScript bytes script rest → StepDeparts (length script.steps) kind rest → BeginsWithScript bytes begun rest' → IsBeginningOf begun script
 departs_first bytes rest rest' script begun kind h departs k =
     let lines = flat_map script_line script.steps in
     let lines' = flat_map script_line begun.steps in

@@ -2,7 +2,7 @@
 use Rattle.std.proofs.Common.{◌≡◌, ℕ, List, Option, Result, Err, ap, subst, ◌∙◌}
 use Rattle.dna_model.specs.ScriptText.{IsScript}
 use Rattle.dna_model.specs.Stepped.{Stop}
-use Rattle.dna_model.specs.Played.{Played}
+use Rattle.dna_model.specs.Played.{Played, plays_step}
 use Rattle.dna_model.specs.PlayRun.{StartsOnce}
 use Rattle.dna_model.specs.StepRule.{StepsByRule}
 use Rattle.dna_model.specs.KeptPlayed.{KeptPlayed, kept_plays_step}
@@ -24,10 +24,11 @@ by_its_rule text r stop line h once s =
     let fits : IsScript (with_step r.script s.step) = (one_more text r.come s.later r.script s.step h.read s.few s.fits s.spelled).fits in
     let same : kept_plays_step (kept_pair so_far) s.step ≡ Err stop =
     ap (λ (p : KeptPlayed). kept_plays_step p.pair s.step) found.1.keeps ∙ s.stops in
+    let stops : plays_step so_far s.step ≡ Err stop = stops_too r.script read.node_a read.node_b read.few so_far found.1.makes once s.step stop s.fits same in
     record {
       so_far = so_far;
       of_truth = found.1;
-      rule = subst (λ (result : Result Played Stop). StepsByRule so_far s.step result)
-          (stops_too r.script read.node_a read.node_b read.few so_far found.1.makes once s.step stop s.fits same)
+      stops = stops;
+      rule = subst (λ (result : Result Played Stop). StepsByRule so_far s.step result) stops
           (next_goes_by_rule r.script s.step so_far fits found.1.makes once);
     }

@@ -1,15 +1,14 @@
 -- One step's turn, and the head's.
-use Rattle.std.proofs.Common.{◌≡◌, ℕ, ◌+◌, ◌-◌, ◌<◌, ◌≤◌, List, length, take, Option, Some, None, Err, refl, sym, ap, subst, ◌∙◌, inl, inr, arith}
+use Rattle.std.proofs.Common.{◌≡◌, ℕ, ◌+◌, ◌-◌, ◌<◌, ◌≤◌, List, length, take, Option, Some, None, Err, sym, ap, subst, ◌∙◌, inr, arith}
 use Rattle.std.specs.Prelude.{IfSome}
-use Rattle.std.specs.Io.KnownBytes.{prepend_known, Consumes, Keeps, IsAtEnd}
+use Rattle.std.specs.Io.KnownBytes.{prepend_known, Consumes, Keeps}
 use Rattle.capture.specs.declared.fault.Departure.{Departure}
-use Rattle.capture.specs.declared.fault.Departure.TheVariants.{Syntax, TooLong, TooMany}
-use Rattle.capture.specs.Departing.{first_line, IsWhole, LineDeparts}
-use Rattle.capture.specs.Lines.{IsCutBehind, to_come}
+use Rattle.capture.specs.declared.fault.Departure.TheVariants.{Syntax}
+use Rattle.capture.specs.Departing.{first_line, IsWhole}
+use Rattle.capture.specs.Lines.{IsCut, IsCutBehind, to_come}
 use Rattle.capture.proofs.LineLaws.{if_known}
 use Rattle.capture.proofs.TakeLaws.{line_is, whole-append}
 use Rattle.dna_model.specs.ScriptText.{WordsDepart, StepDeparts, HeadWordsDepart, ScriptHeadDeparts, MAX_STEPS}
-use Rattle.pair_player.specs.Reader.{IsCut}
 use Rattle.pair_player.specs.Reading.{line_at, head_at}
 use Rattle.pair_player.proofs.LineWords.{words_depart}
 use Rattle.pair_player.proofs.HeadLaws.{head_again}
@@ -24,15 +23,6 @@ step_departs kind unread len taken before after lt some whole e kept read =
     let same = whole-append unread rest whole in
     inr (omega arith, same.0, subst (WordsDepart kind) (sym same.1) departs))
 
-line_departs : (kind : Departure) (taken : ℕ) (bytes : List ℕ) → 1 ≤ taken → LineDeparts (MAX_STEPS + 1) taken kind bytes → StepDeparts (taken - 1) kind bytes
-line_departs TooMany taken bytes some h = let le = h.0 in inl (omega arith, h.1)
-line_departs TooLong taken bytes some h = let lt = h.0 in inl (omega arith, h.1)
-line_departs Syntax taken bytes some h = let lt = h.0 in inl (omega arith, h.1, h.2, h.3)
-
-pub lines_depart : (kind : Departure) (taken : ℕ) (before : Option (List ℕ)) → 1 ≤ taken → IfSome before (LineDeparts (MAX_STEPS + 1) taken kind) → IfSome before (StepDeparts (taken - 1) kind)
-lines_depart kind taken None some h = tt
-lines_depart kind taken (Some bytes) some h = line_departs kind taken bytes some h
-
 -- ---- where a read failed
 
 consumed : (unread : List ℕ) (come left : Option (List ℕ)) → Keeps come (prepend_known unread left) → Consumes come left unread
@@ -46,15 +36,6 @@ cut_behind unread come left cut = (unread, cut.0, consumed unread come left cut.
 
 -- ---- the head
 
-head_line_departs : (kind : Departure) (bytes : List ℕ) → LineDeparts 1 0 kind bytes → ScriptHeadDeparts kind bytes
-head_line_departs TooMany bytes h = let le = h.0 in absurd (omega arith)
-head_line_departs TooLong bytes h = h.1
-head_line_departs Syntax bytes h = inl (h.2, h.3)
-
-pub head_lines_depart : (kind : Departure) (before : Option (List ℕ)) → IfSome before (LineDeparts 1 0 kind) → IfSome before (ScriptHeadDeparts kind)
-head_lines_depart kind None h = tt
-head_lines_depart kind (Some bytes) h = head_line_departs kind bytes h
-
 pub no_head : (unread : List ℕ) (len : ℕ) (before after : Option (List ℕ)) → IsWhole unread → len ≡ length (first_line unread) → Keeps before (prepend_known unread after)
     → head_at (take len unread) ≡ None → IfSome before (ScriptHeadDeparts Syntax)
 no_head unread len before after whole e kept read =
@@ -63,8 +44,3 @@ no_head unread len before after whole e kept read =
     if_known before after unread (ScriptHeadDeparts Syntax) kept (λ rest.
     let same = whole-append unread rest whole in
     inr (same.0, subst HeadWordsDepart (sym same.1) departs))
-
--- a text with no line has no head
-pub empty_head : (before : Option (List ℕ)) → IsAtEnd before → IfSome before (ScriptHeadDeparts Syntax)
-empty_head None end = tt
-empty_head (Some xs) end = rw end (inl (omega arith, refl))

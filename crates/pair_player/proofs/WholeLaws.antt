@@ -10,7 +10,7 @@ use Rattle.pair_player.specs.declared.fault.PlayFault.TheVariants as faults
 use Rattle.pair_player.specs.declared.fault.PlayFault.{PlayFault}
 use Rattle.pair_player.specs.declared.played.Played.{Played}
 use Rattle.pair_player.specs.Playing.{AnswersWhole, HasPlayed, HasWritten, Held, Plays, Reached, StopsBehind}
-use Rattle.pair_player.specs.SoFar.{IsBegun, IsReadSoFar, with_step}
+use Rattle.pair_player.specs.SoFar.{IsBeginningOf, IsReadSoFar, with_step}
 use Rattle.pair_player.proofs.PlayLaws.{same_Ok}
 use Rattle.pair_player.proofs.SoFarLaws.{departs_nowhere, goes_on, head_stands, one_more, one_script, whole}
 
@@ -52,7 +52,7 @@ module _ (bytes : List ℕ) (script : Script) (played : KeptPlayed) (is_text : I
   nowhere kind line r None read departs = absurd read.begins
   nowhere kind line r (Some rest) read departs = departs_nowhere bytes rest r.script script kind is_text (record { fits = read.fits; spelled = read.begins }) departs
 
-  begun_of : (begun : Script) (come : Option (List ℕ)) → IsReadSoFar (Some bytes) begun come → IsBegun begun script
+  begun_of : (begun : Script) (come : Option (List ℕ)) → IsReadSoFar (Some bytes) begun come → IsBeginningOf begun script
   begun_of begun None read = absurd read.begins
   begun_of begun (Some rest) read = goes_on bytes rest begun script is_text (record { fits = read.fits; spelled = read.begins })
 

@@ -1,11 +1,10 @@
 -- What a contract sees of a reader of a script, and what one call of it gives.
 use Rattle.std.specs.Prelude.{◌≡◌, ℕ, ◌+◌, ◌-◌, ◌<◌, ◌≤◌, Bool, true, false, List, Option, Some, None, Result, Ok, Err, IfSome, IsSomeAnd}
-use Rattle.std.specs.Io.KnownBytes.{Consumes, IsAtEnd, Keeps}
+use Rattle.std.specs.Io.KnownBytes.{Consumes, IsAtEnd}
 use Rattle.capture.specs.declared.fault.Departure.{Departure}
 use Rattle.capture.specs.declared.phase.Phase.{Phase}
 use Rattle.capture.specs.declared.phase.Phase.TheVariants as phases
-use Rattle.capture.specs.Departing.{has_lf}
-use Rattle.capture.specs.Lines.{IsCutBehind, LineState, to_come}
+use Rattle.capture.specs.Lines.{IsCut, IsCutBehind, LineState, to_come}
 use Rattle.capture.specs.Range.{IsNode}
 use Rattle.capture.specs.Text.{ended}
 use Rattle.dna_model.specs.Script.{ScriptStep}
@@ -33,10 +32,6 @@ FaultShows departs number before Failed = ⊥
 abbrev pub WhereReadFails : Type 0 → ScriptFault → Type 0
 WhereReadFails told Read = told
 WhereReadFails told fault = Unit {0}
-
--- The bytes that were read ahead are no whole line, and nothing that was to come is lost.
-abbrev pub IsCut : List ℕ → (before after : Option (List ℕ)) → Type 0
-IsCut unread before after = (has_lf unread ≡ false) × Keeps before after
 
 -- What `open` gives, where these bytes were to come, and these are.
 abbrev pub Opens : Option (List ℕ) → Option (List ℕ) → Result ScriptState ScriptFault → Type 0

@@ -4,7 +4,7 @@ use Rattle.capture.specs.Range.{IsText}
 use Rattle.dna_model.specs.LayersPair.{IsLayersRun}
 use Rattle.dna_model.specs.Script.{ScriptStep}
 use Rattle.dna_model.specs.Stepped.{Stop}
-use Rattle.dna_model.specs.Played.{Played, head_a, head_b, play}
+use Rattle.dna_model.specs.Played.{Played, head_a, head_b, play, plays_step}
 use Rattle.dna_model.specs.PlayRun.{StartsOnce}
 use Rattle.dna_model.specs.StepRule.{StepsByRule}
 use Rattle.dna_model.specs.KeptRun.{kept_played}
@@ -29,8 +29,9 @@ pub record IsOfTruth (r : Reached) (so_far : Played) : Type 0 where
   pub makes : play r.script ≡ Ok so_far
   pub keeps : kept_played so_far ≡ r.played
 
--- behind what they made, the rule of the next step is why it can't be made
+-- behind what they made, the next step stops them too, and its rule is why
 pub record StopsByRule (r : Reached) (step : ScriptStep) (stop : Stop) : Type 0 where
   pub so_far : Played
   pub of_truth : IsOfTruth r so_far
+  pub stops : plays_step so_far step ≡ Err stop
   pub rule : StepsByRule {X = Played} so_far step (Err stop)

@@ -18,7 +18,7 @@ abbrev pub with_step : Script → ScriptStep → Script
 with_step script step = record script { steps = script.steps ++ step ∷ [] }
 
 -- the second script begins as the first, and may have more steps
-pub record IsBegun (begun all : Script) : Type 0 where
+pub record IsBeginningOf (begun all : Script) : Type 0 where
   pub node_a : all.node_a ≡ begun.node_a
   pub node_b : all.node_b ≡ begun.node_b
   pub more : List ScriptStep

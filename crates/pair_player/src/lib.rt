@@ -30,6 +30,3 @@ pub use run_laws::{
 };
 pub use script_reader::ScriptReader;
 pub use step::{ScriptStep, Step};
-
-#[cfg(test)]
-mod tests;

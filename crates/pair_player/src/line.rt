@@ -8,7 +8,7 @@ use std::alloc::{AllocError, Global};
 use std::collections::VecDeque;
 use std::marker::Model;
 
-/// A unit that was sent, of at most 65,535 bytes.
+/// A unit that was sent. It has at most 16,393 bytes; that a line of a capture takes them, which has room for 65,535, is all that a contract asks.
 #[derive(Drop)]
 pub struct SentUnit {
     bytes: Vec<u8>,

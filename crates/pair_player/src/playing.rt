@@ -5,7 +5,7 @@ ghost use Rattle.wire_base.specs.Tally.{tally_faults, tally_lent};
 ghost use Rattle.wire_base.specs.declared.side.Side.TheVariants as of_side;
 ghost use Rattle.capture.specs.declared.phase.Phase.TheVariants as Phase;
 ghost use Rattle.capture.specs.Faulty.{CountsReads};
-ghost use Rattle.dna_model.specs.Script.{ScriptStep as Line};
+ghost use Rattle.dna_model.specs.Script.{ScriptStep as StepOfScript};
 ghost use Rattle.dna_model.specs.ScriptText.{IsStep};
 ghost use Rattle.pair_player.specs.Beginning.{HeadFault, IsBegun, fault_at, fault_of, is_failed_read};
 ghost use Rattle.pair_player.specs.Playing.{CountsReadsOf, CountsWritesOf, Plays, PlaysWholeLines, held};
@@ -124,7 +124,7 @@ fn begin<R: Read>(alloc: Global, script: &mut Tally<R>) -> Result<Begun, PlayFau
 // Makes the step that was read last: the lines of its records stand behind those of its side.
 fn make_step(lines: &ScriptReader, ends: &mut Ends, texts: &mut Texts) -> Result<(), StepFault>
     requires { IsSomeAnd lines.now.step IsStep }
-    ensures { (step : Line) → lines.now.step ≡ Some step → StepsOrStops step
+    ensures { (step : StepOfScript) → lines.now.step ≡ Some step → StepsOrStops step
         (standing ends.old texts.old.a.items texts.old.b.items) (standing ends.new texts.new.a.items texts.new.b.items) result }
 {
     let Some(step) = lines.step() else {

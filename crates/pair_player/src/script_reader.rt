@@ -39,7 +39,7 @@ pub struct ScriptReader {
     node_a: u16,
     node_b: u16,
     phase: Phase,
-    // The step that `advance` read last, and its message: that many bytes at the front of the room.
+    // The step that `advance` read last, and its message or noise: that many bytes at the front of the room.
     line: Option<LineEntry>,
     room: Vec<u8>,
     len: usize,
@@ -156,7 +156,7 @@ impl ScriptReader {
     ///
     /// Step i, counted from 0, stands on line i + 2. `Departs` names that line, with the first of these kinds: `TooMany` after
     /// 100,000,000 steps, whatever the line holds; `TooLong` at more than 131,081 bytes before its LF or the end; `Syntax` where it
-    /// has no LF; `Syntax` where it is no step's; `TooLong` where it is one but for a message of more than 65,535 bytes. `Read`
+    /// has no LF; `Syntax` where it is no step's; `TooLong` where it is one but for a message of more than 65,535 bytes, or noise of more than 16,393. `Read`
     /// comes where a call of the reader failed; at any other answer its count of them stands as it stood.
     #[inline(always)]
     pub fn advance<R: Read>(&mut self, reader: &mut Tally<R>) -> Result<bool, ScriptFault>

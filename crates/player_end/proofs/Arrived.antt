@@ -1,6 +1,5 @@
 -- Pieces that came: where the first is missing, how one is held, and what whole messages they make.
-use Rattle.std.proofs.Common.{◌≡◌, ℕ, zero, suc, ◌+◌, ◌-◌, ◌≤◌, ◌<◌, Bool, true, false, cond, Option, Some, None, List, [], ◌∷◌, ◌++◌, length, take, drop, replicate, set, refl, sym, ap, ◌∙◌, arith, add-one, zero-add}
-use Rattle.std.specs.Prelude.{is_some}
+use Rattle.std.proofs.Common.{◌≡◌, ℕ, zero, suc, ◌+◌, ◌-◌, ◌≤◌, ◌<◌, Bool, true, false, cond, Option, Some, None, List, [], ◌∷◌, ◌++◌, length, drop, replicate, set, refl, sym, ap, ◌∙◌, arith, add-one, zero-add}
 use Rattle.dna_model.specs.Pieces.{Piece, Whole, in_order, hold, next_message, with_piece}
 use Rattle.player_end.specs.Segments.{piece_at, is_missing_at, count_of, next_count, more_pieces}
 
@@ -16,12 +15,6 @@ in_order-drop zero xs h = omega arith
 in_order-drop (suc count) [] h = absurd (omega arith)
 in_order-drop (suc count) (None ∷ xs) h = absurd (omega arith)
 in_order-drop (suc count) (Some p ∷ xs) h = let later = in_order-drop count xs (omega arith) in omega arith
-
-in_order-take : (count : ℕ) (xs : List (Option Piece)) → count ≤ in_order xs → in_order (take count xs) ≡ count
-in_order-take zero xs h = refl
-in_order-take (suc count) [] h = absurd (omega arith)
-in_order-take (suc count) (None ∷ xs) h = absurd (omega arith)
-in_order-take (suc count) (Some p ∷ xs) h = let later = in_order-take count xs (omega arith) in omega arith
 
 -- ---- one piece after the other
 
@@ -49,10 +42,6 @@ stops (suc i) (x ∷ xs) e = stops i xs e
 order_stops : (xs : List (Option Piece)) → Stops xs → in_order xs ≡ 0
 order_stops _ NoMore = refl
 order_stops _ (Missing later) = refl
-
-in_order_by : (i : ℕ) (xs : List (Option Piece)) (o : Option Piece) → piece_at i xs ≡ o → is_some o ≡ true → in_order (drop i xs) ≡ 1 + in_order (drop (i + 1) xs)
-in_order_by i xs None there e = absurd (cc)
-in_order_by i xs (Some p) there e = ap in_order (step i xs p there)
 
 pub in_order_step : (i : ℕ) (xs : List (Option Piece)) (p : Piece) → piece_at i xs ≡ Some p → in_order (drop i xs) ≡ 1 + in_order (drop (i + 1) xs)
 in_order_step i xs p e = ap in_order (step i xs p e)

@@ -45,8 +45,6 @@ chosen_turn [] links place turn e link at =
     chosen.2 link (ap (slice_get links) (sym same) ∙ at)
 chosen_turn (confirm ∷ later) links place turn e link at = absurd cc
 
-pub ruleset chosen_turns = (chosen_turn)
-
 -- ---- a segment
 
 -- the last of six kinds is chosen only where it may be

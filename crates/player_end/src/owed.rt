@@ -130,7 +130,7 @@ impl Owed {
         }
     }
 
-    // Whether a NAK of this reason is owed.
+    // A NAK of this reason is owed from now on, or no more.
     fn set_nak(&mut self, reason: NakReason, owes: bool)
         ensures { self.new ≡ with_nak reason owes self.old }
     {

@@ -166,14 +166,6 @@ impl<W: Window<HeldPacket, 256> + Drop> StationVariables<W> {
         self.ahead = 0;
     }
 
-    /// The next packet, which is held, is sent again.
-    pub fn send_again(&mut self)
-        requires { self.old.ahead < length self.old.held }
-        ensures { self.new ≡ record self.old { ahead = self.old.ahead + 1 } }
-    {
-        self.ahead += 1;
-    }
-
     /// A new packet of these bytes, of which there are 1 to 16,383, is sent: it gets the next number. Where its memory is refused nothing
     /// changes.
     pub fn send_new(&mut self, packet: Vec<u8>) -> Result<(), AllocError>

@@ -5,8 +5,7 @@ use std::alloc::{AllocError, Global};
 use std::ops::RangeInclusive;
 use std::process::Abort;
 
-/// No flags.
-pub const NO_FLAGS: Flags = Flags {
+const NO_FLAGS: Flags = Flags {
     quick_sync: false,
     select: false,
 };
@@ -23,16 +22,11 @@ NAK2 = 050202000001b9ed
 NAK3 = 050203000001b811
 NAK8 = 050208000001ba35
 NAK9 = 050209000001bbc9
-NAK16 = 050210000001bc95
-NAK17 = 050211000001bd69
 NAK1R1 = 050201010001e869
 NAK2R1 = 050202010001e82d
 NAK8R1 = 050208010001ebf5
-NAK9R1 = 050209010001ea09
-NAK3R1 = 050203010001e9d1
 NAK3R44 = 0502032c000179d8
 NAK3R254 = 050203fe0001d9e1
-REP0 = 0503000000018595
 REP1 = 0503000001018405
 REP2 = 05030000020184f5
 REP44 = 050300002c019955
@@ -44,13 +38,10 @@ DATA1R1 = 810100010101b24105c003
 DATA2R1 = 810100010201b2b105c003
 OTHER0 = 810100000001e2110741c2
 OTHER1 = 810100000101e3810741c2
-OTHER1R1 = 810100010101b2410741c2
-BAD_HEADER = 0506c00000017594
-BAD_DATA1 = 810100000101e38105c083
-MALFORMED = 900000000001dc90";
+OTHER1R1 = 810100010101b2410741c2";
 
-/// The value of this name in a list, whose lines are `NAME = VALUE`.
-pub fn value_of<'a>(list: &'a str, name: &str) -> Option<&'a str> {
+// The value of this name in a list, whose lines are `NAME = VALUE`.
+fn value_of<'a>(list: &'a str, name: &str) -> Option<&'a str> {
     for line in list.split("\n") {
         if let Some((one, value)) = line.split_once(" = ")
             && one == name
@@ -63,8 +54,7 @@ pub fn value_of<'a>(list: &'a str, name: &str) -> Option<&'a str> {
 
 /// The digits of the unit with this name; digits stand for themselves. `DATA2` is data number 2 with the packet 05, `OTHER1`
 /// number 1 with the packet 07, `NAK3` a NAK for reason 3, `REP1` a REP for number 1. A RESP that is not 0 stands behind an
-/// R; in an ACK it is the number. Numbers are those of the line, modulo 256. `BAD_HEADER` and `BAD_DATA1` are damaged units, and
-/// `MALFORMED` is one whose check is right.
+/// R; in an ACK it is the number. Numbers are those of the line, modulo 256.
 pub fn digits_of(unit: &str) -> &str {
     value_of(UNITS, unit).unwrap_or(unit)
 }
@@ -119,12 +109,8 @@ fn add_data(
     text.push_str("\n")
 }
 
-/// The unit of a message that is in range.
-pub fn written(
-    rt: &impl Abort,
-    alloc: Global,
-    message: &Message<'_>,
-) -> Result<Vec<u8>, AllocError> {
+// The unit of a message that is in range.
+fn written(rt: &impl Abort, alloc: Global, message: &Message<'_>) -> Result<Vec<u8>, AllocError> {
     assert!(rt; message.in_range());
     write_unit(alloc, message)
 }

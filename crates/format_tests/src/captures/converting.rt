@@ -22,7 +22,7 @@ fn converted(
 }
 
 /// One list of records in both formats.
-const PAIRS: [(u64, &[u8], &[u8]); 6] = [
+const PAIRS: [(u64, &[u8], &[u8]); 7] = [
     (0, b"ddcap 1 1.2 1.1\n", b"ddcap 2 1.2 1.1\n"),
     (
         4,
@@ -48,6 +48,11 @@ const PAIRS: [(u64, &[u8], &[u8]); 6] = [
         6,
         b"ddcap 1 1.2 1.1\nu halt\nu open 1\nu accept 9 2\nu in 7 68656c6c6f\nu up 7 -\nu close 1\n",
         b"ddcap 2 1.2 1.1\nu halt\nu open 1\nu accept 9 2\nu in 7 68656c6c6f\nu up 7 -\nu close 1\n",
+    ),
+    (
+        4,
+        b"ddcap 1 1.2 1.1\nr 5 -\nn -\nn 00ff\nr 7 -\n",
+        b"ddcap 2 1.2 1.1\nr 5 -\nn -\nn 00ff\nr 1 -\n",
     ),
 ];
 

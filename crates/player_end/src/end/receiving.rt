@@ -27,7 +27,7 @@ use wire_base::Window;
 
 impl<W: Window<HeldPacket, 256> + Drop, V: Window<GivenPiece, 4096> + Drop> End<W, V> {
     /// These bytes come off the line, and their packet is kept where there is a buffer and it can be taken. What is whole of a link then
-    /// goes to its user at once.
+    /// goes to its user at once. `BadStep`: the unit's number has no line, or a message that becomes whole has more than 65,535 bytes.
     #[tactic(auto, using(crate::proofs::Came::received))]
     pub fn come(&mut self, buffer: bool, bytes: &[u8], text: &mut Vec<u8>) -> Result<(), StepFault>
         requires short { length bytes.now ≤ MAX_MESSAGE }

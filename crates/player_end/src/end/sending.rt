@@ -24,9 +24,10 @@ use dna_packet::{Packet, write_packet};
 use std::alloc::{AllocError, Global};
 use wire_base::Window;
 
-/// RTFLG of the packets, and FORWARD.
+// RTFLG of the packets.
 const RTFLG: u8 = 2;
 
+// Their FORWARD.
 const FORWARD: u8 = 0;
 
 impl<W: Window<HeldPacket, 256> + Drop, V: Window<GivenPiece, 4096> + Drop> End<W, V> {

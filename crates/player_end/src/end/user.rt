@@ -20,7 +20,7 @@ use std::alloc::AllocError;
 use wire_base::Window;
 
 impl<W: Window<HeldPacket, 256> + Drop, V: Window<GivenPiece, 4096> + Drop> End<W, V> {
-    /// The user starts the station, which is in HALTED; it owes STRT.
+    /// The user starts the station; it owes STRT. `BadStep`: it is not in HALTED (DDCMP 4.1, startup state table).
     pub fn start(&mut self, text: &mut Vec<u8>) -> Result<(), StepFault>
         ensures ok { OnOk result (with_lines text.old.items (kept.starts self.old) ≡ Ok (self.new, [], text.new.items)) }
         ensures stop { IfErr result (λ fault. StopMeans (kept.starts self.old) fault) }
@@ -35,7 +35,7 @@ impl<W: Window<HeldPacket, 256> + Drop, V: Window<GivenPiece, 4096> + Drop> End<
         }
     }
 
-    /// The user halts the station.
+    /// The user halts the station, in whatever state it is.
     pub fn halt(&mut self, text: &mut Vec<u8>) -> Result<(), StepFault>
         ensures ok { OnOk result (with_lines text.old.items (kept.halts self.old) ≡ Ok (self.new, [], text.new.items)) }
         ensures stop { IfErr result (λ fault. StopMeans (kept.halts self.old) fault) }
@@ -45,7 +45,7 @@ impl<W: Window<HeldPacket, 256> + Drop, V: Window<GivenPiece, 4096> + Drop> End<
         Ok(())
     }
 
-    /// The timer of the station runs out.
+    /// The timer of the station runs out; it owes STRT, STACK, REP or ACK, by its state. `BadStep`: it is in HALTED.
     pub fn time_out(&mut self) -> Result<(), StepFault>
         ensures ok { OnOk result (kept.times_out self.old ≡ kept.silent self.new) }
         ensures stop { IfErr result (λ fault. StopMeans (kept.times_out self.old) fault) }
@@ -69,7 +69,7 @@ impl<W: Window<HeldPacket, 256> + Drop, V: Window<GivenPiece, 4096> + Drop> End<
         None
     }
 
-    /// The user opens a link, with the next address.
+    /// The user opens a link, with the next address; it owes CI. `Full`: no address is left.
     pub fn open(&mut self, text: &mut Vec<u8>) -> Result<(), StepFault>
         ensures ok { OnOk result (with_lines text.old.items (kept.opens self.old) ≡ Ok (self.new, [], text.new.items)) }
         ensures stop { IfErr result (λ fault. StopMeans (kept.opens self.old) fault) }
@@ -85,7 +85,8 @@ impl<W: Window<HeldPacket, 256> + Drop, V: Window<GivenPiece, 4096> + Drop> End<
         Ok(())
     }
 
-    /// The user accepts the call from this address: the link gets the next address, and owes CC.
+    /// The user accepts the call from this address: the link gets the next address, and owes CC. `BadStep`: no link in Called has this far address.
+    /// `Full`: no address is left.
     #[tactic(auto, using(crate::proofs::Searching::found_ends, crate::proofs::Answered::answered))]
     pub fn accept(&mut self, partner: u16, text: &mut Vec<u8>) -> Result<(), StepFault>
         ensures ok { OnOk result (with_lines text.old.items (kept.accepts self.old partner) ≡ Ok (self.new, [], text.new.items)) }
@@ -107,7 +108,8 @@ impl<W: Window<HeldPacket, 256> + Drop, V: Window<GivenPiece, 4096> + Drop> End<
         Ok(())
     }
 
-    /// The user rejects the call from this address: the link gets the next address, and owes DI.
+    /// The user rejects the call from this address: the link gets the next address, and owes DI. `BadStep`: no link in Called has this far address.
+    /// `Full`: no address is left.
     #[tactic(auto, using(crate::proofs::Searching::found_ends, crate::proofs::Answered::answered))]
     pub fn reject(&mut self, partner: u16, text: &mut Vec<u8>) -> Result<(), StepFault>
         ensures ok { OnOk result (with_lines text.old.items (kept.rejects self.old partner) ≡ Ok (self.new, [], text.new.items)) }
@@ -129,7 +131,8 @@ impl<W: Window<HeldPacket, 256> + Drop, V: Window<GivenPiece, 4096> + Drop> End<
         Ok(())
     }
 
-    /// The user hands in a message on the link with this address.
+    /// The user hands in a message on the link with this address. `BadStep`: no live link has it, or it is not in Calling, Confirming or RUN, or the
+    /// message has more than 65,535 bytes.
     #[tactic(auto, using(crate::proofs::Searching::found_ends))]
     pub fn hand_in(
         &mut self,
@@ -158,7 +161,7 @@ impl<W: Window<HeldPacket, 256> + Drop, V: Window<GivenPiece, 4096> + Drop> End<
         put(text, Entry::In { link }, message)
     }
 
-    /// The user closes the link with this address.
+    /// The user closes the link with this address; it owes DI. `BadStep`: no live link has it, or it is not in Confirming or RUN.
     #[tactic(auto, using(crate::proofs::Searching::found_ends))]
     pub fn close(&mut self, link: u16, text: &mut Vec<u8>) -> Result<(), StepFault>
         ensures ok { OnOk result (with_lines text.old.items (kept.closes self.old link) ≡ Ok (self.new, [], text.new.items)) }
@@ -173,11 +176,13 @@ impl<W: Window<HeldPacket, 256> + Drop, V: Window<GivenPiece, 4096> + Drop> End<
         if !is_connected(found.port().phase) {
             return Err(StepFault::BadStep);
         }
+        put(text, Entry::Close { link }, &[])?;
         self.links.close_at(place);
-        put(text, Entry::Close { link }, &[])
+        Ok(())
     }
 
-    /// The timer of the link with this address runs out.
+    /// The timer of the link with this address runs out: it owes CI, CC or DI once more, by its phase, or all its segments that are not acknowledged go
+    /// again. `BadStep`: no live link has it, or it is in Called.
     #[tactic(auto, using(crate::proofs::Searching::found_ends))]
     pub fn retry(&mut self, link: u16) -> Result<(), StepFault>
         ensures ok { OnOk result (kept.retries self.old link ≡ kept.silent self.new) }

@@ -21,17 +21,19 @@ use dna_packet::{
 use std::alloc::{AllocError, Global};
 use wire_base::{Seq, Window};
 
-/// SERVICES and INFO of CI and CC, and the most data bytes that a segment has.
+// SERVICES of CI and CC.
 const SERVICES: u8 = 1;
 
+// INFO of both.
 const INFO: u8 = 2;
 
+// SEGSIZE of both: the most data bytes that a segment has.
 const SEGSIZE: u16 = 512;
 
-/// The user data of CC and DI.
+// The user data of CC and DI.
 const USER_DATA: [u8; 1] = [0];
 
-/// The most segments that are outstanding.
+// The most segments that are outstanding.
 const REACH: usize = 2047;
 
 impl<V: Window<GivenPiece, 4096> + Drop> LinkEnd<V> {

@@ -24,9 +24,10 @@ use dna_packet::{AckWord, ConnectConfirm, ConnectInitiate, Nsp, Segment};
 use std::alloc::AllocError;
 use wire_base::Window;
 
-/// The reasons of a DC: the DI was acted on, or it was not.
+// The reason of a DC for a DI that was not acted on.
 const NO_LINK: u16 = 41;
 
+// The reason of one for a DI that was.
 const DISCONNECTED: u16 = 42;
 
 impl<V: Window<GivenPiece, 4096> + Drop> LinkEnds<V> {

@@ -1,8 +1,7 @@
 use Rattle.std.proofs.Common.{refl, ◌∙◌}
 use Rattle.capture.specs.Entries.{record_with}
 use Rattle.capture.proofs.SoFarLaws.{form_marked}
-use Rattle.capture.proofs.ConvertLaws.{begun, counts_either, counts_fault, counts_no_write, finished, head_begun, head_stopped, line_on, line_short, some_taken, stopped}
-use Rattle.std.proofs.KnownBytes.{Keeps-refl}
+use Rattle.capture.proofs.ConvertLaws.{finished, line_on, line_short, lines_at_fault, some_taken, stopped}
 use Rattle.capture.proofs.converting.convert_to.Goals as goal
 
 pub returns-in_default-make_room-clause-converts :
@@ -34,6 +33,12 @@ returns-in-Ok-write_out-2-clause-converts g c =
     let h = c.loop-count.invariant.0 in
     rw c.fault_of-in-Ok-write_out-2.ensures
     (stopped c.args.to _ _ _ h c.in-Err-advance.fault _ _ (λ e. c.in-Err-advance.ensures.memory (rw e refl)) (c.in-Err-advance.ensures.gives h.reading).0 c.in-Ok-write_out-2.ensures.ok c.in-Ok-write_out-2.ensures.empty)
+
+pub returns-in-Ok-write_out-2-clause-lines : goal.returns-in-Ok-write_out-2-clause-lines
+returns-in-Ok-write_out-2-clause-lines g c =
+    let h = c.loop-count.invariant.0 in
+    rw c.fault_of-in-Ok-write_out-2.ensures
+    (lines_at_fault c.args.to _ _ _ h c.in-Err-advance.fault _ _ _ (c.in-Err-advance.ensures.cut h.reading) c.in-Ok-write_out-2.ensures.ok c.in-Ok-write_out-2.ensures.empty)
 
 pub returns-in-Err-write_out-2-clause-converts : goal.returns-in-Err-write_out-2-clause-converts
 returns-in-Err-write_out-2-clause-converts g c =

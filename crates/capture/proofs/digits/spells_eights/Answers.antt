@@ -1,4 +1,4 @@
-use Rattle.std.proofs.Common.{◌≡◌, refl, sym, ◌+◌, ◌-◌, ◌*◌, ◌≤◌, length, take, drop, arith}
+use Rattle.std.proofs.Common.{refl, sym, ◌+◌, ◌-◌, ◌*◌, ◌≤◌, length, take, drop, arith}
 use Rattle.std.proofs.lemmas.Slice.Eq.{bytes_eq-Decides}
 use Rattle.hex.specs.Hex.{encode_lower}
 use Rattle.capture.proofs.DigitsLaws.{spelled_more, spelled_piece, spelled_whole}

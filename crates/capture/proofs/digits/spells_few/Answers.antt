@@ -1,4 +1,4 @@
-use Rattle.std.proofs.Common.{◌/◌, ◌*◌, length, refl, sym, ap, ◌∙◌, arith}
+use Rattle.std.proofs.Common.{◌/◌, ◌*◌, length, refl, sym, ap, ◌∙◌}
 use Rattle.hex.specs.Hex.{encode_lower}
 use Rattle.capture.proofs.DigitsLaws.{all_behind, spelled_parts, front_spelled, rest_spelled}
 use Rattle.capture.proofs.digits.spells_few.Goals as goal

@@ -8,6 +8,7 @@ pub returns-in_default : goal.returns-in_default
 returns-in_default g c = λ format is. record {
   answer = Err OutOfMemory;
   converts = Keeps-refl _;
+  lines = tt;
   reads = refl;
   writes = refl;
   tells = (c.print_out_of_memory.ensures, refl);
@@ -17,6 +18,7 @@ pub returns-in-Write : goal.returns-in-Write
 returns-in-Write g c = λ format is. record {
   answer = Err Write;
   converts = rw c.in-Write.is at c.in-Err.ensures.converts format is;
+  lines = tt;
   reads = rw c.in-Write.is at c.in-Err.ensures.reads;
   writes = rw c.in-Write.is at c.in-Err.ensures.writes;
   tells = (c.print.ensures, refl);

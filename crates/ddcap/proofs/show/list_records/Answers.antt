@@ -2,13 +2,14 @@ use Rattle.std.proofs.Common.{ℕ, [], subst, ◌∙◌, arith}
 use Rattle.wire_base.specs.Tally.{tally_faults}
 use Rattle.capture.specs.Entries.{record_with}
 use Rattle.capture.specs.Faulty.{CountsReads, is_read_fault}
-use Rattle.ddcap.proofs.Listing.{GrowingLaws, all_lines, head_fault, listed_on, no_lines, opened, read_all, read_by_then, read_to_fault, some_lines}
+use Rattle.ddcap.proofs.Listing.{GrowingLaws, all_lines, head_fault, listed_on, no_lines, opened, read_all, read_by_then, read_to_fault, some_lines, whole_at_head, whole_to_fault}
 use Rattle.ddcap.proofs.show.list_records.Goals as goal
 
 pub returns-in-Err : goal.returns-in-Err
 returns-in-Err g c = record {
   records = [];
   read = head_fault _ c.in-Err.fault c.in-Err.ensures.opens;
+  whole = whole_at_head _ _ c.in-Err.fault c.in-Err.ensures.cut;
   reads = c.in-Err.ensures.reads;
   lines = no_lines _;
 }
@@ -25,6 +26,7 @@ returns-in_default g c =
     record {
       records = h.records;
       read = read_by_then _ _ c.loop-number.capture c.loop-number.number _ c.loop-number.page h;
+      whole = tt;
       reads = c.in-Ok-Some.ensures.reads ∙ c.loop-number.invariant.1;
       lines = some_lines _ _ c.loop-number.capture c.loop-number.number _ c.loop-number.page h _ c.in_default.ensures.err;
     }
@@ -38,6 +40,7 @@ returns-in-Ok-write_page g c =
     record {
       records = h.records;
       read = read_all _ _ c.loop-number.capture c.loop-number.number _ c.loop-number.page h laws gives.0;
+      whole = tt;
       reads = c.in-Ok-None.ensures.reads ∙ c.loop-number.invariant.1;
       lines = all_lines _ _ c.loop-number.capture c.loop-number.number _ c.loop-number.page h _ c.in-Ok-write_page.ensures.ok;
     }
@@ -48,6 +51,7 @@ returns-in-Err-write_page g c =
     record {
       records = h.records;
       read = read_by_then _ _ c.loop-number.capture c.loop-number.number _ c.loop-number.page h;
+      whole = tt;
       reads = c.in-Ok-None.ensures.reads ∙ c.loop-number.invariant.1;
       lines = some_lines _ _ c.loop-number.capture c.loop-number.number _ c.loop-number.page h _ c.in-Err-write_page.ensures.err;
     }
@@ -58,6 +62,7 @@ returns-in-Ok-write_page-2 g c =
     record {
       records = h.records;
       read = read_to_fault _ _ c.loop-number.capture c.loop-number.number _ c.loop-number.page h c.in-Err-advance.fault (c.in-Err-advance.ensures.gives h.reading).0;
+      whole = whole_to_fault _ _ c.loop-number.capture c.loop-number.number _ c.loop-number.page h c.in-Err-advance.fault _ (c.in-Err-advance.ensures.cut h.reading);
       reads = subst (λ (faults : ℕ). CountsReads (is_read_fault c.in-Err-advance.fault) faults (tally_faults c.advance.new.reader)) c.loop-number.invariant.1 c.in-Err-advance.ensures.reads;
       lines = all_lines _ _ c.loop-number.capture c.loop-number.number _ c.loop-number.page h _ c.in-Ok-write_page-2.ensures.ok;
     }
@@ -68,6 +73,7 @@ returns-in-Err-write_page-2 g c =
     record {
       records = h.records;
       read = read_by_then _ _ c.loop-number.capture c.loop-number.number _ c.loop-number.page h;
+      whole = tt;
       reads = subst (λ (faults : ℕ). CountsReads (is_read_fault c.in-Err-advance.fault) faults (tally_faults c.advance.new.reader)) c.loop-number.invariant.1 c.in-Err-advance.ensures.reads;
       lines = some_lines _ _ c.loop-number.capture c.loop-number.number _ c.loop-number.page h _ c.in-Err-write_page-2.ensures.err;
     }

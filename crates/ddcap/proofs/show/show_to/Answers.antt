@@ -8,6 +8,6 @@ use Rattle.ddcap.proofs.show.show_to.Goals as goal
 pub returns-in_default : goal.returns-in_default
 returns-in_default g c = record {
   ending = Faulty OutOfMemory;
-  lists = record { records = []; read = inl refl; reads = refl; lines = no_lines _ };
+  lists = record { records = []; read = inl refl; whole = tt; reads = refl; lines = no_lines _ };
   ends = c.print_out_of_memory.ensures;
 }

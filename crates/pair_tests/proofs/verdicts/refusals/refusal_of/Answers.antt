@@ -1,0 +1,10 @@
+-- The clause of `judge` speaks of what its readers give, which is the two texts.
+use Rattle.pair_tests.proofs.verdicts.refusals.refusal_of.Goals as goal
+
+pub returns-in-Ok-Refused-clause-told : goal.returns-in-Ok-Refused-clause-told
+returns-in-Ok-Refused-clause-told c = λ a b text_a text_b. c.refused_captures.ensures a b _ _ _ _ _ text_a text_b
+    (rw (c.in-Ok-Refused.field-0-is, c.new-a.ensures.lent, c.new-b.ensures.lent) at c.in-Ok-Refused.ensures.refused)
+
+pub returns-in-Ok-Refused-clause-any_format : goal.returns-in-Ok-Refused-clause-any_format
+returns-in-Ok-Refused-clause-any_format c = λ a b other_a other_b summary here there. c.judged_in_any_format.ensures.refused a b _ _ other_a other_b _ _ _ summary here there
+    (rw (c.in-Ok-Refused.field-0-is, c.new-a.ensures.lent, c.new-b.ensures.lent) at c.in-Ok-Refused.ensures.refused)

@@ -1,0 +1,213 @@
+use super::rows::{Answer, HEAD, check, joined, syntax};
+use super::stepped::Stepped;
+use capture::Departure;
+use pair_player::{ScriptFault, ScriptReader};
+use std::alloc::Global;
+use std::process::Abort;
+use std::test::Fail;
+use wire_base::Tally;
+
+#[test]
+fn a_head_is_the_whole_first_line(rt: HostRuntime) {
+    let rows: [(&[u8], Answer); 16] = [
+        (b"", syntax(1)),
+        (b"\n", syntax(1)),
+        (b"a start\n", syntax(1)),
+        (b"ddplay 1 1.1 1.2", syntax(1)),
+        (b"ddplay 1 1.1 1.2\n", Ok(0)),
+        (b"ddplay 1 1.1 1.1\n", Ok(0)),
+        (b"ddplay 1 64.1 1.2\n", syntax(1)),
+        (b"ddplay 1 1.1 1.02\n", syntax(1)),
+        (b"ddplay 2 1.1 1.2\n", syntax(1)),
+        (b"ddcap 1 1.1 1.2\n", syntax(1)),
+        (b"ddplay 1 1.1\n", syntax(1)),
+        (b"ddplay 1 1.1 1.2 \n", syntax(1)),
+        (b" ddplay 1 1.1 1.2\n", syntax(1)),
+        (b"ddplay 1  1.1 1.2\n", syntax(1)),
+        (b"ddplay 1 1.1 1.2\r\n", syntax(1)),
+        (b"\nddplay 1 1.1 1.2\n", syntax(1)),
+    ];
+    for (text, answer) in rows {
+        check(&rt, rt.alloc(), text, answer);
+    }
+}
+
+// Lines that are steps, each of a word.
+const STEPS_OF_A_WORD: &str = "a start
+b start
+a halt
+b timer
+a send
+b deliver
+a refuse
+b lose
+a open
+b open
+";
+
+// Lines that are no such step; the first is empty.
+const NO_STEPS_OF_A_WORD: &str =
+    "\n \na\na \nstart\nc start\nA start\nab start\na b start\na  start\n a start\na\tstart\na start \na start\r\na starts
+a Start\na stop\na up 1 -\na send 1\na open 1\n# a start\nddplay 1 1.1 1.2";
+
+// Lines that are steps with numbers or bytes.
+const STEPS_WITH_NUMBERS: &str = "a damage 0 0
+b damage 10 255
+a accept 1
+b accept 65535
+a reject 1
+b reject 2
+a close 1
+b close 2
+a retry 1
+b retry 2
+a in 1 -
+b in 65535 0a
+";
+
+// Lines that are no such step.
+const NO_STEPS_WITH_NUMBERS: &str =
+    "a damage\na damage 1\na damage 1 \na damage  1 2\na damage 1  2\na damage 1 2 \na damage 1 2 3\na damage 01 2
+a damage 1 02\na damage -1 2\na damage +1 2\na damage 1 f\na accept\na accept \na accept 01\na accept 1 2\na accept 1 \na reject 1.1\na close x
+a retry\na in\na in 1\na in 1 \na in 01 -\na in 1  -\na in 1 --\na in 1 0\na in 1 0A\na in 1 0g\na in 1 05 ";
+
+// The lines of the first text are so many steps, and none of the second is one.
+fn expect_steps(
+    rt: &impl Abort,
+    alloc: Global,
+    steps: &str,
+    count: u64,
+    others: &str,
+) -> Result<(), Fail> {
+    let text = joined(alloc, &[HEAD, steps.as_bytes()])?;
+    check(rt, alloc, text.as_slice(), Ok(count));
+    for line in others.split("\n") {
+        let text = joined(alloc, &[HEAD, line.as_bytes(), b"\n"])?;
+        check(rt, alloc, text.as_slice(), syntax(2));
+    }
+    Ok(())
+}
+
+#[test]
+fn a_step_of_one_word_has_one_spelling(rt: HostRuntime) -> Result<(), Fail> {
+    expect_steps(&rt, rt.alloc(), STEPS_OF_A_WORD, 10, NO_STEPS_OF_A_WORD)?;
+    let rows: [(&[u8], u64); 3] = [
+        (b"a start", 2),
+        (b"a start\n\n", 3),
+        (b"a start\nb halt\nx", 4),
+    ];
+    for (behind, line) in rows {
+        let text = joined(rt.alloc(), &[HEAD, behind])?;
+        check(&rt, rt.alloc(), text.as_slice(), syntax(line));
+    }
+    Ok(())
+}
+
+#[test]
+fn a_step_with_numbers_has_one_spelling(rt: HostRuntime) -> Result<(), Fail> {
+    expect_steps(
+        &rt,
+        rt.alloc(),
+        STEPS_WITH_NUMBERS,
+        12,
+        NO_STEPS_WITH_NUMBERS,
+    )
+}
+
+#[test]
+fn a_cut_text_departs_in_the_line_of_the_cut(rt: HostRuntime) {
+    let text = b"ddplay 1 1.2 1.1\na start\nb damage 3 132\na in 7 61\nb retry 2\n";
+    let mut ended = 0u64;
+    let mut at_line_end = false;
+    for (cut, byte) in text.iter().enumerate() {
+        let answer = if at_line_end {
+            Ok(ended.saturating_sub(1))
+        } else {
+            Err(ScriptFault::Departs {
+                kind: Departure::Syntax,
+                line: ended.saturating_add(1),
+            })
+        };
+        check(&rt, rt.alloc(), &text[..cut], answer);
+        at_line_end = *byte == b'\n';
+        if at_line_end {
+            ended = ended.saturating_add(1);
+        }
+    }
+    check(&rt, rt.alloc(), text, Ok(4));
+}
+
+#[test]
+fn a_failed_read_is_answered_and_the_reader_stays_failed(rt: HostRuntime) {
+    let text = b"ddplay 1 1.2 1.1\na start\nb in 1 0506\n";
+    for step in [1, usize::MAX] {
+        for fails_at in 0..=text.len() {
+            let mut reader = Tally::new(Stepped::failing(text, step, fails_at));
+            let Ok(mut script) = ScriptReader::open(rt.alloc(), &mut reader) else {
+                assert_eq!(rt;
+                    reader.faults(),
+                    1,
+                    "the head needs the failed call {fails_at}"
+                );
+                continue;
+            };
+            let mut faulted = false;
+            for _ in 0..4 {
+                match script.advance(&mut reader) {
+                    Ok(_) => assert!(rt; !faulted, "a fault stays"),
+                    Err(fault) => {
+                        let wanted = if faulted {
+                            ScriptFault::Failed
+                        } else {
+                            ScriptFault::Read
+                        };
+                        assert_eq!(rt; fault, wanted, "call {fails_at} fails");
+                        assert!(rt; script.step().is_none(), "no step is lent");
+                        faulted = true;
+                    }
+                }
+            }
+            assert_eq!(rt;
+                u64::from(faulted),
+                reader.faults(),
+                "a fault is a failed read"
+            );
+        }
+    }
+}
+
+#[test]
+fn a_fault_of_a_line_stays(rt: HostRuntime) -> Result<(), Fail> {
+    let mut reader = Tally::new(Stepped::new(b"ddplay 1 1.2 1.1\na jump\na start\n", 5));
+    let mut script = ScriptReader::open(rt.alloc(), &mut reader)?;
+    let departs = ScriptFault::Departs {
+        kind: Departure::Syntax,
+        line: 2,
+    };
+    assert_eq!(rt; script.advance(&mut reader), Err(departs));
+    for _ in 0..3 {
+        assert_eq!(rt; script.advance(&mut reader), Err(ScriptFault::Failed));
+    }
+    Ok(())
+}
+
+#[test]
+fn a_fault_is_told_by_its_line_and_kind(rt: HostRuntime) -> Result<(), Fail> {
+    let rows = [
+        (
+            ScriptFault::Departs {
+                kind: Departure::TooMany,
+                line: 100_000_002,
+            },
+            "line 100000002: too many",
+        ),
+        (ScriptFault::Read, "read failed"),
+        (ScriptFault::OutOfMemory, "out of memory"),
+        (ScriptFault::Failed, "failed before"),
+    ];
+    for (fault, told) in rows {
+        let printed = format!(in rt.alloc(); "{fault}")?;
+        assert_eq!(rt; printed.as_str(), told);
+    }
+    Ok(())
+}
