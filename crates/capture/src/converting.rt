@@ -34,11 +34,11 @@ const LINE: usize = 131_200;
 /// Reads a text in its format to its end, writes it in the format of the number `to`, which is 1 or 2, and answers how many
 /// records it has.
 ///
-/// The head is written first, and then the lines of the records, put together in large pieces. `Capture(Departs)`: this line
-/// departs; `Capture(Read)`: the reader failed. At either the writer has the head and the lines of all records before that, of each whole line
-/// that the reader had given, and nothing where no head was read. `Write`: the writer failed, and has a beginning of those that is not all of them; it comes too where the text's
-/// fault was met before. `OutOfMemory`: there is no memory for a block of the reader, for the head's line or for the pieces, and nothing was
-/// written. Once the head is written nothing takes memory.
+/// The head is written first, and then the lines of the records, put together in large pieces. `Capture(Departs)`: this line departs;
+/// `Capture(Read)`: the reader failed. At either the writer has the head and the lines of all records before that, of each whole line
+/// that the reader had given, and nothing where no head was read. `Write`: the writer failed, and has a beginning of those that is not
+/// all of them; it comes too where the text's fault was met before. `OutOfMemory`: there is no memory for a block of the reader, for
+/// the head's line or for the pieces, and nothing was written. Once the head is written nothing takes memory.
 pub fn convert<R: Read, W: Write>(
     alloc: Global,
     to: u8,

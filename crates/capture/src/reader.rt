@@ -137,11 +137,10 @@ fn take_entry<R: Read>(
 impl CaptureReader {
     /// Reads the head, `ddcap 1 OWN PEER` or `ddcap 2 OWN PEER`, and what the reader gives with it: a reader of the records behind it.
     ///
-    /// Faults, after which the reader has given what was read ahead: `Departs` at line 1, with `TooLong` where more than 131,081 bytes stand before the first
-    /// LF or the end, and with `Syntax` where the first line has no LF, as in an empty text, or is no
-    /// head; `Read` where a call of the reader failed, and at any other answer its count of them stands;
-    /// `OutOfMemory` where there is no memory for the reader's block or for its room for bytes. Where a read failed the reader had given
-    /// no whole line.
+    /// Faults, after which the reader has given what was read ahead: `Departs` at line 1, with `TooLong` where more than 131,081 bytes
+    /// stand before the first LF or the end, and with `Syntax` where the first line has no LF, as in an empty text, or is no head;
+    /// `Read` where a call of the reader failed, and at any other answer its count of them stands; `OutOfMemory` where there is no
+    /// memory for the reader's block or for its room for bytes. Where a read failed the reader had given no whole line.
     pub fn open<R: Read>(
         alloc: Global,
         reader: &mut Tally<R>,

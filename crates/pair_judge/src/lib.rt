@@ -1,7 +1,8 @@
-//! The judge of a pair of captures: whether the records of both are together a run of the two nodes of one line, each a DDCMP station with
-//! its NSP links on top, where the line loses and damages units and adds noise, but never repeats or reorders them; and if not, which record of
-//! which side can't be made, and why. It reads two counted readers, each once from its front on, and takes memory of the allocator that it is passed. It
-//! touches no file, clock or thread, writes and prints nothing, and looks at no order but that of each capture's own records.
+//! The judge of a pair of captures: whether the records of both are together a run of the two nodes of one line, each a DDCMP station
+//! with its NSP links on top, where the line loses and damages units and adds noise, but never repeats or reorders them; and if not,
+//! which record of which side can't be made, and why. It reads two counted readers, each once from its front on, and takes memory of
+//! the allocator that it is passed. It touches no file, clock or thread, writes and prints nothing, and looks at no order but that of
+//! each capture's own records.
 #![tactic(auto)]
 
 mod captures;

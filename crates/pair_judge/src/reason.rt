@@ -8,9 +8,9 @@ use std::fmt;
 
 /// Why a record can't be made, with the number and the name that are printed.
 ///
-/// By whose fault each comes: 2 by the hints; 3 and 4 by the hints, or by captures that do not pair; 5 by the line (damage that no block
-/// check shows) or likewise; 16 by the sender, or by heads that do not pair; 1, 6 to 11, 15, 17 and 20 to 23 by the sender; 18 and 19 by the sender or a user; 14 and 26 by
-/// a user; 12, 24 and 27 by the receiver's own claim; 13 and 25 by nobody.
+/// By whose fault each comes: 2 by the hints; 3 and 4 by the hints, or by captures that do not pair; 5 by the line (damage that no
+/// block check shows) or likewise; 16 by the sender, or by heads that do not pair; 1, 6 to 11, 15, 17 and 20 to 23 by the sender; 18
+/// and 19 by the sender or a user; 14 and 26 by a user; 12, 24 and 27 by the receiver's own claim; 13 and 25 by nobody.
 #[derive(Clone, Copy, Debug, PartialEq, Eq)]
 pub enum Reason {
     /// 1: the bytes that were sent are no sound message.

@@ -30,8 +30,9 @@ pub fn answered_as_true_ends()
         (so_far : TruePlayed) × IsOfTruth r so_far }
 {}
 
-/// Where a step can't be made behind steps that start each side at most once, ends on true numbers can't make it either, by its rule: it is bad only where it breaks
-/// the rule, and full only where it keeps the rule but needs a link address and all of its end are given.
+/// Where a step can't be made behind steps that start each side at most once, ends on true numbers can't make it either, by its rule:
+/// it is bad only where it breaks the rule, and full only where it keeps the rule but needs a link address and all of its end are
+/// given.
 pub fn stopped_by_its_rule()
     ensures { (text : Option (List ℕ)) (r : Reached) (stop : Stop) (line : ℕ) → HasPlayed text r → StartsOnce r.script.steps →
         (stops : StopsBehind stop line r) → StopsByRule r stops.step stop }

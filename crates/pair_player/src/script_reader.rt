@@ -155,9 +155,9 @@ impl ScriptReader {
     /// never answers `OutOfMemory`.
     ///
     /// Step i, counted from 0, stands on line i + 2. `Departs` names that line, with the first of these kinds: `TooMany` after
-    /// 100,000,000 steps, whatever the line holds; `TooLong` at more than 131,081 bytes before its LF or the end; `Syntax` where it
-    /// has no LF; `Syntax` where it is no step's; `TooLong` where it is one but for a message of more than 65,535 bytes, or noise of more than 16,393. `Read`
-    /// comes where a call of the reader failed; at any other answer its count of them stands as it stood.
+    /// 100,000,000 steps, whatever the line holds; `TooLong` at more than 131,081 bytes before its LF or the end; `Syntax` where it has
+    /// no LF; `Syntax` where it is no step's; `TooLong` where it is one but for a message of more than 65,535 bytes, or noise of more
+    /// than 16,393. `Read` comes where a call of the reader failed; at any other answer its count of them stands as it stood.
     #[inline(always)]
     pub fn advance<R: Read>(&mut self, reader: &mut Tally<R>) -> Result<bool, ScriptFault>
         ensures advances { self.old.phase ≡ Phase.Reading → Advances self.old self.new

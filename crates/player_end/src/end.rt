@@ -23,9 +23,9 @@ use wire_base::Window;
 /// One end of the line, as its node keeps it: its station and its links, each with what it owes; how many link addresses it has given, and how
 /// many units of the other end came or were lost.
 ///
-/// A step answers `BadStep` where it breaks its rule, which stands at each, or where its record would have no line in a capture; `Full` where it needs a link
-/// address and all 65,535 are given, which is asked after that; and `OutOfMemory` where memory was refused. After any of them neither the end nor what stands
-/// behind the text is of any use.
+/// A step answers `BadStep` where it breaks its rule, which stands at each, or where its record would have no line in a capture; `Full`
+/// where it needs a link address and all 65,535 are given, which is asked after that; and `OutOfMemory` where memory was refused. After
+/// any of them neither the end nor what stands behind the text is of any use.
 #[derive(Drop)]
 pub struct End<W: Window<HeldPacket, 256> + Drop, V: Window<GivenPiece, 4096> + Drop> {
     head: Head,

@@ -181,8 +181,8 @@ impl<W: Window<HeldPacket, 256> + Drop, V: Window<GivenPiece, 4096> + Drop> End<
         Ok(())
     }
 
-    /// The timer of the link with this address runs out: it owes CI, CC or DI once more, by its phase, or all its segments that are not acknowledged go
-    /// again. `BadStep`: no live link has it, or it is in Called.
+    /// The timer of the link with this address runs out: it owes CI, CC or DI once more, by its phase, or all its segments that are not
+    /// acknowledged go again. `BadStep`: no live link has it, or it is in Called.
     #[tactic(auto, using(crate::proofs::Searching::found_ends))]
     pub fn retry(&mut self, link: u16) -> Result<(), StepFault>
         ensures ok { OnOk result (kept.retries self.old link ≡ kept.silent self.new) }
