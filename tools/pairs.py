@@ -12,6 +12,8 @@ UNITS = {
     'STACK': '0507c00000014855',
     'ACK0': '050100000001fc55',
     'ACK1': '050100010001ad95',
+    'ACK44': '0501002c00013d9c',
+    'ACK250': '050100fa0001dc64',
     'NAK1': '050201000001b9a9',
     'NAK2': '050202000001b9ed',
     'NAK3': '050203000001b811',
@@ -20,15 +22,25 @@ UNITS = {
     'NAK16': '050210000001bc95',
     'NAK17': '050211000001bd69',
     'NAK1R1': '050201010001e869',
-    'NAK9R1': '050209010001ea09',
+    'NAK2R1': '050202010001e82d',
     'NAK3R1': '050203010001e9d1',
+    'NAK3R44': '0502032c000179d8',
+    'NAK3R254': '050203fe0001d9e1',
+    'NAK8R1': '050208010001ebf5',
+    'NAK9R1': '050209010001ea09',
     'REP0': '0503000000018595',
     'REP1': '0503000001018405',
+    'REP2': '05030000020184f5',
+    'REP44': '050300002c019955',
     'DATA1': '810100000101e38105c003',
     'DATA2': '810100000201e37105c003',
+    'DATA3': '810100000301e2e105c003',
+    'DATA0R1': '810100010001b3d105c003',
     'DATA1R1': '810100010101b24105c003',
     'DATA2R1': '810100010201b2b105c003',
+    'OTHER0': '810100000001e2110741c2',
     'OTHER1': '810100000101e3810741c2',
+    'OTHER1R1': '810100010101b2410741c2',
     'BAD_HEADER': '0506c00000017594',
     'BAD_DATA1': '810100000101e38105c083',
     'MALFORMED': '900000000001dc90',
@@ -223,7 +235,8 @@ def kept(run):
 
 # The records that a word stands for. Side a `started` and side b `answered`; a is `calling` from its link 1 and b is `called`; b is
 # `confirming` at its link 2, where it has accepted, and a is `confirmed` and in RUN; a is `running`, where b is `reached` and in RUN too.
-# A station is started `again`.
+# A station is started `again`. Of a start whose first STRT is lost, `first start lost` is side a up to RUNNING, and `second start came` side b.
+# Side a `sends 300 packets` and asks by a REP, and side b `lacks packet 255` of them, and answers by a NAK.
 WORDS = {
     'started': 'u start; s STRT; r 0 STACK',
     'answered': 'u start; r 0 STRT; s STACK',
@@ -234,6 +247,12 @@ WORDS = {
     'running': 'u start; s STRT; r 0 STACK; u open 1; s D1.CI1; k 1 D1R1.CC2>1; s D2R1.LS1>2',
     'reached': 'u start; r 0 STRT; s STACK; k 1 D1.CI1; u accept 1 2; s D1R1.CC2>1; k 2 D2R1.LS1>2',
     'again': 'u halt; u start',
+    'first start lost': 'u start; s STRT; s STRT; r 0 STACK; s ACK0',
+    'second start came': 'u start; r 1 STRT; s STACK; r 2 ACK0',
+    'sends 300 packets': 'u start; s STRT; r 0 STACK; s ACK0; packets 1 to 250; r 1 ACK250; packets 251 to 300; s REP44; r 2 NAK3R254',
+    'lacks packet 255':
+        'u start; r 0 STRT; s STACK; r 1 ACK0; k packets 1 to 250 from unit 2; s ACK250; k packets 251 to 254 from unit 252; '
+        'r packets 256 to 300 from unit 257; r 302 REP44; s NAK3R254',
     'gives across 4096':
         'u in 1 5000 bytes; s D2R1.BEG1>2#1=05; k 2 D2R2.SEG2>1#1=05; gives 2 to 2047; k 13 D3R0.DACK2>1,a2047; gives 2048 to 4094; '
         'k 24 D4R255.DACK2>1,a4094; s D0R4.MID1>2#4095=05; s D1R4.MID1>2#0=05; s D2R4.MID1>2#1=05; k 25 D5R2.DACK2>1,a1',
@@ -244,11 +263,21 @@ WORDS = {
 
 EVENT = re.compile(r'u (start|halt|(open|close) \d+|(accept|reject) \d+ \d+|(in|up) \d+ (-|([0-9a-f]{2})+))')
 BEARER = re.compile(r'(s|n|[rk] \d+) (\S+)')
+DATA_RUN = re.compile(r'(?:([rk]) )?packets (\d+) to (\d+)(?: from unit (\d+))?')
 ADDRESSES = re.compile(r'head (\d+\.\d+ \d+\.\d+)')
 
 # A side: the addresses of its head where the list gives none, and the routing headers of what it sends and of what comes.
 Side = namedtuple('Side', 'addresses sent coming')
 SIDES = {'a': Side('1.1 1.2', FROM_A, FROM_B), 'b': Side('1.2 1.1', FROM_B, FROM_A)}
+
+
+def data_lines(word, first, last, unit):
+    """Data with these numbers that are sent, or that come as the peer's units from this one on: the packet of each is 05 and its number."""
+    if (word is None) != (unit is None):
+        raise ValueError('packets are sent, or come from a unit on')
+    numbers = range(int(first), int(last) + 1)
+    fronts = ['s'] * len(numbers) if word is None else ['%s %d' % (word, number - numbers.start + int(unit)) for number in numbers]
+    return ['%s %s' % (front, data_of(number % 256, 0, '05%02x' % (number % 256))) for front, number in zip(fronts, numbers)]
 
 
 def lines_of(side, record):
@@ -258,8 +287,9 @@ def lines_of(side, record):
         return given(known(RUNS, name))
     if verb == 'keeps':
         return kept(known(RUNS, name))
-    if record == '256 packets':
-        return ['s ' + data_of(number % 256, 0, '05%02x' % (number % 256)) for number in range(1, 257)]
+    run = DATA_RUN.fullmatch(record)
+    if run:
+        return data_lines(*run.groups())
     if record == 'u in 1 5000 bytes':
         return ['u in 1 ' + 5000 * '05']
     if EVENT.fullmatch(record):

@@ -1,7 +1,11 @@
 //! A law of the program's two halves, as a function that does nothing: what `play` writes, `check` accepts.
 
-ghost use Rattle.std.specs.Prelude.{ℕ, List, Option, Result};
+ghost use Rattle.std.specs.Prelude.{ℕ, List, Option, Result, Some, Ok};
 ghost use Rattle.dna_model.specs.PlayRun.{StartsOnce};
+ghost use Rattle.dna_model.specs.Script.{Script};
+ghost use Rattle.dna_model.specs.ScriptText.{IsScriptText};
+ghost use Rattle.pair_judge.specs.declared.reason.Reason.{Reason as Why};
+ghost use Rattle.pair_judge.specs.declared.verdict.Verdict.TheVariants.{Refused};
 ghost use Rattle.pair_judge.specs.Judged.{AcceptsOrFails, Answer, IsAnswer};
 ghost use Rattle.pair_player.specs.declared.fault.PlayFault.{PlayFault};
 ghost use Rattle.pair_player.specs.declared.played.Played.{Played};
@@ -9,6 +13,9 @@ ghost use Rattle.pair_player.specs.Playing.{HasPlayed, HasWritten, Held, Plays, 
 ghost use Rattle.pair_player.specs.Runs.{StartsOnceThroughout};
 ghost use Rattle.ddcap.specs.Accepting.{HasCaptures, IsAcceptedStatus, PlaysThenChecks, empty_captures};
 ghost use Rattle.ddcap.specs.Printed.{Moved};
+ghost use Rattle.wire_base.specs.declared.side.Side.{Side as OfSide};
+
+use pair_player::starts_once_throughout;
 
 /// What is played into two empty captures, of steps that start each side at most once, the judge accepts, where neither memory nor a read fails
 /// him. So it is of all that the player answers behind the head of a script, where no device and no memory failed; and of the program: where
@@ -23,3 +30,13 @@ pub fn played_is_accepted()
         PlaysThenChecks script captures played_to checked_to status → StartsOnceThroughout script.old.bytes →
         IsAcceptedStatus status }
 {}
+
+/// So no record of a script that was played whole, which starts each side at most once, is one that the judge names.
+pub fn what_was_played_whole_is_not_refused()
+    ensures { (bytes : List ℕ) (script : Script) (written : Held) (played : Played) (side : OfSide) (place : ℕ) (reason : Why) →
+        IsScriptText script bytes → StartsOnce script.steps → Plays (Some bytes) empty_captures written (Ok played) →
+        IsAnswer written.a written.b (Ok (Refused side place reason)) → ⊥ }
+{
+    starts_once_throughout();
+    played_is_accepted();
+}

@@ -15,8 +15,6 @@ mod play;
 mod run;
 mod show;
 mod shown_line;
-#[cfg(test)]
-mod tests;
 mod text;
 mod words;
 

@@ -151,7 +151,6 @@ mod LinksMade
 mod StepPhases
 mod StepRuled
 pub mod PlayedRuled
-pub mod StepTests
 mod PlayRowSteps
 mod PlayRows
 mod PlayRowsStation

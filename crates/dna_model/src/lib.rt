@@ -48,6 +48,3 @@ pub use port::{LinkTest, Phase, Port};
 pub use refusal::{StationRefusal, StepRefusal};
 pub use state::{State, StationEvent};
 pub use tag::Tag;
-
-#[cfg(test)]
-mod tests;

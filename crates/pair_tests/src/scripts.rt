@@ -5,5 +5,6 @@ mod playing;
 mod reading;
 mod rows;
 mod run_laws;
+mod step_laws;
 mod stepped;
 mod steps;

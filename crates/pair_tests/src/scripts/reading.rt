@@ -1,31 +1,20 @@
+//! What a reader of scripts finds, by one byte a call and by all. All spellings are rows of `tools/texts.txt`.
+
 use super::rows::{Answer, HEAD, check, joined, syntax};
 use super::stepped::Stepped;
 use capture::Departure;
 use pair_player::{ScriptFault, ScriptReader};
-use std::alloc::Global;
-use std::process::Abort;
 use std::test::Fail;
 use wire_base::Tally;
 
 #[test]
 fn a_head_is_the_whole_first_line(rt: HostRuntime) {
-    let rows: [(&[u8], Answer); 16] = [
+    let rows: [(&[u8], Answer); 5] = [
         (b"", syntax(1)),
-        (b"\n", syntax(1)),
-        (b"a start\n", syntax(1)),
         (b"ddplay 1 1.1 1.2", syntax(1)),
         (b"ddplay 1 1.1 1.2\n", Ok(0)),
-        (b"ddplay 1 1.1 1.1\n", Ok(0)),
-        (b"ddplay 1 64.1 1.2\n", syntax(1)),
-        (b"ddplay 1 1.1 1.02\n", syntax(1)),
-        (b"ddplay 2 1.1 1.2\n", syntax(1)),
         (b"ddcap 1 1.1 1.2\n", syntax(1)),
-        (b"ddplay 1 1.1\n", syntax(1)),
-        (b"ddplay 1 1.1 1.2 \n", syntax(1)),
-        (b" ddplay 1 1.1 1.2\n", syntax(1)),
-        (b"ddplay 1  1.1 1.2\n", syntax(1)),
         (b"ddplay 1 1.1 1.2\r\n", syntax(1)),
-        (b"\nddplay 1 1.1 1.2\n", syntax(1)),
     ];
     for (text, answer) in rows {
         check(&rt, rt.alloc(), text, answer);
@@ -45,11 +34,6 @@ a open
 b open
 ";
 
-// Lines that are no such step; the first is empty.
-const NO_STEPS_OF_A_WORD: &str =
-    "\n \na\na \nstart\nc start\nA start\nab start\na b start\na  start\n a start\na\tstart\na start \na start\r\na starts
-a Start\na stop\na up 1 -\na send 1\na open 1\n# a start\nddplay 1 1.1 1.2";
-
 // Lines that are steps with numbers or bytes.
 const STEPS_WITH_NUMBERS: &str = "a damage 0 0
 b damage 10 255
@@ -65,53 +49,22 @@ a in 1 -
 b in 65535 0a
 ";
 
-// Lines that are no such step.
-const NO_STEPS_WITH_NUMBERS: &str =
-    "a damage\na damage 1\na damage 1 \na damage  1 2\na damage 1  2\na damage 1 2 \na damage 1 2 3\na damage 01 2
-a damage 1 02\na damage -1 2\na damage +1 2\na damage 1 f\na accept\na accept \na accept 01\na accept 1 2\na accept 1 \na reject 1.1\na close x
-a retry\na in\na in 1\na in 1 \na in 01 -\na in 1  -\na in 1 --\na in 1 0\na in 1 0A\na in 1 0g\na in 1 05 ";
-
-// The lines of the first text are so many steps, and none of the second is one.
-fn expect_steps(
-    rt: &impl Abort,
-    alloc: Global,
-    steps: &str,
-    count: u64,
-    others: &str,
-) -> Result<(), Fail> {
-    let text = joined(alloc, &[HEAD, steps.as_bytes()])?;
-    check(rt, alloc, text.as_slice(), Ok(count));
-    for line in others.split("\n") {
-        let text = joined(alloc, &[HEAD, line.as_bytes(), b"\n"])?;
-        check(rt, alloc, text.as_slice(), syntax(2));
+#[test]
+fn steps_are_counted_up_to_a_line_that_is_none(rt: HostRuntime) -> Result<(), Fail> {
+    for (steps, count) in [(STEPS_OF_A_WORD, 10u64), (STEPS_WITH_NUMBERS, 12)] {
+        let text = joined(rt.alloc(), &[HEAD, steps.as_bytes()])?;
+        check(&rt, rt.alloc(), text.as_slice(), Ok(count));
+        for no_step in [b"a start".as_slice(), b"\n", b"a stop\n", b"a in 1 0A\n"] {
+            let text = joined(rt.alloc(), &[HEAD, steps.as_bytes(), no_step])?;
+            check(
+                &rt,
+                rt.alloc(),
+                text.as_slice(),
+                syntax(count.saturating_add(2)),
+            );
+        }
     }
     Ok(())
-}
-
-#[test]
-fn a_step_of_one_word_has_one_spelling(rt: HostRuntime) -> Result<(), Fail> {
-    expect_steps(&rt, rt.alloc(), STEPS_OF_A_WORD, 10, NO_STEPS_OF_A_WORD)?;
-    let rows: [(&[u8], u64); 3] = [
-        (b"a start", 2),
-        (b"a start\n\n", 3),
-        (b"a start\nb halt\nx", 4),
-    ];
-    for (behind, line) in rows {
-        let text = joined(rt.alloc(), &[HEAD, behind])?;
-        check(&rt, rt.alloc(), text.as_slice(), syntax(line));
-    }
-    Ok(())
-}
-
-#[test]
-fn a_step_with_numbers_has_one_spelling(rt: HostRuntime) -> Result<(), Fail> {
-    expect_steps(
-        &rt,
-        rt.alloc(),
-        STEPS_WITH_NUMBERS,
-        12,
-        NO_STEPS_WITH_NUMBERS,
-    )
 }
 
 #[test]

@@ -1,0 +1,41 @@
+"""The built program, run as a person does, and libraries to preload into it."""
+import os
+import subprocess
+
+TOP = os.path.dirname(os.path.dirname(os.path.realpath(__file__)))
+PROGRAM = os.path.join(TOP, 'crates', 'ddcap', 'out', 'ddcap')
+
+
+def library(folder, name):
+    """The library of tools/NAME.c, made in this folder; an OSError where no C compiler makes it."""
+    path = os.path.join(folder, name + '.so')
+    source = os.path.join(TOP, 'tools', name + '.c')
+    made = subprocess.run([os.environ.get('CC', 'cc'), '-O1', '-shared', '-fPIC', '-o', path, source], capture_output=True, text=True)
+    if made.returncode:
+        raise OSError('%s: %s' % (source, made.stderr))
+    return path
+
+
+class Program:
+    """The program. Each of its reads and writes moves at most `few` bytes where that is given; `calls` are further settings of tools/calls.c."""
+
+    def __init__(self, folder):
+        self.folder = folder
+        self.calls = library(folder, 'calls')
+
+    def run(self, *words, few=None, **calls):
+        """What it prints to both streams, and its status."""
+        env = dict(os.environ)
+        if few:
+            calls['FEW_BYTES'] = few
+        if calls:
+            env.update({name: str(value) for name, value in calls.items()}, LD_PRELOAD=self.calls)
+        done = subprocess.run([PROGRAM, *words], env=env, stdin=subprocess.DEVNULL, capture_output=True, text=True)
+        return done.stdout, done.stderr, done.returncode
+
+    def count_calls(self, *words, few=None, file):
+        """How many reads and writes of this file it makes."""
+        told = os.path.join(self.folder, 'calls')
+        self.run(*words, few=few, FAIL_FILE=file, COUNT_CALLS=told)
+        with open(told) as number:
+            return int(number.read())
