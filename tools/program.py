@@ -1,9 +1,26 @@
-"""The built program, run as a person does, and libraries to preload into it."""
+"""The built programs, ddcap run as a person does, and libraries to preload into it."""
 import os
 import subprocess
 
 TOP = os.path.dirname(os.path.dirname(os.path.realpath(__file__)))
-PROGRAM = os.path.join(TOP, 'crates', 'ddcap', 'out', 'ddcap')
+CRATES = os.path.join(TOP, 'crates')
+PROGRAM = os.path.join(CRATES, 'ddcap', 'out', 'ddcap')
+
+
+def sources():
+    """The files of which programs are built: those of all crates, and the list of crates."""
+    yield os.path.join(TOP, 'crates.txt')
+    for folder, folders, names in os.walk(CRATES):
+        folders[:] = [name for name in folders if name != 'out']
+        yield from (os.path.join(folder, name) for name in names if name.endswith(('.rt', '.antt')) or name == 'crates.txt')
+
+
+def built(crate):
+    """The program of this crate. The gate leaves it; where it is not there or older than a source, the toolchain builds it first."""
+    program = os.path.join(CRATES, crate, 'out', crate)
+    if not os.path.exists(program) or os.path.getmtime(program) < max(map(os.path.getmtime, sources())):
+        subprocess.run(['rt', 'run'], cwd=os.path.join(CRATES, crate), stdin=subprocess.DEVNULL, stdout=subprocess.DEVNULL, stderr=subprocess.DEVNULL)
+    return program
 
 
 def library(folder, name):
