@@ -19,6 +19,8 @@ def built(crate):
     """The program of this crate. The gate leaves it; where it is not there or older than a source, the toolchain builds it first."""
     program = os.path.join(CRATES, crate, 'out', crate)
     if not os.path.exists(program) or os.path.getmtime(program) < max(map(os.path.getmtime, sources())):
+        if os.path.exists(program):
+            os.remove(program)  # so that one which can't be built is missed
         subprocess.run(['rt', 'run'], cwd=os.path.join(CRATES, crate), stdin=subprocess.DEVNULL, stdout=subprocess.DEVNULL, stderr=subprocess.DEVNULL)
     return program
 
