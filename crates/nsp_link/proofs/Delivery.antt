@@ -3,7 +3,7 @@ use Rattle.std.proofs.Common.{◌≡◌, ℕ, ◌+◌, ◌≤◌, Bool, true, fa
 use Rattle.std.specs.Str.{bytes_eq}
 use Rattle.dna_model.specs.Pieces.{Piece, Whole, in_order, next_message, with_piece}
 use Rattle.dna_model.specs.WireFlow.{WireFlow, delivers, delivers_whole, delivered_as}
-use Rattle.nsp_link.specs.Received.{pieces_if, pieces_of, delivered_pieces}
+use Rattle.link_segments.specs.Received.{pieces_if, pieces_of, delivered_pieces}
 
 -- ---- a whole message has no more pieces than come before the first that is missing
 

@@ -1,6 +1,4 @@
-mod Pieces
 mod Words
-mod Arrived
 mod Delivery
 mod Acknowledged
 mod Holding

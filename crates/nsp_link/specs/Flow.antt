@@ -1,13 +1,10 @@
 -- The steps of one link's segments in parts, as the code takes them.
-use Rattle.std.specs.Prelude.{ℕ, ◌+◌, ◌-◌, Bool, ◌&&◌, ◌||◌, nat_lt, nat_le, List, length, fold}
-use Rattle.wire_base.specs.Window.{WindowView}
-use Rattle.dna_packet.specs.declared.ack_word.AckWord.{AckWord}
+use Rattle.std.specs.Prelude.{ℕ, ◌+◌, ◌-◌, Bool, ◌&&◌, ◌||◌, nat_lt, nat_le}
 use Rattle.dna_packet.specs.Nsp.{SegmentValue}
-use Rattle.dna_model.specs.Flow.{REACH, distance, is_of_data}
+use Rattle.dna_model.specs.Flow.{REACH, distance}
 use Rattle.dna_model.specs.Pieces.{piece_of, in_order}
 use Rattle.dna_model.specs.WireFlow.{LinkVariables, WireFlow, highest_given, is_repeat, segment_taken}
-use Rattle.nsp_link.specs.Outstanding.{acknowledged_to}
-use Rattle.nsp_link.specs.Received.{is_missing_at}
+use Rattle.link_segments.specs.Received.{is_missing_at}
 
 -- a segment that is not new is one of the last 2,047 given, and, while that one is not acknowledged, carries the same
 abbrev pub is_true_repeat_at : ℕ → SegmentValue → WireFlow → Bool
@@ -26,10 +23,3 @@ is_held s k = is_missing (distance k.received s.number) k
 -- its piece is held, and its words are not read
 abbrev pub with_held : SegmentValue → WireFlow → WireFlow
 with_held s f = record f { kept = segment_taken s f.kept }
-
-module _ {T : Type 0} where
-  abbrev pub acknowledged_word : WindowView T → AckWord → WindowView T
-  acknowledged_word w word = acknowledged_to (is_of_data word.qualifier && nat_le (distance w.first word.number) (length w.items)) word.number w
-
-  abbrev pub acknowledged_words : List AckWord → WindowView T → WindowView T
-  acknowledged_words words w = fold acknowledged_word w words

@@ -1,7 +1,4 @@
 -- What a contract sees of the types of this crate; the rules stand in `dna_model`
-pub mod Unsent
-pub mod Outstanding
-pub mod Received
 pub mod Fault
 pub mod Flow
 pub mod Link

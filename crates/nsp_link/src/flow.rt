@@ -16,11 +16,9 @@ mod receiving;
 mod sending;
 
 use crate::last_sent::LastSent;
-use crate::outstanding::Outstanding;
-use crate::received::Received;
-use crate::unsent::Unsent;
-use crate::{LinkFault, LinkRefusal, Piece};
+use crate::{LinkFault, LinkRefusal};
 use dna_packet::{AckWord, Segment};
+use link_segments::{Outstanding, Piece, Received, Unsent};
 use std::alloc::{AllocError, Global};
 use std::marker::Model;
 use wire_base::{Seq, Window};
@@ -30,7 +28,7 @@ use wire_base::{Seq, Window};
 #[derive(Drop)]
 pub struct Flow<W: Window<Piece, 4096> + Drop> {
     unsent: Unsent,
-    outstanding: Outstanding<W>,
+    outstanding: Outstanding<Piece, W>,
     // the highest number received without a gap
     received: Seq<4096>,
     pieces: Received,

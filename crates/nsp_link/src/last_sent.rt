@@ -5,14 +5,11 @@ ghost use Rattle.std.specs.List.{AllByRecursion};
 ghost use Rattle.dna_packet.specs.AckWord.{IsAckWord};
 ghost use Rattle.dna_model.specs.Flow.{distance, is_of_data};
 ghost use Rattle.dna_model.specs.WireFlow.{all_named, last_named, is_ahead, is_behind, moved_to};
-ghost use Rattle.dna_model.specs.Flow as flow;
 
-use dna_packet::{AckQualifier, AckWord};
+use dna_packet::AckWord;
+use link_segments::{REACH, is_of_data};
 use std::marker::Model;
 use wire_base::Seq;
-
-/// How many segments may be outstanding; no repeat, and no acknowledgement in one, reaches further back.
-pub const REACH: u16 = 2_047;
 
 /// The last acknowledgement that was sent on a link, modulo 4,096, and whether it has reached 2,047.
 #[derive(Clone, Copy)]
@@ -88,15 +85,5 @@ impl LastSent {
             return None;
         }
         Some(self)
-    }
-}
-
-/// Whether a word with this qualifier acknowledges data segments, and none of the other subchannel.
-pub fn is_of_data(qualifier: AckQualifier) -> bool
-    ensures { result ≡ flow.is_of_data qualifier }
-{
-    match qualifier {
-        AckQualifier::Ack | AckQualifier::Nak => true,
-        AckQualifier::OtherAck | AckQualifier::OtherNak => false,
     }
 }

@@ -8,13 +8,9 @@ mod flow;
 mod last_sent;
 mod link;
 mod links;
-mod outstanding;
-mod passes;
-mod piece;
-mod received;
-mod unsent;
+mod phase;
 
 pub use dna_model::{LinkEvent, LinkRefusal, LinkTag};
 pub use fault::LinkFault;
+pub use link_segments::Piece;
 pub use links::Links;
-pub use piece::Piece;

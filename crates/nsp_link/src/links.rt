@@ -16,9 +16,9 @@ mod sending;
 mod user;
 
 use crate::link::Link;
-use crate::passes::passes;
 use crate::{LinkFault, LinkRefusal, Piece};
 use dna_model::LinkTest;
+use link_segments::passes;
 use std::alloc::Global;
 use std::collections::BTreeMap;
 use std::marker::Model;

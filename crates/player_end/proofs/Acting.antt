@@ -11,7 +11,7 @@ use Rattle.dna_model.specs.WireFlow.{LinkVariables, acknowledged_by_all, with_pi
 use Rattle.dna_model.specs.LinkOwed.{LinkOwed, DataAckTurn, nothing, same_phase, unless_left, lowered}
 use Rattle.dna_model.specs.NextSent.{LinkEnd}
 use Rattle.dna_model.specs.KeptLinks.{in_phase, acted_on, took_acks, took_segment, owes}
-use Rattle.player_end.specs.Segments.{acknowledged_words}
+use Rattle.link_segments.specs.Outstanding.{acknowledged_words}
 use Rattle.player_end.specs.Links.{acknowledged_as, acknowledged}
 use Rattle.player_end.proofs.Acknowledged.{with_window, same_words}
 

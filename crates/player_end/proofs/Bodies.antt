@@ -2,7 +2,7 @@
 use Rattle.std.proofs.Common.{◌≡◌, ℕ, zero, suc, ◌+◌, Option, Some, None, List, [], ◌∷◌, ◌++◌, take, sym, ap, ◌∙◌, add-one, append_assoc}
 use Rattle.std.proofs.lemmas.List.{append-nil}
 use Rattle.dna_model.specs.Pieces.{Piece}
-use Rattle.player_end.specs.Segments.{piece_at}
+use Rattle.link_segments.specs.Received.{piece_at}
 use Rattle.player_end.specs.Delivering.{body_in, bodies}
 
 one_more_on : (i : ℕ) (pieces : List (Option Piece)) (o : Option Piece) → piece_at i pieces ≡ o → bodies (take (suc i) pieces) ≡ bodies (take i pieces) ++ body_in o

@@ -11,7 +11,7 @@ use Rattle.dna_model.specs.Receipt.{complete}
 use Rattle.dna_model.specs.KeptPlay.{all_short, ups}
 use Rattle.player_end.specs.declared.fault.StepFault.{StepFault}
 use Rattle.player_end.specs.declared.fault.StepFault.TheVariants.{BadStep, Full, OutOfMemory}
-use Rattle.player_end.specs.Segments.{count_of, next_count}
+use Rattle.link_segments.specs.Received.{count_of, next_count}
 use Rattle.player_end.specs.Delivering.{bodies, lines_of, up_line, IsTooLong}
 use Rattle.player_end.specs.Stepping.{Stopped}
 

@@ -1,8 +1,5 @@
-pub mod Giving
-pub mod AckWords
 pub mod Acknowledged
 pub mod Acting
-pub mod Arrived
 pub mod Holding
 pub mod Searching
 pub mod Answered

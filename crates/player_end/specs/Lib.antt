@@ -1,7 +1,6 @@
 pub mod Owing
 pub mod Arriving
 pub mod Composing
-pub mod Segments
 pub mod Links
 pub mod Delivering
 pub mod Stepping

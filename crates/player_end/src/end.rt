@@ -12,7 +12,7 @@ mod user;
 use crate::fault::StepFault;
 use crate::held_packet::HeldPacket;
 use crate::link_ends::LinkEnds;
-use crate::piece::GivenPiece;
+use crate::given_piece::GivenPiece;
 use crate::station_end::StationEnd;
 use capture::MAX_HINT;
 use dna_model::Head;

@@ -10,13 +10,11 @@ mod acting;
 mod composing;
 mod delivering;
 
+use crate::given_piece::GivenPiece;
 use crate::link_owed::LinkOwed;
-use crate::outstanding::Outstanding;
-use crate::piece::GivenPiece;
-use crate::received::Received;
 use crate::turn::Turn;
-use crate::unsent::Unsent;
 use dna_model::{Phase, Port};
+use link_segments::{Outstanding, Received, Unsent};
 use std::alloc::{AllocError, Global};
 use std::marker::Model;
 use wire_base::{Seq, Window};
@@ -27,7 +25,7 @@ use wire_base::{Seq, Window};
 pub struct LinkEnd<V: Window<GivenPiece, 4096> + Drop> {
     port: Port,
     unsent: Unsent,
-    outstanding: Outstanding<V>,
+    outstanding: Outstanding<GivenPiece, V>,
     // the highest number received without a gap
     received: Seq<4096>,
     pieces: Received,

@@ -10,11 +10,11 @@ mod arriving;
 mod composing;
 mod user;
 
+use crate::given_piece::GivenPiece;
 use crate::link_end::LinkEnd;
 use crate::owed_confirm::OwedConfirm;
-use crate::passes::passes;
-use crate::piece::GivenPiece;
 use dna_model::LinkTest;
+use link_segments::passes;
 use std::alloc::{AllocError, Global};
 use std::collections::VecDeque;
 use std::marker::Model;

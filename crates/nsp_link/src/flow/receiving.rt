@@ -8,9 +8,8 @@ ghost use Rattle.dna_model.specs.WireFlow.{takes_segment, takes_acks};
 ghost use Rattle.nsp_link.specs.Flow.{with_held, is_held};
 
 use super::Flow;
-use crate::Piece;
-use crate::last_sent::REACH;
 use dna_packet::{AckWord, Segment};
+use link_segments::{Piece, REACH};
 use std::alloc::{AllocError, Global};
 use wire_base::{Seq, Window};
 

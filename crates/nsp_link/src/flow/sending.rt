@@ -12,9 +12,10 @@ ghost use Rattle.nsp_link.specs.Fault.{IsFault};
 ghost use Rattle.nsp_link.specs.Flow.{is_true_repeat};
 
 use super::Flow;
-use crate::last_sent::{LastSent, REACH};
-use crate::{LinkFault, LinkRefusal, Piece};
+use crate::last_sent::LastSent;
+use crate::{LinkFault, LinkRefusal};
 use dna_packet::{AckWord, Segment};
+use link_segments::{Piece, REACH};
 use std::alloc::Global;
 use wire_base::{Seq, Window};
 

@@ -16,10 +16,11 @@ ghost use Rattle.nsp_link.specs.Phases.{is_in, gives_new, sending_takes_memory};
 
 use super::Links;
 use crate::link::Link;
-use crate::passes::{is_in, is_running};
+use crate::phase::is_in;
 use crate::{LinkFault, LinkRefusal, LinkTag, Piece};
 use dna_model::{LinkTest, Phase};
 use dna_packet::{DataAck, Nsp, Segment};
+use link_segments::is_running;
 use wire_base::Window;
 
 // The tag of a message of no link.

@@ -10,9 +10,9 @@ ghost use Rattle.dna_model.specs.WireFlow.{WireFlow, wire_flows};
 ghost use Rattle.nsp_link.specs.Phases.{event_takes_memory};
 
 use super::Links;
-use crate::passes::{is_connected, takes_messages};
 use crate::{LinkEvent, LinkFault, LinkRefusal, Piece};
 use dna_model::{LinkTest, Phase};
+use link_segments::{is_connected, takes_messages};
 use wire_base::Window;
 
 impl<W: Window<Piece, 4096> + Drop> Links<W> {

@@ -19,7 +19,7 @@ use super::user::put;
 use crate::fault::StepFault;
 use crate::held_packet::HeldPacket;
 use crate::link_ends::LinkEnds;
-use crate::piece::GivenPiece;
+use crate::given_piece::GivenPiece;
 use capture::{Entry, MAX_HINT, MAX_UNIT};
 use ddcmp_msg::{Message, Reading, read_unit};
 use dna_packet::{Nsp, Packet, read_nsp, read_packet};

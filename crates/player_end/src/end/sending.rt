@@ -17,7 +17,7 @@ use super::user::put;
 use crate::choice::{Choice, LinkChoice};
 use crate::fault::StepFault;
 use crate::held_packet::HeldPacket;
-use crate::piece::GivenPiece;
+use crate::given_piece::GivenPiece;
 use capture::Entry;
 use dna_model::Head;
 use dna_packet::{Packet, write_packet};

@@ -10,12 +10,12 @@ ghost use Rattle.player_end.specs.Stepping.{StopMeans, with_lines};
 
 use super::End;
 use crate::fault::StepFault;
+use crate::given_piece::GivenPiece;
 use crate::held_packet::HeldPacket;
-use crate::passes::{is_connected, takes_messages};
-use crate::piece::GivenPiece;
 use crate::turn::Turn;
 use capture::{Entry, MAX_LINK, MAX_MESSAGE, put_line};
 use dna_model::{LinkTest, Phase, State};
+use link_segments::{is_connected, takes_messages};
 use std::alloc::AllocError;
 use wire_base::Window;
 

@@ -10,16 +10,13 @@ ghost use Rattle.dna_model.specs.KeptLinks as kept;
 ghost use Rattle.player_end.specs.Links.{acknowledged};
 
 use super::LinkEnd;
-use crate::passes::is_running;
-use crate::piece::{GivenPiece, Piece};
+use crate::given_piece::GivenPiece;
 use crate::turn::Turn;
 use dna_model::Phase;
 use dna_packet::{AckWord, Segment};
+use link_segments::{Piece, REACH, is_running};
 use std::alloc::{AllocError, Global};
 use wire_base::{Seq, Window};
-
-/// How far above the highest received without a gap a segment may lie.
-const REACH: u16 = 2047;
 
 impl<V: Window<GivenPiece, 4096> + Drop> LinkEnd<V> {
     /// A CI comes again: in Called it owes a connect acknowledgement, in Confirming CC.

@@ -7,17 +7,17 @@ ghost use Rattle.dna_model.specs.NextSent.{has_segment, turn_of};
 ghost use Rattle.dna_model.specs.Compose.{address, piece_to_send, turn_message};
 ghost use Rattle.dna_model.specs.KeptLinks as kept;
 ghost use Rattle.player_end.specs.Owing.{turn_view};
-ghost use Rattle.player_end.specs.Segments.{slice_view};
+ghost use Rattle.link_segments.specs.Piece.{slice_view};
 
 use super::LinkEnd;
-use crate::passes::is_running;
-use crate::piece::{GivenPiece, PieceSlice};
+use crate::given_piece::GivenPiece;
 use crate::turn::Turn;
 use arrayvec::ArrayVec;
 use dna_packet::{
     AckQualifier, AckWord, ConnectAck, ConnectConfirm, ConnectInitiate, DataAck,
     DisconnectInitiate, Nsp, Segment, write_nsp,
 };
+use link_segments::{PieceSlice, REACH, is_running};
 use std::alloc::{AllocError, Global};
 use wire_base::{Seq, Window};
 
@@ -32,9 +32,6 @@ const SEGSIZE: u16 = 512;
 
 // The user data of CC and DI.
 const USER_DATA: [u8; 1] = [0];
-
-// The most segments that are outstanding.
-const REACH: usize = 2047;
 
 impl<V: Window<GivenPiece, 4096> + Drop> LinkEnd<V> {
     /// What it has to send: the first of connect ack, CI, CC, DI, data ack and a segment.
@@ -72,7 +69,7 @@ impl<V: Window<GivenPiece, 4096> + Drop> LinkEnd<V> {
         if self.owed.ahead() < self.outstanding.len() {
             return true;
         }
-        if self.outstanding.len() >= REACH {
+        if self.outstanding.len() >= usize::from(REACH) {
             return false;
         }
         self.unsent.has_more()
@@ -247,7 +244,7 @@ impl<V: Window<GivenPiece, 4096> + Drop> LinkEnd<V> {
         }
         let piece = GivenPiece::copied(alloc, self.unsent.next())?;
         self.outstanding.give(alloc, piece)?;
-        self.unsent.give();
+        self.unsent.give_next();
         Ok(())
     }
 }

@@ -9,9 +9,9 @@ ghost use Rattle.player_end.specs.Stepping.{Stopped};
 
 use super::LinkEnd;
 use crate::fault::StepFault;
-use crate::piece::GivenPiece;
-use crate::received::Received;
+use crate::given_piece::GivenPiece;
 use capture::{Entry, MAX_MESSAGE, put_line};
+use link_segments::Received;
 use std::alloc::{AllocError, Global};
 use wire_base::Window;
 

@@ -18,7 +18,7 @@ use crate::choice::EndConfirm;
 use crate::fault::StepFault;
 use crate::link_end::LinkEnd;
 use crate::owed_confirm::OwedConfirm;
-use crate::piece::GivenPiece;
+use crate::given_piece::GivenPiece;
 use dna_model::LinkTest;
 use dna_packet::{AckWord, ConnectConfirm, ConnectInitiate, Nsp, Segment};
 use std::alloc::AllocError;

@@ -13,7 +13,7 @@ ghost use Rattle.player_end.specs.Owing.{link_choice_view, turn_view};
 
 use super::LinkEnds;
 use crate::choice::{EndConfirm, LinkChoice};
-use crate::piece::GivenPiece;
+use crate::given_piece::GivenPiece;
 use crate::turn::Turn;
 use dna_packet::{DisconnectConfirm, Nsp, write_nsp};
 use std::alloc::AllocError;

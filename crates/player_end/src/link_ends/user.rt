@@ -9,7 +9,7 @@ ghost use Rattle.player_end.specs.Owing.{turn_view};
 
 use super::LinkEnds;
 use crate::link_end::LinkEnd;
-use crate::piece::GivenPiece;
+use crate::given_piece::GivenPiece;
 use crate::turn::Turn;
 use dna_model::Phase;
 use std::alloc::AllocError;

@@ -1,7 +1,7 @@
 use Rattle.std.proofs.Common.{ℕ, ◌∙◌, List, Option, drop, sym, ap, ap₂, arith, length, length-drop}
 use Rattle.dna_model.specs.Pieces.{Piece, in_whole_messages}
 use Rattle.player_end.specs.Delivering.{lines_of}
-use Rattle.player_end.proofs.Arrived.{in_order-le}
+use Rattle.link_segments.proofs.Arrived.{in_order-le}
 use Rattle.player_end.proofs.Delivered.{empty_counts, least_count, left_behind, lines_behind, no_more_lines, none_left, stops_at}
 use Rattle.player_end.proofs.link_end.delivering.deliver_all.Goals as goal
 

@@ -1,0 +1,6 @@
+mod Pieces
+mod Giving
+pub mod AckWords
+pub mod Arrived
+pub mod Acknowledged
+pub mod Holding

@@ -1,0 +1,19 @@
+//! The phase that a message asks for.
+
+ghost use Rattle.std.specs.Prelude.{◌≡◌};
+ghost use Rattle.nsp_link.specs.Phases as phases;
+
+use dna_model::Phase;
+
+/// Whether a link is in the phase that a message asks for: Calling, Confirming, RUN or DI.
+pub fn is_in(wanted: Phase, phase: Phase) -> bool
+    ensures { result ≡ phases.is_in wanted phase }
+{
+    match wanted {
+        Phase::Calling => matches!(phase, Phase::Calling),
+        Phase::Confirming => matches!(phase, Phase::Confirming),
+        Phase::Running => matches!(phase, Phase::Running),
+        Phase::Disconnecting => matches!(phase, Phase::Disconnecting),
+        Phase::Called | Phase::Ended => false,
+    }
+}

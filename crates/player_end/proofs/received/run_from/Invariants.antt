@@ -1,9 +1,0 @@
-use Rattle.std.proofs.Common.{◌≡◌, ◌+◌, drop}
-use Rattle.dna_model.specs.Pieces.{in_order}
-use Rattle.player_end.proofs.received.run_from.Given as goal
-
-abbrev pub invariant-loop-place : goal.invariant-loop-place
-invariant-loop-place l = record {
-  count : l.run + l.from ≡ l.place;
-  order : in_order (drop l.from l.pieces.items) ≡ l.run + in_order (drop l.place l.pieces.items);
-}
