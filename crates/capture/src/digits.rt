@@ -34,17 +34,24 @@ fn guess(text: &[u8], bytes: &mut [u8])
     }
 }
 
-// The same of few bytes, eight at a time.
+// The same of few bytes, eight at a time: the last eight too, some of which may have been guessed before.
 fn guess_few(text: &[u8], bytes: &mut [u8])
     requires { length text.now ≡ 2 * length bytes.old }
     ensures { length bytes.new ≡ length bytes.old }
 {
-    for block in 0..bytes.len() / EIGHT {
+    let len = bytes.len();
+    if len < EIGHT {
+        guess_each(text, bytes);
+        return;
+    }
+    for block in 0..len / EIGHT {
         let at = block * EIGHT;
         guess_eight(&text[2 * at..2 * (at + EIGHT)], &mut bytes[at..at + EIGHT]);
     }
-    let whole = bytes.len() / EIGHT * EIGHT;
-    guess_each(&text[2 * whole..], &mut bytes[whole..]);
+    if len % EIGHT != 0 {
+        let at = len - EIGHT;
+        guess_eight(&text[2 * at..], &mut bytes[at..]);
+    }
 }
 
 // The same of eight bytes. All digits are read before a byte is written, and the bytes are written one by one: so all eight are

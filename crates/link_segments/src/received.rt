@@ -58,6 +58,7 @@ impl Received {
     /// Holds the segment so far above the highest received without a gap, 1 for the next one, which is missing. The answer is by how
     /// many the highest received without a gap rises. Where memory is refused, nothing changes.
     #[tactic(auto, using(crate::proofs::Arrived::ordered))]
+    #[inline(always)]
     pub fn hold(&mut self, above: usize, piece: Piece) -> Result<usize, AllocError>
         requires next { 1 ≤ above }
         requires near { above < 4096 }
@@ -131,6 +132,7 @@ impl Received {
 
     /// The first pieces, of which none is missing, are delivered.
     #[tactic(auto, using(crate::proofs::Arrived::arrived))]
+    #[inline(always)]
     pub fn deliver(&mut self, count: usize)
         requires { count ≤ in_order self.old }
         ensures { self.new ≡ drop count self.old }
@@ -215,6 +217,7 @@ fn append(
 
 // Puts a piece at its missing place, so far above the highest received without a gap. Where memory is refused, nothing changes.
 #[tactic(auto, using(crate::proofs::Arrived::held))]
+#[inline(always)]
 fn put(
     pieces: &mut VecDeque<Option<Piece>>,
     whole: usize,

@@ -55,15 +55,15 @@ impl Unsent {
     }
 
     /// A message is handed in. Where memory for it is refused, nothing changes.
+    #[inline(always)]
     pub fn hand_in(&mut self, alloc: Global, message: &[u8]) -> Result<(), AllocError>
         ensures ok { OnOk result (self.new ≡ with_message message.now self.old) }
         ensures err { OnErr result (self.new ≡ self.old) }
     {
         let copy = Copied::of(alloc, message)?;
-        match self.messages.push_back(copy) {
-            Ok(()) => Ok(()),
-            Err(_) => Err(AllocError),
-        }
+        self.messages.reserve(1)?;
+        self.messages.push_back_reserved(copy);
+        Ok(())
     }
 
     /// Whether a segment carries the next bytes of the current message: it begins it exactly if nothing has begun it, ends it exactly

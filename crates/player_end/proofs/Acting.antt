@@ -13,7 +13,7 @@ use Rattle.dna_model.specs.NextSent.{LinkEnd}
 use Rattle.dna_model.specs.KeptLinks.{in_phase, acted_on, took_acks, took_segment, owes}
 use Rattle.link_segments.specs.Outstanding.{acknowledged_words}
 use Rattle.player_end.specs.Links.{acknowledged_as, acknowledged}
-use Rattle.player_end.proofs.Acknowledged.{with_window, same_words}
+use Rattle.link_segments.proofs.Acknowledged.{with_window, same_words}
 
 -- what is owed is lowered and dropped in either order
 left_lowered : (stays : Bool) (count : ℕ) (owed : LinkOwed) → unless_left stays (lowered count owed) ≡ lowered count (unless_left stays owed)

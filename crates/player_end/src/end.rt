@@ -10,9 +10,9 @@ mod sending;
 mod user;
 
 use crate::fault::StepFault;
+use crate::given_piece::GivenPiece;
 use crate::held_packet::HeldPacket;
 use crate::link_ends::LinkEnds;
-use crate::given_piece::GivenPiece;
 use crate::station_end::StationEnd;
 use capture::MAX_HINT;
 use dna_model::Head;

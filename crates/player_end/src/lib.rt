@@ -23,5 +23,5 @@ mod turn;
 
 pub use end::End;
 pub use fault::StepFault;
-pub use held_packet::HeldPacket;
 pub use given_piece::GivenPiece;
+pub use held_packet::HeldPacket;

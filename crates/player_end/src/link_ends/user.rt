@@ -8,8 +8,8 @@ ghost use Rattle.player_end.specs.Links.{retried_end, changed_to};
 ghost use Rattle.player_end.specs.Owing.{turn_view};
 
 use super::LinkEnds;
-use crate::link_end::LinkEnd;
 use crate::given_piece::GivenPiece;
+use crate::link_end::LinkEnd;
 use crate::turn::Turn;
 use dna_model::Phase;
 use std::alloc::AllocError;
