@@ -6,7 +6,7 @@ ghost use Rattle.wire_base.specs.Tally.{CountedFault, tally_faults, tally_lent};
 ghost use Rattle.capture.specs.declared.format.Format.{Format as Layout};
 ghost use Rattle.capture.specs.declared.hint.HintForm.{HintForm as Form};
 ghost use Rattle.capture.specs.declared.limit.TheConstants.{MAX_HINT, MAX_LINE};
-ghost use Rattle.capture.specs.declared.page.TheConstants.{SIZE};
+ghost use Rattle.capture.specs.declared.page.TheConstants.{PAGE_SIZE};
 ghost use Rattle.capture.specs.declared.converting.TheConstants.{LINE};
 ghost use Rattle.capture.specs.declared.record.Record.TheVariants as records;
 ghost use Rattle.capture.specs.Converting.{Converts, ConvertsWholeLines, CountsReadsOf, CountsWritesOf, convert_fault, devices};
@@ -124,7 +124,7 @@ fn fault_of(fault: CaptureFault) -> ConvertFault
 #[inline(always)]
 fn put_line(page: &mut Page, to: HintForm, entry: Entry, line: &[u8])
     requires short { length line.now ≤ MAX_LINE }
-    requires room { length page.old + LINE ≤ SIZE }
+    requires room { length page.old + LINE ≤ PAGE_SIZE }
     ensures { (from : Form) (bytes : List ℕ) → FormFits from → NumbersFit (record_with entry bytes) →
         line.now ≡ record_text from (record_with entry bytes) →
         page.new ≡ page.old ++ record_line to (record_with entry bytes) }
@@ -140,7 +140,7 @@ fn put_line(page: &mut Page, to: HintForm, entry: Entry, line: &[u8])
 // The line of a receipt.
 fn put_receipt(page: &mut Page, to: HintForm, hint: u64, line: &[u8])
     requires short { length line.now ≤ MAX_LINE }
-    requires room { length page.old + LINE ≤ SIZE }
+    requires room { length page.old + LINE ≤ PAGE_SIZE }
     ensures { (from : Form) (kept : Bool) (bytes : List ℕ) → FormFits from → hint ≤ MAX_HINT →
         line.now ≡ record_text from (records.Received hint kept bytes) →
         page.new ≡ page.old ++ record_line to (records.Received hint kept bytes) }
@@ -160,7 +160,7 @@ fn put_receipt(page: &mut Page, to: HintForm, hint: u64, line: &[u8])
 }
 
 fn put_hint(page: &mut Page, form: HintForm, hint: u64)
-    requires { length page.old + 41 ≤ SIZE }
+    requires { length page.old + 41 ≤ PAGE_SIZE }
     ensures bytes { page.new ≡ page.old ++ hint_text form hint }
     ensures len { length page.new ≤ length page.old + 41 }
 {
@@ -171,7 +171,7 @@ fn put_hint(page: &mut Page, form: HintForm, hint: u64)
 }
 
 fn put_distance(page: &mut Page, mark: u64, hint: u64)
-    requires { length page.old + 41 ≤ SIZE }
+    requires { length page.old + 41 ≤ PAGE_SIZE }
     ensures bytes { page.new ≡ page.old ++ hint_text (HintForm.Distance mark) hint }
     ensures len { length page.new ≤ length page.old + 41 }
 {

@@ -52,6 +52,7 @@ pub use limit::{MAX_HINT, MAX_LINE, MAX_LINK, MAX_MARK, MAX_MESSAGE, MAX_RECORDS
 pub use line_reader::LineReader;
 pub use line_words::put_head;
 pub use number::{number_of, positive_of};
+pub use page::{PAGE_SIZE, Page};
 pub use part::{after, cut_at};
 pub use phase::Phase;
 pub use reader::CaptureReader;

@@ -1,5 +1,5 @@
 -- The lines of a capture's records, as they grow from one record to the next.
-use Rattle.std.proofs.Common.{◌≡◌, ℕ, ◌+◌, ◌<◌, ◌⊎◌, inl, inr, List, [], ◌∷◌, ◌++◌, length, take, Option, Some, Ok, refl, sym, ap, subst, ◌∙◌, arith, length-append, append-nil, append_assoc}
+use Rattle.std.proofs.Common.{◌≡◌, ℕ, ◌+◌, ◌<◌, inl, inr, List, [], ◌∷◌, ◌++◌, length, take, Option, Some, Ok, refl, sym, ap, subst, ◌∙◌, arith, length-append, append-nil, append_assoc}
 use Rattle.std.specs.Option.{IfSome}
 use Rattle.std.specs.Io.KnownBytes.{Appends, Consumes, IsAtEnd}
 use Rattle.std.proofs.KnownBytes.{Appends-nil, Appends-trans}
@@ -16,6 +16,7 @@ use Rattle.capture.specs.Range.{IsRecord}
 use Rattle.capture.specs.Departing.{HeadDeparts, RecordDeparts}
 use Rattle.capture.specs.Faulty.{is_read_fault}
 use Rattle.capture.specs.Lines.{IsCutBehind, to_come}
+use Rattle.capture.specs.Paged.{HandsOver}
 use Rattle.capture.specs.Reader.{CaptureState, FaultShows, Opens, NextGives, WhereReadFails}
 use Rattle.capture.specs.SoFar.{ToCome, TheEnd, so_far, IsReadSoFar}
 use Rattle.ddcap.specs.declared.show.Ending.TheVariants.{Faulty}
@@ -82,43 +83,28 @@ opened laws text after capture out page opens empty = record {
   on_out = (Appends-nil out.bytes, refl);
 }
 
--- the page stays as it is, or is written and emptied
-abbrev pub HasMadeRoom : (page kept : List ℕ) (out out' : Stream) → Type 0
-HasMadeRoom page kept out out' = ((kept ≡ page) × (out' ≡ out)) ⊎ ((kept ≡ []) × WritesAll out out' page)
-
-pub listed_on : (laws : GrowingLaws) (text before after : Option (List ℕ)) (old new : CaptureState) (number : ℕ) (out_old out out' : Stream) (page kept page' : List ℕ) (r : Record) → HasListed text before old number (record { old = out_old; new = out }) page → new.own ≡ old.own → new.peer ≡ old.peer → NextGives old new before after (Ok (Some r)) → HasMadeRoom page kept out out' → page' ≡ kept ++ shown_line number r → HasListed text after new (number + 1) (record { old = out_old; new = out' }) page'
-listed_on laws text before after old new number out_old out out' page kept page' r h own peer gives room put =
+pub listed_on : (laws : GrowingLaws) (text before after : Option (List ℕ)) (old new : CaptureState) (number : ℕ) (out_old out out' : Stream) (page kept page' : List ℕ) (r : Record) → HasListed text before old number (record { old = out_old; new = out }) page → new.own ≡ old.own → new.peer ≡ old.peer → NextGives old new before after (Ok (Some r)) → HandsOver page kept out.bytes out'.bytes → out'.faults ≡ out.faults → page' ≡ kept ++ shown_line number r → HasListed text after new (number + 1) (record { old = out_old; new = out' }) page'
+listed_on laws text before after old new number out_old out out' page kept page' r h own peer gives over faults put =
     let count = h.count in
     let counted = h.counted in
     let few = gives.1 in
     let same : 0 + length h.records ≡ number = omega arith in
-    let read : IsReadSoFar text (so_far new.form new.own new.peer (h.records ++ r ∷ []) (ToCome after)) = rw (own, peer, gives.5) (laws.one_more text before after old.form old.own old.peer h.records r h.read (omega arith) gives.0 gives.4) in
-    let count_on : length (h.records ++ r ∷ []) ≡ number + 1 = omega (arith, length-append h.records (r ∷ [])) in
-    let counted_on : new.records ≡ number + 1 = gives.2 ∙ ap (λ n. n + 1) counted in
-    let lines : shown_lines 0 (h.records ++ r ∷ []) ≡ (h.written ++ page) ++ shown_line number r =
-    shown_lines-push 0 h.records r ∙ ap (λ text. text ++ shown_line (0 + length h.records) r) h.lines ∙ ap (λ n. (h.written ++ page) ++ shown_line n r) same in
-    elim room [
-      | inl stays ↦ record {
-        records = h.records ++ r ∷ [];
-        read = read;
-        count = count_on;
-        counted = counted_on;
-        reading = gives.3;
-        written = h.written;
-        lines = lines ∙ append_assoc h.written page (shown_line number r) ∙ ap (λ text. h.written ++ (text ++ shown_line number r)) (sym stays.0) ∙ ap (λ text. h.written ++ text) (sym put);
-        on_out = subst (λ (s : Stream). WritesAll out_old s h.written) (sym stays.1) h.on_out;
-      }
-      | inr moved ↦ record {
-        records = h.records ++ r ∷ [];
-        read = read;
-        count = count_on;
-        counted = counted_on;
-        reading = gives.3;
-        written = h.written ++ page;
-        lines = lines ∙ ap (λ text. (h.written ++ page) ++ (text ++ shown_line number r)) (sym moved.0) ∙ ap (λ text. (h.written ++ page) ++ text) (sym put);
-        on_out = all_on out_old out out' h.written page h.on_out moved.1;
-      }
-    ]
+    let line = shown_line number r in
+    record {
+      records = h.records ++ r ∷ [];
+      read = rw (own, peer, gives.5) (laws.one_more text before after old.form old.own old.peer h.records r h.read (omega arith) gives.0 gives.4);
+      count = omega (arith, length-append h.records (r ∷ []));
+      counted = gives.2 ∙ ap (λ n. n + 1) counted;
+      reading = gives.3;
+      written = h.written ++ over.written;
+      lines =
+      shown_lines-push 0 h.records r
+      ∙ ap (λ n. shown_lines 0 h.records ++ shown_line n r) same
+      ∙ ap (λ text. text ++ line) (h.lines ∙ ap (λ text. h.written ++ text) over.parts ∙ sym (append_assoc h.written over.written kept))
+      ∙ append_assoc (h.written ++ over.written) kept line
+      ∙ ap (λ text. (h.written ++ over.written) ++ text) (sym put);
+      on_out = all_on out_old out out' h.written over.written h.on_out (over.taken, faults);
+    }
 
 -- ---- the three endings
 
@@ -127,8 +113,10 @@ module _ (text before : Option (List ℕ)) (capture : CaptureState) (number : �
   abbrev has_read : HasRead text h.records
   has_read = record { form = capture.form; own = capture.own; peer = capture.peer; come = before; read = h.read }
 
-  pub all_lines : (out' : Stream) → WritesAll out.new out' page → WritesAll out.old out' (shown_lines 0 h.records)
-  all_lines out' all = subst (WritesAll out.old out') (sym h.lines) (all_on out.old out.new out' h.written page h.on_out all)
+  pub all_lines : (out' : Stream) (rest : List ℕ) → HandsOver page rest out.new.bytes out'.bytes → rest ≡ [] → out'.faults ≡ out.new.faults → WritesAll out.old out' (shown_lines 0 h.records)
+  all_lines out' rest over none faults =
+      let parts : page ≡ over.written = over.parts ∙ ap (λ text. over.written ++ text) none ∙ append-nil over.written in
+      subst (WritesAll out.old out') (sym (h.lines ∙ ap (λ text. h.written ++ text) parts)) (all_on out.old out.new out' h.written over.written h.on_out (over.taken, faults))
 
   pub some_lines : (out' : Stream) → WritesSome out.new out' page → WritesSome out.old out' (shown_lines 0 h.records)
   some_lines out' some = subst (WritesSome out.old out') (sym h.lines) (some_on out.old out.new out' h.written page h.on_out some)

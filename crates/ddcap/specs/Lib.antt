@@ -1,5 +1,4 @@
 pub mod Printed
-pub mod Block
 pub mod Shown
 pub mod Showing
 pub mod Conversion

@@ -7,10 +7,9 @@ ghost use Rattle.ddcap.specs.Conversion.{IsConversion, count_text};
 ghost use Rattle.ddcap.specs.Printed.{Writes, moved, stream_of};
 
 use crate::check::{print, print_out_of_memory};
-use crate::page::Page;
 use crate::show::print_fault;
 use crate::text::FAILED;
-use capture::{ConvertFault, convert};
+use capture::{ConvertFault, Page, convert};
 use std::alloc::Global;
 use std::io::{Read, Write};
 use wire_base::Tally;

@@ -10,7 +10,6 @@ use wire_base::Tally;
 mod check;
 mod convert;
 mod laws;
-mod page;
 mod play;
 mod run;
 mod show;

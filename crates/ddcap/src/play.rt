@@ -5,8 +5,8 @@ ghost use Rattle.ddcap.specs.Playing.{IsPlaying, failed_write_text, play_fault_s
 ghost use Rattle.ddcap.specs.Printed.{Writes, moved, stream_of};
 
 use crate::check::{print, print_out_of_memory};
-use crate::page::Page;
 use crate::text::{FAILED, FAULTY};
+use capture::Page;
 use pair_player::{PlayFault, play};
 use std::alloc::Global;
 use std::io::{Read, Write};

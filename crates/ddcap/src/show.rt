@@ -1,20 +1,17 @@
 //! `show`: one capture, a line a record.
 
-ghost use Rattle.std.specs.Prelude.{◌≡◌, ◌≢◌, ◌+◌, ◌≤◌, ◌⊎◌, [], length, OnOk, OnErr};
+ghost use Rattle.std.specs.Prelude.{◌≡◌, ◌≢◌, []};
 ghost use Rattle.capture.specs.declared.fault.CaptureFault.TheVariants as CaptureFault;
-ghost use Rattle.ddcap.specs.declared.page.TheConstants.{SIZE};
-ghost use Rattle.ddcap.specs.declared.shown_line.TheConstants.{LINE};
 ghost use Rattle.ddcap.specs.Printed.{Writes, moved, stream_of};
-ghost use Rattle.ddcap.specs.Showing.{Lists, Shows, WritesAll, WritesSome, shown_fault, shown_fault_status};
+ghost use Rattle.ddcap.specs.Showing.{Lists, Shows, shown_fault, shown_fault_status};
 
 use crate::check::{print, print_failed_read, print_out_of_memory};
-use crate::page::{Page, SIZE};
 use crate::shown_line::{LINE, put_line};
 use crate::text::{FAILED, FAULTY};
-use capture::{CaptureFault, CaptureReader, Departure, MAX_RECORDS, text_read_on};
+use capture::{CaptureFault, CaptureReader, Departure, MAX_RECORDS, Page, text_read_on};
 use std::alloc::Global;
 use std::io::{Read, Write};
-use wire_base::{Side, Tally, WriteFailed, write_whole};
+use wire_base::{Side, Tally};
 
 /// The status where all lines were printed.
 const SHOWN: u8 = 0;
@@ -74,50 +71,22 @@ fn list_records<A: Read, O: Write>(
     for number in 0..MAX_RECORDS + 1 {
         match capture.advance(a) {
             Ok(Some(entry)) => {
-                let Ok(()) = make_room(page, out) else {
+                let Ok(()) = page.make_room(LINE, out) else {
                     return Ending::Cut(None);
                 };
                 put_line(page, number, entry, capture.bytes());
             }
-            Ok(None) => match write_page(page, out) {
+            Ok(None) => match page.write_out(out) {
                 Ok(()) => return Ending::Whole,
                 Err(_) => return Ending::Cut(None),
             },
-            Err(fault) => match write_page(page, out) {
+            Err(fault) => match page.write_out(out) {
                 Ok(()) => return Ending::Faulty(fault),
                 Err(_) => return Ending::Cut(Some(fault)),
             },
         }
     }
     unreachable!()
-}
-
-// Writes the page where the next line might not fit.
-fn make_room<W: Write>(page: &mut Page, out: &mut Tally<W>) -> Result<(), WriteFailed>
-    ensures ok { OnOk result (((page.new ≡ page.old) × (stream_of W.contents out.new ≡ stream_of W.contents out.old))
-        ⊎ ((page.new ≡ []) × WritesAll (stream_of W.contents out.old) (stream_of W.contents out.new) page.old)) }
-    ensures room { OnOk result (length page.new + LINE ≤ SIZE) }
-    ensures err { OnErr result (WritesSome (stream_of W.contents out.old) (stream_of W.contents out.new) page.old) }
-{
-    if page.len() > SIZE - LINE {
-        return write_page(page, out);
-    }
-    Ok(())
-}
-
-// Writes what is on the page, and empties it.
-fn write_page<W: Write>(page: &mut Page, out: &mut Tally<W>) -> Result<(), WriteFailed>
-    ensures empty { OnOk result (page.new ≡ []) }
-    ensures ok { OnOk result (WritesAll (stream_of W.contents out.old) (stream_of W.contents out.new) page.old) }
-    ensures err { OnErr result (WritesSome (stream_of W.contents out.old) (stream_of W.contents out.new) page.old) }
-{
-    match write_whole(out, page.as_slice()) {
-        Ok(()) => {
-            page.clear();
-            Ok(())
-        }
-        Err(failed) => Err(failed),
-    }
 }
 
 /// Prints a text's fault, which is put together on the page, and answers its status: 2 for a faulty line, else 3.

@@ -6,14 +6,13 @@ ghost use Rattle.capture.specs.Entries.{record_with};
 ghost use Rattle.capture.specs.Range.{IsRecord};
 ghost use Rattle.capture.specs.Text.{bytes_text, spaced};
 ghost use Rattle.capture.specs.declared.limit.TheConstants.{MAX_MESSAGE};
+ghost use Rattle.capture.specs.declared.page.TheConstants.{PAGE_SIZE};
 ghost use Rattle.ddcmp_msg.specs.Message.{view};
 ghost use Rattle.ddcmp_msg.specs.Reading.{reading, reading_view};
-ghost use Rattle.ddcap.specs.declared.page.TheConstants.{SIZE};
 ghost use Rattle.ddcap.specs.declared.shown_line.TheConstants.{LINE};
 ghost use Rattle.ddcap.specs.Shown.{flags_digits, data_words, message_words, reading_words, unit_words, record_words, shown_line};
 
-use crate::page::Page;
-use capture::Entry;
+use capture::{Entry, Page};
 use ddcmp_msg::{Flags, Message, Reading, read_unit};
 
 /// More bytes than a line has: two digits for each byte of a longest message, and some words and numbers.
@@ -22,7 +21,7 @@ pub const LINE: usize = 132_000;
 /// Appends the line of the record of this entry and these bytes, with its LF: its number, and what it says.
 pub fn put_line(page: &mut Page, number: u64, entry: Entry, bytes: &[u8])
     requires record { IsRecord (record_with entry bytes.now) }
-    requires room { length page.old + LINE ≤ SIZE }
+    requires room { length page.old + LINE ≤ PAGE_SIZE }
     ensures { page.new ≡ page.old ++ shown_line number (record_with entry bytes.now) }
 {
     page.put_number(number);
@@ -33,7 +32,7 @@ pub fn put_line(page: &mut Page, number: u64, entry: Entry, bytes: &[u8])
 // A space, and what a record says.
 fn put_entry(page: &mut Page, entry: Entry, bytes: &[u8])
     requires record { IsRecord (record_with entry bytes.now) }
-    requires room { length page.old + 131_800 ≤ SIZE }
+    requires room { length page.old + 131_800 ≤ PAGE_SIZE }
     ensures bytes { page.new ≡ page.old ++ 32 ∷ record_words (record_with entry bytes.now) }
     ensures len { length page.new ≤ length page.old + 131_800 }
 {
@@ -67,7 +66,7 @@ fn put_entry(page: &mut Page, entry: Entry, bytes: &[u8])
 
 // The hint of a receipt, and what came.
 fn put_receipt(page: &mut Page, hint: u64, bytes: &[u8])
-    requires room { length page.old + 300 ≤ SIZE }
+    requires room { length page.old + 300 ≤ PAGE_SIZE }
     ensures bytes { page.new ≡ page.old ++ spaced (decimal hint) (unit_words bytes.now) }
     ensures len { length page.new ≤ length page.old + 300 }
 {
@@ -78,7 +77,7 @@ fn put_receipt(page: &mut Page, hint: u64, bytes: &[u8])
 
 // What the bytes of a unit say.
 fn put_unit(page: &mut Page, bytes: &[u8])
-    requires room { length page.old + 250 ≤ SIZE }
+    requires room { length page.old + 250 ≤ PAGE_SIZE }
     ensures bytes { page.new ≡ page.old ++ unit_words bytes.now }
     ensures len { length page.new ≤ length page.old + 250 }
 {
@@ -86,7 +85,7 @@ fn put_unit(page: &mut Page, bytes: &[u8])
 }
 
 fn put_reading(page: &mut Page, reading: Reading<'_>)
-    requires room { length page.old + 250 ≤ SIZE }
+    requires room { length page.old + 250 ≤ PAGE_SIZE }
     ensures bytes { page.new ≡ page.old ++ reading_words (reading_view reading.entry) }
     ensures len { length page.new ≤ length page.old + 250 }
 {
@@ -102,7 +101,7 @@ fn put_reading(page: &mut Page, reading: Reading<'_>)
 }
 
 fn put_message(page: &mut Page, message: Message<'_>)
-    requires room { length page.old + 250 ≤ SIZE }
+    requires room { length page.old + 250 ≤ PAGE_SIZE }
     ensures bytes { page.new ≡ page.old ++ message_words (view message.entry) }
     ensures len { length page.new ≤ length page.old + 250 }
 {
@@ -137,7 +136,7 @@ fn put_message(page: &mut Page, message: Message<'_>)
 
 // What a data message says, but for its body.
 fn put_data(page: &mut Page, flags: Flags, resp: u8, num: u8, count: usize)
-    requires room { length page.old + 250 ≤ SIZE }
+    requires room { length page.old + 250 ≤ PAGE_SIZE }
     ensures bytes { page.new ≡ page.old ++ data_words flags resp num count }
     ensures len { length page.new ≤ length page.old + 250 }
 {
@@ -147,7 +146,7 @@ fn put_data(page: &mut Page, flags: Flags, resp: u8, num: u8, count: usize)
 }
 
 fn put_num_and_count(page: &mut Page, num: u8, count: usize)
-    requires room { length page.old + 92 ≤ SIZE }
+    requires room { length page.old + 92 ≤ PAGE_SIZE }
     ensures bytes { page.new ≡ page.old ++ (codes " num " ++ (decimal num ++ (codes " count " ++ decimal count))) }
     ensures len { length page.new ≤ length page.old + 92 }
 {
@@ -157,7 +156,7 @@ fn put_num_and_count(page: &mut Page, num: u8, count: usize)
 
 // The name of a message, and its flags.
 fn put_flags(page: &mut Page, name: &[u8], flags: Flags)
-    requires room { length page.old + length name.now + 2 ≤ SIZE }
+    requires room { length page.old + length name.now + 2 ≤ PAGE_SIZE }
     ensures bytes { page.new ≡ page.old ++ (name.now ++ flags_digits flags.quick_sync flags.select) }
     ensures len { length page.new ≡ length page.old + length name.now + 2 }
 {
@@ -172,7 +171,7 @@ fn put_flags(page: &mut Page, name: &[u8], flags: Flags)
 
 // A field behind its name.
 fn put_field(page: &mut Page, name: &[u8], number: u64)
-    requires room { length page.old + length name.now + 40 ≤ SIZE }
+    requires room { length page.old + length name.now + 40 ≤ PAGE_SIZE }
     ensures bytes { page.new ≡ page.old ++ (name.now ++ decimal number) }
     ensures len { length page.new ≤ length page.old + length name.now + 40 }
 {
@@ -182,7 +181,7 @@ fn put_field(page: &mut Page, name: &[u8], number: u64)
 
 // Two links behind the words of their event.
 fn put_links(page: &mut Page, words: &[u8], partner: u16, link: u16)
-    requires room { length page.old + length words.now + 81 ≤ SIZE }
+    requires room { length page.old + length words.now + 81 ≤ PAGE_SIZE }
     ensures bytes { page.new ≡ page.old ++ (words.now ++ spaced (decimal partner) (decimal link)) }
     ensures len { length page.new ≤ length page.old + length words.now + 81 }
 {
@@ -193,7 +192,7 @@ fn put_links(page: &mut Page, words: &[u8], partner: u16, link: u16)
 // A link and its message behind the words of their event.
 fn put_message_event(page: &mut Page, words: &[u8], link: u16, bytes: &[u8])
     requires short { length bytes.now ≤ MAX_MESSAGE }
-    requires room { length page.old + length words.now + 131_111 ≤ SIZE }
+    requires room { length page.old + length words.now + 131_111 ≤ PAGE_SIZE }
     ensures bytes { page.new ≡ page.old ++ (words.now ++ spaced (decimal link) (bytes_text bytes.now)) }
     ensures len { length page.new ≤ length page.old + length words.now + 131_111 }
 {
@@ -204,7 +203,7 @@ fn put_message_event(page: &mut Page, words: &[u8], link: u16, bytes: &[u8])
 // A space and BYTES: `-` for no bytes, else two digits for each.
 fn put_message_bytes(page: &mut Page, bytes: &[u8])
     requires short { length bytes.now ≤ MAX_MESSAGE }
-    requires room { length page.old + 131_071 ≤ SIZE }
+    requires room { length page.old + 131_071 ≤ PAGE_SIZE }
     ensures bytes { page.new ≡ page.old ++ (codes " " ++ bytes_text bytes.now) }
     ensures len { length page.new ≤ length page.old + 131_071 }
 {

@@ -4,6 +4,7 @@ mod converting;
 mod distances;
 mod limits;
 mod noise;
+mod pages;
 mod reading;
 mod rows;
 mod stepped;

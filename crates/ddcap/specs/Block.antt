@@ -1,8 +1,0 @@
--- The block of a page.
-use Rattle.std.specs.Prelude.{◌≤◌, vec_capacity}
-use Rattle.ddcap.specs.declared.page.Page.TheInside.{Inside}
-use Rattle.ddcap.specs.declared.page.TheConstants.{SIZE}
-
--- bytes up to the size of a page take no memory
-pub record HasRoom (page : Inside) : Type 0 where
-  pub room : SIZE ≤ vec_capacity page.block
