@@ -1,2 +1,1 @@
-mod Labels
 mod Sendable

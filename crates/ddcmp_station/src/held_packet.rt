@@ -43,14 +43,10 @@ impl<T: Copy> HeldPacket<T> {
         self.label
     }
 
-    /// The same packet with this label beside it.
-    pub(crate) fn labelled(self, label: T) -> HeldPacket<T>
-        ensures { result ≡ record self { label = Some label } }
+    /// This label is put beside it, in the place of one that it had.
+    pub(crate) fn put_label(&mut self, label: T)
+        ensures { self.new ≡ record self.old { label = Some label } }
     {
-        let HeldPacket { body, label: _ } = self;
-        HeldPacket {
-            body,
-            label: Some(label),
-        }
+        self.label = Some(label);
     }
 }

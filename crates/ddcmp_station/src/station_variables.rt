@@ -10,7 +10,7 @@ use crate::HeldPacket;
 use dna_model::State;
 use std::alloc::{AllocError, Global};
 use std::marker::{Model, PhantomData};
-use wire_base::{Copied, PushFault, Seq, Window};
+use wire_base::{PushFault, Seq, Window};
 
 /// How many packets may be unacknowledged.
 const MOST: u16 = 255;
@@ -224,17 +224,11 @@ impl<T: Copy, W: Window<HeldPacket<T>, 256>> StationVariables<T, W> {
     }
 
     /// This label is put beside the newest packet. Takes no memory.
-    #[tactic(auto, using(crate::proofs::Labels::relabelled))]
     pub fn label(&mut self, label: T)
         requires { 0 < length self.old.held }
         ensures { self.new ≡ record self.old { held = with_label self.old.held label } }
     {
         let newest = self.held.len() - 1;
-        let Ok(packet) = self.held.replace(newest, HeldPacket::new(Copied::none())) else {
-            unreachable!();
-        };
-        let Ok(_) = self.held.replace(newest, packet.labelled(label)) else {
-            unreachable!();
-        };
+        self.held.amend(newest, |packet| packet.put_label(label));
     }
 }

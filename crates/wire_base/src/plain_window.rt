@@ -2,7 +2,6 @@ ghost use Rattle.std.specs.Prelude.{◌≡◌, ◌%◌, ◌^◌, ◌≤◌, leng
 
 use crate::{PushFault, Seq, Window};
 use std::alloc::{AllocError, AllocFailed, Global};
-use std::mem;
 
 /// A window over a list, whose first number is a count that wraps at 2^64.
 #[derive(Debug, Drop)]
@@ -45,11 +44,8 @@ impl<T: Drop, const M: u16> Window<T, M> for PlainWindow<T, M> {
         self.items.get(index)
     }
 
-    fn replace(&mut self, index: usize, item: T) -> Result<T, T> {
-        if index >= self.items.len() {
-            return Err(item);
-        }
-        Ok(mem::replace(&mut self.items[index], item))
+    fn amend<F: FnOnce(&mut T)>(&mut self, index: usize, change: F) {
+        change(&mut self.items[index]);
     }
 
     fn restart(&mut self, first: Seq<M>)

@@ -3,7 +3,6 @@ ghost use Rattle.std.specs.Prelude.{◌≡◌, ◌<◌, ◌≤◌, ◌↔◌, le
 use crate::{PushFault, Seq, Window};
 use circular_buffer::HeapCircularBuffer;
 use std::alloc::{AllocError, Global};
-use std::mem;
 
 /// A window over a ring, whose memory is taken when it is made. Its first number is a wire value, and its `push` takes no
 /// memory.
@@ -44,11 +43,11 @@ impl<T: Drop, const M: u16> Window<T, M> for RingWindow<T, M> {
         self.items.get(index)
     }
 
-    fn replace(&mut self, index: usize, item: T) -> Result<T, T> {
-        match self.items.get_mut(index) {
-            Some(place) => Ok(mem::replace(place, item)),
-            None => Err(item),
-        }
+    fn amend<F: FnOnce(&mut T)>(&mut self, index: usize, change: F) {
+        let Some(item) = self.items.get_mut(index) else {
+            unreachable!();
+        };
+        change(item);
     }
 
     fn restart(&mut self, first: Seq<M>)

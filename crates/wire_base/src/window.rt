@@ -1,4 +1,5 @@
-ghost use Rattle.std.specs.Prelude.{◌≡◌, ◌%◌, ◌^◌, ◌<◌, ◌≤◌, ◌↔◌, length, slice_get, option_copied, IfOk, IfErr, OnOk};
+ghost use Rattle.std.specs.Prelude.{◌≡◌, ◌%◌, ◌^◌, ◌<◌, ◌≤◌, ◌↔◌, length, slice_get, option_copied, Some, IfOk, IfErr, OnOk};
+ghost use Rattle.std.specs.Fn.{FnOnceReturnsAtMut};
 ghost use Rattle.wire_base.specs.Window.{WindowView, empty_from, pushed, released, replaced};
 
 use crate::Seq;
@@ -45,13 +46,12 @@ pub trait Window<T, const M: u16> {
     fn item(&self, index: usize) -> Option<&T>
         ensures { option_copied result ≡ slice_get (window self.now).items index };
 
-    /// Puts another item at an index and gives the old one. Where there is none at the index, the given item comes back
-    /// and nothing changes.
-    fn replace(&mut self, index: usize, item: T) -> Result<T, T>
-        ensures ok { IfOk result (λ old. slice_get (window self.old).items index ≡ Some old) }
-        ensures replaced { OnOk result (window self.new ≡ replaced (window self.old) index item) }
-        ensures err { IfErr result (λ back. (back ≡ item) × (length (window self.old).items ≤ index)
-            × (window self.new ≡ window self.old)) };
+    /// Changes the item at an index where it lies, by one call of `change`; there is one. Takes no memory of its own.
+    fn amend<F: FnOnce(&mut T)>(&mut self, index: usize, change: F)
+        requires within { index < length (window self.old).items }
+        requires callable { F.IsAlwaysCallable change }
+        ensures { (item : T) × (amended : T) × (slice_get (window self.old).items index ≡ Some item)
+            × FnOnceReturnsAtMut F.FnOnce change item tt amended × (window self.new ≡ replaced (window self.old) index amended) };
 
     /// Empties the window and sets its first number.
     fn restart(&mut self, first: Seq<M>)
