@@ -98,11 +98,11 @@ listed_on laws text before after old new number out_old out out' page kept page'
       reading = gives.3;
       written = h.written ++ over.written;
       lines =
-      shown_lines-push 0 h.records r
-      ∙ ap (λ n. shown_lines 0 h.records ++ shown_line n r) same
-      ∙ ap (λ text. text ++ line) (h.lines ∙ ap (λ text. h.written ++ text) over.parts ∙ sym (append_assoc h.written over.written kept))
-      ∙ append_assoc (h.written ++ over.written) kept line
-      ∙ ap (λ text. (h.written ++ over.written) ++ text) (sym put);
+          shown_lines-push 0 h.records r
+          ∙ ap (λ n. shown_lines 0 h.records ++ shown_line n r) same
+          ∙ ap (λ text. text ++ line) (h.lines ∙ ap (λ text. h.written ++ text) over.parts ∙ sym (append_assoc h.written over.written kept))
+          ∙ append_assoc (h.written ++ over.written) kept line
+          ∙ ap (λ text. (h.written ++ over.written) ++ text) (sym put);
       on_out = all_on out_old out out' h.written over.written h.on_out (over.taken, faults);
     }
 
