@@ -1,0 +1,11 @@
+-- how a verdict is computed, and what the rows are made of
+pub mod Verdicts
+pub mod Units
+pub mod Captures
+-- the rows, by subject
+mod Station
+mod Line
+mod Links
+mod Packets
+mod NotJudged
+mod Limits
