@@ -1,6 +1,6 @@
--- The limits of a capture and of a script, as numbers. Code and definitions share each constant of a capture, so a proof that the code keeps to a
--- limit says nothing of how great it is. Here the greatest that fits does fit, and one more does not: who changes a constant, in code and definitions
--- at once, or takes `<` for `≤` in a definition, has to change its row too.
+-- The limits of a capture and of a script, as numbers. Code and definitions share the constants of a capture, so a proof that the code keeps to a
+-- limit says nothing of how great that is. In these rows the greatest that fits does fit and one more does not: who changes a constant, or takes `<`
+-- for `≤` in a definition, has to change the row.
 use Rattle.std.proofs.Common.{◌≡◌, ◌≢◌, ℕ, true, List, [], length, inl, inr, refl, arith}
 use Rattle.std.specs.List.{AllByRecursion}
 use Rattle.capture.specs.declared.fault.Departure.TheVariants.{TooLong, TooMany}
@@ -52,7 +52,8 @@ message_of_65536 bytes count = (λ short. absurd (omega arith), λ short. absurd
 longest_for_the_links : (bytes : List ℕ) → length bytes ≡ 65535 → links.IsInRange (links.In 1 bytes) × links.IsInRange (links.Up 1 bytes)
 longest_for_the_links bytes count = ((omega arith, omega arith), (omega arith, omega arith))
 
-too_long_for_the_links : (bytes : List ℕ) → length bytes ≡ 65536 → (links.IsInRange (links.In 1 bytes) → ⊥) × (links.IsInRange (links.Up 1 bytes) → ⊥)
+too_long_for_the_links : (bytes : List ℕ) → length bytes ≡ 65536 →
+    (links.IsInRange (links.In 1 bytes) → ⊥) × (links.IsInRange (links.Up 1 bytes) → ⊥)
 too_long_for_the_links bytes count =
     (λ fits. let short = fits.1 in absurd (omega arith), λ fits. let short = fits.1 in absurd (omega arith))
 
@@ -103,7 +104,7 @@ greatest_hint = (omega arith, omega arith)
 hint_above : (NumbersFit (Received 1000000000000000000 true []) → ⊥) × (FormFits (Distance 1000000000000000001) → ⊥)
 hint_above = (λ fits. absurd (omega arith), λ fits. absurd (omega arith))
 
--- ---- the steps of a script: at most 100,000,000. Refuses another MAX_STEPS in the definition; the code has one of its own, which is proved to agree
+-- ---- the steps of a script: at most 100,000,000. Refuses another MAX_STEPS of the definitions, to which the reader of scripts is held
 
 most_steps : (script : Script) → IsNode script.node_a → IsNode script.node_b → AllByRecursion IsStep script.steps →
     length script.steps ≡ 100000000 → IsScript script

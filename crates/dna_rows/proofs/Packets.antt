@@ -22,7 +22,7 @@ returned_nonsense_is_kept : Verdict
 unfolding reading is_good check_of after_byte shift
 returned_nonsense_is_kept = verdict refl
 
--- nor is it read when it is sent: it may come from another node
+-- nor is it read when it is sent: it may come from and go to any node
 a_returned_packet_is_not_read_when_it_is_sent : Verdict
     (started ++ Sent (data_of 1 0 (0x12 ∷ 3 ∷ 4 ∷ 4 ∷ 4 ∷ 0 ∷ 0x18 ∷ 0 ∷ 0 ∷ 1 ∷ 0 ∷ 1 ∷ 2 ∷ 0 ∷ 2 ∷ [])) ∷ [])
     (answered ++ Received 1 true (data_of 1 0 (0x12 ∷ 3 ∷ 4 ∷ 4 ∷ 4 ∷ 0 ∷ 0x18 ∷ 0 ∷ 0 ∷ 1 ∷ 0 ∷ 1 ∷ 2 ∷ 0 ∷ 2 ∷ [])) ∷ [])
@@ -30,7 +30,7 @@ a_returned_packet_is_not_read_when_it_is_sent : Verdict
 unfolding reading is_good check_of after_byte shift
 a_returned_packet_is_not_read_when_it_is_sent = verdict refl
 
--- ---- bits of RTFLG that are not judged: a data packet with one of them, or with all, carries its message
+-- ---- bits 3, 5 and 6 of RTFLG are not judged: a data packet with one of them, or with all three, carries its message
 
 rtflg_0a_is_read : Verdict
     (started ++ User (Open 1) ∷ Sent (data_of 1 0 (0xa ∷ behind_a (CI 1))) ∷ [])
@@ -84,7 +84,7 @@ a_packet_with_forward_is_read : Verdict
 unfolding reading is_good check_of after_byte shift
 a_packet_with_forward_is_read = verdict refl
 
--- also beside other bits of RTFLG, in a message of no link; the REP behind it is refused for its own sake
+-- also of a DC of no link, beside bit 3 of RTFLG and flags of the units; the REP behind it is refused for its own sake
 forward_is_not_judged : Verdict
     (User Start ∷ Sent (control 6 0 0 0) ∷ Received 0 false (control 7 0 0 0) ∷ Sent (control 1 0x80 0 0) ∷
     Received 1 true (data_of 1 0 (0xa ∷ 1 ∷ 4 ∷ 2 ∷ 4 ∷ 7 ∷ 0x48 ∷ 0 ∷ 0 ∷ 9 ∷ 0 ∷ 0xe7 ∷ 4 ∷ [])) ∷ Sent (control 3 0xc0 0 4) ∷ [])

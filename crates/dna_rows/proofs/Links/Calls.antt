@@ -20,7 +20,7 @@ two_calls_may_wait : Verdict
 unfolding reading is_good check_of after_byte shift
 two_calls_may_wait = verdict refl
 
--- They may go out, be answered and be confirmed in any order, and with any addresses
+-- they may go out and be answered in any order, with any addresses: each CC finds its own link
 two_calls_of_one_node : Verdict
     (started ++ User (Open 1) ∷ User (Open 2) ∷ Sent (data_of 1 0 (from_a (CI 2))) ∷ Sent (data_of 2 0 (from_a (CI 1))) ∷
     Received 1 true (data_of 1 2 (from_b (CC 2 8 512))) ∷ Received 2 true (data_of 2 2 (from_b (CC 1 7 512))) ∷
@@ -31,7 +31,7 @@ two_calls_of_one_node : Verdict
 unfolding reading is_good check_of after_byte shift
 two_calls_of_one_node = verdict refl
 
--- a CI of an address that already calls is its repeat, and begins no second link: there is one call to answer
+-- A CI of an address that already calls is a repeat and begins no link, also behind another call: there is one call to answer
 a_repeat_and_another_call : Verdict
     (called_a ++ Sent (data_of 2 0 (from_a (CI_AGAIN 1))) ∷ User (Open 2) ∷ Sent (data_of 3 0 (from_a (CI_AGAIN 2))) ∷ [])
     (called_b ++ Received 2 true (data_of 2 0 (from_a (CI_AGAIN 1))) ∷ Received 3 true (data_of 3 0 (from_a (CI_AGAIN 2))) ∷ User (Accept 2 1) ∷
@@ -40,7 +40,7 @@ a_repeat_and_another_call : Verdict
 unfolding reading is_good check_of after_byte shift
 a_repeat_and_another_call = verdict refl
 
--- Both sides may call at once, with the same addresses: these are two links
+-- Both sides may call at once, from equal addresses, and accept at equal ones: these are two links
 two_links_that_cross : Verdict
     (acked_a ++ User (Open 1) ∷ Sent (data_of 1 0 (from_a (CI 1))) ∷ Received 1 true (data_of 1 0 (from_b (CI 1))) ∷ User (Accept 1 2) ∷
     Sent (data_of 2 1 (from_a (CC 1 2 512))) ∷ Received 2 true (data_of 2 1 (from_b (CC 1 2 512))) ∷
@@ -62,7 +62,7 @@ both_ends_of_a_link_may_have_one_address : Verdict
 unfolding reading is_good check_of after_byte shift
 both_ends_of_a_link_may_have_one_address = verdict refl
 
--- A CI may be sent again, by either flag byte, behind the connect ack too; and the connect ack twice
+-- Behind the connect ack a CI may be sent again, with either flag byte; and the connect ack itself may be
 ci_behind_its_connect_ack : Verdict
     (called_a ++ Received 1 true (data_of 1 1 (from_b (CONNECT_ACK 1))) ∷ Sent (data_of 2 1 (from_a (CI_AGAIN 1))) ∷
     Sent (data_of 3 1 (from_a (CI 1))) ∷ [])
@@ -80,7 +80,7 @@ no_ci_behind_the_cc : Verdict
 unfolding reading is_good check_of after_byte shift
 no_ci_behind_the_cc = verdict refl
 
--- A CI from an address with which a link is live begins none, also where that link was opened here and is being closed
+-- A CI from an address with which a link is live begins none, also where that link was opened here and is being closed: there is no call
 ci_with_the_far_address_of_an_opened_link_is_a_repeat : Verdict
     (running_a ++ User (Close 1) ∷ Sent (data_of 3 1 (from_a (DI 2 1))) ∷ Received 2 true (data_of 2 3 (from_b (CI 2))) ∷ User (Accept 2 3) ∷ [])
     (running_b ++ Received 3 true (data_of 3 1 (from_a (DI 2 1))) ∷ User (Open 2) ∷ Sent (data_of 2 3 (from_b (CI 2))) ∷ [])
@@ -88,7 +88,7 @@ ci_with_the_far_address_of_an_opened_link_is_a_repeat : Verdict
 unfolding reading is_good check_of after_byte shift
 ci_with_the_far_address_of_an_opened_link_is_a_repeat = verdict refl
 
--- A CC is not judged where its link has ended
+-- a CC for a link that has ended changes nothing, and is no fault of either side
 cc_for_an_ended_link : Verdict
     (called_a ++ Sent (data_of 2 0 (from_a (CI_AGAIN 1))) ∷ Received 1 true (data_of 1 1 (from_b (DC 1 0 42))) ∷
     Received 2 true (data_of 2 2 (from_b (CC 1 2 512))) ∷ [])
@@ -109,7 +109,7 @@ segsize_0 : Verdict
 unfolding reading is_good check_of after_byte shift
 segsize_0 = verdict refl
 
--- which is asked before whether the segment was handed in
+-- which is asked before whether its data were handed in
 segsize_0_takes_no_byte : Verdict
     (called_a ++ Received 1 true (data_of 1 1 (from_b (CC 1 2 0))) ∷ Sent (data_of 2 1 (from_a (SEGMENT 0x60 2 1 (carries 1 (5 ∷ []))))) ∷ [])
     (called_b ++ User (Accept 1 2) ∷ Sent (data_of 1 1 (from_b (CC 1 2 0))) ∷ [])

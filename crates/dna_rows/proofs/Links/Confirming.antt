@@ -36,7 +36,7 @@ an_other_data_ack_confirms : Verdict
 unfolding reading is_good check_of after_byte shift
 an_other_data_ack_confirms = verdict refl
 
--- What stands behind the addresses of such a message is not read, though it look like a word or be short
+-- what stands behind the addresses of such a message, and of a link service message, is not read as words
 words_of_other_messages_are_not_read : Verdict
     (running_a ++ Sent (data_of 3 1 (from_a (OTHER_ACK 2 1 ++ 0xff ∷ 0x8f ∷ []))) ∷
     Sent (data_of 4 1 (from_a (LINK_SERVICE 2 1 ++ 9 ∷ 0x80 ∷ 0 ∷ 0 ∷ []))) ∷ [])

@@ -12,7 +12,7 @@ use Rattle.dna_rows.proofs.Verdicts.{Verdict, verdict}
 use Rattle.dna_rows.proofs.Units.{data_of, from_a, from_b, DI, DC, SEGMENT, carries}
 use Rattle.dna_rows.proofs.Captures.{called_a, called_b, running_a, running_b, refused}
 
--- Nobody sends a DI for a call that the user has not answered
+-- No DI is sent for a call that the user has not rejected
 di_without_reject : Verdict
     called_a
     (called_b ++ Sent (data_of 1 1 (from_b (DI 1 2))) ∷ [])
@@ -20,7 +20,7 @@ di_without_reject : Verdict
 unfolding reading is_good check_of after_byte shift
 di_without_reject = verdict refl
 
--- a DI may be sent twice, and each is answered by a DC of its own reason
+-- once it is, the DI may be sent twice and be answered twice, by DCs of unequal reasons
 di_twice : Verdict
     (called_a ++ Received 1 true (data_of 1 1 (from_b (DI 1 2))) ∷ Received 2 true (data_of 2 1 (from_b (DI 1 2))) ∷
     Sent (data_of 2 2 (from_a (DC 2 1 42))) ∷ Sent (data_of 3 2 (from_a (DC 2 1 41))) ∷ [])
@@ -30,7 +30,7 @@ di_twice : Verdict
 unfolding reading is_good check_of after_byte shift
 di_twice = verdict refl
 
--- where both sides close, each DI ends the link of the other, and both addresses are free
+-- Where both sides close, each DI ends the link of the other side, and both addresses can be given again
 di_meets_di : Verdict
     (running_a ++ User (Close 1) ∷ Sent (data_of 3 1 (from_a (DI 2 1))) ∷ Received 2 true (data_of 2 2 (from_b (DI 1 2))) ∷ User (Open 1) ∷ [])
     (running_b ++ User (Close 2) ∷ Sent (data_of 2 2 (from_b (DI 1 2))) ∷ Received 3 true (data_of 3 1 (from_a (DI 2 1))) ∷ User (Open 2) ∷ [])
@@ -38,7 +38,7 @@ di_meets_di : Verdict
 unfolding reading is_good check_of after_byte shift
 di_meets_di = verdict refl
 
--- in answer to a call a DC of any address and any reason ends it
+-- A DC from any address and of any reason ends the call that it answers
 dc_of_any_address_ends_calling : Verdict
     (called_a ++ Received 1 true (data_of 1 1 (from_b (DC 1 9 38))) ∷ User (In 1 (5 ∷ [])) ∷ [])
     (called_b ++ Sent (data_of 1 1 (from_b (DC 1 9 38))) ∷ [])
@@ -46,13 +46,13 @@ dc_of_any_address_ends_calling : Verdict
 unfolding reading is_good check_of after_byte shift
 dc_of_any_address_ends_calling = verdict refl
 
--- a DC for address 0 is no message of the call, which can still be answered
-dc_from_address_0_ends_the_call : Verdict
+-- but a DC of the caller's changes nothing on a call that waits: it can still be answered
+a_dc_in_called_changes_nothing : Verdict
     (called_a ++ Sent (data_of 2 0 (from_a (DC 0 1 42))) ∷ [])
     (called_b ++ Received 2 true (data_of 2 0 (from_a (DC 0 1 42))) ∷ User (Accept 1 2) ∷ [])
     Accepted
 unfolding reading is_good check_of after_byte shift
-dc_from_address_0_ends_the_call = verdict refl
+a_dc_in_called_changes_nothing = verdict refl
 
 -- ---- segments of a link that is being closed, or is over
 
@@ -64,7 +64,7 @@ a_segment_in_di_is_ignored : Verdict
 unfolding reading is_good check_of after_byte shift
 a_segment_in_di_is_ignored = verdict refl
 
--- One that came before it can still be delivered
+-- what came before it can still be delivered
 up_is_allowed_behind_a_close : Verdict
     (running_a ++ User (In 1 (5 ∷ [])) ∷ Sent (data_of 3 1 (from_a (SEGMENT 0x60 2 1 (carries 1 (5 ∷ []))))) ∷ [])
     (running_b ++ Received 3 true (data_of 3 1 (from_a (SEGMENT 0x60 2 1 (carries 1 (5 ∷ []))))) ∷ User (Close 2) ∷ User (Up 2 (5 ∷ [])) ∷ [])
@@ -72,7 +72,7 @@ up_is_allowed_behind_a_close : Verdict
 unfolding reading is_good check_of after_byte shift
 up_is_allowed_behind_a_close = verdict refl
 
--- also behind the end of the link
+-- and behind the end of the link
 up_behind_the_end : Verdict
     (running_a ++ User (In 1 (5 ∷ [])) ∷ Sent (data_of 3 1 (from_a (SEGMENT 0x60 2 1 (carries 1 (5 ∷ []))))) ∷ User (Close 1) ∷
     Sent (data_of 4 1 (from_a (DI 2 1))) ∷ [])

@@ -22,7 +22,7 @@ two_messages_are_delivered_in_order : Verdict
 unfolding reading is_good check_of after_byte shift
 two_messages_are_delivered_in_order = verdict refl
 
--- Each direction has its own numbers: a word names what came, and counts against what was given
+-- Each direction has its own numbers: a word names what came to its sender, and acknowledges what its receiver gave
 words_both_ways_with_unequal_numbers : Verdict
     (running_a ++ User (In 1 (5 ∷ [])) ∷ Received 2 true (data_of 2 2 (from_b (SEGMENT 0x60 1 2 (carries 1 (7 ∷ []))))) ∷
     Received 3 true (data_of 3 2 (from_b (SEGMENT 0x60 1 2 (carries 2 (7 ∷ []))))) ∷ Sent (data_of 3 3 (from_a (DATA_ACK 2 1 (ack 2)))) ∷
@@ -35,7 +35,7 @@ words_both_ways_with_unequal_numbers : Verdict
 unfolding reading is_good check_of after_byte shift
 words_both_ways_with_unequal_numbers = verdict refl
 
--- a word may not name a segment that has not come
+-- no word names a segment that has not come
 a_word_above_what_came : Verdict
     (running_a ++ User (In 1 (5 ∷ [])) ∷ Sent (data_of 3 1 (from_a (SEGMENT 0x60 2 1 (carries 1 (5 ∷ []))))) ∷ [])
     (running_b ++ Received 3 true (data_of 3 1 (from_a (SEGMENT 0x60 2 1 (carries 1 (5 ∷ []))))) ∷
@@ -44,7 +44,7 @@ a_word_above_what_came : Verdict
 unfolding reading is_good check_of after_byte shift
 a_word_above_what_came = verdict refl
 
--- nor the second word one below the first
+-- and no second word one below the first
 the_second_word_goes_back : Verdict
     (running_a ++ Received 2 true (data_of 2 2 (from_b (SEGMENT 0x60 1 2 (carries 1 (5 ∷ []))))) ∷
     Sent (data_of 3 2 (from_a (DATA_ACK 2 1 (ack 1 ++ nak 0)))) ∷ [])
@@ -53,7 +53,7 @@ the_second_word_goes_back : Verdict
 unfolding reading is_good check_of after_byte shift
 the_second_word_goes_back = verdict refl
 
--- a NAK word acknowledges its number too: what is repeated of it is not judged further
+-- A NAK word acknowledges its number too: a repeat of that segment is not judged further
 a_nak_word_acknowledges_its_number : Verdict
     (running_a ++ User (In 1 (5 ∷ [])) ∷ Sent (data_of 3 1 (from_a (SEGMENT 0x60 2 1 (carries 1 (5 ∷ []))))) ∷
     Received 2 true (data_of 2 3 (from_b (DATA_ACK 1 2 (nak 1)))) ∷ Sent (data_of 4 2 (from_a (SEGMENT 0 2 1 (carries 1 (6 ∷ []))))) ∷ [])
@@ -63,7 +63,7 @@ a_nak_word_acknowledges_its_number : Verdict
 unfolding reading is_good check_of after_byte shift
 a_nak_word_acknowledges_its_number = verdict refl
 
--- a repeat may have words that the first sending had not, and lack those that it had
+-- A repeat may have words that the first sending had not, and lack those of the repeat before
 a_repeat_has_other_words : Verdict
     (running_a ++ User (In 1 (5 ∷ [])) ∷ Sent (data_of 3 1 (from_a (SEGMENT 0x60 2 1 (carries 1 (5 ∷ []))))) ∷
     Received 2 true (data_of 2 2 (from_b (SEGMENT 0x60 1 2 (carries 1 (7 ∷ []))))) ∷
@@ -77,7 +77,7 @@ a_repeat_has_other_words : Verdict
 unfolding reading is_good check_of after_byte shift
 a_repeat_has_other_words = verdict refl
 
--- but not other data: a message is cut into segments once
+-- but it has the same data: a message is cut into segments once
 a_repeat_is_not_cut_anew : Verdict
     (running_a ++ User (In 1 (5 ∷ 6 ∷ [])) ∷ Sent (data_of 3 1 (from_a (SEGMENT 0x60 2 1 (carries 1 (5 ∷ 6 ∷ []))))) ∷
     Sent (data_of 4 1 (from_a (SEGMENT 0x20 2 1 (carries 1 (5 ∷ []))))) ∷ [])
@@ -86,7 +86,7 @@ a_repeat_is_not_cut_anew : Verdict
 unfolding reading is_good check_of after_byte shift
 a_repeat_is_not_cut_anew = verdict refl
 
--- A packet that is sent again is the same segment, though another was sent since
+-- A packet that is sent again carries the same segment, though another was given since
 a_repeated_packet_keeps_its_segment_number : Verdict
     (running_a ++ User (In 1 (5 ∷ [])) ∷ User (In 1 (6 ∷ [])) ∷ Sent (data_of 3 1 (from_a (SEGMENT 0x60 2 1 (carries 1 (5 ∷ []))))) ∷
     Sent (data_of 4 1 (from_a (SEGMENT 0x60 2 1 (carries 2 (6 ∷ []))))) ∷ Received 2 false (NAK 8 2) ∷

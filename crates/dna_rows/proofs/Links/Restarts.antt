@@ -22,7 +22,7 @@ links_outlive_a_restart : Verdict
 unfolding reading is_good check_of after_byte shift
 links_outlive_a_restart = verdict refl
 
--- what is held over a gap stays held: the segment behind it comes in the second period, the missing one in the third
+-- what is held over a gap stays held: the second segment comes in the second period, the first in the third
 what_is_held_over_a_gap_outlives_a_restart : Verdict
     (running_a ++ User (In 1 (5 ∷ [])) ∷ User (In 1 (6 ∷ [])) ∷ Sent (data_of 3 1 (from_a (SEGMENT 0x60 2 1 (carries 1 (5 ∷ []))))) ∷ User Halt ∷
     User Start ∷ Sent STRT ∷ Received 2 false STACK ∷ Sent (data_of 1 0 (from_a (SEGMENT 0x60 2 1 (carries 2 (6 ∷ []))))) ∷ User Halt ∷
@@ -34,7 +34,7 @@ what_is_held_over_a_gap_outlives_a_restart : Verdict
 unfolding reading is_good check_of after_byte shift
 what_is_held_over_a_gap_outlives_a_restart = verdict refl
 
--- no word names less than the last one of the period before
+-- the last word stays: none names less than it did
 the_last_word_sent_outlives_a_restart : Verdict
     (running_a ++ User (In 1 (5 ∷ [])) ∷ Sent (data_of 3 1 (from_a (SEGMENT 0x60 2 1 (carries 1 (5 ∷ []))))) ∷ User Halt ∷ User Start ∷ Sent STRT ∷
     Received 3 false STACK ∷ Sent (ACK 0) ∷ [])
@@ -45,7 +45,7 @@ the_last_word_sent_outlives_a_restart : Verdict
 unfolding reading is_good check_of after_byte shift
 the_last_word_sent_outlives_a_restart = verdict refl
 
--- The words of a segment count also where it is held over a gap
+-- and the words of a segment that is held over a gap have acknowledged
 words_of_a_segment_over_a_gap_count : Verdict
     (running_a ++ User (In 1 (5 ∷ [])) ∷ User (In 1 (6 ∷ [])) ∷ Received 2 true (data_of 2 2 (from_b (SEGMENT 0x60 1 2 (carries 1 (7 ∷ []))))) ∷
     Sent (data_of 3 2 (from_a (SEGMENT 0x60 2 1 (carries 1 (5 ∷ []))))) ∷ User Halt ∷ User Start ∷ Sent STRT ∷ Received 3 false STACK ∷

@@ -1,4 +1,4 @@
--- The flags of a unit, quick sync and select, are not judged in any message.
+-- The flags of a unit, quick sync 0x40 and select 0x80 of its third byte, are not judged in any message.
 use Rattle.std.proofs.Common.{false, [], ◌∷◌, ◌++◌, refl}
 use Rattle.wire_base.specs.BlockCheck.{is_good, check_of, after_byte, shift}
 use Rattle.wire_base.specs.declared.side.Side.TheVariants.{B}
@@ -38,7 +38,7 @@ any_flags_while_running : Verdict
 unfolding reading is_good check_of after_byte shift
 any_flags_while_running = verdict refl
 
--- a packet that is sent again may have other flags
+-- a packet that is sent again may have other flags, whatever those of the messages around it
 a_repeat_may_have_other_flags : Verdict
     (User Start ∷ Sent (control 6 0 0 0) ∷ Received 0 false (control 7 0x80 0 0) ∷ Sent (control 1 0xc0 0 0) ∷ Sent (data_with 0x40 1 0 (5 ∷ [])) ∷
     Received 1 false (control 2 0x88 0 0) ∷ Sent (data_with 0x80 1 0 (5 ∷ [])) ∷ [])
@@ -48,7 +48,7 @@ a_repeat_may_have_other_flags : Verdict
 unfolding reading is_good check_of after_byte shift
 a_repeat_may_have_other_flags = verdict refl
 
--- the flags are no part of the reason: this NAK is of reason 8, and wants its cause
+-- nor are flags a part of the reason: a NAK of reason 8 with both wants the cause of reason 8
 flags_are_no_part_of_the_reason : Verdict
     (User Start ∷ Sent STRT ∷ Received 0 false STRT ∷ Sent (control 7 0 0 0) ∷ [])
     (User Start ∷ Sent STRT ∷ Received 1 false (control 7 0 0 0) ∷ Sent (control 2 0xc8 0 0) ∷ [])

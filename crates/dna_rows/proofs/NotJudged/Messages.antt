@@ -1,4 +1,4 @@
--- What of a message between the links is not judged.
+-- What of an NSP message is not judged. A proof that the code keeps to the definitions does not notice where both take such a field for a rule.
 use Rattle.std.proofs.Common.{true, [], ◌∷◌, ◌++◌, refl}
 use Rattle.wire_base.specs.BlockCheck.{is_good, check_of, after_byte, shift}
 use Rattle.ddcmp_msg.specs.Reading.{reading}
@@ -9,7 +9,7 @@ use Rattle.dna_rows.proofs.Verdicts.{Verdict, verdict}
 use Rattle.dna_rows.proofs.Units.{data_of, from_a, from_b, between, connects, CI, CC, DI, DC, LINK_SERVICE, INTERRUPT, SEGMENT, carries}
 use Rattle.dna_rows.proofs.Captures.{started, answered, confirmed_b, running_a, running_b}
 
--- ---- bit 12 of SEGNUM: it does not say that the message goes on, is no part of the number, and is free in a repeat
+-- ---- bit 12 of SEGNUM: it is no part of the number, says nothing of where a message begins or ends, and is free in a repeat
 
 bit_12_does_not_continue_a_message : Verdict
     (running_a ++ User (In 1 (5 ∷ [])) ∷ Sent (data_of 3 1 (from_a (SEGMENT 0x60 2 1 (1 ∷ 0x10 ∷ 5 ∷ [])))) ∷ [])
@@ -28,7 +28,7 @@ bit_12_does_not_end_a_message : Verdict
 unfolding reading is_good check_of after_byte shift
 bit_12_does_not_end_a_message = verdict refl
 
--- a segment that is not acknowledged is sent again with bit 12
+-- a segment that is not acknowledged may be sent again with bit 12, and first without
 bit_12_of_a_repeat : Verdict
     (running_a ++ User (In 1 (5 ∷ [])) ∷ Sent (data_of 3 1 (from_a (SEGMENT 0x60 2 1 (1 ∷ 0 ∷ 5 ∷ [])))) ∷
     Sent (data_of 4 1 (from_a (SEGMENT 0x60 2 1 (1 ∷ 0x10 ∷ 5 ∷ [])))) ∷ [])
@@ -37,9 +37,9 @@ bit_12_of_a_repeat : Verdict
 unfolding reading is_good check_of after_byte shift
 bit_12_of_a_repeat = verdict refl
 
--- ---- SERVICES and INFO: flow control is not judged, in either direction, nor which version of NSP it is
+-- ---- SERVICES and INFO: which flow control and which version of NSP a side asks for is not judged, nor is flow control itself
 
--- a asks for flow control by segments and b by messages; both send without any request
+-- a asks for flow control by segments, b for flow control by messages; both send without any request
 flow_control_is_not_judged : Verdict
     (started ++ User (Open 1) ∷ Sent (data_of 1 0 (from_a (between 0x18 0 1 ++ connects 5 0 512))) ∷
     Received 1 true (data_of 1 1 (from_b (between 0x28 1 2 ++ connects 9 3 512))) ∷ User (In 1 (5 ∷ [])) ∷
@@ -53,17 +53,17 @@ flow_control_is_not_judged : Verdict
 unfolding reading is_good check_of after_byte shift
 flow_control_is_not_judged = verdict refl
 
--- any other values
-services_and_info_may_be_anything : Verdict
+-- any other values, too
+any_services_and_info : Verdict
     (started ++ User (Open 1) ∷ Sent (data_of 1 0 (from_a (between 0x18 0 1 ++ connects 0xff 0xff 512))) ∷
     Received 1 true (data_of 1 1 (from_b (between 0x28 1 2 ++ connects 0 0xfe 512))) ∷ Sent (data_of 2 1 (from_a (LINK_SERVICE 2 1))) ∷ [])
     (answered ++ Received 1 true (data_of 1 0 (from_a (between 0x18 0 1 ++ connects 0xff 0xff 512))) ∷ User (Accept 1 2) ∷
     Sent (data_of 1 1 (from_b (between 0x28 1 2 ++ connects 0 0xfe 512))) ∷ [])
     Accepted
 unfolding reading is_good check_of after_byte shift
-services_and_info_may_be_anything = verdict refl
+any_services_and_info = verdict refl
 
--- ---- user data: no count stands before them
+-- ---- user data of a CI, CC and DI: any bytes, and no count of them stands before
 
 user_data_may_be_anything : Verdict
     (started ++ User (Open 1) ∷ Sent (data_of 1 0 (from_a (CI 1 ++ 0x78 ∷ 0x79 ∷ 0x7a ∷ []))) ∷
@@ -76,15 +76,15 @@ user_data_may_be_anything : Verdict
 unfolding reading is_good check_of after_byte shift
 user_data_may_be_anything = verdict refl
 
--- also beside a SERVICES of its own and SEGSIZE 0
-user_data_of_a_call : Verdict
+-- also beside other SERVICES, and SEGSIZE 0
+services_and_info_may_be_anything : Verdict
     (started ++ User (Open 1) ∷ Sent (data_of 1 0 (from_a (between 0x18 0 1 ++ 0xd ∷ 0 ∷ 0 ∷ 0 ∷ 0x78 ∷ 0x79 ∷ 0x7a ∷ []))) ∷ [])
     answered
     Accepted
 unfolding reading is_good check_of after_byte shift
-user_data_of_a_call = verdict refl
+services_and_info_may_be_anything = verdict refl
 
--- ---- REASON of a DI and of a DC: any, and a DC ends the link whatever it says
+-- ---- REASON of a DI and of a DC: any, and each ends its link whatever it says; a DI needs no user data
 
 reasons_may_be_anything : Verdict
     (running_a ++ User (Close 1) ∷ Sent (data_of 3 1 (from_a (between 0x38 2 1 ++ 0xff ∷ 0xff ∷ []))) ∷
@@ -95,7 +95,7 @@ reasons_may_be_anything : Verdict
 unfolding reading is_good check_of after_byte shift
 reasons_may_be_anything = verdict refl
 
--- also where it says that there was no link
+-- also a DC that says that there was no such link
 a_dc_of_reason_41_ends_the_link : Verdict
     (running_a ++ User (Close 1) ∷ Sent (data_of 3 1 (from_a (DI 2 1))) ∷ Received 2 true (data_of 2 3 (from_b (DC 1 2 41))) ∷ User (Open 1) ∷ [])
     (running_b ++ Received 3 true (data_of 3 1 (from_a (DI 2 1))) ∷ Sent (data_of 2 3 (from_b (DC 1 2 41))) ∷ [])
@@ -103,7 +103,7 @@ a_dc_of_reason_41_ends_the_link : Verdict
 unfolding reading is_good check_of after_byte shift
 a_dc_of_reason_41_ends_the_link = verdict refl
 
--- ---- interrupts: any number, without acknowledgement or request
+-- ---- interrupts: any number of them, without acknowledgement or request
 
 interrupts_wait_for_nothing : Verdict
     (running_a ++ Sent (data_of 3 1 (from_a (INTERRUPT 2 1))) ∷ Sent (data_of 4 1 (from_a (INTERRUPT 2 1))) ∷ [])

@@ -21,7 +21,7 @@ resp_above_the_next_to_send_behind_a_set_back : Verdict
 unfolding reading is_good check_of after_byte shift
 resp_above_the_next_to_send_behind_a_set_back = verdict refl
 
--- one that acknowledges a part takes the next to send as far as that part
+-- one that acknowledges a part takes the next to send behind that part
 resp_in_part_behind_a_set_back : Verdict
     (acked_a ++ Sent (data_of 1 0 (5 ∷ 1 ∷ [])) ∷ Sent (data_of 2 0 (5 ∷ 2 ∷ [])) ∷ Received 1 false (NAK 9 0) ∷ Received 2 false (ACK 1) ∷
     Sent (data_of 2 0 (5 ∷ 2 ∷ [])) ∷ [])
@@ -30,7 +30,7 @@ resp_in_part_behind_a_set_back : Verdict
 unfolding reading is_good check_of after_byte shift
 resp_in_part_behind_a_set_back = verdict refl
 
--- and no further: in a repetition no new packet is sent
+-- and no further: while packets wait to be sent again no new one is sent
 a_new_packet_in_a_repetition : Verdict
     (acked_a ++ Sent (data_of 1 0 (5 ∷ 1 ∷ [])) ∷ Sent (data_of 2 0 (5 ∷ 2 ∷ [])) ∷ Sent (data_of 3 0 (5 ∷ 3 ∷ [])) ∷ Received 1 false (NAK 9 0) ∷
     Received 2 false (ACK 1) ∷ Sent (data_of 4 0 (5 ∷ 4 ∷ [])) ∷ [])
@@ -47,7 +47,7 @@ resp_acknowledges_as_many_as_came : Verdict
 unfolding reading is_good check_of after_byte shift
 resp_acknowledges_as_many_as_came = verdict refl
 
--- A repeated packet has the RESP of its own sending, and that counts
+-- A packet that is sent again has the RESP of that sending, which counts: nothing is left to ask for
 resp_of_a_repeated_packet_acknowledges_a_packet : Verdict
     (acked_a ++ Sent (data_of 1 0 (5 ∷ [])) ∷ Sent (data_of 2 0 (3 ∷ [])) ∷ Received 1 true (data_of 1 0 (7 ∷ [])) ∷ Received 2 false (NAK 8 0) ∷
     Sent (data_of 1 1 (5 ∷ [])) ∷ [])
@@ -57,7 +57,7 @@ resp_of_a_repeated_packet_acknowledges_a_packet : Verdict
 unfolding reading is_good check_of after_byte shift
 resp_of_a_repeated_packet_acknowledges_a_packet = verdict refl
 
--- as far as it goes: of two packets one is left
+-- and no more than it says: of two packets one is left to ask for
 resp_of_a_repeated_packet : Verdict
     (acked_a ++ Sent (data_of 1 0 (5 ∷ [])) ∷ Sent (data_of 2 0 (3 ∷ [])) ∷ Sent (data_of 3 0 (0xb ∷ [])) ∷
     Received 1 true (data_of 1 0 (7 ∷ [])) ∷ Received 2 false (data_of 2 0 (9 ∷ [])) ∷ Received 3 false (NAK 8 0) ∷ Sent (data_of 1 1 (5 ∷ [])) ∷
@@ -68,7 +68,7 @@ resp_of_a_repeated_packet : Verdict
 unfolding reading is_good check_of after_byte shift
 resp_of_a_repeated_packet = verdict refl
 
--- RESP of a data message counts where the packet is not the next one
+-- RESP of a data message counts also where its packet is not the next one
 resp_of_data_out_of_order : Verdict
     (acked_a ++ Received 1 true (data_of 1 0 (7 ∷ [])) ∷ Sent (data_of 1 1 (5 ∷ [])) ∷ Sent (data_of 2 1 (3 ∷ [])) ∷ [])
     (acked_b ++ Sent (data_of 1 0 (7 ∷ [])) ∷ Received 3 false (data_of 2 1 (3 ∷ [])) ∷ Sent (REP 1) ∷ [])
@@ -76,7 +76,7 @@ resp_of_data_out_of_order : Verdict
 unfolding reading is_good check_of after_byte shift
 resp_of_data_out_of_order = verdict refl
 
--- and where there is no buffer for the packet
+-- and where there is no buffer for it
 resp_of_data_without_a_buffer : Verdict
     (acked_a ++ Received 1 true (data_of 1 0 (7 ∷ [])) ∷ Sent (data_of 1 1 (5 ∷ [])) ∷ [])
     (acked_b ++ Sent (data_of 1 0 (7 ∷ [])) ∷ Received 2 false (data_of 1 1 (5 ∷ [])) ∷ Sent (REP 1) ∷ [])
@@ -84,7 +84,7 @@ resp_of_data_without_a_buffer : Verdict
 unfolding reading is_good check_of after_byte shift
 resp_of_data_without_a_buffer = verdict refl
 
--- ---- what a REP asks, and what a NAK that answers it does
+-- ---- what a REP names, and what the NAK does that answers it
 
 -- A REP names the highest number given, also where the next to send lies below
 rep_names_the_highest_given_behind_a_set_back : Verdict
@@ -95,7 +95,7 @@ rep_names_the_highest_given_behind_a_set_back : Verdict
 unfolding reading is_good check_of after_byte shift
 rep_names_the_highest_given_behind_a_set_back = verdict refl
 
--- and within a repetition
+-- and where some of the packets were sent again
 rep_in_a_repetition : Verdict
     (started ++ Sent (data_of 1 0 (5 ∷ 1 ∷ [])) ∷ Sent (data_of 2 0 (5 ∷ 2 ∷ [])) ∷ Sent (data_of 3 0 (5 ∷ 3 ∷ [])) ∷ Received 1 false (NAK 8 0) ∷
     Sent (data_of 1 0 (5 ∷ 1 ∷ [])) ∷ Sent (REP 3) ∷ [])

@@ -1,5 +1,5 @@
 -- What a start of the station drops.
-use Rattle.std.proofs.Common.{false, [], ◌∷◌, ◌++◌, refl}
+use Rattle.std.proofs.Common.{ℕ, false, List, [], ◌∷◌, ◌++◌, refl}
 use Rattle.wire_base.specs.BlockCheck.{is_good, check_of, after_byte, shift}
 use Rattle.wire_base.specs.declared.side.Side.TheVariants.{A}
 use Rattle.ddcmp_msg.specs.Reading.{reading}
@@ -12,7 +12,11 @@ use Rattle.dna_rows.proofs.Verdicts.{Verdict, verdict}
 use Rattle.dna_rows.proofs.Units.{STRT, STACK, NAK, data_of}
 use Rattle.dna_rows.proofs.Captures.{started, answered, refused}
 
--- The packets of the period before: number 1 is given anew, with other data, and repeated with those
+-- a STACK with a bit of its check turned
+abbrev damaged_STACK : List ℕ
+damaged_STACK = 5 ∷ 7 ∷ 0xc0 ∷ 0 ∷ 0 ∷ 1 ∷ 0x48 ∷ 0xd5 ∷ []
+
+-- The packets of the period before: number 1 is given anew with other data, and sent again with those
 a_start_drops_what_was_given : Verdict
     (started ++ Sent (data_of 1 0 (5 ∷ [])) ∷ User Halt ∷ User Start ∷ Sent STRT ∷ Received 1 false STACK ∷ Sent (data_of 1 0 (7 ∷ [])) ∷
     Received 2 false (NAK 8 0) ∷ Sent (data_of 1 0 (7 ∷ [])) ∷ [])
@@ -21,9 +25,9 @@ a_start_drops_what_was_given : Verdict
 unfolding reading is_good check_of after_byte shift
 a_start_drops_what_was_given = verdict refl
 
--- the causes, also where a STRT in RUNNING halted the station
+-- the causes of the period before, also where a STRT in RUNNING halted the station
 a_start_behind_a_strt_in_running_drops_causes : Verdict
-    (started ++ Received 1 false (5 ∷ 7 ∷ 0xc0 ∷ 0 ∷ 0 ∷ 1 ∷ 0x48 ∷ 0xd5 ∷ []) ∷ Received 2 false STRT ∷ User Start ∷ Sent STRT ∷
+    (started ++ Received 1 false damaged_STACK ∷ Received 2 false STRT ∷ User Start ∷ Sent STRT ∷
     Received 3 false STACK ∷ Sent (NAK 1 0) ∷ [])
     (answered ++ Sent STACK ∷ User Halt ∷ User Start ∷ Sent STRT ∷ Received 1 false STRT ∷ Sent STACK ∷ [])
     (refused A 8 (OfStation NoCause))
