@@ -2,10 +2,12 @@
 pub mod Verdicts
 pub mod Units
 pub mod Captures
+pub mod Scripts
 -- the rows, by subject
 mod Station
 mod Line
 mod Links
 mod Packets
 mod NotJudged
+mod Player
 mod Limits

@@ -1,6 +1,6 @@
 -- The bytes in the rows: units, packets and messages as the standards spell them, field by field. The block checks alone are computed, by their
--- definition. Numbers, addresses and lengths are below 256.
-use Rattle.std.proofs.Common.{ℕ, ◌/◌, ◌%◌, List, [], ◌∷◌, ◌++◌, length}
+-- definition. Numbers and addresses are below 256.
+use Rattle.std.proofs.Common.{ℕ, ◌+◌, ◌/◌, ◌%◌, List, [], ◌∷◌, ◌++◌, length}
 use Rattle.wire_base.specs.BlockCheck.{check_of, word_bytes}
 
 -- ---- units
@@ -32,7 +32,7 @@ REP num = control 3 0 0 num
 
 -- a data message with these flags, and its packet
 abbrev pub data_with : (flags num resp : ℕ) → List ℕ → List ℕ
-data_with flags num resp packet = checked (0x81 ∷ length packet ∷ flags ∷ resp ∷ num ∷ 1 ∷ []) ++ checked packet
+data_with flags num resp packet = checked (0x81 ∷ (length packet % 256) ∷ (flags + length packet / 256) ∷ resp ∷ num ∷ 1 ∷ []) ++ checked packet
 
 abbrev pub data_of : (num resp : ℕ) → List ℕ → List ℕ
 data_of num resp packet = data_with 0 num resp packet
@@ -54,7 +54,7 @@ from_b message = 2 ∷ 1 ∷ 4 ∷ 2 ∷ 4 ∷ 0 ∷ message
 
 -- a word, the low byte first
 abbrev word : ℕ → List ℕ
-word n = n % 256 ∷ n / 256 ∷ []
+word n = (n % 256) ∷ (n / 256) ∷ []
 
 -- a flag byte, DSTADDR and SRCADDR
 abbrev pub between : (flag dst src : ℕ) → List ℕ
