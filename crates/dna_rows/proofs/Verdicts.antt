@@ -1,5 +1,5 @@
 -- How the verdict on two captures is computed from the definitions: their records are made one after another, a record of a as long as it can be
--- made, else one of b, and the first that is refused is named. In any other order the same one would be, so this order will do.
+-- made, else one of b, and the first that is refused is named. What is refused in one order offends in each, so this order will do.
 use Rattle.std.proofs.Common.{◌≡◌, ℕ, zero, suc, ◌+◌, Option, Some, None, List, [], ◌∷◌, ◌++◌, length, refl, sym, subst, ◌∙◌, arith}
 use Rattle.std.proofs.lemmas.Option.{same_Some}
 use Rattle.std.proofs.lemmas.List.{append-nil, append_assoc, length-append}
