@@ -1,0 +1,13 @@
+-- how a verdict is computed, and what the rows are made of
+pub mod Verdicts
+pub mod Units
+pub mod Captures
+pub mod Scripts
+-- the rows, by subject
+mod Station
+mod Line
+mod Links
+mod Packets
+mod NotJudged
+mod Player
+mod Limits

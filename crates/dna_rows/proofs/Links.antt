@@ -1,0 +1,5 @@
+mod Calls
+mod Confirming
+mod Numbers
+mod Ends
+mod Restarts

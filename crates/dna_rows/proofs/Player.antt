@@ -1,0 +1,3 @@
+mod Stations
+mod Links
+mod Messages

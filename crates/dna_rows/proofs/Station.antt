@@ -1,0 +1,3 @@
+mod Responses
+mod Causes
+mod Starts
