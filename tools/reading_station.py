@@ -1,0 +1,279 @@
+"""The stations, as docs/PROTOCOL.md tells them: tables of what may be sent and of what an arrival does, and what each check and effect is. A
+part of tools/reading.py, which judges pairs apart from the program. A refusal is a Refused with its reason."""
+from reading_rows import Row
+
+STATES = ['HALTED', 'ISTRT', 'ASTRT', 'RUNNING']
+MESSAGES = ['STRT', 'STACK', 'ACK', 'NAK', 'REP', 'data']
+CAUSED, FREE = (1, 2, 3, 8), (9, 16, 17)  # reasons of a NAK that need a cause, and those that need none
+
+
+class Refused(Exception):
+    """A record can't be made, for this reason."""
+
+    def __init__(self, reason):
+        super().__init__(reason)
+        self.reason = reason
+
+
+# ---- the tables
+
+# what a start sets anew
+ANEW = ['the period', 'the partner', 'R', 'N', 'A', 'T', 'the packets', 'the causes']
+NUMBERS = {'R': 'received', 'N': 'given', 'A': 'acknowledged', 'T': 'next'}
+
+USER = {
+    'start': {'HALTED': ['anew ' + name for name in ANEW] + ['GoTo ISTRT']},
+    'halt': {state: ['GoTo HALTED'] for state in STATES},
+}
+
+# what may be sent: the state, the checks in their order, and the effects
+SENDING = {
+    'STRT': ('ISTRT', [], []),
+    'STACK': ('ASTRT', [], []),
+    'ACK': ('RUNNING', ['RespIsLast'], []),
+    'NAK 1 2 3 8':
+        ('RUNNING', ['RespIsLast'] + ['CauseIsOpen %d' % reason for reason in CAUSED], ['UseCause %d' % reason for reason in CAUSED]),
+    'NAK 9 16 17': ('RUNNING', ['RespIsLast'], []),
+    'REP': ('RUNNING', ['SomeOutstanding', 'NumIsHighest'], []),
+    'data': ('RUNNING', ['NumIsNext', 'RespIsLast', 'RoomIfNew', 'AsFirstGiven'], ['SendPacket']),
+}
+
+# what an arrival does: what it needs, and the effects in their order; all other rows need Anything, and have none
+ARRIVING = {
+    ('ISTRT', 'STRT'): ('Anything', ['TakePartner', 'GoTo ASTRT']),
+    ('ISTRT', 'STACK'): ('Fresh', ['TakePartner', 'GoTo RUNNING']),
+    ('ASTRT', 'STRT'): ('Anything', ['TakePartner']),
+    ('ASTRT', 'STACK'): ('Fresh', ['TakePartner', 'GoTo RUNNING']),
+    ('ASTRT', 'ACK'): ('OfPair', ['GoTo RUNNING']),
+    ('ASTRT', 'data'): ('OfPair', ['GoTo RUNNING', 'Respond', 'TakePacket']),
+    ('RUNNING', 'STRT'): ('Anything', ['GoTo HALTED']),
+    ('RUNNING', 'STACK'): ('OfPair', []),
+    ('RUNNING', 'ACK'): ('OfPair', ['Respond']),
+    ('RUNNING', 'NAK'): ('OfPair', ['Respond', 'SetBack']),
+    ('RUNNING', 'REP'): ('OfPair', ['AnswerRep']),
+    ('RUNNING', 'data'): ('OfPair', ['Respond', 'TakePacket']),
+    ('RUNNING', 'bad header'): ('Anything', ['OpenCause 1']),
+    ('RUNNING', 'bad data'): ('Anything', ['OpenCause 2']),
+}
+OTHER_ARRIVALS = ['bad header', 'bad data', 'ACK, RESP not 0', 'data, RESP not 0']
+
+
+def station_rules():
+    """The rows of a station, by heading."""
+    rules = []
+    for state in STATES:
+        for event, allowed in USER.items():
+            rules.append(Row('%s user %s' % (state, event), allowed=state in allowed, effects=allowed.get(state, [])))
+        for message, (allowed, checks, effects) in SENDING.items():
+            rules.append(Row('%s sends %s' % (state, message), allowed=state == allowed, checks=checks, effects=effects))
+        for message in MESSAGES + OTHER_ARRIVALS:
+            need, effects = ARRIVING.get((state, message), ('Anything', []))
+            rules.append(Row('%s gets %s' % (state, message), need=need, effects=effects, kept=False))
+    return {row.heading: row for row in rules}
+
+
+# ---- a station
+
+class Station:
+    """A station: its numbers without a bound, as its own side has them; those of others it knows by their bytes. `packets` are those given in the
+    period by number, and `labels` what its user wants to know of each again."""
+
+    def __init__(self, rules):
+        self.rules = rules
+        self.state = 'HALTED'
+        self.period = 0
+        self.partner = None
+        self.received = self.given = self.acknowledged = 0
+        self.next = 1
+        self.moved = False  # whether the last RESP that counted did
+        self.packets = {}
+        self.labels = {}
+        self.causes = dict.fromkeys(CAUSED, 0)
+
+    def tag(self):
+        return self.period, self.partner
+
+    def user(self, event):
+        row = self.rules['%s user %s' % (self.state, event)]
+        if not row['allowed']:
+            raise Refused(14)
+        self.do(row, None, None, False)
+
+    def do(self, row, unit, tag, kept):
+        """Does the effects of a row, in their order."""
+        for effect in row['effects']:
+            word, _, name = effect.partition(' ')
+            EFFECTS[word](self, row, name, (unit, tag, kept))
+
+    # -- what is sent
+
+    def sends(self, unit):
+        """Whether a number was given."""
+        kind = unit.kind if unit.kind != 'NAK' else 'NAK 1 2 3 8' if unit.reason in CAUSED else 'NAK 9 16 17'
+        row = self.rules['%s sends %s' % (self.state, kind)]
+        if not row['allowed']:
+            raise Refused(6)
+        for check in row['checks']:
+            name, _, reason = check.partition(' ')
+            is_passed, refusal = CHECKS[name]
+            if not is_passed(self, row, unit, reason):
+                raise Refused(refusal)
+        given = self.given
+        self.do(row, unit, None, False)
+        return self.given > given
+
+    def label_of_last(self):
+        """What was noted beside the packet that was sent last."""
+        return self.labels.get(self.next - 1)
+
+    # -- what comes
+
+    def gets(self, unit, tag, kept):
+        """What comes, with the tag of its sender. Whether a packet was taken."""
+        kind = unit.kind
+        if self.state == 'ASTRT' and kind in ('ACK', 'data') and unit.resp != 0:
+            kind += ', RESP not 0'
+        row = self.rules['%s gets %s' % (self.state, kind)]
+        if not self.has(row['need'], tag):
+            raise Refused(13)
+        takes = 'TakePacket' in row['effects'] and unit.num == (self.received + 1) % 256
+        if kept and not takes and not row['kept']:
+            raise Refused(12)
+        self.do(row, unit, tag, kept)
+        return takes and kept
+
+    def has(self, need, tag):
+        """Whether a message with this tag is what the row needs."""
+        if tag is None or need == 'Anything':
+            return True
+        period, partner = tag
+        return partner == self.period and (need == 'Fresh' or period == self.partner)
+
+
+# ---- checks: whether it is passed, and the reason where not
+
+def cause_is_open(station, row, unit, reason):
+    if unit.reason != int(reason):
+        return True
+    return any(station.causes.values()) if unit.reason in FREE else station.causes[unit.reason] > 0
+
+
+def as_first_given(station, row, unit, reason):
+    """A packet that is sent again is that which has the number. Behind a start there is none with the next number."""
+    return station.packets.get(station.next, unit.packet) == unit.packet
+
+
+CHECKS = {
+    'RespIsLast': (lambda station, row, unit, reason: unit.resp == station.received % 256, 8),
+    'CauseIsOpen': (cause_is_open, 11),
+    'SomeOutstanding': (lambda station, row, unit, reason: station.acknowledged != station.given, 6),
+    'NumIsHighest': (lambda station, row, unit, reason: unit.num == station.given % 256, 7),
+    'NumIsNext': (lambda station, row, unit, reason: unit.num == station.next % 256, 7),
+    'RoomIfNew': (lambda station, row, unit, reason: room_if_new(station), 9),
+    'AsFirstGiven': (as_first_given, 10),
+}
+
+
+def room_if_new(station):
+    is_new = station.next == station.given + 1
+    return station.next <= station.given or is_new and station.given - station.acknowledged < 255
+
+
+# ---- effects
+
+def use_cause(station, row, reason, came):
+    """One open cause of the reason is used up; of a reason that needs none, where it is turned, the first that is open."""
+    unit, _, _ = came
+    if unit.reason != int(reason):
+        return
+    for cause in CAUSED if unit.reason in FREE else [unit.reason]:
+        if station.causes[cause] > 0:
+            station.causes[cause] -= 1
+            return
+
+
+def send_packet(station, row, name, came):
+    unit, _, _ = came
+    is_new = station.next > station.given
+    if is_new and not row.turned('SendPacket gives no number'):
+        station.given += 1
+        station.packets[station.given] = unit.packet
+    if not row.turned('SendPacket leaves T') and not (not is_new and row.turned('SendPacket leaves T if sent again')):
+        station.next += 1
+
+
+def respond(station, row, name, came):
+    unit, _, _ = came
+    if row.turned('Respond if next') and unit.num != (station.received + 1) % 256:
+        return
+    ahead = (unit.resp - station.acknowledged) % 256
+    station.moved = 1 <= ahead <= station.given - station.acknowledged
+    if not station.moved:
+        return
+    station.acknowledged += ahead
+    if row.turned('Respond sets T'):
+        station.next = station.acknowledged + 1
+    elif not row.turned('Respond leaves T'):
+        station.next = max(station.next, station.acknowledged + 1)
+
+
+def set_back(station, row, name, came):
+    if station.moved or not row.turned('SetBack if RESP moved'):
+        station.next = station.acknowledged + 1
+
+
+def take_packet(station, row, name, came):
+    unit, _, kept = came
+    is_next = unit.num == (station.received + 1) % 256
+    no_buffer = not kept and (is_next or row.turned('TakePacket opens cause 8 for any'))
+    if no_buffer and not row.turned('TakePacket opens no cause 8'):
+        station.causes[8] += 1
+    if is_next and (kept or row.turned('TakePacket raises R unkept')) and not row.turned('TakePacket leaves R'):
+        station.received += 1
+
+
+def answer_rep(station, row, name, came):
+    unit, _, _ = came
+    if unit.num != station.received % 256 or row.turned('AnswerRep for any'):
+        station.causes[3] += 1
+
+
+def open_cause(station, row, reason, came):
+    station.causes[int(reason)] += 1
+
+
+def anew(station, row, name, came):
+    """What a start sets anew."""
+    if name == 'the period':
+        station.period += 1
+    elif name == 'the partner':
+        station.partner = None
+    elif name == 'the packets':
+        station.packets, station.labels = {}, {}
+    elif name == 'the causes':
+        station.causes = dict.fromkeys(CAUSED, 0)
+    else:
+        setattr(station, NUMBERS[name], 1 if name == 'T' else 0)
+
+
+def go_to(station, row, state, came):
+    station.state = state
+
+
+def take_partner(station, row, name, came):
+    _, tag, _ = came
+    station.partner = tag[0]
+
+
+EFFECTS = {
+    'UseCause': use_cause,
+    'SendPacket': send_packet,
+    'Respond': respond,
+    'SetBack': set_back,
+    'TakePacket': take_packet,
+    'AnswerRep': answer_rep,
+    'OpenCause': open_cause,
+    'GoTo': go_to,
+    'TakePartner': take_partner,
+    'anew': anew,
+}
