@@ -3,6 +3,7 @@ its rules can be turned. `judged(rules, a, b)` is the answer to the captures of 
 tools/reading_rows.py turns one. tools/test_turns sees that the pairs of the lists tell each turn from the rule."""
 from collections import Counter
 
+from reading_carried import flags_sent, is_passed, is_read, packet_sent, returned_kept
 from reading_links import NO_TAG, Links, link_rules
 from reading_messages import gets, sends
 from reading_packets import DATA_BAD, HEADER_BAD, MALFORMED, read_nsp, read_packet, read_unit
@@ -67,6 +68,8 @@ class Side:
                 raise Refused(14)
             return self.links.user(words)
         self.station.user(words[0])
+        for link in self.links.links if words[0] == 'start' else []:
+            link.flow.restart(self.layers)
         self.counts['periods'] += words[0] == 'start'
         dropped = {'halt': 'a halt ends the links', 'start': 'a start drops the links'}[words[0]]
         if self.layers.turned(dropped):
@@ -88,11 +91,13 @@ class Side:
         label = NO_TAG
         if unit.kind == 'data':
             self.looks_early(unit)
-        tag = self.station.tag()
+        tag, number = self.station.tag(), self.station.next
         is_first = self.station.sends(unit)
+        first = self.station.firsts.get(number) if unit.kind == 'data' else None
+        flags_sent(self.rules['flags'], unit, first)
         if unit.kind == 'data':
             label = self.label_of(unit, is_first)
-        self.units.append((text, unit, tag, label))
+        self.units.append((text, unit, first, (tag, label)))
 
     def looks_early(self, unit):
         """Turns that look into the packet before the station has seen the unit."""
@@ -109,6 +114,8 @@ class Side:
             label = self.meets(unit.packet)
         elif self.layers.turned('the tag of the last sending'):
             label = self.meets_quietly(unit.packet)
+        elif self.layers.turned('a packet sent again has the tag of the newest'):
+            label = self.station.labels[self.station.given]
         else:
             label = NO_TAG if self.layers.turned('a packet sent again has no tag') else self.station.label_of_last()
         self.station.labels[self.station.next - 1] = label
@@ -120,6 +127,8 @@ class Side:
         if packet is None and not self.layers.turned('a packet that cannot be read is carried'):
             raise Refused(15)
         message = self.message_of(packet)
+        if packet and packet.nsp is not None and not packet_sent(self.rules['not judged'], packet, (self.links.node, self.links.other)):
+            return NO_TAG
         if message is None or self.layers.turned('the links never see a sending'):
             return NO_TAG
         return sends(self.links, packet, message)
@@ -155,13 +164,27 @@ class Side:
         is_again = hint == self.front - 1 and line.turned('the last hint again') or hint < self.front - 1 and line.turned('an earlier hint')
         if hint < self.front and not is_again:
             raise Refused(2)
-        sent, unit, tag, label = other.units[hint]
-        self.front = hint + 1
+        sent, unit, first, (tag, label) = other.units[hint]
+        self.front = self.front_behind(hint, text, unit, kept)
+        if first is not None and self.rules['RUNNING gets data'].turned('Respond as at the first sending'):
+            unit = unit._replace(resp=first.resp)
         if text != sent.replace('-', ''):
             unit, tag = self.damaged(unit, tag, text), None if read_unit(text) in DAMAGED else tag
         taken = self.comes(unit, tag, label, kept)
         self.counts.update(received=1, damaged=unit in DAMAGED, kept=kept)
         return taken
+
+    def front_behind(self, hint, text, unit, kept):
+        """The front behind a receipt."""
+        came, line = read_unit(text), self.line
+        stays = any([
+            came == HEADER_BAD and line.turned('a bad header leaves the front'),
+            came == DATA_BAD and line.turned('bad data leave the front'),
+            unit.kind == 'data' and not kept and line.turned('data that are not kept leave the front'),
+            unit.kind == 'ACK' and line.turned('an ACK leaves the front'),
+            self.station.state == 'HALTED' and line.turned('a receipt in HALTED leaves the front'),
+        ])
+        return self.front if stays else hint + 1
 
     def damaged(self, unit, tag, text):
         """What bytes read as that are not those of the unit."""
@@ -181,6 +204,8 @@ class Side:
         is_next = has_packet and unit.num == (self.station.received + 1) % 256
         if has_packet and kept and layers.turned('the links before the station at a receipt'):
             self.kept(unit.packet, label)
+        if is_passed(self.rules['flags'], unit):
+            return self.passes_over(kept)
         is_taken = self.station.gets(unit, tag, kept)
         is_seen = is_taken or has_packet and (
             is_next and not kept and layers.turned('the links see a packet without a buffer') or
@@ -191,11 +216,19 @@ class Side:
                 self.kept(unit.packet, label)
         return is_taken
 
+    def passes_over(self, kept):
+        """A unit comes and is passed over, where that is turned."""
+        if kept:
+            raise Refused(12)
+        return False
+
     def kept(self, text, label):
         """A packet is kept: the links get its message."""
         packet = read_packet(text)
-        message = read_nsp(packet.nsp) if packet and packet.nsp is not None and not packet.returned else None
-        if message is not None:
+        message = read_nsp(packet.nsp) if packet and packet.nsp is not None else None
+        if packet:
+            returned_kept(self.rules['not judged'], packet, message)
+        if message is not None and is_read(self.rules['not judged'], packet):
             gets(self.links, packet, message, label)
 
     def hears_noise(self, text):
@@ -217,6 +250,8 @@ class Side:
     def ends(self):
         """The counts of its line in an acceptance."""
         begun = 0 if self.layers.turned('links are not counted') else len(self.links.links)
+        if self.layers.turned('links that are over are not counted'):
+            begun = sum(link.phase != 'Ended' for link in self.links.links)
         up = 0 if self.layers.turned('what came up is not counted') else self.links.delivered
         counts = {**self.counts, 'sent': len(self.units), 'links': begun, 'up': up}
         return ' '.join('%s %d' % (name, counts.get(name, 0)) for name in 'records sent received damaged kept periods links up'.split())
@@ -227,6 +262,8 @@ def judged(rules, a, b):
     sides = Side(rules, a), Side(rules, b)
     if rules['the layers'].turned('b has the addresses of the other head'):
         sides[1].links.node, sides[1].links.other = sides[0].peer, sides[0].own
+    if (sides[0].own, sides[0].peer) != (sides[1].peer, sides[1].own) and rules['not judged'].turned('heads that do not pair'):
+        return 'refused a 0 line 2: 16 WrongNode\n'
     while not all(side.has_ended() for side in sides):
         able = [letter for letter in (0, 1) if not sides[letter].has_ended() and not sides[letter].waits(sides[1 - letter])]
         letter = able[0] if able else min(letter for letter in (0, 1) if not sides[letter].has_ended())

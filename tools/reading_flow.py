@@ -58,6 +58,8 @@ class Flow:
         if number not in self.pieces or number <= self.acknowledged and not row.turned('AsFirstGiven once acknowledged'):
             return True
         first_flag, first_data = self.pieces[number]
+        if row.turned('repeated with a beginning of its data') and first_data.startswith(data):
+            return True
         bits = BEGINS * (not row.turned('repeated with another bit 5')) + ENDS * (not row.turned('repeated with another bit 6'))
         return (flag & bits, data) == (first_flag & bits, first_data) or row.turned('repeated with other data') and flag == first_flag
 
@@ -112,10 +114,15 @@ class Flow:
     def judged(self, row, start, number, qualifier, is_repeat, message):
         """What a word with this number leaves as the last one sent, where `start` was that; a Refused where it is wrong."""
         ahead = distance(row, wire(row, start), number)
-        highest = self.received - start + (1 if row.turned('one above the highest') else 0)
+        highest = (self.given if row.turned('through the highest given') else self.received) - start
+        highest += 1 if row.turned('one above the highest') else 0
         is_right = ahead <= highest or row.turned('without the upper limit') and ahead <= 2047
         if ahead == highest and row.turned('highest refused') or ahead == 0 and row.turned('the last one again refused'):
             is_right = False
+        if row.turned('NAK goes back') and qualifier == 1 and number < start:
+            return start
+        if row.turned('a word that is sent acknowledges') and is_right:
+            self.acknowledged = max(self.acknowledged, min(start + ahead, self.given))
         if is_right:
             stays = qualifier == 1 and row.turned('NAK leaves the last') or is_repeat and row.turned('a repeat leaves the last')
             return start if stays else start + ahead
@@ -135,6 +142,8 @@ class Flow:
         """Whether a number so far below the last one may be named in a repeat."""
         limit = 2046 if row.turned('a repeat goes 2,046 back') else 2048 if row.turned('a repeat goes 2,048 back') else 2047
         limit = 4095 if row.turned('a repeat goes back without limit') else limit
+        if start >= 4096 and row.turned('a repeat goes 2,048 back across 4,096'):
+            limit = 2048
         sent = start % 4096 if row.turned('whether the last reached 2,047 is forgotten') else start
         return back <= limit and (back <= sent or row.turned('a repeat goes below 0'))
 
@@ -145,7 +154,7 @@ class Flow:
         for place, word in enumerate(words):
             qualifier, number = word >> 12 & 7, word & 0x0fff
             if self.acknowledges(row, qualifier) and not row.turned('only the second' if place == 0 else 'only the first'):
-                self.acknowledge(row, number)
+                self.acknowledge(row, number, qualifier)
 
     def acknowledges(self, row, qualifier):
         """Whether words with this qualifier acknowledge."""
@@ -153,13 +162,16 @@ class Flow:
             return row.turned('qualifier %d acknowledges' % qualifier)
         return not row.turned('acknowledge nothing', ['ACK acknowledges nothing', 'NAK acknowledges nothing'][qualifier])
 
-    def acknowledge(self, row, number):
+    def acknowledge(self, row, number, qualifier):
         ahead = distance(row, wire(row, self.acknowledged), number)
-        outstanding = self.given - self.acknowledged + (1 if row.turned('one above the highest given counts') else 0)
+        highest = self.received if row.turned('through the highest received') else self.given
+        outstanding = highest - self.acknowledged + (1 if row.turned('one above the highest given counts') else 0)
         if ahead <= outstanding:
             if ahead == outstanding and row.turned('the highest given does not count'):
                 return
-            ahead = max(0, ahead - 1) if row.turned('through the number before') else ahead
+            is_before = row.turned('through the number before') or qualifier == 1 and row.turned('NAK acknowledges through the number before')
+            ahead = max(0, ahead - 1) if is_before else ahead
+            self.last = max(self.last, self.acknowledged + ahead) if row.turned('a word that comes moves the last') else self.last
             self.acknowledged += min(ahead, 1) if row.turned('one number at most') else ahead
         elif row.turned('take back'):
             self.acknowledged -= min(self.acknowledged, distance(row, number, wire(row, self.acknowledged)))
@@ -205,6 +217,19 @@ class Flow:
                 messages.append((number, joined))
                 joined = b''
         return messages
+
+    def restart(self, layers):
+        """A start of the station below leaves the segments as they are."""
+        if layers.turned('a start drops what was handed in'):
+            self.handed, self.is_begun = [], False
+        if layers.turned('a start drops the segments given'):
+            self.given = self.acknowledged = 0
+        if layers.turned('a start drops what came whole'):
+            self.delivered = self.received
+        if layers.turned('a start drops what is held over a gap'):
+            self.held = {number: piece for number, piece in self.held.items() if number <= self.received}
+        if layers.turned('a start drops the last word'):
+            self.last = 0
 
     def beginning(self, message):
         """Whether a message is a beginning of what came in a row and is not delivered."""

@@ -88,7 +88,7 @@ def link_rules():
             tests = ['the one in Calling'] if verb == 'gets' and name in ('DI', 'DC') else []
             parts = {'look_up': look_up, 'checks': checks, 'phases': phases, 'effects': effects, 'tests': tests}
             rules.append(Row('%s %s' % (verb, name), allowed=True, begins='Called' if verb == 'gets' else 'Calling', instead={}, **parts))
-    return {**FLOW_RULES, **{row.heading: row for row in rules}}
+    return {**FLOW_RULES, 'not judged': Row('not judged'), **{row.heading: row for row in rules}}
 
 
 # ---- a link, and how it is found
@@ -103,6 +103,8 @@ class Link:
         self.own = self.far = self.partner = None
         self.segsize = 0
         self.is_called = False  # whether its CI was sent
+        self.words, self.bits_12 = {}, {}  # of each segment when it was first sent, by number
+        self.interrupts = 0
         self.flow = Flow(rules)
 
     def tag(self):
@@ -158,15 +160,16 @@ class Links:
         if not row['allowed']:
             raise Refused(19)
         for check in row['checks']:
-            self.check_user(row, check, link, own, data)
+            self.check_user(row, check, link, (own, far, data))
         for effect in row['effects']:
             if link is not None or effect == 'BeginLink':
                 self.do_user(row, effect, link, own, data)
 
-    def check_user(self, row, check, link, own, data):
+    def check_user(self, row, check, link, words):
+        own, far, data = words
         if check in ('CallIsThere', 'AddressIsLive', 'AddressWasGiven') and link is None:
             raise Refused(18)
-        if check == 'AddressIsFree' and self.find(row, 'LiveAt', own) is not None:
+        if check == 'AddressIsFree' and (self.find(row, 'LiveAt', own) is not None or own == far and row.turned('the far address is in use')):
             raise Refused(26)
         if check == 'RightPhase' and link is not None and link.phase not in row['phases']:
             raise Refused(19)
@@ -179,6 +182,8 @@ class Links:
             return True
         if row.turned('a beginning of the message') and link.flow.beginning(data):
             return True
+        if row.turned('one message at most') and link.flow.delivered:
+            return False
         messages = [message for _, message in self.messages(row, link)]
         return data in (messages if row.turned('any whole message') else messages[:1])
 
@@ -198,4 +203,6 @@ class Links:
             if not row.turned('delivered again'):
                 flow.delivered = max([number for number, message in self.messages(row, link)[:1]], default=flow.delivered)
         else:
+            if row.turned('drops what came whole'):
+                flow.delivered = flow.received
             self.go_to(link, effect.removeprefix('GoTo '))

@@ -1,5 +1,6 @@
 """What the links of a node do with the messages that are sent and that come: the checks and effects that the tables of tools/reading_links.py
 name. A part of tools/reading.py, which judges pairs apart from the program."""
+from reading_carried import message_coming, message_sent, of_link_sent, words_of_rest
 from reading_links import NO_TAG
 from reading_station import Refused
 
@@ -10,7 +11,7 @@ class Sending:
 
     def __init__(self, links, message):
         self.links = links
-        self.message = message
+        self.message = message = message_sent(links.rules['not judged'], message)
         self.row = links.rules['sends ' + message.kind]
         self.link = links.find(self.row, self.row['look_up'], message.source, message.destination)
         self.number, self.is_new, self.last = None, False, None
@@ -32,6 +33,14 @@ class Sending:
                     raise Refused(18)
             elif self.link is not None:
                 self.check(check)
+        if self.link is not None:
+            self.looked_into()
+
+    def looked_into(self):
+        """Turns that judge what a message of a link carries."""
+        of_link_sent(self.links.rules['not judged'], self.link, self.message, self.number)
+        if self.row.turned('its words are judged'):
+            self.link.flow.words_sent(words_of_rest(self.message), False, 'data ack')
 
     def check(self, name):
         """A check of the message of a link that is there."""
@@ -65,6 +74,7 @@ class Sending:
         if effect == 'NoteCall':
             self.link.is_called = True
         elif effect == 'MoveLast':
+            self.link.words.setdefault(self.number, self.message.words)
             if self.last is not None and not self.row.turned('the last one stays'):
                 flow.last = self.last
         elif effect == 'GiveNumber':
@@ -88,9 +98,10 @@ def between_nodes(row, packet, source, destination):
 
 
 def right_phase(sending):
-    is_first = not sending.link.is_called or not sending.row.turned('only once')
-    by_68 = sending.message.flag == 0x68 and sending.row.turned('flag byte 68 refused')
-    return sending.link.phase in sending.row['phases'] and is_first and not by_68
+    row, by_68, phase = sending.row, sending.message.flag == 0x68, sending.link.phase
+    if sending.link.is_called and row.turned('only once') or by_68 and row.turned('flag byte 68 refused'):
+        return False
+    return phase in row['phases'] or by_68 and phase == 'RUN' and row.turned('68 in RUN too')
 
 
 def words_are_right(sending):
@@ -105,6 +116,8 @@ def room_in_window(sending):
 
 
 def fits_segsize(sending):
+    if sending.link.segsize == 0 and sending.row.turned('SEGSIZE 0 is no limit', 'SEGSIZE 0 takes nothing'):
+        return not sending.row.turned('SEGSIZE 0 takes nothing')
     most = sending.link.segsize + (1 if sending.row.turned('SEGSIZE and one more') else -1 if sending.row.turned('SEGSIZE less one') else 0)
     return not sending.is_new or len(sending.message.body) <= most
 
@@ -119,6 +132,8 @@ def one_of_the_last(sending):
 
 def as_first_given(sending):
     message = sending.message
+    if not sending.is_new and sending.row.turned('repeated with its first words') and sending.link.words.get(sending.number) != message.words:
+        return False
     return sending.is_new or sending.link.flow.as_first_given(sending.row, sending.number, message.flag, message.body)
 
 
@@ -144,18 +159,22 @@ def sends(links, packet, message):
 
 def gets(links, packet, message, tag):
     """This message comes to a node in this packet, with this tag."""
-    row = links.rules['gets ' + message.kind]
+    row, message = links.rules['gets ' + message.kind], message_coming(links.rules['not judged'], message)
     between_nodes(row, packet, links.other, links.node)
+    if message is None:
+        return None
     if message.kind == 'CI':
         return gets_call(links, row, message, tag)
     link = links.find(row, row['look_up'], message.destination, message.source)
-    if link is None and 'the one in Calling' in row['tests']:
+    if link is None and 'the one in Calling' in row['tests'] and not (message.source and row.turned('in Calling from SRCADDR 0 alone')):
         link = links.find(row, 'CallingAt', message.destination)
+    if row.turned('ends the call from SRCADDR'):
+        link = link or links.find(row, 'CalledBy', far=message.source)
     is_of_pair = link is not None and fits(row, link, tag, 'SenderIsPartner') and fits(row, link, tag, 'ForThisLink')
     if row.turned('of the pair') and not is_of_pair:
         raise Refused(25)
     if link is None:
-        return missing(row)
+        return missing(links, row, message)
     if not row['allowed'] or link.phase not in row['phases'] or row.turned('ignored unless of the pair') and not is_of_pair:
         return None
     if not all(fits(row, link, tag, check) for check in row['checks']):
@@ -163,8 +182,14 @@ def gets(links, packet, message, tag):
     return act(links, row, link, message, tag)
 
 
-def missing(row):
+def missing(links, row, message):
     """What becomes of a message that no link acts on: nothing."""
+    live = links.find(row, 'LiveAt', message.destination)
+    is_smaller = live is not None and message.segsize < live.segsize
+    if live and row.turned('a repeat gives a smaller SEGSIZE' if is_smaller else 'a repeat gives a greater SEGSIZE'):
+        live.segsize = message.segsize
+    if live is None and links.find(row, 'HasAddress', message.destination) and row.turned('25 where the link is over'):
+        raise Refused(25)
     if row.turned('25 where no link is Calling', '25 where no link acts'):
         raise Refused(25)
     if row.turned('18 where no link has the addresses'):
@@ -185,13 +210,16 @@ def act(links, row, link, message, tag):
         if effect == 'EndLink':
             links.go_to(link, 'Ended')
         elif effect == 'TakeWords':
-            link.flow.words_come(message.words)
+            is_next = message.segnum is None or message.segnum == (link.flow.received + 1) % 4096
+            link.flow.words_come(message.words if is_next or not row.turned('TakeWords of no segment over a gap') else [])
         elif effect == 'TakeSegment':
             link.flow.segment_comes(message.segnum, message.flag, message.body)
         elif effect.startswith('GoTo '):
             links.go_to(link, effect.removeprefix('GoTo '))
         else:
             learn(effect, link, message, tag)
+    if row.turned('its words acknowledge'):
+        link.flow.words_come(words_of_rest(message))
 
 
 def learn(effect, link, message, tag):
@@ -207,6 +235,9 @@ def learn(effect, link, message, tag):
 def gets_call(links, row, message, tag):
     """A CI comes."""
     link, by_68 = links.find(row, row['look_up'], far=message.source), message.flag == 0x68
+    is_called = any(other.phase == 'Called' for other in links.links)
+    if is_called and row.turned('a second call is ignored') or links.find(row, 'LiveAt', message.source) and row.turned('ignored at an own address'):
+        return
     if link is not None and not row.turned('a repeat begins a link'):
         return gets_repeat(links, row, link, message, tag)
     if 'BeginLink' not in row['effects'] or by_68 and row.turned('none begins by 68'):

@@ -8,8 +8,9 @@ from captures import with_check
 # ---- units
 
 # `kind` of a unit is a name of SENT in tools/pair_rules.py, but NAK for both kinds of it, or one of HEADER_BAD, DATA_BAD and MALFORMED.
-Unit = namedtuple('Unit', 'kind resp num reason packet')
-HEADER_BAD, DATA_BAD, MALFORMED = [Unit(kind, None, None, None, None) for kind in ('bad header', 'bad data', 'malformed')]
+# `flags` are QSYNC and SELECT, as the bits 6 and 7 that they are.
+Unit = namedtuple('Unit', 'kind flags resp num reason packet')
+HEADER_BAD, DATA_BAD, MALFORMED = [Unit(kind, None, None, None, None, None) for kind in ('bad header', 'bad data', 'malformed')]
 
 # TYPE of a control message: what it is, and which of its bytes say something; the others are 0. Of all but a NAK SUBTYPE is 0.
 CONTROL = {1: ('ACK', 'resp'), 2: ('NAK', 'resp'), 3: ('REP', 'num'), 6: ('STRT', ''), 7: ('STACK', '')}
@@ -38,7 +39,7 @@ def read_data(unit):
         return DATA_BAD
     if len(unit) > count + 10 or unit[5] != 1:
         return MALFORMED
-    return Unit('data', unit[3], unit[4], None, unit[8:-2])
+    return Unit('data', unit[2] & 0xc0, unit[3], unit[4], None, unit[8:-2])
 
 
 def read_control(unit):
@@ -48,14 +49,14 @@ def read_control(unit):
     zeros = [byte for name, byte in (('resp', resp), ('num', num)) if name != said]
     if len(unit) > 8 or kind is None or not right or any(zeros) or unit[5] != 1:
         return MALFORMED
-    return Unit(kind, resp, num, subtype, None)
+    return Unit(kind, unit[2] & 0xc0, resp, num, subtype, None)
 
 
 # ---- packets
 
 # `nsp` is None in a routing control packet.
-Packet = namedtuple('Packet', 'returned destination source nsp')
-CONTROL_PACKET = Packet(False, None, None, None)
+Packet = namedtuple('Packet', 'flags returned destination source forward nsp')
+CONTROL_PACKET = Packet(0, False, None, None, 0, None)
 
 
 def number(two):
@@ -70,17 +71,18 @@ def read_packet(packet):
         return CONTROL_PACKET
     if packet[0] & 7 != 2 or len(packet) < 6:
         return None
-    return Packet(packet[0] & 0x10 != 0, number(packet[1:3]), number(packet[3:5]), packet[6:])
+    return Packet(packet[0], packet[0] & 0x10 != 0, number(packet[1:3]), number(packet[3:5]), packet[5], packet[6:])
 
 
 # ---- the messages of NSP
 
-# `kind` is the name that the headings of tools/pairs/links.txt have for it.
-Nsp = namedtuple('Nsp', 'kind flag destination source words segnum segsize body')
-NO_FIELDS = Nsp(None, 0, 0, 0, (), None, 0, b'')
+# `kind` is the name that the headings of tools/pairs/links.txt have for it, and `bit_12` that bit of the word with SEGNUM.
+FIELDS = 'destination source words segnum body services info segsize reason rest'
+Nsp = namedtuple('Nsp', 'kind flag bit_12 ' + FIELDS)
+NO_FIELDS = Nsp(None, 0, False, 0, 0, (), None, b'', None, None, 0, None, b'')
 
 # the fields behind a flag byte, from left to right
-CONNECT = 'source byte byte segsize rest'
+CONNECT = 'source services info segsize rest'
 MESSAGES = {
     0x10: ('link service', 'destination source rest'),
     0x30: ('interrupt', 'destination source rest'),
@@ -91,8 +93,8 @@ MESSAGES = {
     0x18: ('CI', 'zero ' + CONNECT),
     0x68: ('CI', 'zero ' + CONNECT),
     0x28: ('CC', 'destination ' + CONNECT),
-    0x38: ('DI', 'destination source word rest'),
-    0x48: ('DC', 'destination source word end'),
+    0x38: ('DI', 'destination source reason rest'),
+    0x48: ('DC', 'destination source reason end'),
     **{flag: ('segment', 'destination source words segnum body') for flag in (0x00, 0x20, 0x40, 0x60)},
 }
 
@@ -139,8 +141,8 @@ def fields_of(message):
     for field in layout.split():
         if field == 'words':
             read[field], place = words_at(kind, message, place)
-        elif field == 'byte':
-            place += 1
+        elif field in ('services', 'info'):
+            read[field], place = message[place:place + 1], place + 1
         elif field in ('rest', 'body'):
             read[field], place = message[place:], max(place, len(message))
         elif field != 'end':
@@ -152,5 +154,5 @@ def fields_of(message):
     if any(is_wrong):
         raise Unreadable
     if 'segnum' in read:
-        read['segnum'] &= 0x0fff  # bit 12 says nothing
-    return NO_FIELDS._replace(kind=kind, flag=message[0], **{name: read[name] for name in read if name in Nsp._fields})
+        read.update(segnum=read['segnum'] & 0x0fff, bit_12=read['segnum'] & 0x1000 != 0)
+    return NO_FIELDS._replace(kind=kind, flag=message[0], **read)

@@ -69,7 +69,7 @@ GRAMMAR = [
     ('with (.*)', put_in),
     ('(.*) before (.*)', before),
     ('(.*) last', last),
-    ('(.*) in place of (.*)', lambda parts, other, name: {'instead': {name: other}}),
+    ('(.*) in place of (.*)', lambda parts, other, name: {'instead': {name: other}} if 'instead' in parts else None),
     ('GoTo (.*)', leads_to),
     ('begins in (.*)', lambda parts, phase: {'begins': phase} if 'begins' in parts else None),
     ('in (.*) too', lambda parts, phase: {'phases': parts['phases'] + [phase]} if 'phases' in parts else None),

@@ -69,6 +69,7 @@ def station_rules():
         for message in MESSAGES + OTHER_ARRIVALS:
             need, effects = ARRIVING.get((state, message), ('Anything', []))
             rules.append(Row('%s gets %s' % (state, message), need=need, effects=effects, kept=False))
+    rules += [Row('causes'), Row('flags')]
     return {row.heading: row for row in rules}
 
 
@@ -76,7 +77,7 @@ def station_rules():
 
 class Station:
     """A station: its numbers without a bound, as its own side has them; those of others it knows by their bytes. `packets` are those given in the
-    period by number, and `labels` what its user wants to know of each again."""
+    period by number, `firsts` the units of their first sending, and `labels` what its user wants to know of each again."""
 
     def __init__(self, rules):
         self.rules = rules
@@ -86,8 +87,9 @@ class Station:
         self.received = self.given = self.acknowledged = 0
         self.next = 1
         self.moved = False  # whether the last RESP that counted did
-        self.packets = {}
-        self.labels = {}
+        self.packets, self.firsts, self.labels = {}, {}, {}
+        self.earlier = {}  # packets of the period before, where that is turned
+        self.is_halted_by_strt = False
         self.causes = dict.fromkeys(CAUSED, 0)
 
     def tag(self):
@@ -120,7 +122,17 @@ class Station:
                 raise Refused(refusal)
         given = self.given
         self.do(row, unit, None, False)
+        self.answers_causes(unit.kind)
         return self.given > given
+
+    def answers_causes(self, kind):
+        """A NAK alone answers causes."""
+        if self.rules['causes'].turned({'data': 'data answer all causes', 'ACK': 'an ACK answers all causes'}.get(kind, 'a %s answers all causes' % kind)):
+            self.causes = dict.fromkeys(CAUSED, 0)
+
+    def opens_cause(self, reason):
+        is_full = self.causes[reason] > 0 and self.rules['causes'].turned('one open cause of reason %d at most' % reason)
+        self.causes[reason] += 0 if is_full else 1
 
     def label_of_last(self):
         """What was noted beside the packet that was sent last."""
@@ -155,28 +167,46 @@ class Station:
 def cause_is_open(station, row, unit, reason):
     if unit.reason != int(reason):
         return True
-    return any(station.causes.values()) if unit.reason in FREE else station.causes[unit.reason] > 0
+    is_any = unit.reason in FREE or station.rules['causes'].turned('a cause of another reason will do')
+    return any(station.causes.values()) if is_any else station.causes[unit.reason] > 0
+
+
+def resp_is_last(station, row, unit, reason):
+    is_again = unit.kind == 'data' and station.next <= station.given
+    if is_again and row.turned('repeated with its first RESP'):
+        return unit.resp == station.firsts[station.next].resp
+    return unit.resp == station.received % 256 or is_again and row.turned('RespIsLast of new packets alone')
+
+
+def num_is_highest(station, row, unit, reason):
+    return unit.num == (station.next - 1 if row.turned('NumIsHighest is T - 1') else station.given) % 256
+
+
+def num_is_next(station, row, unit, reason):
+    return unit.num == station.next % 256 or row.turned('a new packet in a repetition') and unit.num == (station.given + 1) % 256
 
 
 def as_first_given(station, row, unit, reason):
     """A packet that is sent again is that which has the number. Behind a start there is none with the next number."""
-    return station.packets.get(station.next, unit.packet) == unit.packet
+    is_again = station.next <= station.given
+    first = station.earlier.get(station.next) if is_again else None
+    return (first or station.packets.get(station.next, unit.packet)) == unit.packet
+
+
+def room_if_new(station, row, unit, reason):
+    is_new = station.next == station.given + 1
+    return station.next <= station.given or is_new and station.given - station.acknowledged < 255
 
 
 CHECKS = {
-    'RespIsLast': (lambda station, row, unit, reason: unit.resp == station.received % 256, 8),
+    'RespIsLast': (resp_is_last, 8),
     'CauseIsOpen': (cause_is_open, 11),
     'SomeOutstanding': (lambda station, row, unit, reason: station.acknowledged != station.given, 6),
-    'NumIsHighest': (lambda station, row, unit, reason: unit.num == station.given % 256, 7),
-    'NumIsNext': (lambda station, row, unit, reason: unit.num == station.next % 256, 7),
-    'RoomIfNew': (lambda station, row, unit, reason: room_if_new(station), 9),
+    'NumIsHighest': (num_is_highest, 7),
+    'NumIsNext': (num_is_next, 7),
+    'RoomIfNew': (room_if_new, 9),
     'AsFirstGiven': (as_first_given, 10),
 }
-
-
-def room_if_new(station):
-    is_new = station.next == station.given + 1
-    return station.next <= station.given or is_new and station.given - station.acknowledged < 255
 
 
 # ---- effects
@@ -186,9 +216,12 @@ def use_cause(station, row, reason, came):
     unit, _, _ = came
     if unit.reason != int(reason):
         return
+    is_all = station.rules['causes'].turned('a NAK answers all causes of reason %d' % unit.reason)
+    if station.rules['causes'].turned('a NAK answers causes of any reason'):
+        station.causes = dict.fromkeys(CAUSED, 0)
     for cause in CAUSED if unit.reason in FREE else [unit.reason]:
         if station.causes[cause] > 0:
-            station.causes[cause] -= 1
+            station.causes[cause] -= station.causes[cause] if is_all else 1
             return
 
 
@@ -197,27 +230,42 @@ def send_packet(station, row, name, came):
     is_new = station.next > station.given
     if is_new and not row.turned('SendPacket gives no number'):
         station.given += 1
-        station.packets[station.given] = unit.packet
+        station.packets[station.given], station.firsts[station.given] = unit.packet, unit
     if not row.turned('SendPacket leaves T') and not (not is_new and row.turned('SendPacket leaves T if sent again')):
         station.next += 1
 
 
+def counts(station, row, unit, kept):
+    """Whether a RESP counts, as the row is turned."""
+    response = station.acknowledged + (unit.resp - station.acknowledged) % 256
+    return not any([
+        row.turned('Respond if next') and unit.num != (station.received + 1) % 256,
+        row.turned('Respond if kept') and not kept,
+        row.turned('Respond only below T') and response >= station.next,
+        row.turned('Respond only at N') and response != station.given,
+        row.turned('Respond above R alone') and response <= station.received,
+    ])
+
+
 def respond(station, row, name, came):
-    unit, _, _ = came
-    if row.turned('Respond if next') and unit.num != (station.received + 1) % 256:
-        return
+    unit, _, kept = came
     ahead = (unit.resp - station.acknowledged) % 256
-    station.moved = 1 <= ahead <= station.given - station.acknowledged
+    station.moved = 1 <= ahead <= station.given - station.acknowledged and counts(station, row, unit, kept)
     if not station.moved:
         return
     station.acknowledged += ahead
     if row.turned('Respond sets T'):
         station.next = station.acknowledged + 1
+    elif row.turned('Respond ends a repetition'):
+        station.next = station.given + 1
     elif not row.turned('Respond leaves T'):
         station.next = max(station.next, station.acknowledged + 1)
 
 
 def set_back(station, row, name, came):
+    unit, _, _ = came
+    if unit.kind == 'NAK' and row.turned('no SetBack by reason %d' % unit.reason):
+        return
     if station.moved or not row.turned('SetBack if RESP moved'):
         station.next = station.acknowledged + 1
 
@@ -227,7 +275,7 @@ def take_packet(station, row, name, came):
     is_next = unit.num == (station.received + 1) % 256
     no_buffer = not kept and (is_next or row.turned('TakePacket opens cause 8 for any'))
     if no_buffer and not row.turned('TakePacket opens no cause 8'):
-        station.causes[8] += 1
+        station.opens_cause(8)
     if is_next and (kept or row.turned('TakePacket raises R unkept')) and not row.turned('TakePacket leaves R'):
         station.received += 1
 
@@ -235,11 +283,11 @@ def take_packet(station, row, name, came):
 def answer_rep(station, row, name, came):
     unit, _, _ = came
     if unit.num != station.received % 256 or row.turned('AnswerRep for any'):
-        station.causes[3] += 1
+        station.opens_cause(3)
 
 
 def open_cause(station, row, reason, came):
-    station.causes[int(reason)] += 1
+    station.opens_cause(int(reason))
 
 
 def anew(station, row, name, came):
@@ -249,14 +297,18 @@ def anew(station, row, name, came):
     elif name == 'the partner':
         station.partner = None
     elif name == 'the packets':
-        station.packets, station.labels = {}, {}
+        station.earlier = station.packets if row.turned('keeps the packets for repeats') else {}
+        station.packets, station.firsts, station.labels = {}, {}, {}
     elif name == 'the causes':
-        station.causes = dict.fromkeys(CAUSED, 0)
+        if not station.is_halted_by_strt or not row.turned('keeps the causes behind a STRT'):
+            station.causes = dict.fromkeys(CAUSED, 0)
     else:
         setattr(station, NUMBERS[name], 1 if name == 'T' else 0)
 
 
 def go_to(station, row, state, came):
+    unit, _, _ = came
+    station.is_halted_by_strt = unit is not None and unit.kind == 'STRT'
     station.state = state
 
 
