@@ -9,8 +9,9 @@ LISTS = ('checks', 'effects', 'tests')
 
 
 class Row:
-    """A row, and the turn that it has, if any. `asked` are the switches that the reading has asked any row for, with its heading."""
-    asked = set()
+    """A row, and the turn that it has, if any. `asked` are the switches that the reading has asked any row for, each with the heading of the row, and
+    `read` the headings of all rows that it has looked at."""
+    asked, read = set(), set()
 
     def __init__(self, heading, turn=None, **parts):
         self.heading = heading
@@ -18,11 +19,13 @@ class Row:
         self.parts = parts
 
     def __getitem__(self, part):
+        Row.read.add(self.heading)
         return self.parts[part]
 
     def turned(self, *switches):
         """Whether the row is turned in one of these ways."""
         if self.turn is None:
+            Row.read.add(self.heading)
             Row.asked.add((self.heading, switches))
         return self.turn in switches
 

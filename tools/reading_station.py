@@ -127,7 +127,8 @@ class Station:
 
     def answers_causes(self, kind):
         """A NAK alone answers causes."""
-        if self.rules['causes'].turned({'data': 'data answer all causes', 'ACK': 'an ACK answers all causes'}.get(kind, 'a %s answers all causes' % kind)):
+        name = {'data': 'data answer all causes', 'ACK': 'an ACK answers all causes', 'REP': 'a REP answers all causes'}.get(kind)
+        if name is not None and self.rules['causes'].turned(name):
             self.causes = dict.fromkeys(CAUSED, 0)
 
     def opens_cause(self, reason):
