@@ -73,7 +73,8 @@ OWN_TURNS = {
     'sends no operation': 'has the tag of a link',
     'sends CI':
         'without LinkIsThere, flag byte 68 refused, GoTo Confirming, GoTo RUN, only once, HasAddress in place of OpenedAt, '
-        'LiveAt in place of OpenedAt, CallingAt in place of OpenedAt, in RUN too, without RightPhase, in DI too, 68 in RUN too',
+        'LiveAt in place of OpenedAt, CallingAt in place of OpenedAt, in RUN too, without RightPhase, in DI too, 68 in RUN too, '
+        'none behind a connect ack',
     'sends connect ack': 'without LinkIsThere, CalledBy in place of BegunBy, GoTo Confirming, LiveTo in place of BegunBy',
     'sends CC':
         'without LinkIsThere, LiveAt in place of TheLink, LiveTo in place of TheLink, ActedOn in place of TheLink, in DI too, '
@@ -105,7 +106,8 @@ OWN_TURNS = {
         'NAK leaves the last, qualifier 2 moves the last, qualifier 3 moves the last, a repeat leaves the last, '
         'a repeat that goes back moves the last, a repeat goes 2,046 back, a repeat goes 2,048 back, a repeat goes back without limit, '
         'numbers do not wrap, whether the last reached 2,047 is forgotten, '
-        'NAK goes back, through the highest given, a word that is sent acknowledges, a repeat goes 2,048 back across 4,096',
+        'NAK goes back, through the highest given, a word that is sent acknowledges, a repeat goes 2,048 back across 4,096, '
+        'a repeat goes back without limit across 4,096',
     'gets no operation': 'of the pair',
     'gets CI':
         'begins in Calling, begins in Confirming, begins in RUN, without BeginLink, without the far address, opened here, '

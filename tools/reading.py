@@ -7,8 +7,9 @@ from reading_carried import flags_sent, is_passed, is_read, packet_sent, returne
 from reading_links import NO_TAG, Links, link_rules
 from reading_messages import gets, sends
 from reading_packets import DATA_BAD, HEADER_BAD, MALFORMED, read_nsp, read_packet, read_unit
-from reading_rows import Row
-from reading_station import Refused, Station, station_rules
+from reading_rows import Refused, Row
+from reading_station import Station
+from reading_station_rules import station_rules
 
 DAMAGED = HEADER_BAD, DATA_BAD
 NAMES = [

@@ -1,7 +1,7 @@
 """What is carried and judged by nobody: flags of units, bits and fields of packets and messages. Each has a turn that judges it, in the rows
 `flags` and `not judged`. A part of tools/reading.py, which judges pairs apart from the program."""
 from reading_packets import number
-from reading_station import Refused
+from reading_rows import Refused
 
 BEGINS, ENDS = 0x20, 0x40  # bits of a segment's flag byte
 
@@ -52,8 +52,9 @@ def packet_sent(row, packet, nodes):
 
 def is_read(row, packet):
     """Whether the message in a packet that is kept is read."""
-    return packet.returned <= row.turned('a returned packet is read where it comes') and not any(
-        [row.turned(name + ' not read where it comes') for name in names_of(packet)])
+    if packet.returned:
+        return row.turned('a returned packet is read where it comes')
+    return not any([row.turned(name + ' not read where it comes') for name in names_of(packet)])
 
 
 def returned_kept(row, packet, message):

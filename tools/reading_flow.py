@@ -1,7 +1,6 @@
 """The segments of one end of a link and their acknowledgement words, as docs/LINKS.md tells them, and docs/PROTOCOL.md their bytes. A part of
 tools/reading.py, which judges pairs apart from the program."""
-from reading_rows import Row
-from reading_station import Refused
+from reading_rows import Refused, Row
 
 BEGINS, ENDS = 0x20, 0x40  # bits of the flag byte
 
@@ -142,8 +141,9 @@ class Flow:
         """Whether a number so far below the last one may be named in a repeat."""
         limit = 2046 if row.turned('a repeat goes 2,046 back') else 2048 if row.turned('a repeat goes 2,048 back') else 2047
         limit = 4095 if row.turned('a repeat goes back without limit') else limit
-        if start >= 4096 and row.turned('a repeat goes 2,048 back across 4,096'):
-            limit = 2048
+        if start >= 4096:
+            limit = 2048 if row.turned('a repeat goes 2,048 back across 4,096') else limit
+            limit = 4095 if row.turned('a repeat goes back without limit across 4,096') else limit
         sent = start % 4096 if row.turned('whether the last reached 2,047 is forgotten') else start
         return back <= limit and (back <= sent or row.turned('a repeat goes below 0'))
 

@@ -3,8 +3,7 @@ look-ups. A part of tools/reading.py, which judges pairs apart from the program.
 from collections import namedtuple
 
 from reading_flow import FLOW_RULES, Flow
-from reading_rows import Row
-from reading_station import Refused
+from reading_rows import Refused, Row
 
 PHASES = ['Calling', 'Called', 'Confirming', 'RUN', 'DI', 'Ended']
 IN_RUN = ['segment', 'data ack', 'link service', 'interrupt', 'other-data ack']
@@ -102,7 +101,7 @@ class Link:
         self.opened = opened
         self.own = self.far = self.partner = None
         self.segsize = 0
-        self.is_called = False  # whether its CI was sent
+        self.is_called = self.is_heard = False  # whether its CI was sent, and whether a connect ack for it came
         self.words, self.bits_12 = {}, {}  # of each segment when it was first sent, by number
         self.interrupts = 0
         self.flow = Flow(rules)

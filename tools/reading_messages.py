@@ -2,7 +2,7 @@
 name. A part of tools/reading.py, which judges pairs apart from the program."""
 from reading_carried import message_coming, message_sent, of_link_sent, words_of_rest
 from reading_links import NO_TAG
-from reading_station import Refused
+from reading_rows import Refused
 
 # ---- what is sent
 
@@ -99,7 +99,8 @@ def between_nodes(row, packet, source, destination):
 
 def right_phase(sending):
     row, by_68, phase = sending.row, sending.message.flag == 0x68, sending.link.phase
-    if sending.link.is_called and row.turned('only once') or by_68 and row.turned('flag byte 68 refused'):
+    is_too_much = [sending.link.is_called and row.turned('only once'), sending.link.is_heard and row.turned('none behind a connect ack')]
+    if any(is_too_much) or by_68 and row.turned('flag byte 68 refused'):
         return False
     return phase in row['phases'] or by_68 and phase == 'RUN' and row.turned('68 in RUN too')
 
@@ -218,6 +219,7 @@ def act(links, row, link, message, tag):
             links.go_to(link, effect.removeprefix('GoTo '))
         else:
             learn(effect, link, message, tag)
+    link.is_heard = link.is_heard or message.kind == 'connect ack'
     if row.turned('its words acknowledge'):
         link.flow.words_come(words_of_rest(message))
 

@@ -8,6 +8,14 @@ import re
 LISTS = ('checks', 'effects', 'tests')
 
 
+class Refused(Exception):
+    """A record can't be made, for this reason."""
+
+    def __init__(self, reason):
+        super().__init__(reason)
+        self.reason = reason
+
+
 class Row:
     """A row, and the turn that it has, if any. `asked` are the switches that the reading has asked any row for, each with the heading of the row, and
     `read` the headings of all rows that it has looked at."""
