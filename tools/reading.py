@@ -64,6 +64,7 @@ class Side:
         self.next += 1
 
     def user(self, words):
+        """An event of the station, or of a link."""
         if len(words) > 1:
             if self.layers.turned('an event of a link only in RUNNING') and self.station.state != 'RUNNING':
                 raise Refused(14)
@@ -80,6 +81,7 @@ class Side:
     # -- what is sent
 
     def sends(self, text):
+        """Bytes are sent."""
         unit = read_unit(text.replace('-', ''))
         if unit in (HEADER_BAD, DATA_BAD, MALFORMED):
             if not self.line.turned('sent ' + {HEADER_BAD: 'a bad header', DATA_BAD: 'bad data', MALFORMED: 'malformed'}[unit]):
@@ -135,6 +137,7 @@ class Side:
         return sends(self.links, packet, message)
 
     def meets_quietly(self, text):
+        """The tag that the message in a packet has now, where the links could send it."""
         try:
             return self.meets(text)
         except Refused:
@@ -233,6 +236,7 @@ class Side:
             gets(self.links, packet, message, label)
 
     def hears_noise(self, text):
+        """Bytes come that nobody sent."""
         unit, line = read_unit(text), self.line
         if unit not in DAMAGED:
             if line.turned('noise that reads as malformed' if unit == MALFORMED else 'noise that reads as sound'):

@@ -4,6 +4,9 @@ from reading_rows import Refused, Row
 
 BEGINS, ENDS = 0x20, 0x40  # bits of the flag byte
 
+# what has words that are judged where it is sent
+BEARERS = ['a new segment', 'a repeat', 'a data ack']
+
 # The rows of what segments and words say. Their turns are switches; the checks of a segment that is sent stand in its row of the links.
 FLOW_RULES = {heading: Row(heading) for heading in ('words that are sent', 'words that come', 'segment that comes')}
 
@@ -92,11 +95,11 @@ class Flow:
 
     # -- words that are sent
 
-    def words_sent(self, words, is_repeat, message):
-        """What these words leave as the last one sent; a Refused where one is wrong. `message` is a name of what is sent."""
+    def words_sent(self, words, bearer):
+        """What these words leave as the last one sent; a Refused where one is wrong. `bearer` is a name of BEARERS."""
         row, last = self.rules['words that are sent'], self.last
         for place, word in enumerate(words):
-            qualifier, number = word >> 12 & 7, word & 0x0fff
+            qualifier = word >> 12 & 7
             judged = qualifier == 0 or qualifier == 1 and not row.turned('NAK not judged')
             judged = judged or row.turned('qualifier %d judged' % qualifier) or False
             if place == 1 and row.turned('second word not judged'):
@@ -105,37 +108,37 @@ class Flow:
             if judged:
                 if place == 1 and row.turned('second word refused'):
                     raise Refused(21)
-                last = self.judged(row, start, number, qualifier, is_repeat, message)
+                last = self.judged(row, start, word, bearer)
             elif qualifier > 1 and row.turned('qualifier %d moves the last' % qualifier):
-                last = start + distance(row, wire(row, start), number)
+                last = start + distance(row, wire(row, start), word & 0x0fff)
         return self.last if row.turned('the last one stays') else last
 
-    def judged(self, row, start, number, qualifier, is_repeat, message):
-        """What a word with this number leaves as the last one sent, where `start` was that; a Refused where it is wrong."""
+    def judged(self, row, start, word, bearer):
+        """What a word leaves as the last one sent, where `start` was that; a Refused where it is wrong."""
+        number, is_nak = word & 0x0fff, word & 0x1000 != 0
         ahead = distance(row, wire(row, start), number)
         highest = (self.given if row.turned('through the highest given') else self.received) - start
         highest += 1 if row.turned('one above the highest') else 0
         is_right = ahead <= highest or row.turned('without the upper limit') and ahead <= 2047
         if ahead == highest and row.turned('highest refused') or ahead == 0 and row.turned('the last one again refused'):
             is_right = False
-        if row.turned('NAK goes back') and qualifier == 1 and number < start:
+        if row.turned('NAK goes back') and is_nak and number < start:
             return start
         if row.turned('a word that is sent acknowledges') and is_right:
             self.acknowledged = max(self.acknowledged, min(start + ahead, self.given))
         if is_right:
-            stays = qualifier == 1 and row.turned('NAK leaves the last') or is_repeat and row.turned('a repeat leaves the last')
+            stays = is_nak and row.turned('NAK leaves the last') or bearer == 'a repeat' and row.turned('a repeat leaves the last')
             return start if stays else start + ahead
         back = distance(row, number, wire(row, start))
-        if not self.may_go_back(row, is_repeat, message) or not self.lies_behind(row, start, back):
+        if not self.may_go_back(row, bearer) or not self.lies_behind(row, start, back):
             raise Refused(21)
         return start - back if row.turned('a repeat that goes back moves the last') else start
 
-    def may_go_back(self, row, is_repeat, message):
+    def may_go_back(self, row, bearer):
         """Whether a word of this message may name a number below the last one."""
-        if is_repeat:
+        if bearer == 'a repeat':
             return not row.turned('a repeat does not go back')
-        named = {'segment': 'a new segment goes back', 'data ack': 'a data ack goes back'}[message]
-        return row.turned(named) or row.turned('without the lower limit')
+        return row.turned(bearer + ' goes back', 'without the lower limit')
 
     def lies_behind(self, row, start, back):
         """Whether a number so far below the last one may be named in a repeat."""
@@ -150,6 +153,7 @@ class Flow:
     # -- what comes
 
     def words_come(self, words):
+        """Each acknowledges all through its number."""
         row = self.rules['words that come']
         for place, word in enumerate(words):
             qualifier, number = word >> 12 & 7, word & 0x0fff
@@ -163,6 +167,7 @@ class Flow:
         return not row.turned('acknowledge nothing', ['ACK acknowledges nothing', 'NAK acknowledges nothing'][qualifier])
 
     def acknowledge(self, row, number, qualifier):
+        """All through this number is acknowledged, where it was given; nothing is taken back."""
         ahead = distance(row, wire(row, self.acknowledged), number)
         highest = self.received if row.turned('through the highest received') else self.given
         outstanding = highest - self.acknowledged + (1 if row.turned('one above the highest given counts') else 0)
@@ -177,6 +182,7 @@ class Flow:
             self.acknowledged -= min(self.acknowledged, distance(row, number, wire(row, self.acknowledged)))
 
     def segment_comes(self, segnum, flag, data):
+        """A segment that was not received is held."""
         row = self.rules['segment that comes']
         ahead = distance(row, wire(row, self.received), segnum)
         farthest = 2046 if row.turned('held 2,046 ahead') else 2048 if row.turned('held 2,048 ahead') else 2047

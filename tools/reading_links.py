@@ -142,6 +142,7 @@ class Links:
             link.own = address
 
     def go_to(self, link, phase):
+        """The link is in that phase."""
         link.phase = phase
         if phase == 'Ended':
             link.flow.end()
@@ -165,6 +166,7 @@ class Links:
                 self.do_user(row, effect, link, own, data)
 
     def check_user(self, row, check, link, words):
+        """A check of what the user does; `words` are the own and the far address and the data of the event."""
         own, far, data = words
         if check in ('CallIsThere', 'AddressIsLive', 'AddressWasGiven') and link is None:
             raise Refused(18)
@@ -187,9 +189,11 @@ class Links:
         return data in (messages if row.turned('any whole message') else messages[:1])
 
     def messages(self, row, link):
+        """What came whole and may be delivered, with the number of its last segment."""
         return link.flow.whole(row.turned('over a gap'), row.turned('each piece is a message'))
 
     def do_user(self, row, effect, link, own, data):
+        """An effect of what the user does."""
         flow = link.flow if link else None
         if effect == 'BeginLink':
             self.give_address(row, self.begin(row, not row.turned('not opened here')), own)

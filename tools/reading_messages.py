@@ -40,7 +40,7 @@ class Sending:
         """Turns that judge what a message of a link carries."""
         of_link_sent(self.links.rules['not judged'], self.link, self.message, self.number)
         if self.row.turned('its words are judged'):
-            self.link.flow.words_sent(words_of_rest(self.message), False, 'data ack')
+            self.link.flow.words_sent(words_of_rest(self.message), 'a data ack')
 
     def check(self, name):
         """A check of the message of a link that is there."""
@@ -70,6 +70,7 @@ class Sending:
         return link
 
     def do(self, effect):
+        """An effect on the link of the message."""
         flow = self.link.flow
         if effect == 'NoteCall':
             self.link.is_called = True
@@ -85,6 +86,7 @@ class Sending:
 
 
 def tag_of(row, link):
+    """The tag of a message by whose row this link goes."""
     if link is None or row.turned('has no tag'):
         return NO_TAG
     return link.tag()._replace(partner=None) if row.turned('the tag has no partner') else link.tag()
@@ -97,6 +99,8 @@ def between_nodes(row, packet, source, destination):
         raise Refused(16)
 
 
+# ---- the checks of a message of a link that is there: whether it is passed, and the reason where not
+
 def right_phase(sending):
     row, by_68, phase = sending.row, sending.message.flag == 0x68, sending.link.phase
     is_too_much = [sending.link.is_called and row.turned('only once'), sending.link.is_heard and row.turned('none behind a connect ack')]
@@ -106,8 +110,9 @@ def right_phase(sending):
 
 
 def words_are_right(sending):
-    is_repeat = sending.message.kind == 'segment' and not sending.is_new
-    sending.last = sending.link.flow.words_sent(sending.message.words, is_repeat, sending.message.kind)
+    """A word that is wrong is a Refused. Notes what the words leave as the last one sent."""
+    bearer = 'a data ack' if sending.message.kind == 'data ack' else 'a new segment' if sending.is_new else 'a repeat'
+    sending.last = sending.link.flow.words_sent(sending.message.words, bearer)
     return True
 
 

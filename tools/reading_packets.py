@@ -32,6 +32,7 @@ def read_unit(text):
 
 
 def read_data(unit):
+    """A unit that begins as a data message, with a good header."""
     count = unit[1] + 256 * (unit[2] & 63)
     if count == 0:
         return MALFORMED
@@ -43,6 +44,7 @@ def read_data(unit):
 
 
 def read_control(unit):
+    """A unit that begins as a control message, with a good header."""
     subtype, resp, num = unit[2] & 63, unit[3], unit[4]
     kind, said = CONTROL.get(unit[1], (None, None))
     right = subtype in NAK_REASONS if kind == 'NAK' else subtype == 0
@@ -60,6 +62,7 @@ CONTROL_PACKET = Packet(0, False, None, None, 0, None)
 
 
 def number(two):
+    """The word of these two bytes."""
     return two[0] + 256 * two[1]
 
 
@@ -104,6 +107,7 @@ class Unreadable(Exception):
 
 
 def word_at(message, place):
+    """The word at this place."""
     if place + 2 > len(message):
         raise Unreadable
     return number(message[place:])

@@ -44,15 +44,18 @@ class Row:
 # ---- the words of turns, each with what it makes of the parts of a row, or None where it makes nothing of them
 
 def left_out(parts, name):
+    """The lists without a check, an effect or a test."""
     return {part: [item for item in parts[part] if item != name] for part in LISTS if name in parts.get(part, [])} or None
 
 
 def put_in(parts, name):
+    """The checks or the effects with one more, at the end."""
     part = 'checks' if name.startswith('CauseIsOpen') else 'effects'
     return {part: parts[part] + [name]} if part in parts else None
 
 
 def before(parts, first, second):
+    """The checks, the first of these in front of the second."""
     checks = parts.get('checks', [])
     if first not in checks or second not in checks:
         return None
@@ -62,11 +65,13 @@ def before(parts, first, second):
 
 
 def last(parts, name):
+    """The checks, this one at the end."""
     others = [check for check in parts.get('checks', []) if check != name]
     return {'checks': others + [name]} if len(others) < len(parts.get('checks', [])) else None
 
 
 def leads_to(parts, phase):
+    """The effects, which lead to that phase."""
     effects = [effect for effect in parts.get('effects', []) if not effect.startswith('GoTo ') and effect != 'EndLink']
     return {'effects': effects + ['GoTo ' + phase]} if 'effects' in parts else None
 

@@ -25,6 +25,7 @@ class Station:
         return self.period, self.partner
 
     def user(self, event):
+        """The user starts or halts the station."""
         row = self.rules['%s user %s' % (self.state, event)]
         if not row['allowed']:
             raise Refused(14)
@@ -61,6 +62,7 @@ class Station:
             self.causes = dict.fromkeys(CAUSED, 0)
 
     def opens_cause(self, reason):
+        """One more cause of this reason is open."""
         is_full = self.causes[reason] > 0 and self.rules['causes'].turned('one open cause of reason %d at most' % reason)
         self.causes[reason] += 0 if is_full else 1
 
