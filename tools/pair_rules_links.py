@@ -161,7 +161,8 @@ NOT_JUDGED = [
     '%s refused, %s not read, %s not read where it comes' % (name, name, name)
     for name in ('FORWARD', 'RTFLG 0a', 'RTFLG 22', 'RTFLG 42', 'RTFLG 6a')
 ] + [
-    'a returned packet is read where it comes, a returned packet is refused where it cannot be read, the nodes of a returned packet',
+    'a returned packet is read where it comes, a returned packet is refused where it cannot be read',
+    'the nodes of a returned packet that is sent, the nodes of a returned packet that comes',
 ]
 OWN_TURNS['not judged'] = ', '.join(NOT_JUDGED)
 

@@ -231,7 +231,7 @@ class Side:
         packet = read_packet(text)
         message = read_nsp(packet.nsp) if packet and packet.nsp is not None else None
         if packet:
-            returned_kept(self.rules['not judged'], packet, message)
+            returned_kept(self.rules['not judged'], packet, message, (self.links.other, self.links.node))
         if message is not None and is_read(self.rules['not judged'], packet):
             gets(self.links, packet, message, label)
 

@@ -45,7 +45,7 @@ def packet_sent(row, packet, nodes):
     names = names_of(packet)
     if any([row.turned(name + ' refused') for name in names]) or nodes[0] == nodes[1] and row.turned('equal addresses in a head'):
         raise Refused(15)
-    if packet.returned and (packet.source, packet.destination) != nodes and row.turned('the nodes of a returned packet'):
+    if packet.returned and (packet.source, packet.destination) != nodes and row.turned('the nodes of a returned packet that is sent'):
         raise Refused(16)
     return not any([row.turned(name + ' not read') for name in names])
 
@@ -57,8 +57,10 @@ def is_read(row, packet):
     return not any([row.turned(name + ' not read where it comes') for name in names_of(packet)])
 
 
-def returned_kept(row, packet, message):
-    """A packet that is on its way back is kept."""
+def returned_kept(row, packet, message, nodes):
+    """A packet that is on its way back is kept; `nodes` are the other one and the own one."""
+    if packet.returned and (packet.source, packet.destination) != nodes and row.turned('the nodes of a returned packet that comes'):
+        raise Refused(16)
     if packet.returned and message is None and row.turned('a returned packet is refused where it cannot be read'):
         raise Refused(17)
 
