@@ -1,0 +1,56 @@
+"""The lines of the lists in tools/pairs, which say how they are written, and whether an answer is that of a line."""
+import os
+import re
+import sys
+
+from program import TOP
+
+REFUSAL = re.compile(r'([ab]) (\d+): (\d+ \w+)')
+COUNTS = r' records (\d+) sent \d+ received \d+ damaged \d+ kept \d+ periods \d+ links \d+ up \d+'
+ACCEPTANCE = re.compile('accepted\n(a%s)\n(b%s)\n' % (COUNTS, COUNTS))
+
+
+class Line:
+    """A line of a list: where it stands, its turns (of a worked pair its name), and the records of both sides with the answer, or None."""
+
+    def __init__(self, place, fields):
+        self.place = place
+        self.turns = fields[0].split(', ')
+        self.pair = fields[1:] if len(fields) == 4 else None
+
+
+def lines_below(name):
+    """The lines of the list with this name, by the headings that they stand below."""
+    path = os.path.join(TOP, 'tools', 'pairs', name)
+    below, lines = {}, None
+    for number, text in enumerate(open(path), 1):
+        text = text.rstrip('\n')
+        place = '%s: line %d' % (os.path.relpath(path, TOP), number)
+        fields = text.split(' | ')
+        if text.startswith('#'):
+            continue
+        if text == '':
+            lines = None
+        elif lines is None and len(fields) == 1 and text not in below:
+            lines = below[text] = []
+        elif lines is not None and (len(fields) == 4 or len(fields) == 2 and fields[1].startswith('no pair: ')):
+            lines.append(Line(place, fields))
+        else:
+            sys.exit('%s: what is this?' % place)
+    return below
+
+
+def is_answer(answer, printed, status, records):
+    """Whether this is printed where that is the answer, with its status. The captures have so many records."""
+    refusal = REFUSAL.fullmatch(answer)
+    if refusal:
+        side, record, reason = refusal.groups()
+        return (printed, status) == ('refused %s %s line %d: %s\n' % (side, record, int(record) + 2, reason), 1)
+    word, *ends = answer.split('; ')
+    if word != 'accepted' or len(ends) not in (0, 2):
+        raise ValueError('what answer is %r?' % answer)
+    accepted = ACCEPTANCE.fullmatch(printed)
+    if accepted is None or status != 0:
+        return False
+    line_a, records_a, line_b, records_b = accepted.groups()
+    return [int(records_a), int(records_b)] == records and all(line.endswith(' ' + end) for line, end in zip((line_a, line_b), ends))

@@ -1,0 +1,211 @@
+"""The links of a node, as docs/LINKS.md tells them: tables of what the user does, of what may be sent and of what an arrival does, with the
+look-ups. A part of tools/reading.py, which judges pairs apart from the program."""
+from collections import namedtuple
+
+from reading_flow import FLOW_RULES, Flow
+from reading_rows import Refused, Row
+
+PHASES = ['Calling', 'Called', 'Confirming', 'RUN', 'DI', 'Ended']
+IN_RUN = ['segment', 'data ack', 'link service', 'interrupt', 'other-data ack']
+
+# The link of the sender, and its partner then, each as the number of that link at its node, or None.
+Tag = namedtuple('Tag', 'link partner')
+NO_TAG = Tag(None, None)
+
+# ---- the tables
+
+# the tests of each look-up
+LOOK_UPS = {
+    'HasAddress': ['own'],
+    'LiveAt': ['own', 'live'],
+    'TheLink': ['own', 'far', 'live'],
+    'LiveTo': ['far', 'live'],
+    'OpenedAt': ['own', 'opened', 'live'],
+    'CallingAt': ['own', 'calling'],
+    'CalledBy': ['far', 'called'],
+    'BegunBy': ['far', 'live', 'begun by a CI'],
+    'ActedOn': ['own', 'far', 'connected'],
+}
+TESTS = {
+    'own': lambda link, own, far: link.own is not None and link.own == own,
+    'far': lambda link, own, far: link.far is not None and link.far == far,
+    'live': lambda link, own, far: link.phase != 'Ended',
+    'opened': lambda link, own, far: link.opened,
+    'begun by a CI': lambda link, own, far: not link.opened,
+    'calling': lambda link, own, far: link.phase == 'Calling',
+    'called': lambda link, own, far: link.phase == 'Called',
+    'connected': lambda link, own, far: link.phase in ('Confirming', 'RUN'),
+}
+
+# what the user does: the look-up of the link, the checks in their order, the phases, and the effects
+USER = {
+    'open': (None, ['AddressIsFree'], PHASES, ['BeginLink']),
+    'accept': ('CalledBy', ['CallIsThere', 'AddressIsFree'], PHASES, ['GiveAddress', 'GoTo Confirming']),
+    'reject': ('CalledBy', ['CallIsThere', 'AddressIsFree'], PHASES, ['GiveAddress', 'GoTo DI']),
+    'in': ('LiveAt', ['AddressIsLive', 'RightPhase'], ['Calling', 'Confirming', 'RUN'], ['HandIn']),
+    'up': ('HasAddress', ['AddressWasGiven', 'RightPhase', 'IsNextMessage'], PHASES, ['Deliver']),
+    'close': ('LiveAt', ['AddressIsLive', 'RightPhase'], ['Confirming', 'RUN'], ['GoTo DI']),
+}
+
+# what may be sent, likewise; of a DC the phases are those of a link that may be there
+NODES, LINK = ['BetweenNodes'], ['BetweenNodes', 'LinkIsThere']
+OF_SEGMENTS = ['WordsAreRight', 'RoomInWindow', 'FitsSegsize', 'NextPiece', 'OneOfTheLast', 'AsFirstGiven']
+SENDING = {
+    'no operation': (None, NODES, PHASES, []),
+    'CI': ('OpenedAt', LINK + ['RightPhase'], ['Calling'], ['NoteCall']),
+    'connect ack': ('BegunBy', LINK, PHASES, []),
+    'CC': ('TheLink', LINK + ['RightPhase'], ['Confirming'], []),
+    'DI': ('TheLink', LINK + ['RightPhase'], ['DI'], []),
+    'DC': ('TheLink', NODES + ['NoLink'], [], ['EndCalled']),
+    'segment': ('TheLink', LINK + ['RightPhase'] + OF_SEGMENTS, ['RUN'], ['MoveLast', 'GiveNumber']),
+    'data ack': ('TheLink', LINK + ['RightPhase', 'WordsAreRight'], ['RUN'], ['MoveLast']),
+    **{name: ('TheLink', LINK + ['RightPhase'], ['RUN'], []) for name in ('link service', 'interrupt', 'other-data ack')},
+}
+
+# what an arrival does: the look-up of the link, the checks of it, its phases, and the effects
+FITS = ['SenderIsPartner', 'ForThisLink']
+BEGINS = ['BeginLink', 'the far address', 'the partner', 'SEGSIZE']
+CONFIRMS = ['GoTo RUN', 'the far address', 'the partner', 'SEGSIZE']
+ARRIVING = {
+    'no operation': (None, [], PHASES, []),
+    'CI': ('LiveTo', [], PHASES, BEGINS),
+    'connect ack': ('OpenedAt', [], PHASES, []),
+    'CC': ('CallingAt', ['ForThisLink'], PHASES, CONFIRMS),
+    'DI': ('TheLink', [], PHASES, ['EndLink']),
+    'DC': ('TheLink', [], PHASES, ['EndLink']),
+    'segment': ('ActedOn', FITS, PHASES, ['GoTo RUN', 'TakeWords', 'TakeSegment']),
+    'data ack': ('ActedOn', FITS, PHASES, ['GoTo RUN', 'TakeWords']),
+    **{name: ('ActedOn', FITS, PHASES, ['GoTo RUN']) for name in ('link service', 'interrupt', 'other-data ack')},
+}
+
+
+def link_rules():
+    """The rows of the links, by heading."""
+    rules = [Row('look-up ' + name, tests=tests) for name, tests in LOOK_UPS.items()]
+    for verb, table in ('user', USER), ('sends', SENDING), ('gets', ARRIVING):
+        for name, (look_up, checks, phases, effects) in table.items():
+            tests = ['the one in Calling'] if verb == 'gets' and name in ('DI', 'DC') else []
+            parts = {'look_up': look_up, 'checks': checks, 'phases': phases, 'effects': effects, 'tests': tests}
+            rules.append(Row('%s %s' % (verb, name), allowed=True, begins='Called' if verb == 'gets' else 'Calling', instead={}, **parts))
+    return {**FLOW_RULES, 'not judged': Row('not judged'), **{row.heading: row for row in rules}}
+
+
+# ---- a link, and how it is found
+
+class Link:
+    """One end of a link. `place` is its number at its node; `own` and `far` are addresses, and `partner` the number of the partner there."""
+
+    def __init__(self, place, rules, phase, opened):
+        self.place = place
+        self.phase = phase
+        self.opened = opened
+        self.own = self.far = self.partner = None
+        self.segsize = 0
+        self.is_called = self.is_heard = False  # whether its CI was sent, and whether a connect ack for it came
+        self.words, self.bits_12 = {}, {}  # of each segment when it was first sent, by number
+        self.interrupts = 0
+        self.flow = Flow(rules)
+
+    def tag(self):
+        return Tag(self.place, self.partner)
+
+
+class Links:
+    """The links of a node with this address, to the other one. `delivered` counts what came up."""
+
+    def __init__(self, rules, node, other):
+        self.rules = rules
+        self.node, self.other = node, other
+        self.links = []
+        self.delivered = 0
+
+    def find(self, row, name, own=None, far=None):
+        """The link that a look-up finds; a row may have another look-up in its place."""
+        if name is None:
+            return None
+        tests = self.rules['look-up ' + row['instead'].get(name, name)]
+        links = reversed(self.links) if tests.turned('the last that passes') else self.links
+        return next((link for link in links if all(TESTS[test](link, own, far) for test in tests['tests'])), None)
+
+    def begin(self, row, opened):
+        """A new link, in the phase of the row."""
+        link = Link(len(self.links), self.rules, row['begins'], opened)
+        self.links.append(link)
+        return link
+
+    def give_address(self, row, link, address):
+        """The link gets the address, and the one that had it loses it."""
+        for other in self.links:
+            if other.own == address and not row.turned('the earlier link keeps the address'):
+                other.own = None
+        if not row.turned('gives no address'):
+            link.own = address
+
+    def go_to(self, link, phase):
+        """The link is in that phase."""
+        link.phase = phase
+        if phase == 'Ended':
+            link.flow.end()
+
+    # -- what the user does
+
+    def user(self, words):
+        """An event of a link: its words, and the data that are handed in or delivered."""
+        verb, *words = words
+        row = self.rules['user ' + verb]
+        far = int(words[0]) if verb in ('accept', 'reject') else None
+        own = int(words[1] if far is not None else words[0])
+        data = bytes.fromhex(words[1].replace('-', '')) if verb in ('in', 'up') else None
+        link = self.find(row, row['look_up'], own, far)
+        if not row['allowed']:
+            raise Refused(19)
+        for check in row['checks']:
+            self.check_user(row, check, link, (own, far, data))
+        for effect in row['effects']:
+            if link is not None or effect == 'BeginLink':
+                self.do_user(row, effect, link, own, data)
+
+    def check_user(self, row, check, link, words):
+        """A check of what the user does; `words` are the own and the far address and the data of the event."""
+        own, far, data = words
+        if check in ('CallIsThere', 'AddressIsLive', 'AddressWasGiven') and link is None:
+            raise Refused(18)
+        if check == 'AddressIsFree' and (self.find(row, 'LiveAt', own) is not None or own == far and row.turned('the far address is in use')):
+            raise Refused(26)
+        if check == 'RightPhase' and link is not None and link.phase not in row['phases']:
+            raise Refused(19)
+        if check == 'IsNextMessage' and not self.is_next(row, link, data):
+            raise Refused(24)
+
+    def is_next(self, row, link, data):
+        """Whether the data are what may be delivered next."""
+        if link is None:
+            return True
+        if row.turned('a beginning of the message') and link.flow.beginning(data):
+            return True
+        if row.turned('one message at most') and link.flow.delivered:
+            return False
+        messages = [message for _, message in self.messages(row, link)]
+        return data in (messages if row.turned('any whole message') else messages[:1])
+
+    def messages(self, row, link):
+        """What came whole and may be delivered, with the number of its last segment."""
+        return link.flow.whole(row.turned('over a gap'), row.turned('each piece is a message'))
+
+    def do_user(self, row, effect, link, own, data):
+        """An effect of what the user does."""
+        flow = link.flow if link else None
+        if effect == 'BeginLink':
+            self.give_address(row, self.begin(row, not row.turned('not opened here')), own)
+        elif effect == 'GiveAddress':
+            self.give_address(row, link, own)
+        elif effect == 'HandIn':
+            flow.handed[:] = [data] + flow.handed if row.turned('in front of the earlier') else flow.handed + [data]
+        elif effect == 'Deliver':
+            self.delivered += 1
+            if not row.turned('delivered again'):
+                flow.delivered = max([number for number, message in self.messages(row, link)[:1]], default=flow.delivered)
+        else:
+            if row.turned('drops what came whole'):
+                flow.delivered = flow.received
+            self.go_to(link, effect.removeprefix('GoTo '))
