@@ -30,7 +30,7 @@ pub struct Port {
     pub far: Option<u16>,
 }
 
-/// Which link a message or an event is about. A link is live until it is ended; no two live links have the same own address.
+/// Which link a message or an event is about. A link is live until it is ended; an own address is given only where no live link has it.
 #[derive(Clone, Copy, Debug, PartialEq, Eq)]
 pub enum LinkTest {
     /// The link that got this own address last, live or ended.
