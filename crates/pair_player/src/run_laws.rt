@@ -1,5 +1,5 @@
-//! Laws of what is played, as functions that do nothing: of a script that starts each side at most once the captures that are written are a run
-//! of two nodes, and what is answered is what ends on true numbers make of it.
+//! Laws of what is played, as functions that do nothing: what is written are texts of two captures, whatever the script; and of one that
+//! starts each side at most once they are a run of two nodes, and what is answered is what ends on true numbers make of it.
 
 ghost use Rattle.std.specs.Prelude.{◌≡◌, ℕ, [], List, Option, Result, Some, Ok};
 ghost use Rattle.dna_model.specs.KeptRun.{kept_played};
@@ -11,7 +11,13 @@ ghost use Rattle.dna_model.specs.Stepped.{Stop};
 ghost use Rattle.pair_player.specs.declared.fault.PlayFault.{PlayFault};
 ghost use Rattle.pair_player.specs.declared.played.Played.{Played};
 ghost use Rattle.pair_player.specs.Playing.{AnswersWhole, HasPlayed, Held, Plays, Reached, StopsBehind, reached};
-ghost use Rattle.pair_player.specs.Runs.{AreARun, IsOfTruth, StartsOnceThroughout, StopsByRule};
+ghost use Rattle.pair_player.specs.Runs.{AreARun, AreTexts, IsOfTruth, StartsOnceThroughout, StopsByRule};
+
+/// Behind steps that were read and made, whatever they are, the bytes that are written are texts of two captures: each record has a line, and
+/// there are no more of them than a text may hold.
+pub fn written_captures_are_texts()
+    ensures { (text : Option (List ℕ)) (r : Reached) → HasPlayed text r → AreTexts r }
+{}
 
 /// Behind steps that were read and made, and that start each side at most once, the records of both sides are a run of two nodes over both
 /// layers as a judge has them, and the bytes that are written are texts of these captures.
