@@ -41,7 +41,8 @@ prefix_passes {X} test (y ∷ xs) x at = go (prefix_passes test xs x) (test y) r
     go later true e at = let same : y ≡ x = cc in subst (λ (z : X). test z ≡ true) same e
     go later false e at = later (rw one-add at at)
 
-pub position_passes : {X : Type 0} (test : X → Bool) (xs : List X) (i : ℕ) (x : X) → position test xs ≡ Some i → slice_get xs i ≡ Some x → test x ≡ true
+pub position_passes : {X : Type 0} (test : X → Bool) (xs : List X) (i : ℕ) (x : X) →
+    position test xs ≡ Some i → slice_get xs i ≡ Some x → test x ≡ true
 position_passes {X} test xs i x found at =
     let p = (cond_some (nat_lt (prefix_len (λ (y : X). not (test y)) xs) (length xs)) (prefix_len (λ (y : X). not (test y)) xs) i found).1 in
     prefix_passes test xs x (ap (slice_get xs) p ∙ at)

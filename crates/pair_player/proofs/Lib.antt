@@ -22,3 +22,5 @@ mod FitMessages
 mod FitRecords
 mod FitSteps
 mod FitPlays
+mod LimitRows
+mod SendLaws
