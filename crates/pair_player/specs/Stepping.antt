@@ -1,5 +1,5 @@
 -- What a contract says of a step of an end, beside the line to it and the line from it, and of a step of both ends; and which may ask for memory.
-use Rattle.std.specs.Prelude.{◌≡◌, ℕ, ◌++◌, List, Result, Ok, Err, IsOk}
+use Rattle.std.specs.Prelude.{ℕ, ◌++◌, List, Result, Ok, Err, IsOk}
 use Rattle.wire_base.specs.declared.side.Side.{Side}
 use Rattle.wire_base.specs.declared.side.Side.TheVariants.{A, B}
 use Rattle.capture.specs.declared.hint.HintForm.TheVariants.{Number}
