@@ -1,5 +1,8 @@
 -- What `check` is given of what `play` wrote into two empty captures.
 use Rattle.std.specs.Prelude.{◌≡◌, ℕ, ◌<◌, ◌⊎◌, [], Some, Result, Ok, Err}
+use Rattle.pair_judge.specs.declared.fault.JudgeFault.TheVariants as judge
+use Rattle.pair_judge.specs.declared.fault.TextFault.TheVariants as of_text
+use Rattle.pair_judge.specs.Judged.{Answer}
 use Rattle.pair_player.specs.declared.fault.PlayFault.{PlayFault}
 use Rattle.pair_player.specs.declared.fault.PlayFault.TheVariants.{Departs, BadStep, Full, Read, Write, OutOfMemory}
 use Rattle.pair_player.specs.declared.played.Played.{Played}
@@ -20,6 +23,13 @@ HasCaptures (Err (Full line)) = Unit {0}
 HasCaptures (Err Read) = ⊥
 HasCaptures (Err (Write side)) = ⊥
 HasCaptures (Err OutOfMemory) = ⊥
+
+-- no line of either text departs from the format
+abbrev pub NamesNoText : Answer → Type 0
+NamesNoText (Ok verdict) = Unit {0}
+NamesNoText (Err (judge.Capture side (of_text.Departs kind line))) = ⊥
+NamesNoText (Err (judge.Capture side of_text.Read)) = Unit {0}
+NamesNoText (Err judge.OutOfMemory) = Unit {0}
 
 -- one call of `play` into two empty captures, that ends with status 0, and then one of `check`, of what they hold
 pub record PlaysThenChecks (script : Moved) (captures : Moved × Moved) (played_to checked_to : Moved × Moved) (status : ℕ) : Type 0 where

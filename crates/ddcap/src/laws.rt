@@ -1,4 +1,5 @@
-//! A law of the program's two halves, as a function that does nothing: what `play` writes, `check` accepts.
+//! Laws of the program's two halves, as functions that do nothing: what `play` writes are two texts to `check`, whatever the script; and of one
+//! that starts each side at most once it accepts them.
 
 ghost use Rattle.std.specs.Prelude.{ℕ, List, Option, Result, Some, Ok};
 ghost use Rattle.dna_model.specs.PlayRun.{StartsOnce};
@@ -11,11 +12,20 @@ ghost use Rattle.pair_player.specs.declared.fault.PlayFault.{PlayFault};
 ghost use Rattle.pair_player.specs.declared.played.Played.{Played};
 ghost use Rattle.pair_player.specs.Playing.{HasPlayed, HasWritten, Held, Plays, Reached};
 ghost use Rattle.pair_player.specs.Runs.{StartsOnceThroughout};
-ghost use Rattle.ddcap.specs.Accepting.{HasCaptures, IsAcceptedStatus, PlaysThenChecks, empty_captures};
+ghost use Rattle.ddcap.specs.Accepting.{HasCaptures, IsAcceptedStatus, NamesNoText, PlaysThenChecks, empty_captures};
 ghost use Rattle.ddcap.specs.Printed.{Moved};
 ghost use Rattle.wire_base.specs.declared.side.Side.{Side as OfSide};
 
 use pair_player::starts_once_throughout;
+
+/// Of what is played into two empty captures, whatever the steps, the judge names no line as one that departs from the format. So it is of all
+/// that the player answers behind the head of a script, where no device and no memory failed.
+pub fn played_texts_stand()
+    ensures reached { (text : Option (List ℕ)) (r : Reached) (written : Held) (answer : Answer) → HasPlayed text r →
+        HasWritten empty_captures written r → IsAnswer written.a written.b answer → NamesNoText answer }
+    ensures answered { (text : Option (List ℕ)) (written : Held) (played : Result Played PlayFault) (answer : Answer) →
+        Plays text empty_captures written played → HasCaptures played → IsAnswer written.a written.b answer → NamesNoText answer }
+{}
 
 /// What is played into two empty captures, of steps that start each side at most once, the judge accepts, where neither memory nor a read fails
 /// him. So it is of all that the player answers behind the head of a script, where no device and no memory failed; and of the program: where

@@ -12,3 +12,15 @@ pub mod RunLaws
 pub mod StopLaws
 pub mod NextUnit
 pub mod Sides
+mod ByteLists
+mod EachElement
+mod Carried
+mod PiecesWaiting
+mod FitLinks
+mod FitStation
+mod FitMessages
+mod FitRecords
+mod FitSteps
+mod FitPlays
+mod LimitRows
+mod SendLaws

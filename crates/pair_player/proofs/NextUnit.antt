@@ -1,9 +1,12 @@
 -- What a step makes of the next unit on the line.
-use Rattle.std.proofs.Common.{◌≡◌, ℕ, Bool, true, false, cond, Some, None, List, [], ◌∷◌, Result, Err, refl, ap}
+use Rattle.std.proofs.Common.{◌≡◌, ℕ, Bool, true, false, cond, Option, Some, None, List, [], ◌∷◌, Result, Ok, Err, refl, ap}
+use Rattle.std.specs.Prelude.{IsSome}
 use Rattle.dna_model.specs.Stepped.{Stop, BadStep}
 use Rattle.dna_model.specs.Kept.{KeptEnd}
-use Rattle.dna_model.specs.KeptPlay.{KeptStepped, comes, comes_damaged, with_next}
+use Rattle.dna_model.specs.KeptPlay.{KeptStepped, comes, comes_damaged, sends, sends_choice, with_next}
 use Rattle.dna_model.specs.Receipt.{damaged, is_damage}
+use Rattle.dna_model.specs.NextSent.{Choice, choice, link_choice}
+use Rattle.player_end.specs.Stepping.{HasUnit, with_lines}
 use Rattle.pair_player.specs.Line.{first_of}
 
 module _ (next : List ℕ → Result KeptStepped Stop) where
@@ -25,6 +28,15 @@ module _ (e : KeptEnd) (place value : ℕ) (bytes : List ℕ) where
 
   pub no_damage : is_damage place value bytes ≡ false → comes_damaged e place value bytes ≡ Err BadStep
   no_damage is = damage_by false is
+
+-- what was sent was there to send
+module _ (e : KeptEnd) (text : List ℕ) (x : KeptEnd × List (List ℕ) × List ℕ) where
+  some_choice : (o : Option Choice) → with_lines text (sends_choice e o) ≡ Ok x → IsSome o
+  some_choice None is = absurd cc
+  some_choice (Some next) is = refl
+
+  pub sent_something : with_lines text (sends e) ≡ Ok x → HasUnit e
+  sent_something is = some_choice (choice e.station.variables e.station.owed (link_choice e.links.confirms e.links.links)) is
 
 pub ruleset next_units = (next_unit, no_unit)
 

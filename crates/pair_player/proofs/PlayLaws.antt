@@ -23,7 +23,7 @@ use Rattle.player_end.specs.declared.fault.StepFault.{StepFault}
 use Rattle.player_end.specs.declared.fault.StepFault.TheVariants as stops
 use Rattle.pair_player.specs.declared.played.Played.{Played}
 use Rattle.pair_player.specs.Beginning.{IsBegun, fault_of, fault_at}
-use Rattle.pair_player.specs.Playing.{DepartsBehind, EndsBehind, HasPlayed, HasWritten, Held, Plays, PlaysWholeLines, Reached, StopsBehind, held, text_a, text_b}
+use Rattle.pair_player.specs.Playing.{DepartsBehind, EndsBehind, HasPlayed, HasWritten, Held, Plays, PlaysWholeLines, Reached, RefusedBehind, StopsBehind, held, text_a, text_b}
 use Rattle.pair_player.specs.Reader.{Advances, FaultShows, ScriptState, WhereReadFails}
 use Rattle.pair_player.specs.SoFar.{no_steps, with_step}
 use Rattle.player_end.specs.Stepping.{StopMeans}
@@ -198,7 +198,7 @@ Meant r (Err (faults.BadStep line)) = StopsBehind BadStep line r
 Meant r (Err (faults.Full line)) = StopsBehind Full line r
 Meant r (Err faults.Read) = Unit {0}
 Meant r (Err (faults.Write side)) = ⊥
-Meant r (Err faults.OutOfMemory) = Unit {0}
+Meant r (Err faults.OutOfMemory) = RefusedBehind r
 
 plays_meant : (text : Option (List ℕ)) (old new : Held) (r : Reached) (answer : Result Played PlayFault) → HasPlayed text r → HasWritten old new r → Meant r answer → Plays text old new answer
 plays_meant text old new r (Ok answer) h k m = (r, h, k, m)
@@ -207,7 +207,7 @@ plays_meant text old new r (Err (faults.BadStep line)) h k m = (r, h, k, m)
 plays_meant text old new r (Err (faults.Full line)) h k m = (r, h, k, m)
 plays_meant text old new r (Err faults.Read) h k m = inr (r, h, k, tt)
 plays_meant text old new r (Err (faults.Write side)) h k m = absurd m
-plays_meant text old new r (Err faults.OutOfMemory) h k m = inr (r, h, k, tt)
+plays_meant text old new r (Err faults.OutOfMemory) h k m = inr (r, h, k, m)
 
 module _ (text : Option (List ℕ)) (old : Held) (p : Place) (h : IsUnderWay text old p) where
   pub ended : (meant answer : Result Played PlayFault) (n m : ℕ) (new : Outlet × Outlet) → Meant h.reached meant → EndsAll meant (outlet p.a p.now.a n, outlet p.b p.now.b m) new answer
@@ -222,21 +222,23 @@ module _ (text : Option (List ℕ)) (old : Held) (p : Place) (h : IsUnderWay tex
   at_end lines after advances = record { end = subst IsAtEnd (sym h.come_is) advances.0; steps_are = sym h.count }
 
   -- its next line is not known
-  pub at_fault : (lines : ScriptState) (after : Option (List ℕ)) (fault : ScriptFault) → Advances p.lines lines p.come after (Err fault) → Meant h.reached (Err (fault_of fault))
-  at_fault lines after fault advances = by_fault fault advances.0
+  pub at_fault : (lines : ScriptState) (after : Option (List ℕ)) (fault : ScriptFault) → Advances p.lines lines p.come after (Err fault) →
+      (fault ≡ of_script.OutOfMemory → ⊥) → Meant h.reached (Err (fault_of fault))
+  at_fault lines after fault advances memory = by_fault fault advances.0 memory
     where
       same : p.lines.steps ≡ length h.reached.script.steps
       same = h.counted ∙ sym h.count
 
-      by_fault : (fault : ScriptFault) → FaultShows (StepDeparts p.lines.steps) (p.lines.steps + 2) p.come fault → Meant h.reached (Err (fault_of fault))
-      by_fault (of_script.Departs kind line) shows = record {
+      by_fault : (fault : ScriptFault) → FaultShows (StepDeparts p.lines.steps) (p.lines.steps + 2) p.come fault →
+          (fault ≡ of_script.OutOfMemory → ⊥) → Meant h.reached (Err (fault_of fault))
+      by_fault (of_script.Departs kind line) shows memory = record {
         departs = subst (λ (x : Option (List ℕ)). IfSome x (StepDeparts (length h.reached.script.steps) kind)) (sym h.come_is)
             (subst (λ (n : ℕ). IfSome p.come (StepDeparts n kind)) same shows.1);
         line_is = shows.0 ∙ ap (λ n. n + 2) same;
       }
-      by_fault of_script.Read shows = tt
-      by_fault of_script.OutOfMemory shows = tt
-      by_fault of_script.Failed shows = absurd shows
+      by_fault of_script.Read shows memory = tt
+      by_fault of_script.OutOfMemory shows memory = absurd (memory refl)
+      by_fault of_script.Failed shows memory = absurd shows
 
   -- its next step isn't made
   at_stop : (step : ScriptStep) (lines : ScriptState) (after : Option (List ℕ)) (fault : StepFault) → lines.step ≡ Some step → Advances p.lines lines p.come after (Ok true)
@@ -259,7 +261,15 @@ module _ (text : Option (List ℕ)) (old : Held) (p : Place) (h : IsUnderWay tex
       by_fault : (fault : StepFault) → StopMeans (kept_plays_step p.pair step) fault → Meant h.reached (Err (fault_at (p.steps + 2) fault))
       by_fault stops.BadStep e = behind BadStep e
       by_fault stops.Full e = behind Full e
-      by_fault stops.OutOfMemory e = tt
+      by_fault stops.OutOfMemory e =
+          let found = read_step lines.step step after p.come is advances.0 in
+          record {
+            step = step;
+            fits = found.0;
+            few = few_steps text old p h advances.1;
+            later = after;
+            spelled = subst (λ (x : Option (List ℕ)). Consumes x after (script_line step)) (sym h.come_is) found.1;
+          }
 
   -- the same where the lines that wait are seen behind it
   pub stopped : (step : ScriptStep) (lines : ScriptState) (after : Option (List ℕ)) (at : Standing) (fault : StepFault) (answer : Result Played PlayFault) (n m : ℕ) (new : Outlet × Outlet) → lines.step ≡ Some step

@@ -1,4 +1,4 @@
--- What was played of a script that starts each side at most once is played by ends on true numbers too, and its captures are a run.
+-- What was played of a script has texts; and of one that starts each side at most once it is played by ends on true numbers too, and is a run.
 use Rattle.std.proofs.Common.{◌≡◌, ℕ, ◌≤◌, List, [], ◌∷◌, ◌++◌, length, Option, Some, None, Result, Ok, Err, refl, sym, ap, subst, ◌∙◌, arith}
 use Rattle.std.specs.List.{AllByRecursion}
 use Rattle.wire_base.specs.declared.side.Side.{Side}
@@ -15,15 +15,14 @@ use Rattle.dna_model.specs.Played.{Played, Stopped, head_a, head_b, play}
 use Rattle.dna_model.specs.PlayRun.{StartsOnce, starts_of}
 use Rattle.dna_model.specs.KeptPlayed.{KeptPlayed}
 use Rattle.dna_model.specs.KeptRun.{kept_of, kept_played}
-use Rattle.dna_model.proofs.FewRecords.{few_records}
 use Rattle.dna_model.proofs.KeptLaw.{whole_kept}
 use Rattle.dna_model.proofs.PlayedChecked.{whole_is_run}
-use Rattle.dna_model.proofs.PlayedRuns.{whole_is_played}
 use Rattle.pair_player.specs.declared.fault.PlayFault.{PlayFault}
 use Rattle.pair_player.specs.declared.played.Played as answers
 use Rattle.pair_player.specs.Playing.{AnswersWhole, HasPlayed, Held, Plays, Reached, reached}
-use Rattle.pair_player.specs.Runs.{AreARun, IsOfTruth, StartsOnceThroughout}
+use Rattle.pair_player.specs.Runs.{AreARun, AreTexts, IsOfTruth, StartsOnceThroughout}
 use Rattle.pair_player.specs.SoFar.{IsReadSoFar}
+use Rattle.pair_player.proofs.FitPlays.{played_lines}
 use Rattle.pair_player.proofs.PlayLaws.{same_Ok}
 use Rattle.pair_player.proofs.SoFarLaws.{goes_on}
 use Rattle.pair_player.proofs.WholeLaws.{whole_played}
@@ -80,22 +79,28 @@ its_text own peer records own_fits peer_fits each few = record {
   is_text = record { fits = record { own_fits = own_fits; peer_fits = peer_fits; each = each; few = few }; spelled = refl };
 }
 
+-- of every script
+pub all_texts : (text : Option (List ℕ)) (r : Reached) → HasPlayed text r → AreTexts r
+all_texts text r h =
+    let fits = h.read.fits in
+    let lines = played_lines r.script r.played fits h.made in
+    record {
+      is_text_a = its_text r.script.node_a r.script.node_b r.played.of_a fits.node_a fits.node_b lines.lines_a lines.few_a;
+      is_text_b = its_text r.script.node_b r.script.node_a r.played.of_b fits.node_b fits.node_a lines.lines_b lines.few_b;
+    }
+
 pub a_run : (text : Option (List ℕ)) (r : Reached) → HasPlayed text r → StartsOnce r.script.steps → AreARun r
 a_run text r h once =
     let found = of_truth text r h once in
     let so_far : Played = found.0 in
     let makes = found.1.makes in
-    let made = whole_is_played r.script so_far makes in
     let same_a : so_far.of_a ≡ r.played.of_a = ap (λ (p : KeptPlayed). p.of_a) found.1.keeps in
     let same_b : so_far.of_b ≡ r.played.of_b = ap (λ (p : KeptPlayed). p.of_b) found.1.keeps in
-    let fits = h.read.fits in
-    let few = few_records r.script fits so_far makes in
+    let texts = all_texts text r h in
     record {
       run = subst (λ (of_a : List Record). IsLayersRun (head_a r.script) (head_b r.script) of_a r.played.of_b) same_a
           (subst (λ (of_b : List Record). IsLayersRun (head_a r.script) (head_b r.script) so_far.of_a of_b) same_b
           (_, whole_is_run r.script so_far makes once));
-      is_text_a = its_text r.script.node_a r.script.node_b r.played.of_a fits.node_a fits.node_b
-          (subst (AllByRecursion IsRecord) same_a made.lines_a) (subst (λ (of_a : List Record). length of_a ≤ MAX_RECORDS) same_a few.0);
-      is_text_b = its_text r.script.node_b r.script.node_a r.played.of_b fits.node_b fits.node_a
-          (subst (AllByRecursion IsRecord) same_b made.lines_b) (subst (λ (of_b : List Record). length of_b ≤ MAX_RECORDS) same_b few.1);
+      is_text_a = texts.is_text_a;
+      is_text_b = texts.is_text_b;
     }

@@ -13,3 +13,4 @@ pub mod Beginning
 -- A step of both ends
 pub mod Stepping
 pub mod Line
+pub mod Sending

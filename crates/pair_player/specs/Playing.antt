@@ -94,11 +94,19 @@ pub record StopsBehind (stop : Stop) (line : ℕ) (r : Reached) : Type 0 where
   pub stops : kept_plays_step r.played.pair step ≡ Err stop
   pub line_is : line ≡ length r.script.steps + 2
 
+-- the next line is a step's, for which memory was refused
+pub record RefusedBehind (r : Reached) : Type 0 where
+  pub step : ScriptStep
+  pub fits : IsStep step
+  pub few : length r.script.steps < MAX_STEPS
+  pub later : Option (List ℕ)
+  pub spelled : Consumes r.come later (script_line step)
+
 -- steps were made and written, and this holds behind them
 abbrev pub PlaysTo : Option (List ℕ) → Held → Held → (Reached → Type 0) → Type 0
 PlaysTo text old new Behind = (r : Reached) × HasPlayed text r × HasWritten old new r × Behind r
 
--- the same of some steps, or nothing was written
+-- the same of some steps, or nothing was written; where a read failed `PlaysWholeLines` says of which
 abbrev pub PlaysSome : Option (List ℕ) → Held → Held → Type 0
 PlaysSome text old new = TakesNothing old new ⊎ PlaysTo text old new (λ r. Unit {0})
 
@@ -111,7 +119,7 @@ Plays text old new (Err (faults.BadStep line)) = PlaysTo text old new (StopsBehi
 Plays text old new (Err (faults.Full line)) = PlaysTo text old new (StopsBehind Full line)
 Plays text old new (Err faults.Read) = PlaysSome text old new
 Plays text old new (Err (faults.Write side)) = (r : Reached) × HasPlayed text r × HasCut side old new r
-Plays text old new (Err faults.OutOfMemory) = PlaysSome text old new
+Plays text old new (Err faults.OutOfMemory) = TakesNothing old new ⊎ PlaysTo text old new RefusedBehind
 
 -- Where a read failed: each whole line that the reader had given until then was read, its step made, and its records written. `left` is what it
 -- has left. Behind the steps, or where no head was read, it had given a piece of a line.

@@ -16,6 +16,11 @@ StartsOnceThroughout text = (r : Reached) → HasPlayed text r → StartsOnce r.
 
 -- ---- the captures
 
+-- the bytes that are written are texts of the captures
+pub record AreTexts (r : Reached) : Type 0 where
+  pub is_text_a : IsText r.script.node_a r.script.node_b r.played.of_a (text_a r)
+  pub is_text_b : IsText r.script.node_b r.script.node_a r.played.of_b (text_b r)
+
 -- their records are a run of two nodes as a judge has them, and the bytes that are written are their texts
 pub record AreARun (r : Reached) : Type 0 where
   pub run : IsLayersRun (head_a r.script) (head_b r.script) r.played.of_a r.played.of_b

@@ -6,8 +6,8 @@ ghost use Rattle.dna_model.specs.KeptPlay.{kept_plays};
 ghost use Rattle.dna_model.specs.KeptPlay as kept;
 ghost use Rattle.dna_model.specs.KeptPlayed.{kept_plays_step, new_pair};
 ghost use Rattle.pair_player.specs.Step.{view, view_of_line};
-ghost use Rattle.player_end.specs.Stepping.{StopMeans, with_lines};
-ghost use Rattle.pair_player.specs.Stepping.{sends, sides, with_text};
+ghost use Rattle.player_end.specs.Stepping.{HasUnit, StopMeans, with_lines};
+ghost use Rattle.pair_player.specs.Stepping.{Asks, AsksMemory, CanBeHurt, CanCome, sends, sides, with_text};
 
 use crate::line::Line;
 use crate::step::{ScriptStep, Step};
@@ -68,12 +68,14 @@ impl Ends {
     /// Makes a step, and puts the lines of its records behind the text, each with its LF.
     ///
     /// `BadStep`: the step breaks its rule (the table of docs/PLAYER.md). `Full`: it needs a link address, and all 65,535 of its end are
-    /// given; whether it is bad is asked first. `OutOfMemory`: memory was refused. After any of them neither the ends nor what stands
-    /// behind the text is of any use.
+    /// given; whether it is bad is asked first. `OutOfMemory`: memory was refused, for which a timer and a loss never ask, nor does a step
+    /// that breaks its rule, but where a message that becomes whole is too long. After any of them neither the ends nor what stands behind
+    /// the text is of any use.
     #[tactic(auto, using(crate::proofs::Sides::both_sides), unfolding(dna_model::specs::KeptPlayed::kept_plays_step))]
     pub fn play_step(&mut self, step: ScriptStep<'_>, text: &mut Vec<u8>) -> Result<(), StepFault>
         ensures ok { OnOk result (with_text text.old.items (kept_plays_step self.old (view_of_line step.entry)) ≡ Ok (self.new, text.new.items)) }
         ensures stop { IfErr result (λ fault. StopMeans (kept_plays_step self.old (view_of_line step.entry)) fault) }
+        ensures memory { result ≡ Err StepFault.OutOfMemory → Asks self.old (view_of_line step.entry) }
     {
         let alloc = self.alloc;
         match step.side {
@@ -110,6 +112,7 @@ fn step_of(
     ensures ok { OnOk result (sides (view step.entry) coming.old going.old text.old.items (kept_plays end.old coming.old (view step.entry))
         ≡ Ok (end.new, coming.new, going.new, text.new.items)) }
     ensures stop { IfErr result (λ fault. StopMeans (kept_plays end.old coming.old (view step.entry)) fault) }
+    ensures memory { result ≡ Err StepFault.OutOfMemory → AsksMemory end.old coming.old (view step.entry) }
 {
     match step {
         Step::Start => end.start(text),
@@ -131,9 +134,11 @@ fn step_of(
 }
 
 // The end sends a unit, which goes on the line.
+#[tactic(auto, using(crate::proofs::NextUnit::sent_something))]
 fn send(end: &mut RingEnd, going: &mut Line, text: &mut Vec<u8>) -> Result<(), StepFault>
     ensures ok { OnOk result (sends going.old text.old.items (kept.sends end.old) ≡ Ok (end.new, going.new, text.new.items)) }
     ensures stop { IfErr result (λ fault. StopMeans (kept.sends end.old) fault) }
+    ensures memory { result ≡ Err StepFault.OutOfMemory → HasUnit end.old }
 {
     let unit = end.send(text)?;
     match going.push(unit) {
@@ -154,6 +159,7 @@ fn deliver(
         ≡ Ok (end.new, [], text.new.items)) }
     ensures left { coming.new ≡ drop 1 coming.old }
     ensures stop { IfErr result (λ fault. StopMeans (kept.with_next coming.old (kept.comes end.old buffer)) fault) }
+    ensures memory { result ≡ Err StepFault.OutOfMemory → CanCome end.old coming.old }
 {
     let Some(unit) = coming.pop() else {
         return Err(StepFault::BadStep);
@@ -167,6 +173,7 @@ fn lose(end: &mut RingEnd, coming: &mut Line) -> Result<(), StepFault>
     ensures ok { OnOk result (kept.with_next coming.old (λ bytes. kept.loses end.old) ≡ kept.silent end.new) }
     ensures left { coming.new ≡ drop 1 coming.old }
     ensures stop { IfErr result (λ fault. StopMeans (kept.with_next coming.old (λ bytes. kept.loses end.old)) fault) }
+    ensures memory { result ≡ Err StepFault.OutOfMemory → ⊥ }
 {
     let Some(_unit) = coming.pop() else {
         return Err(StepFault::BadStep);
@@ -188,6 +195,7 @@ fn deliver_damaged(
         ≡ Ok (end.new, [], text.new.items)) }
     ensures left { coming.new ≡ drop 1 coming.old }
     ensures stop { IfErr result (λ fault. StopMeans (kept.with_next coming.old (kept.comes_damaged end.old place value)) fault) }
+    ensures memory { result ≡ Err StepFault.OutOfMemory → CanBeHurt end.old coming.old place value }
 {
     let Some(unit) = coming.pop() else {
         return Err(StepFault::BadStep);

@@ -26,7 +26,8 @@ pub use played::Played;
 pub use player_end::StepFault;
 pub use playing::play;
 pub use run_laws::{
-    answered_as_true_ends, starts_once_throughout, stopped_by_its_rule, written_captures_are_a_run,
+    answered_as_true_ends, starts_once_throughout, stopped_by_its_rule, what_an_end_may_send,
+    written_captures_are_a_run, written_captures_are_texts,
 };
 pub use script_reader::ScriptReader;
 pub use step::{ScriptStep, Step};

@@ -1,6 +1,6 @@
 //! The units on the line to one end.
 
-ghost use Rattle.std.specs.Prelude.{◌≡◌, ◌≤◌, ◌++◌, ◌∷◌, [], drop, length, OnOk};
+ghost use Rattle.std.specs.Prelude.{◌≡◌, ◌≤◌, ◌++◌, ◌∷◌, [], drop, length, OnErr, OnOk};
 ghost use Rattle.capture.specs.declared.limit.TheConstants.{MAX_MESSAGE};
 ghost use Rattle.pair_player.specs.Line.{first_of};
 
@@ -71,7 +71,8 @@ impl Line {
     /// One more was sent. Where memory is refused, nothing changes.
     pub fn push(&mut self, unit: Vec<u8>) -> Result<(), AllocError>
         requires { length unit.items ≤ MAX_MESSAGE }
-        ensures { OnOk result (self.new ≡ self.old ++ unit.items ∷ []) }
+        ensures ok { OnOk result (self.new ≡ self.old ++ unit.items ∷ []) }
+        ensures err { OnErr result (self.new ≡ self.old) }
     {
         match self.units.push_back(SentUnit::new(unit)) {
             Ok(()) => Ok(()),

@@ -37,8 +37,8 @@ struct Begun {
 /// `advance` say; `BadStep` where its step breaks its rule (the table of docs/PLAYER.md); `Full` where it needs a link address, and all
 /// 65,535 of its end are given. Both writers then took the head of a capture and the records of all steps before that line, and nothing where
 /// it is line 1. `Read`, a call of the script's reader failed: they took those of all whole lines that it had given, or nothing where it had
-/// given no head. `OutOfMemory`, memory was refused: those of some first steps, or nothing. `Write`, a call of the writer of that side failed:
-/// each took a beginning of its capture, and the one that failed not all of it.
+/// given no head. `OutOfMemory`, memory was refused: those of all steps before the one that was refused it, or nothing where the head was.
+/// `Write`, a call of the writer of that side failed: each took a beginning of its capture, and the one that failed not all of it.
 pub fn play<R: Read, A: Write, B: Write>(
     alloc: Global,
     script: &mut Tally<R>,

@@ -1,17 +1,28 @@
-//! Laws of what is played, as functions that do nothing: of a script that starts each side at most once the captures that are written are a run
-//! of two nodes, and what is answered is what ends on true numbers make of it.
+//! Laws of what is played, as functions that do nothing: what is written are texts of two captures, whatever the script; and of one that
+//! starts each side at most once they are a run of two nodes, and what is answered is what ends on true numbers make of it.
 
-ghost use Rattle.std.specs.Prelude.{◌≡◌, ℕ, [], List, Option, Result, Some, Ok};
+ghost use Rattle.std.specs.Prelude.{◌≡◌, ◌↔◌, ℕ, [], true, List, Option, Result, Some, Ok};
+ghost use Rattle.dna_model.specs.Kept.{KeptEnd};
 ghost use Rattle.dna_model.specs.KeptRun.{kept_played};
 ghost use Rattle.dna_model.specs.Played.{Played as TruePlayed, play as true_play};
+ghost use Rattle.dna_model.specs.Player.{End, link_ends_of, variables_of};
 ghost use Rattle.dna_model.specs.PlayRun.{StartsOnce};
 ghost use Rattle.dna_model.specs.Script.{Script};
 ghost use Rattle.dna_model.specs.ScriptText.{IsScriptText};
+ghost use Rattle.dna_model.specs.StepRule as rule;
 ghost use Rattle.dna_model.specs.Stepped.{Stop};
+ghost use Rattle.player_end.specs.Stepping.{HasUnit};
 ghost use Rattle.pair_player.specs.declared.fault.PlayFault.{PlayFault};
 ghost use Rattle.pair_player.specs.declared.played.Played.{Played};
 ghost use Rattle.pair_player.specs.Playing.{AnswersWhole, HasPlayed, Held, Plays, Reached, StopsBehind, reached};
-ghost use Rattle.pair_player.specs.Runs.{AreARun, IsOfTruth, StartsOnceThroughout, StopsByRule};
+ghost use Rattle.pair_player.specs.Runs.{AreARun, AreTexts, IsOfTruth, StartsOnceThroughout, StopsByRule};
+ghost use Rattle.pair_player.specs.Sending.{links_have, may_send};
+
+/// Behind steps that were read and made, whatever they are, the bytes that are written are texts of two captures: each record has a line, and
+/// there are no more of them than a text may hold.
+pub fn written_captures_are_texts()
+    ensures { (text : Option (List ℕ)) (r : Reached) → HasPlayed text r → AreTexts r }
+{}
 
 /// Behind steps that were read and made, and that start each side at most once, the records of both sides are a run of two nodes over both
 /// layers as a judge has them, and the bytes that are written are texts of these captures.
@@ -41,4 +52,13 @@ pub fn stopped_by_its_rule()
 /// All that the text of a script begins with starts each side at most once, where the script does.
 pub fn starts_once_throughout()
     ensures { (bytes : List ℕ) (script : Script) → IsScriptText script bytes → StartsOnce script.steps → StartsOnceThroughout (Some bytes) }
+{}
+
+/// When an end has something to send, said apart from how it chooses what goes first (`may_send`): of an end as its node keeps it, and of one on true
+/// numbers, where that is what the rule of `send` asks.
+pub fn what_an_end_may_send()
+    ensures kept { (e : KeptEnd) → (may_send e.station.variables.state e.station.variables e.station.owed
+        (links_have e.links.confirms e.links.links) ≡ true) ↔ HasUnit e }
+    ensures of_truth { (own : End) → (may_send (variables_of own.half).state (variables_of own.half) own.owed
+        (links_have own.links_owed.confirms (link_ends_of own)) ≡ true) ↔ rule.HasUnit own }
 {}

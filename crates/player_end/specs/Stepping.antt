@@ -1,9 +1,10 @@
 -- What a contract says of a step: what it makes of an end, with the text of the lines that its records add; or why it is not made.
-use Rattle.std.specs.Prelude.{◌≡◌, ℕ, ◌++◌, List, Option, None, Result, Ok, Err}
+use Rattle.std.specs.Prelude.{◌≡◌, ℕ, ◌++◌, List, Option, None, Result, Ok, Err, IsSome}
 use Rattle.capture.specs.declared.hint.HintForm.TheVariants.{Number}
 use Rattle.capture.specs.Text.{record_lines}
 use Rattle.dna_model.specs.Stepped.{Stop}
 use Rattle.dna_model.specs.Stepped as stops
+use Rattle.dna_model.specs.NextSent.{choice, link_choice}
 use Rattle.dna_model.specs.Kept.{KeptEnd}
 use Rattle.dna_model.specs.KeptPlay.{KeptStepped}
 use Rattle.player_end.specs.declared.fault.StepFault.{StepFault}
@@ -25,3 +26,7 @@ abbrev pub Stopped : {M : Type 0} → Option M → StepFault → Type 0
 Stopped made BadStep = made ≡ None
 Stopped made Full = ⊥
 Stopped made OutOfMemory = Unit {0}
+
+-- it has something to send
+abbrev pub HasUnit : KeptEnd → Type 0
+HasUnit e = IsSome (choice e.station.variables e.station.owed (link_choice e.links.confirms e.links.links))

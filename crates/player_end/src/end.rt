@@ -1,6 +1,6 @@
 //! One end of the line.
 
-ghost use Rattle.std.specs.Prelude.{◌≡◌, OnOk, IfOk, IfErr};
+ghost use Rattle.std.specs.Prelude.{◌≡◌, Err, OnOk, IfOk, IfErr};
 ghost use Rattle.dna_model.specs.Kept.{new_kept_end};
 ghost use Rattle.dna_model.specs.KeptPlay as kept;
 ghost use Rattle.player_end.specs.Stepping.{StopMeans};
@@ -24,8 +24,9 @@ use wire_base::Window;
 /// many units of the other end came or were lost.
 ///
 /// A step answers `BadStep` where it breaks its rule, which stands at each, or where its record would have no line in a capture; `Full`
-/// where it needs a link address and all 65,535 are given, which is asked after that; and `OutOfMemory` where memory was refused. After
-/// any of them neither the end nor what stands behind the text is of any use.
+/// where it needs a link address and all 65,535 are given, which is asked after that; and `OutOfMemory` where memory was refused. Memory
+/// is asked for after both, but for a message that becomes whole and is too long: that shows behind. After any of them neither the end
+/// nor what stands behind the text is of any use.
 #[derive(Drop)]
 pub struct End<W: Window<HeldPacket, 256> + Drop, V: Window<GivenPiece, 4096> + Drop> {
     head: Head,
@@ -59,10 +60,11 @@ impl<W: Window<HeldPacket, 256> + Drop, V: Window<GivenPiece, 4096> + Drop> End<
         })
     }
 
-    /// The next unit is lost. `BadStep`: its number has no line in a capture.
+    /// The next unit is lost. `BadStep`: its number has no line in a capture. Takes no memory.
     pub fn lose(&mut self) -> Result<(), StepFault>
         ensures ok { OnOk result (kept.loses self.old ≡ kept.silent self.new) }
         ensures stop { IfErr result (λ fault. StopMeans (kept.loses self.old) fault) }
+        ensures memory { result ≡ Err StepFault.OutOfMemory → ⊥ }
     {
         if self.passed > MAX_HINT {
             return Err(StepFault::BadStep);

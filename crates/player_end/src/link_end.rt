@@ -151,6 +151,7 @@ impl<V: Window<GivenPiece, 4096> + Drop> LinkEnd<V> {
     pub fn retry(&mut self) -> bool
         ensures yes { result ≡ true → retried_end self.old ≡ Some self.new }
         ensures no { result ≡ false → model.retried self.old.port.phase ≡ None }
+        ensures same { result ≡ false → self.new ≡ self.old }
     {
         match self.port.phase {
             Phase::Calling => self.owed.owe(Turn::Initiate),

@@ -1,6 +1,6 @@
 //! The links of an end.
 
-ghost use Rattle.std.specs.Prelude.{◌≡◌, ◌<◌, length, slice_get, option_copied, OnOk, IfSome};
+ghost use Rattle.std.specs.Prelude.{◌≡◌, ◌<◌, length, slice_get, option_copied, OnOk, OnErr, IfSome};
 ghost use Rattle.dna_model.specs.Kept.{no_kept_links};
 ghost use Rattle.dna_model.specs.KeptLinks.{place_of};
 ghost use Rattle.dna_model.specs.KeptLinks as kept;
@@ -88,7 +88,8 @@ impl<V: Window<GivenPiece, 4096> + Drop> LinkEnds<V> {
 
     // A link begins. Where memory is refused, nothing changes.
     fn begin(&mut self, link: LinkEnd<V>) -> Result<(), AllocError>
-        ensures { OnOk result (self.new ≡ kept.begun link self.old) }
+        ensures ok { OnOk result (self.new ≡ kept.begun link self.old) }
+        ensures err { OnErr result (self.new ≡ self.old) }
     {
         match self.links.push(link) {
             Ok(()) => Ok(()),

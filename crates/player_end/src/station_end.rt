@@ -1,6 +1,6 @@
 //! The station of an end: its variables and what it owes.
 
-ghost use Rattle.std.specs.Prelude.{◌≡◌, ◌<◌, ◌≤◌, true, length, Some, IfOk, IfSome, OnOk};
+ghost use Rattle.std.specs.Prelude.{◌≡◌, ◌<◌, ◌≤◌, true, length, Some, IfOk, IfSome, OnOk, OnErr};
 ghost use Rattle.std.specs.Option.{option_map};
 ghost use Rattle.capture.specs.declared.limit.TheConstants.{MAX_MESSAGE};
 ghost use Rattle.ddcmp_msg.specs.Reading.{reading_view};
@@ -175,8 +175,9 @@ impl<W: Window<HeldPacket, 256> + Drop> StationEnd<W> {
         requires room { length self.old.variables.held < WINDOW }
         requires least { 1 ≤ length packet.items }
         requires most { length packet.items ≤ 16383 }
-        ensures { OnOk result (self.new
+        ensures ok { OnOk result (self.new
             ≡ after_sent (next.SendNew (link_choice_view message)) (data_with self.old.variables packet.items) self.old) }
+        ensures err { OnErr result (self.new ≡ self.old) }
     {
         let before = self.variables.state();
         self.variables.send_new(packet)?;

@@ -1,6 +1,6 @@
 //! What an end keeps of its station.
 
-ghost use Rattle.std.specs.Prelude.{◌≡◌, ◌+◌, ◌<◌, ◌≤◌, ◌==◌, nat_lt, length, true, IfOk, OnOk};
+ghost use Rattle.std.specs.Prelude.{◌≡◌, ◌+◌, ◌<◌, ◌≤◌, ◌==◌, nat_lt, length, true, IfOk, OnOk, OnErr};
 ghost use Rattle.dna_model.specs.Station.{wire};
 ghost use Rattle.dna_model.specs.Table.{WINDOW};
 ghost use Rattle.dna_model.specs.WireStation.{no_numbers};
@@ -173,7 +173,8 @@ impl<W: Window<HeldPacket, 256> + Drop> StationVariables<W> {
         requires room { length self.old.held < WINDOW }
         requires least { 1 ≤ length packet.items }
         requires most { length packet.items ≤ 16383 }
-        ensures { OnOk result (self.new ≡ sends_packet self.old packet.items) }
+        ensures ok { OnOk result (self.new ≡ sends_packet self.old packet.items) }
+        ensures err { OnErr result (self.new ≡ self.old) }
     {
         match self.held.push(HeldPacket::new(packet)) {
             Ok(()) => {

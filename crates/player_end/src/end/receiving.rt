@@ -1,6 +1,6 @@
 //! What comes to an end.
 
-ghost use Rattle.std.specs.Prelude.{◌≡◌, ◌≤◌, ℕ, [], Ok, Some, length, OnOk, IfErr, IfSome};
+ghost use Rattle.std.specs.Prelude.{◌≡◌, ◌≤◌, ℕ, [], Ok, Err, Some, length, OnOk, IsOk, IfErr, IfSome};
 ghost use Rattle.std.specs.Option.{option_map};
 ghost use Rattle.capture.specs.declared.limit.TheConstants.{MAX_MESSAGE};
 ghost use Rattle.ddcmp_msg.specs.Message.{view};
@@ -27,12 +27,14 @@ use wire_base::Window;
 
 impl<W: Window<HeldPacket, 256> + Drop, V: Window<GivenPiece, 4096> + Drop> End<W, V> {
     /// These bytes come off the line, and their packet is kept where there is a buffer and it can be taken. What is whole of a link then
-    /// goes to its user at once. `BadStep`: the unit's number has no line, or a message that becomes whole has more than 65,535 bytes.
+    /// goes to its user at once. `BadStep`: the unit's number has no line, or a message that becomes whole has more than 65,535 bytes. Memory
+    /// is asked for where the number has a line.
     #[tactic(auto, using(crate::proofs::Came::received))]
     pub fn come(&mut self, buffer: bool, bytes: &[u8], text: &mut Vec<u8>) -> Result<(), StepFault>
         requires short { length bytes.now ≤ MAX_MESSAGE }
         ensures ok { OnOk result (with_lines text.old.items (steps.comes self.old buffer bytes.now) ≡ Ok (self.new, [], text.new.items)) }
         ensures stop { IfErr result (λ fault. StopMeans (steps.comes self.old buffer bytes.now) fault) }
+        ensures memory { result ≡ Err StepFault.OutOfMemory → IsOk (steps.loses self.old) }
     {
         if self.passed > MAX_HINT {
             return Err(StepFault::BadStep);
@@ -52,6 +54,7 @@ impl<W: Window<HeldPacket, 256> + Drop, V: Window<GivenPiece, 4096> + Drop> End<
     pub fn hear(&mut self, bytes: &[u8], text: &mut Vec<u8>) -> Result<(), StepFault>
         ensures ok { OnOk result (with_lines text.old.items (steps.hears self.old bytes.now (reading bytes.now)) ≡ Ok (self.new, [], text.new.items)) }
         ensures stop { IfErr result (λ fault. StopMeans (steps.hears self.old bytes.now (reading bytes.now)) fault) }
+        ensures memory { result ≡ Err StepFault.OutOfMemory → IsOk (steps.hears self.old bytes.now (reading bytes.now)) }
     {
         if bytes.len() > MAX_UNIT {
             return Err(StepFault::BadStep);

@@ -1,6 +1,6 @@
 //! What an end sends.
 
-ghost use Rattle.std.specs.Prelude.{◌≡◌, ◌<◌, ◌≤◌, [], ◌∷◌, true, false, Ok, Some, length, IfOk, IfErr};
+ghost use Rattle.std.specs.Prelude.{◌≡◌, ◌<◌, ◌≤◌, [], ◌∷◌, true, false, Ok, Err, Some, length, IfOk, IfErr};
 ghost use Rattle.capture.specs.declared.limit.TheConstants.{MAX_MESSAGE};
 ghost use Rattle.dna_packet.specs.Packet.{packet_bytes};
 ghost use Rattle.dna_packet.specs.Packet as packets;
@@ -10,7 +10,7 @@ ghost use Rattle.dna_model.specs.WireBook.{wire_is_new};
 ghost use Rattle.dna_model.specs.NextSent.{SendNew, link_choice};
 ghost use Rattle.player_end.specs.Composing.{is_new};
 ghost use Rattle.player_end.specs.Owing.{choice_view, link_choice_view};
-ghost use Rattle.player_end.specs.Stepping.{StopMeans, with_lines};
+ghost use Rattle.player_end.specs.Stepping.{HasUnit, StopMeans, with_lines};
 
 use super::End;
 use super::user::put;
@@ -31,12 +31,13 @@ const RTFLG: u8 = 2;
 const FORWARD: u8 = 0;
 
 impl<W: Window<HeldPacket, 256> + Drop, V: Window<GivenPiece, 4096> + Drop> End<W, V> {
-    /// Sends one unit, which is the answer. `BadStep`: it has none to send.
+    /// Sends one unit, which is the answer. `BadStep`: it has none to send, for which no memory is asked.
     #[tactic(auto, using(crate::proofs::Choosing::chosen_packets))]
     pub fn send(&mut self, text: &mut Vec<u8>) -> Result<Vec<u8>, StepFault>
         ensures ok { IfOk result (λ unit. with_lines text.old.items (kept.sends self.old) ≡ Ok (self.new, unit.items ∷ [], text.new.items)) }
         ensures short { IfOk result (λ unit. length unit.items ≤ MAX_MESSAGE) }
         ensures stop { IfErr result (λ fault. StopMeans (kept.sends self.old) fault) }
+        ensures memory { result ≡ Err StepFault.OutOfMemory → HasUnit self.old }
     {
         let next = self.links.choice();
         let Some(choice) = self.station.choice(next) else {

@@ -1,6 +1,6 @@
 //! What the user of an end does, and its timers.
 
-ghost use Rattle.std.specs.Prelude.{◌≡◌, ◌+◌, ◌++◌, ◌<◌, ◌≤◌, [], Ok, length, OnOk, IfErr, IfSome, OnSome, IfNone};
+ghost use Rattle.std.specs.Prelude.{◌≡◌, ◌+◌, ◌++◌, ◌<◌, ◌≤◌, [], Ok, Err, length, OnOk, IsOk, IfErr, IfSome, OnSome, IfNone};
 ghost use Rattle.capture.specs.declared.limit.TheConstants.{MAX_LINK, MAX_MESSAGE};
 ghost use Rattle.capture.specs.Entries.{record_with};
 ghost use Rattle.capture.specs.declared.hint.HintForm.TheVariants as HintForm;
@@ -24,6 +24,7 @@ impl<W: Window<HeldPacket, 256> + Drop, V: Window<GivenPiece, 4096> + Drop> End<
     pub fn start(&mut self, text: &mut Vec<u8>) -> Result<(), StepFault>
         ensures ok { OnOk result (with_lines text.old.items (kept.starts self.old) ≡ Ok (self.new, [], text.new.items)) }
         ensures stop { IfErr result (λ fault. StopMeans (kept.starts self.old) fault) }
+        ensures memory { result ≡ Err StepFault.OutOfMemory → IsOk (kept.starts self.old) }
     {
         match self.station.state() {
             State::Halted => {
@@ -45,10 +46,11 @@ impl<W: Window<HeldPacket, 256> + Drop, V: Window<GivenPiece, 4096> + Drop> End<
         Ok(())
     }
 
-    /// The timer of the station runs out; it owes STRT, STACK, REP or ACK, by its state. `BadStep`: it is in HALTED.
+    /// The timer of the station runs out; it owes STRT, STACK, REP or ACK, by its state. `BadStep`: it is in HALTED. Takes no memory.
     pub fn time_out(&mut self) -> Result<(), StepFault>
         ensures ok { OnOk result (kept.times_out self.old ≡ kept.silent self.new) }
         ensures stop { IfErr result (λ fault. StopMeans (kept.times_out self.old) fault) }
+        ensures memory { result ≡ Err StepFault.OutOfMemory → ⊥ }
     {
         let Some(debt) = self.station.timer_debt() else {
             return Err(StepFault::BadStep);
@@ -73,6 +75,7 @@ impl<W: Window<HeldPacket, 256> + Drop, V: Window<GivenPiece, 4096> + Drop> End<
     pub fn open(&mut self, text: &mut Vec<u8>) -> Result<(), StepFault>
         ensures ok { OnOk result (with_lines text.old.items (kept.opens self.old) ≡ Ok (self.new, [], text.new.items)) }
         ensures stop { IfErr result (λ fault. StopMeans (kept.opens self.old) fault) }
+        ensures memory { result ≡ Err StepFault.OutOfMemory → IsOk (kept.opens self.old) }
     {
         let Some(link) = self.next_address() else {
             return Err(StepFault::Full);
@@ -91,6 +94,7 @@ impl<W: Window<HeldPacket, 256> + Drop, V: Window<GivenPiece, 4096> + Drop> End<
     pub fn accept(&mut self, partner: u16, text: &mut Vec<u8>) -> Result<(), StepFault>
         ensures ok { OnOk result (with_lines text.old.items (kept.accepts self.old partner) ≡ Ok (self.new, [], text.new.items)) }
         ensures stop { IfErr result (λ fault. StopMeans (kept.accepts self.old partner) fault) }
+        ensures memory { result ≡ Err StepFault.OutOfMemory → IsOk (kept.accepts self.old partner) }
     {
         let Some(place) = self.links.find(LinkTest::CalledBy { far: partner }) else {
             return Err(StepFault::BadStep);
@@ -114,6 +118,7 @@ impl<W: Window<HeldPacket, 256> + Drop, V: Window<GivenPiece, 4096> + Drop> End<
     pub fn reject(&mut self, partner: u16, text: &mut Vec<u8>) -> Result<(), StepFault>
         ensures ok { OnOk result (with_lines text.old.items (kept.rejects self.old partner) ≡ Ok (self.new, [], text.new.items)) }
         ensures stop { IfErr result (λ fault. StopMeans (kept.rejects self.old partner) fault) }
+        ensures memory { result ≡ Err StepFault.OutOfMemory → IsOk (kept.rejects self.old partner) }
     {
         let Some(place) = self.links.find(LinkTest::CalledBy { far: partner }) else {
             return Err(StepFault::BadStep);
@@ -142,6 +147,7 @@ impl<W: Window<HeldPacket, 256> + Drop, V: Window<GivenPiece, 4096> + Drop> End<
     ) -> Result<(), StepFault>
         ensures ok { OnOk result (with_lines text.old.items (kept.hands_in self.old link message.now) ≡ Ok (self.new, [], text.new.items)) }
         ensures stop { IfErr result (λ fault. StopMeans (kept.hands_in self.old link message.now) fault) }
+        ensures memory { result ≡ Err StepFault.OutOfMemory → IsOk (kept.hands_in self.old link message.now) }
     {
         let Some(place) = self.links.find(LinkTest::LiveAt { own: link }) else {
             return Err(StepFault::BadStep);
@@ -166,6 +172,7 @@ impl<W: Window<HeldPacket, 256> + Drop, V: Window<GivenPiece, 4096> + Drop> End<
     pub fn close(&mut self, link: u16, text: &mut Vec<u8>) -> Result<(), StepFault>
         ensures ok { OnOk result (with_lines text.old.items (kept.closes self.old link) ≡ Ok (self.new, [], text.new.items)) }
         ensures stop { IfErr result (λ fault. StopMeans (kept.closes self.old link) fault) }
+        ensures memory { result ≡ Err StepFault.OutOfMemory → IsOk (kept.closes self.old link) }
     {
         let Some(place) = self.links.find(LinkTest::LiveAt { own: link }) else {
             return Err(StepFault::BadStep);
@@ -182,11 +189,12 @@ impl<W: Window<HeldPacket, 256> + Drop, V: Window<GivenPiece, 4096> + Drop> End<
     }
 
     /// The timer of the link with this address runs out: it owes CI, CC or DI once more, by its phase, or all its segments that are not
-    /// acknowledged go again. `BadStep`: no live link has it, or it is in Called.
+    /// acknowledged go again. `BadStep`: no live link has it, or it is in Called. Takes no memory.
     #[tactic(auto, using(crate::proofs::Searching::found_ends))]
     pub fn retry(&mut self, link: u16) -> Result<(), StepFault>
         ensures ok { OnOk result (kept.retries self.old link ≡ kept.silent self.new) }
         ensures stop { IfErr result (λ fault. StopMeans (kept.retries self.old link) fault) }
+        ensures memory { result ≡ Err StepFault.OutOfMemory → ⊥ }
     {
         let Some(place) = self.links.find(LinkTest::LiveAt { own: link }) else {
             return Err(StepFault::BadStep);

@@ -1,6 +1,6 @@
 //! What a link sends next, how it is put together, and what sending leaves.
 
-ghost use Rattle.std.specs.Prelude.{◌≡◌, ◌<◌, ◌≤◌, true, length, slice_get, OnOk, IfOk};
+ghost use Rattle.std.specs.Prelude.{◌≡◌, ◌<◌, ◌≤◌, true, length, slice_get, OnOk, OnErr, IfOk};
 ghost use Rattle.std.specs.Option.{option_map};
 ghost use Rattle.dna_packet.specs.Nsp.{nsp_bytes};
 ghost use Rattle.dna_model.specs.NextSent.{has_segment, turn_of};
@@ -209,7 +209,8 @@ impl<V: Window<GivenPiece, 4096> + Drop> LinkEnd<V> {
     #[tactic(auto, using(crate::proofs::Choosing::segments))]
     pub fn sent(&mut self, alloc: Global, turn: Turn) -> Result<(), AllocError>
         requires { turn_of self.old ≡ Some (turn_view turn) }
-        ensures { OnOk result (self.new ≡ kept.turn_sent (turn_view turn) self.old) }
+        ensures ok { OnOk result (self.new ≡ kept.turn_sent (turn_view turn) self.old) }
+        ensures err { OnErr result (self.new ≡ self.old) }
     {
         self.give_by(alloc, turn)?;
         self.owed.sent(turn);
@@ -221,6 +222,7 @@ impl<V: Window<GivenPiece, 4096> + Drop> LinkEnd<V> {
         requires { turn_of self.old ≡ Some (turn_view turn) }
         ensures given { OnOk result (self.new ≡ kept.gave_by (turn_view turn) self.old) }
         ensures next { turn ≡ Turn.Segment → OnOk result (self.new.owed.ahead < length self.new.variables.outstanding) }
+        ensures err { OnErr result (self.new ≡ self.old) }
     {
         match turn {
             Turn::Segment => self.give(alloc),
@@ -238,6 +240,7 @@ impl<V: Window<GivenPiece, 4096> + Drop> LinkEnd<V> {
         requires { has_segment self.old ≡ true }
         ensures given { OnOk result (self.new ≡ kept.gave (slice_get self.old.variables.outstanding self.old.owed.ahead) self.old) }
         ensures next { OnOk result (self.new.owed.ahead < length self.new.variables.outstanding) }
+        ensures err { OnErr result (self.new ≡ self.old) }
     {
         if self.owed.ahead() < self.outstanding.len() {
             return Ok(());

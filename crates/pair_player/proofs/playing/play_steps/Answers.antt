@@ -80,7 +80,7 @@ returns-in-Err-advance-clause-plays g c text is =
       outlet c.end-in-Err-advance.new.texts.a.items (g.A.Write.contents (tally_lent c.end-in-Err-advance.new.a)) (tally_faults c.end-in-Err-advance.new.a),
       outlet c.end-in-Err-advance.new.texts.b.items (g.B.Write.contents (tally_lent c.end-in-Err-advance.new.b)) (tally_faults c.end-in-Err-advance.new.b),
     )
-    (at_fault _ _ _ h c.advance.new.self after fault advances) (rw c.play_fault.ensures at c.end-in-Err-advance.ensures)
+    (at_fault _ _ _ h c.advance.new.self after fault advances (λ same. c.in-Err-advance.ensures.memory (ap Err same))) (rw c.play_fault.ensures at c.end-in-Err-advance.ensures)
 
 pub loop-steps-preserved : goal.loop-steps-preserved
 loop-steps-preserved g c =

@@ -1,0 +1,110 @@
+-- An end has something to send exactly where it may, however it chooses.
+use Rattle.std.proofs.Common.{◌≡◌, ℕ, ◌+◌, Bool, true, false, ◌&&◌, ◌||◌, not, cond, nat_lt, Option, Some, None, List, [], ◌∷◌, length, refl, sym, ap, ap₂, ◌∙◌, ◌↔◌}
+use Rattle.std.specs.Prelude.{is_some, IsSome}
+use Rattle.ddcmp_msg.specs.declared.nak_reason.NakReason.TheVariants.{HeaderCheck, DataCheck, RepResponse, NoBuffer}
+use Rattle.dna_model.specs.declared.state.State.{State}
+use Rattle.dna_model.specs.declared.state.State.TheVariants.{Halted, Istrt, Astrt, Running}
+use Rattle.dna_model.specs.Table.{WINDOW}
+use Rattle.dna_model.specs.WireStation.{StationVariables}
+use Rattle.dna_model.specs.WireBook.{wire_is_new}
+use Rattle.dna_model.specs.Owed.{Owed}
+use Rattle.dna_model.specs.LinkOwed.{EndConfirm, Turn, ConnectAckTurn, InitiateTurn, ConfirmTurn, DisconnectTurn, DataAckTurn, SegmentTurn}
+use Rattle.dna_model.specs.Kept.{KeptEnd}
+use Rattle.dna_model.specs.Player.{End, link_ends_of, variables_of}
+use Rattle.dna_model.specs.StepRule.{HasUnit}
+use Rattle.dna_model.specs.NextSent.{Choice, LinkChoice, LinkEnd, SendAck, SendAgain, SendNak, SendRep, SendStack, SendStrt, choice, choice_in, data_choice, first_turn, has_segment, link_choice, lowest_nak, new_packet, or_else, turn_of, turn_or_next, when}
+use Rattle.pair_player.specs.Sending.{has_data, link_has, links_have, may_send, owes_nak, some_link_has}
+
+-- ---- one thing before another
+
+if_or : {X : Type 0} (b : Bool) (x : X) (o : Option X) → is_some (cond b (Some x) o) ≡ (b || is_some o)
+if_or true x o = refl
+if_or false x o = refl
+
+else_or : (o rest : Option Choice) → is_some (or_else o rest) ≡ (is_some o || is_some rest)
+else_or None rest = refl
+else_or (Some next) rest = refl
+
+when_so : (b : Bool) (next : Choice) → is_some (when b next) ≡ b
+when_so true next = refl
+when_so false next = refl
+
+-- ---- the links
+
+then_or : {X : Type 0} (b : Bool) (x : X) (o : Option X) (c : Bool) → is_some o ≡ c → is_some (cond b (Some x) o) ≡ (b || c)
+then_or b x o c e = if_or b x o ∙ ap (λ (d : Bool). b || d) e
+
+last_so : {X : Type 0} (b : Bool) (x : X) → is_some (cond b (Some x) None) ≡ b
+last_so true x = refl
+last_so false x = refl
+
+link_turn : (l : LinkEnd) → is_some (turn_of l) ≡ link_has l
+link_turn l =
+    then_or l.owed.connect_ack ConnectAckTurn _ _ (then_or l.owed.initiate InitiateTurn _ _ (then_or l.owed.confirm ConfirmTurn _ _
+    (then_or l.owed.disconnect DisconnectTurn _ _ (then_or l.owed.data_ack DataAckTurn _ _ (last_so (has_segment l) SegmentTurn)))))
+
+turn_so : (number : ℕ) (o : Option Turn) (next : Option LinkChoice) → is_some (turn_or_next number o next) ≡ (is_some o || is_some next)
+turn_so number None next = refl
+turn_so number (Some turn) next = refl
+
+some_turn : (number : ℕ) (links : List LinkEnd) → is_some (first_turn number links) ≡ some_link_has links
+some_turn number [] = refl
+some_turn number (link ∷ links) =
+    turn_so number (turn_of link) (first_turn (number + 1) links) ∙ ap₂ (λ (a b : Bool). a || b) (link_turn link) (some_turn (number + 1) links)
+
+links_so : (confirms : List EndConfirm) (links : List LinkEnd) → is_some (link_choice confirms links) ≡ links_have confirms links
+links_so [] links = some_turn 0 links
+links_so (confirm ∷ later) links = refl
+
+-- ---- the station
+
+nak_so : (owed : Owed) → is_some (lowest_nak owed) ≡ owes_nak owed
+nak_so owed =
+    then_or owed.header_check (SendNak HeaderCheck) _ _ (then_or owed.data_check (SendNak DataCheck) _ _
+    (then_or owed.rep_response (SendNak RepResponse) _ _ (last_so owed.no_buffer (SendNak NoBuffer))))
+
+module _ {L : Type 0} (k : StationVariables L) (owed : Owed) (message : Option LinkChoice) where
+  data_so : is_some (data_choice k message) ≡ has_data k (is_some message)
+  data_so = go (wire_is_new k) (nat_lt (length k.held) WINDOW) message
+    where
+      go : (new room : Bool) (message : Option LinkChoice) →
+          is_some (cond new (cond room (new_packet message) None) (Some SendAgain)) ≡ (not new || (room && is_some message))
+      go false room message = refl
+      go true false message = refl
+      go true true None = refl
+      go true true (Some next) = refl
+
+  chosen_in : (state : State) → is_some (choice_in state k owed message) ≡ may_send state k owed (is_some message)
+  chosen_in Halted = refl
+  chosen_in Istrt = when_so owed.strt SendStrt
+  chosen_in Astrt = when_so owed.stack SendStack
+  chosen_in Running =
+      else_or (lowest_nak owed) _ ∙ ap₂ (λ (a b : Bool). a || b) (nak_so owed)
+      (else_or (when owed.rep SendRep) _ ∙ ap₂ (λ (a b : Bool). a || b) (when_so owed.rep SendRep)
+      (else_or (data_choice k message) _ ∙ ap₂ (λ (a b : Bool). a || b) data_so (when_so owed.ack SendAck)))
+
+-- whatever the station keeps beside its packets
+pub may_exactly : {L : Type 0} (k : StationVariables L) (owed : Owed) (confirms : List EndConfirm) (links : List LinkEnd) →
+    is_some (choice k owed (link_choice confirms links)) ≡ may_send k.state k owed (links_have confirms links)
+may_exactly k owed confirms links =
+    chosen_in k owed (link_choice confirms links) k.state ∙ ap (λ (m : Bool). may_send k.state k owed m) (links_so confirms links)
+
+-- ---- the laws
+
+found : {X : Type 0} (o : Option X) → is_some o ≡ true → (x : X) × (o ≡ Some x)
+found None e = absurd cc
+found (Some x) e = (x, refl)
+
+pub kept_may : (e : KeptEnd) →
+    (may_send e.station.variables.state e.station.variables e.station.owed (links_have e.links.confirms e.links.links) ≡ true)
+    ↔ IsSome (choice e.station.variables e.station.owed (link_choice e.links.confirms e.links.links))
+kept_may e =
+    let same = may_exactly e.station.variables e.station.owed e.links.confirms e.links.links in
+    ((λ may. same ∙ may), (λ some. sym same ∙ some))
+
+pub true_may : (own : End) →
+    (may_send (variables_of own.half).state (variables_of own.half) own.owed (links_have own.links_owed.confirms (link_ends_of own)) ≡ true)
+    ↔ HasUnit own
+true_may own =
+    let same = may_exactly (variables_of own.half) own.owed own.links_owed.confirms (link_ends_of own) in
+    ((λ may. found _ (same ∙ may)), (λ unit. sym same ∙ ap is_some unit.1))
