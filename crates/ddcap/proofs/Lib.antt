@@ -2,3 +2,4 @@ mod Listing
 mod NotOpened
 pub mod Answering
 pub mod AcceptLaws
+mod InTwo
