@@ -9,4 +9,4 @@ pub returns-in-Ok : goal.returns-in-Ok
 returns-in-Ok g c =
     let stream = stream_of g.W.Write.contents in
     behind (stream c.args.stream.now) (stream c.write_whole.new.writer) (stream c.print_both.new.stream) (codes "ddcap ") (VERSION.now ++ PROGRAM.now)
-        0 c.print_both.result (c.in-Ok.ensures.ok, c.in-Ok.ensures.faults) c.print_both.ensures
+    0 c.print_both.result (c.in-Ok.ensures.ok, c.in-Ok.ensures.faults) c.print_both.ensures
