@@ -3,3 +3,4 @@ mod NotOpened
 pub mod Answering
 pub mod AcceptLaws
 mod TextsStand
+mod InTwo

@@ -4,3 +4,5 @@ pub mod Showing
 pub mod Conversion
 pub mod Playing
 pub mod Accepting
+pub mod Explaining
+pub mod Helping

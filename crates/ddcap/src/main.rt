@@ -1,6 +1,6 @@
 //! `ddcap` judges whether two text captures of one DDCMP line, between two DECnet Phase IV end nodes, are together a run of
 //! the protocols, and prints the verdict; or it shows what one capture says, or writes it in another format; or it writes both
-//! captures that a script stands for. It reads the files that it is given, and writes those that it is told to and its two streams; it
+//! captures that a script stands for; or it tells what its words do, and what a reason means. It reads the files that it is given, and writes those that it is told to and its two streams; it
 //! never touches a line, a clock or another file.
 #![tactic(auto)]
 
@@ -9,6 +9,10 @@ use wire_base::Tally;
 
 mod check;
 mod convert;
+mod explain;
+mod explanations;
+mod help;
+mod help_pages;
 mod laws;
 mod play;
 mod run;

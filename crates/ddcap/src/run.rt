@@ -5,6 +5,9 @@ ghost use Rattle.ddcap.specs.Printed.{Writes, not_opened_says, stream_of, words_
 
 use crate::check::{check_to, print, print_out_of_memory};
 use crate::convert::convert_to;
+use crate::explain::explain_to;
+use crate::explanations::explanation_of;
+use crate::help::help_to;
 use crate::play::play_to;
 use crate::show::show_to;
 use crate::text::FAILED;
@@ -42,6 +45,8 @@ pub fn run<R: Env + Files + AllocGlobal, O: Write, E: Write>(
         Ok(Task::Show { a }) => show_file(rt, a, out, err),
         Ok(Task::Play { script, a, b }) => play_file(rt, script, a, b, out, err),
         Ok(Task::Convert { to, a, b }) => convert_file(rt, to, a, b, out, err),
+        Ok(Task::Help { topic }) => help_to(out, topic),
+        Ok(Task::Explain { reason }) => explain_to(rt.alloc(), explanation_of(reason), out, err),
         Err(fault) => print_words_fault(err, fault),
     }
 }

@@ -1,8 +1,11 @@
 //! The words that the program is given.
 
+use crate::explanations::reason_spelled;
+use crate::help::Topic;
 use capture::Format;
 use clap::error::ErrorKind;
 use clap::{Arg, ArgMatches, Command};
+use pair_judge::Reason;
 use std::alloc::{AllocError, Global};
 use std::convert::AsStr;
 
@@ -30,12 +33,20 @@ pub enum Task<'a> {
         a: &'a str,
         b: &'a str,
     },
+    /// To print the page of this topic.
+    Help {
+        topic: Topic,
+    },
+    /// To print what this reason means.
+    Explain {
+        reason: Reason,
+    },
 }
 
 /// Why the words ask for nothing.
 #[derive(Clone, Copy, Debug, PartialEq, Eq)]
 pub enum WordsFault {
-    /// They are no task; a wish for help or the version is none either.
+    /// They are no task. `--help`, `--version` and their kin are none either.
     BadWords,
     /// There was no memory to read them.
     OutOfMemory,
@@ -58,6 +69,8 @@ pub fn task_of<'a, S: AsStr>(alloc: Global, words: &'a [S]) -> Result<Task<'a>, 
             },
             Some(("play", found)) => played_of(found),
             Some(("convert", found)) => conversion_of(found),
+            Some(("help", found)) => help_of(found),
+            Some(("explain", found)) => explanation_asked(found),
             _ => Err(WordsFault::BadWords),
         },
         Err(error) => match error.kind() {
@@ -103,6 +116,32 @@ fn played_of<'a>(found: &ArgMatches<'a>) -> Result<Task<'a>, WordsFault> {
     }
 }
 
+// The page that the word behind `help` asks for; with no word, that of the whole.
+fn help_of<'a>(found: &ArgMatches<'a>) -> Result<Task<'a>, WordsFault> {
+    let topic = match found.get_str("WORD") {
+        None => Topic::Program,
+        Some("check") => Topic::Check,
+        Some("show") => Topic::Show,
+        Some("play") => Topic::Play,
+        Some("convert") => Topic::Convert,
+        Some("help") => Topic::Help,
+        Some("explain") => Topic::Explain,
+        Some(_) => return Err(WordsFault::BadWords),
+    };
+    Ok(Task::Help { topic })
+}
+
+// The reason that the word behind `explain` names by its number, which has one spelling.
+fn explanation_asked<'a>(found: &ArgMatches<'a>) -> Result<Task<'a>, WordsFault> {
+    let Some(number) = found.get_str("N") else {
+        return Err(WordsFault::BadWords);
+    };
+    match reason_spelled(number) {
+        Some(reason) => Ok(Task::Explain { reason }),
+        None => Err(WordsFault::BadWords),
+    }
+}
+
 fn program<'a>(alloc: Global) -> Result<Command<'a>, AllocError> {
     Command::new(alloc, "ddcap")
         .disable_help_subcommand(true)
@@ -110,7 +149,9 @@ fn program<'a>(alloc: Global) -> Result<Command<'a>, AllocError> {
         .subcommand(check(alloc)?)?
         .subcommand(show(alloc)?)?
         .subcommand(play(alloc)?)?
-        .subcommand(convert(alloc)?)
+        .subcommand(convert(alloc)?)?
+        .subcommand(help(alloc)?)?
+        .subcommand(explain(alloc)?)
 }
 
 // `check A B`
@@ -139,4 +180,14 @@ fn convert<'a>(alloc: Global) -> Result<Command<'a>, AllocError> {
         .arg(Arg::new(alloc, "N").required(true))?
         .arg(Arg::new(alloc, "IN").required(true))?
         .arg(Arg::new(alloc, "OUT").required(true))
+}
+
+// `help [WORD]`
+fn help<'a>(alloc: Global) -> Result<Command<'a>, AllocError> {
+    Command::new(alloc, "help").arg(Arg::new(alloc, "WORD"))
+}
+
+// `explain N`
+fn explain<'a>(alloc: Global) -> Result<Command<'a>, AllocError> {
+    Command::new(alloc, "explain").arg(Arg::new(alloc, "N").required(true))
 }

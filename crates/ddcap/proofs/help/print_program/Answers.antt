@@ -1,0 +1,12 @@
+use Rattle.std.proofs.Common.{◌++◌, codes}
+use Rattle.ddcap.proofs.InTwo.{behind}
+use Rattle.ddcap.specs.Printed.{stream_of}
+use Rattle.ddcap.specs.declared.help.TheConstants.{VERSION}
+use Rattle.ddcap.specs.declared.help_pages.TheConstants.{PROGRAM}
+use Rattle.ddcap.proofs.help.print_program.Goals as goal
+
+pub returns-in-Ok : goal.returns-in-Ok
+returns-in-Ok g c =
+    let stream = stream_of g.W.Write.contents in
+    behind (stream c.args.stream.now) (stream c.write_whole.new.writer) (stream c.print_both.new.stream) (codes "ddcap ") (VERSION.now ++ PROGRAM.now)
+    0 c.print_both.result (c.in-Ok.ensures.ok, c.in-Ok.ensures.faults) c.print_both.ensures

@@ -1,0 +1,20 @@
+-- What `explain` prints of a reason, and with which status it ends.
+use Rattle.std.specs.Prelude.{◌≡◌, ℕ, ◌⊎◌, List, ◌++◌, codes}
+use Rattle.std.specs.Fmt.{decimal}
+use Rattle.pair_judge.specs.Reason.{reason_name, reason_number}
+use Rattle.pair_judge.specs.declared.fault.JudgeFault.TheVariants as judge
+use Rattle.ddcap.specs.declared.explanations.Explanation.{Explanation}
+use Rattle.ddcap.specs.Printed.{Moved, Writes, fault_text}
+
+-- `6 WrongState`, and the parts with their headings
+abbrev pub explanation_text : Explanation → List ℕ
+explanation_text row =
+    decimal (reason_number row.reason) ++ (codes " " ++ (reason_name row.reason ++ (codes "\n\n" ++ (row.rule.now
+    ++ (codes "\n\nAllowed: " ++ (row.allowed.now ++ (codes "\n\nBy whose fault: " ++ (row.fault.now
+    ++ (codes ".\n\nLook for:\n\n" ++ (row.look_for.now ++ codes "\n\nA pair that is refused for it: docs/REASONS.md\n"))))))))))
+
+-- the text is written to standard output, with status 0; or `out of memory` to standard error, with status 3. The other stream stays as it is
+abbrev pub Explains : Explanation → (out err : Moved) → ℕ → Type 0
+Explains row out err status =
+    (Writes out.old out.new (explanation_text row) 0 status × (err.new ≡ err.old))
+    ⊎ (Writes err.old err.new (fault_text judge.OutOfMemory) 3 status × (out.new ≡ out.old))
