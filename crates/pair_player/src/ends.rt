@@ -67,7 +67,7 @@ impl Ends {
 
     /// Makes a step, and puts the lines of its records behind the text, each with its LF.
     ///
-    /// `BadStep`: the step breaks its rule (the table of docs/PLAYER.md). `Full`: it needs a link address, and all 65,535 of its end are
+    /// `BadStep`: the step breaks its rule (the table of docs/SCRIPTS.md). `Full`: it needs a link address, and all 65,535 of its end are
     /// given; whether it is bad is asked first. `OutOfMemory`: memory was refused, for which a timer and a loss never ask, nor does a step
     /// that breaks its rule, but where a message that becomes whole is too long. After any of them neither the ends nor what stands behind
     /// the text is of any use.

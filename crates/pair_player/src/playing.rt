@@ -34,7 +34,7 @@ struct Begun {
 /// Reads a script to its end, makes its steps, and writes the captures of both sides, in format 1. The answer counts the steps.
 ///
 /// A fault of a line names the first one that has any, counted from 1: `Departs` where it departs from the format, as `ScriptReader::open` and
-/// `advance` say; `BadStep` where its step breaks its rule (the table of docs/PLAYER.md); `Full` where it needs a link address, and all
+/// `advance` say; `BadStep` where its step breaks its rule (the table of docs/SCRIPTS.md); `Full` where it needs a link address, and all
 /// 65,535 of its end are given. Both writers then took the head of a capture and the records of all steps before that line, and nothing where
 /// it is line 1. `Read`, a call of the script's reader failed: they took those of all whole lines that it had given, or nothing where it had
 /// given no head. `OutOfMemory`, memory was refused: those of all steps before the one that was refused it, or nothing where the head was.
