@@ -20,10 +20,10 @@ used_by() { sed -n "s/^$1: *//p" "$top/crates.txt"; }
 
 sum_of_sources() {
   (cd "$top" && { echo crates.txt; find $(needed | sed 's|.*|crates/&/src|') -name '*.rt' | LC_ALL=C sort; } |
-    tr '\n' '\0' | xargs -0 sha256sum | sum_of_file -)
+    tr '\n' '\0' | xargs -0 sha256sum | checksum)
 }
 
-sum_of_file() { sha256sum < "${1/#-//dev/stdin}" | cut -d ' ' -f 1; }
+checksum() { sha256sum | cut -d ' ' -f 1; }
 
 origin_of() { sed -n "s/^$1 //p" "$top/dist/ORIGIN" 2> /dev/null; }
 
@@ -32,9 +32,9 @@ misfit() {
   local name sum
   [ -f "$top/dist/ORIGIN" ] || { echo 'there is no dist/ORIGIN'; return; }
   [ "$(origin_of sources)" = "$(sum_of_sources)" ] || { echo 'a source is not the one that dist/ was made from'; return; }
-  grep '^ddcap-.*\.s ' "$top/dist/ORIGIN" | while read -r name sum; do
-    [ "$(sum_of_file "$top/dist/$name" 2> /dev/null)" = "$sum" ] || { echo "dist/$name is not the file that dist/ORIGIN names"; break; }
-  done
+  while read -r name sum; do
+    [ -f "$top/dist/$name" ] && [ "$(checksum < "$top/dist/$name")" = "$sum" ] || { echo "dist/$name is not the file that dist/ORIGIN names"; return; }
+  done < <(grep '^ddcap-.*\.s ' "$top/dist/ORIGIN")
   [ -f "$top/dist/ddcap-$(uname -m).s" ] || echo "dist/ has no program for this machine, $(uname -m)"
 }
 
