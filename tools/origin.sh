@@ -33,7 +33,8 @@ misfit() {
   [ -f "$top/dist/ORIGIN" ] || { echo 'there is no dist/ORIGIN'; return; }
   [ "$(origin_of sources)" = "$(sum_of_sources)" ] || { echo 'a source is not the one that dist/ was made from'; return; }
   while read -r name sum; do
-    [ -f "$top/dist/$name" ] && [ "$(checksum < "$top/dist/$name")" = "$sum" ] || { echo "dist/$name is not the file that dist/ORIGIN names"; return; }
+    [ -f "$top/dist/$name" ] && [ "$(checksum < "$top/dist/$name")" = "$sum" ] ||
+      { echo "dist/$name is not the file that dist/ORIGIN names"; return; }
   done < <(grep '^ddcap-.*\.s ' "$top/dist/ORIGIN")
   [ -f "$top/dist/ddcap-$(uname -m).s" ] || echo "dist/ has no program for this machine, $(uname -m)"
 }
