@@ -1,10 +1,29 @@
-"""The built programs, ddcap run as a person does, and libraries to preload into it."""
+"""The built programs, ddcap run as a person does, and libraries to preload into it. These settings say how it is tried:
+- DDCAP_PROGRAM: the program. Without it, the one that ./ddcap makes and runs.
+- DDCAP_EMULATED: an emulator that runs it for another machine. Its libraries are then made by the compiler CC, and it preloads them.
+- DDCAP_QUICK: nothing that takes the toolchain."""
 import os
+import shutil
 import subprocess
 
 TOP = os.path.dirname(os.path.dirname(os.path.realpath(__file__)))
 CRATES = os.path.join(TOP, 'crates')
-PROGRAM = os.path.join(CRATES, 'ddcap', 'out', 'ddcap')
+PROVED = os.path.join(CRATES, 'ddcap', 'out', 'ddcap')
+EMULATED = 'DDCAP_EMULATED' in os.environ
+HAS_TOOLCHAIN = 'DDCAP_QUICK' not in os.environ and shutil.which('rt') is not None
+
+
+def chosen():
+    """The program that is tried."""
+    if 'DDCAP_PROGRAM' in os.environ:
+        return os.path.join(TOP, os.environ['DDCAP_PROGRAM'])
+    # makes it where it isn't made yet, so that nothing is said of that later
+    subprocess.run([os.path.join(TOP, 'ddcap')], stdin=subprocess.DEVNULL, stdout=subprocess.DEVNULL, stderr=subprocess.DEVNULL)
+    fits = subprocess.run([os.path.join(TOP, 'tools', 'snapshot'), 'check'], stdout=subprocess.DEVNULL).returncode == 0
+    return os.path.join(TOP, 'out', 'ddcap') if fits else PROVED
+
+
+PROGRAM = chosen()
 
 
 def sources():
@@ -35,6 +54,11 @@ def library(folder, name):
     return path
 
 
+def preloading(path):
+    """The setting by which the program preloads this library."""
+    return {'QEMU_SET_ENV': 'LD_PRELOAD=' + path} if EMULATED else {'LD_PRELOAD': path}
+
+
 class Program:
     """The program. Each of its reads and writes moves at most `few` bytes where that is given; `calls` are further settings of tools/calls.c."""
 
@@ -48,7 +72,7 @@ class Program:
         if few:
             calls['FEW_BYTES'] = few
         if calls:
-            env.update({name: str(value) for name, value in calls.items()}, LD_PRELOAD=self.calls)
+            env.update({name: str(value) for name, value in calls.items()}, **preloading(self.calls))
         done = subprocess.run([PROGRAM, *words], env=env, stdin=subprocess.DEVNULL, capture_output=True, text=True)
         return done.stdout, done.stderr, done.returncode
 
