@@ -8,7 +8,7 @@ use Rattle.ddcap.specs.Printed.{Stream, Writes}
 use Rattle.ddcap.specs.Showing.{WritesAll, WritesSome}
 
 -- the first piece is on the stream, and the second was written behind it
-behind : (a b c : Stream) (xs ys : List ℕ) (meant status : ℕ) → WritesAll a b xs → Writes b c ys meant status → Writes a c (xs ++ ys) meant status
+pub behind : (a b c : Stream) (xs ys : List ℕ) (meant status : ℕ) → WritesAll a b xs → Writes b c ys meant status → Writes a c (xs ++ ys) meant status
 behind a b c xs ys meant status first (inl (taken, faults, is)) =
     let all = all_on a b c xs ys first (taken, faults) in
     inl (all.0, all.1, is)
@@ -17,6 +17,6 @@ behind a b c xs ys meant status first (inr (taken, counted, is)) =
     inr (some.0, some.1, is)
 
 -- a beginning of the first piece is one of both
-beginning_of_first : (a b : Option (List ℕ)) (xs ys : List ℕ) → AppendsBeginning a b xs → AppendsBeginning a b (xs ++ ys)
+pub beginning_of_first : (a b : Option (List ℕ)) (xs ys : List ℕ) → AppendsBeginning a b xs → AppendsBeginning a b (xs ++ ys)
 beginning_of_first a b xs ys begun =
     (begun.0, omega (arith, begun.1, length-append xs ys), subst (Appends a b) (sym (take-append-le begun.0 xs ys (omega (arith, begun.1)))) begun.2)

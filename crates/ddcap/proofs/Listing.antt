@@ -38,7 +38,7 @@ shown_lines-push number (s ∷ rs) r =
 
 -- ---- what was written
 
-all_on : (a b c : Stream) (xs ys : List ℕ) → WritesAll a b xs → WritesAll b c ys → WritesAll a c (xs ++ ys)
+pub all_on : (a b c : Stream) (xs ys : List ℕ) → WritesAll a b xs → WritesAll b c ys → WritesAll a c (xs ++ ys)
 all_on a b c xs ys first second = (Appends-trans a.bytes b.bytes c.bytes xs ys first.0 second.0, second.1 ∙ first.1)
 
 beginning_on : (a b c : Option (List ℕ)) (xs ys : List ℕ) → Appends a b xs → AppendsBeginning b c ys → AppendsBeginning a c (xs ++ ys)
@@ -47,7 +47,7 @@ beginning_on a b c xs ys first second =
     let within : taken < length ys = second.1 in
     (length xs + taken, omega (arith, length-append xs ys), subst (Appends a c) (sym (take-append-add xs ys taken)) (Appends-trans a b c xs (take taken ys) first second.2))
 
-some_on : (a b c : Stream) (xs ys : List ℕ) → WritesAll a b xs → WritesSome b c ys → WritesSome a c (xs ++ ys)
+pub some_on : (a b c : Stream) (xs ys : List ℕ) → WritesAll a b xs → WritesSome b c ys → WritesSome a c (xs ++ ys)
 some_on a b c xs ys first second =
     (beginning_on a.bytes b.bytes c.bytes xs ys first.0 second.0, subst (λ (faults : ℕ). CountedFault faults c.faults) first.1 second.1)
 

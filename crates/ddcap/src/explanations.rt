@@ -26,42 +26,70 @@ pub struct Explanation {
     pub look_for: &'static str,
 }
 
-/// The explanation of each reason, in the order of their numbers.
-static EXPLANATIONS: [Explanation; 27] = [
-    units::NOT_A_MESSAGE,
-    units::HINT_ORDER,
-    units::NO_SUCH_UNIT,
-    units::NO_ORDER,
-    units::UNDETECTED,
-    stations::WRONG_STATE,
-    stations::WRONG_NUMBER,
-    stations::WRONG_RESPONSE,
-    stations::WINDOW_FULL,
-    stations::CHANGED,
-    stations::NO_CAUSE,
-    stations::WRONG_KEEP,
-    stations::CROSSED_PERIOD,
-    stations::WRONG_USER_EVENT,
-    packets::BAD_PACKET,
-    packets::WRONG_NODE,
-    packets::BAD_NSP,
-    packets::NO_LINK,
-    packets::LINK_STATE,
-    links::WRONG_SEGMENT,
-    links::WRONG_ACK,
-    links::SEGMENT_TOO_LONG,
-    links::LINK_WINDOW_FULL,
-    links::WRONG_DELIVERY,
-    links::CROSSED_LINK,
-    links::ADDRESS_IN_USE,
-    units::NOT_NOISE,
+/// All reasons, in the order of their numbers.
+static REASONS: [Reason; 27] = [
+    Reason::NotAMessage,
+    Reason::HintOrder,
+    Reason::NoSuchUnit,
+    Reason::NoOrder,
+    Reason::Undetected,
+    Reason::WrongState,
+    Reason::WrongNumber,
+    Reason::WrongResponse,
+    Reason::WindowFull,
+    Reason::Changed,
+    Reason::NoCause,
+    Reason::WrongKeep,
+    Reason::CrossedPeriod,
+    Reason::WrongUserEvent,
+    Reason::BadPacket,
+    Reason::WrongNode,
+    Reason::BadNsp,
+    Reason::NoLink,
+    Reason::LinkState,
+    Reason::WrongSegment,
+    Reason::WrongAck,
+    Reason::SegmentTooLong,
+    Reason::LinkWindowFull,
+    Reason::WrongDelivery,
+    Reason::CrossedLink,
+    Reason::AddressInUse,
+    Reason::NotNoise,
 ];
 
 /// The explanation of this reason.
-pub fn explanation_of<'a>(reason: Reason) -> &'a Explanation
-    ensures { result.now.reason ≡ reason }
+pub fn explanation_of(reason: Reason) -> Explanation
+    ensures { result.reason ≡ reason }
 {
-    &EXPLANATIONS[usize::from(reason.number()) - 1]
+    match reason {
+        Reason::NotAMessage => units::NOT_A_MESSAGE,
+        Reason::HintOrder => units::HINT_ORDER,
+        Reason::NoSuchUnit => units::NO_SUCH_UNIT,
+        Reason::NoOrder => units::NO_ORDER,
+        Reason::Undetected => units::UNDETECTED,
+        Reason::WrongState => stations::WRONG_STATE,
+        Reason::WrongNumber => stations::WRONG_NUMBER,
+        Reason::WrongResponse => stations::WRONG_RESPONSE,
+        Reason::WindowFull => stations::WINDOW_FULL,
+        Reason::Changed => stations::CHANGED,
+        Reason::NoCause => stations::NO_CAUSE,
+        Reason::WrongKeep => stations::WRONG_KEEP,
+        Reason::CrossedPeriod => stations::CROSSED_PERIOD,
+        Reason::WrongUserEvent => stations::WRONG_USER_EVENT,
+        Reason::BadPacket => packets::BAD_PACKET,
+        Reason::WrongNode => packets::WRONG_NODE,
+        Reason::BadNsp => packets::BAD_NSP,
+        Reason::NoLink => packets::NO_LINK,
+        Reason::LinkState => packets::LINK_STATE,
+        Reason::WrongSegment => links::WRONG_SEGMENT,
+        Reason::WrongAck => links::WRONG_ACK,
+        Reason::SegmentTooLong => links::SEGMENT_TOO_LONG,
+        Reason::LinkWindowFull => links::LINK_WINDOW_FULL,
+        Reason::WrongDelivery => links::WRONG_DELIVERY,
+        Reason::CrossedLink => links::CROSSED_LINK,
+        Reason::AddressInUse => links::ADDRESS_IN_USE,
+        Reason::NotNoise => units::NOT_NOISE,
+    }
 }
 
 /// The reason whose number is spelled so, as `1` or `27`; none where the word is no such number, or has a sign or a zero in front.
@@ -69,9 +97,9 @@ pub fn reason_spelled(word: &str) -> Option<Reason>
     ensures { IfSome result (λ reason. word.now ≡ decimal (reason_number reason)) }
 {
     let mut digits = itoa::Buffer::new();
-    for explanation in &EXPLANATIONS {
-        if digits.format(explanation.reason.number()) == word {
-            return Some(explanation.reason);
+    for reason in &REASONS {
+        if digits.format(reason.number()) == word {
+            return Some(*reason);
         }
     }
     None

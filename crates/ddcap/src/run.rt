@@ -46,7 +46,7 @@ pub fn run<R: Env + Files + AllocGlobal, O: Write, E: Write>(
         Ok(Task::Play { script, a, b }) => play_file(rt, script, a, b, out, err),
         Ok(Task::Convert { to, a, b }) => convert_file(rt, to, a, b, out, err),
         Ok(Task::Help { topic }) => help_to(out, topic),
-        Ok(Task::Explain { reason }) => explain_to(rt.alloc(), explanation_of(reason), out, err),
+        Ok(Task::Explain { reason }) => explain_to(rt.alloc(), &explanation_of(reason), out, err),
         Err(fault) => print_words_fault(err, fault),
     }
 }
