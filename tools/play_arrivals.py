@@ -16,7 +16,9 @@ def arrived(station, message, has_buffer):
 def damaged(station, kind):
     """Damage came, of a unit or as noise."""
     turned = station.turned
-    if station.state != 'RUNNING' and not turned('damage in %s brings a NAK' % station.state):
+    if station.state != 'RUNNING':
+        if turned('damage in %s brings a NAK' % station.state):
+            station.late.add(1 if kind == 'header bad' else 2)
         return
     if turned('a bad header brings NAK 2'):
         kind = 'data bad'
@@ -36,7 +38,7 @@ def in_halted(station, message, has_buffer):
     if message.kind == 'data' and station.turned('data in HALTED are taken'):
         return take(station, message, has_buffer)
     if message.kind == 'REP' and station.turned('REP in HALTED brings a NAK'):
-        answer(station, message)
+        station.late.add(3)
     return False
 
 
@@ -48,7 +50,7 @@ def in_istrt(station, message, has_buffer):
         if not turned('STRT in ISTRT brings no STACK'):
             station.owe('STACK')
     elif message.kind == 'STACK':
-        station.enter('ASTRT' if turned('STACK in ISTRT leads to ASTRT') else 'RUNNING', turned('ISTRT keeps its debts'))
+        station.enter('ASTRT' if turned('STACK in ISTRT leads to ASTRT') else 'RUNNING')
         if not turned('STACK in ISTRT brings no ACK'):
             station.owe('ACK')
     elif message.kind == 'ACK' and turned('ACK in ISTRT leads to RUNNING'):
@@ -56,7 +58,7 @@ def in_istrt(station, message, has_buffer):
     elif message.kind == 'NAK' and turned('NAK in ISTRT leads to RUNNING'):
         station.enter('RUNNING')
     elif message.kind == 'REP' and turned('REP in ISTRT brings a NAK'):
-        answer(station, message)
+        station.late.add(3)
     elif message.kind == 'data':
         if turned('data in ISTRT lead to RUNNING'):
             station.enter('RUNNING')
@@ -74,11 +76,11 @@ def in_astrt(station, message, has_buffer):
         if turned('STRT in ASTRT leads to HALTED'):
             station.enter('HALTED')
     elif message.kind == 'STACK':
-        station.enter('RUNNING', turned('ASTRT keeps its debts'))
+        station.enter('RUNNING')
         if not turned('STACK in ASTRT brings no ACK'):
             station.owe('ACK')
     elif message.kind in ('ACK', 'data') and (message.resp == 0 or turned('%s in ASTRT with any RESP' % message.kind)):
-        station.enter('RUNNING', turned('ASTRT keeps its debts'))
+        station.enter('RUNNING')
         if message.kind == 'ACK' and turned('ACK in ASTRT brings an ACK'):
             station.owe('ACK')
         if message.kind == 'data' and turned('data that end a start are not taken'):
@@ -87,7 +89,7 @@ def in_astrt(station, message, has_buffer):
     elif message.kind == 'NAK' and message.resp == 0 and turned('NAK in ASTRT leads to RUNNING'):
         station.enter('RUNNING')
     elif message.kind == 'REP' and turned('REP in ASTRT brings a NAK'):
-        answer(station, message)
+        station.late.add(3)
     elif message.kind == 'REP' and turned('REP in ASTRT leads to RUNNING'):
         station.enter('RUNNING')
         answer(station, message)
@@ -128,7 +130,8 @@ def running_strt(station):
         station.enter('ISTRT')
         station.owe('STRT')
     elif not turned('STRT in RUNNING changes nothing'):
-        station.enter('HALTED', turned('STRT in RUNNING drops no debt'))
+        station.late.update(station.owed if turned('STRT in RUNNING drops no debt') else ())
+        station.enter('HALTED')
 
 
 def set_back(station, message):
@@ -210,8 +213,6 @@ def answer(station, message):
     """A REP came: it asks whether all through its NUM came."""
     turned = station.turned
     has_all = message.num == station.received
-    if turned('a REP of what is behind R brings ACK'):
-        has_all = (station.received - message.num) % 256 < 128
     if turned('a REP always brings NAK 3'):
         has_all = False
     if turned('a REP always brings ACK'):

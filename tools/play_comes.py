@@ -29,8 +29,6 @@ def connect(links, message):
         link.owed.add('connect ack' if turned('a CI again in Confirming brings a connect ack') else 'CC')
     elif link.phase == 'DI' and turned('a CI again in DI brings DI'):
         link.owed.add('DI')
-    elif link.phase == 'RUN' and turned('a CI again in RUN brings CC'):
-        link.owed.add('CC')
     return []
 
 
@@ -56,8 +54,7 @@ def confirm(links, message):
 def linked(links, message):
     """The live link with the two addresses of the message, or None."""
     link = links.at(message.own)
-    has_far = link is not None and (link.far == message.far or links.turned('the far address is not looked at'))
-    return link if has_far else None
+    return link if link is not None and link.far == message.far else None
 
 
 def disconnect(links, message):
@@ -129,8 +126,7 @@ def acknowledge(links, link, number):
     for number in list(link.given)[:count]:
         del link.given[number]
         link.acknowledged = number
-        if not turned('what was acknowledged stays in the present go'):
-            link.gone.discard(number)
+        link.gone.discard(number)
 
 
 def segment(links, message):
@@ -144,14 +140,12 @@ def segment(links, message):
     is_new = 1 <= ahead <= (2046 if turned('2,046 segments ahead at most') else 2047)
     if turned('only the next segment is held') and ahead != 1:
         is_new = False
-    if turned('segments again are delivered again'):
-        is_new = True
     if not turned('a segment brings no data ack') and (is_new or not turned('a segment again brings nothing')):
         link.owed.add('data ack')
     if turned('only what ends a message brings a data ack') and not message.flag & 0x40:
         link.owed.discard('data ack')
     if not is_new:
-        return []
+        return [(link.own, message.rest)] if turned('segments again are delivered again') else []
     link.held[message.number] = message
     return whole(links, link)
 

@@ -44,7 +44,8 @@ class Links:
     def at(self, own):
         """The live link with this own address, or None."""
         for link in self.links:
-            if link.own == own and (link.is_live() or self.turned('an ended link is found by its address')):
+            address = link.far if self.turned('steps and messages name the far address') else link.own
+            if address == own and (link.is_live() or self.turned('an ended link is found by its address')):
                 return link
         return None
 
@@ -83,7 +84,7 @@ class Links:
         """The call is accepted or rejected; None where no call has this address, 0 where no address is left."""
         turned, link = self.turned, self.called_by(far)
         if link is None:
-            return None
+            return 0 if turned('full before bad step') and not self.has_address() else None
         if not self.has_address():
             return 0
         self.enter(link, 'Confirming' if is_accepted else 'DI', ORDER if turned('an answer drops no connect ack') else ())
@@ -168,7 +169,7 @@ class Links:
     def part_of_links(self):
         """What the first link that has anything sends, or None."""
         turned = self.turned
-        links = [link for link in self.links if link.is_live() or turned('an ended link sends')]
+        links = [link for link in self.links if link.is_live() or turned('the end drops no debt')]
         if turned('the link with the lowest address first'):
             links.sort(key=lambda link: link.own)
         if turned('the newest link first'):
@@ -200,21 +201,23 @@ class Links:
             return None
         if not turned('%s is not cleared' % thing):
             link.owed.discard(thing)
-        own = link.own
+        own, far = link.own, link.far
+        if turned('the addresses exchanged in %s' % thing):
+            own, far = far, own
         if thing == 'connect ack':
-            return bytes([0x24]) + word(link.far)
+            return bytes([0x24]) + word(far)
         if thing == 'CI':
             flag = 0x68 if link.has_sent_ci or turned('CI is 68 from the first on') else 0x18
             link.has_sent_ci = True
             return addressed(0x18 if turned('CI is always 18') else flag, 0, own, CONNECT)
         if thing == 'CC':
-            return addressed(0x28, link.far, own, CONNECT + (b'' if turned('no user data in CC') else b'\0'))
+            return addressed(0x28, far, own, CONNECT + (b'' if turned('no user data in CC') else b'\0'))
         if thing == 'DI':
-            return addressed(0x38, link.far, own, word(0) + (b'' if turned('no user data in DI') else b'\0'))
+            return addressed(0x38, far, own, word(0) + (b'' if turned('no user data in DI') else b'\0'))
         number = (link.received + (1 if turned('a data ack names the next') else 0)) % 4096
         if turned('a data ack over gaps') and link.held:
             number = max(link.held)
-        return addressed(4, link.far, own, word(0x8000 | number))
+        return addressed(4, far, own, word(0x8000 | number))
 
     def segment(self, link):
         """A segment that the link sends, or None: one again, or a new one."""
@@ -222,6 +225,8 @@ class Links:
         if link.phase != 'RUN' and not turned('segments in %s' % link.phase):
             return None
         again = [number for number in link.given if number not in link.gone]
+        if turned('the lowest number modulo 4,096 again first'):
+            again.sort()
         if turned('the highest again first'):
             again.reverse()
         has_new = link.handed and len(link.given) < self.window()
@@ -251,7 +256,8 @@ class Links:
             field = word(0x8000 | link.received) + field
         if self.turned('bit 12 where a message goes on') and not flag & 0x40:
             field = word(number | 0x1000)
-        return addressed(flag, link.far, link.own, field + piece)
+        own, far = (link.far, link.own) if self.turned('the addresses exchanged in a segment') else (link.own, link.far)
+        return addressed(flag, far, own, field + piece)
 
     def next_piece(self, link):
         """The next piece of what was handed in, and its flags: whether it begins its message, and whether it ends it."""

@@ -121,7 +121,7 @@ class Play:
             return None if message is None else end.header + message
         unit = end.station.unit(packet)
         if unit is None:
-            return False
+            return self.turned('nothing can be sent')
         end.lines.append('s ' + unit.hex())
         other.coming.append((other.count, unit))
         other.count += 1
@@ -133,15 +133,23 @@ class Play:
         """The next unit on the line, with its number, taken off it; None where there is none."""
         return end.coming.pop(-1 if self.turned('the newest unit comes first') else 0) if end.coming else None
 
+    def nothing_comes(self, word):
+        """Whether such a step is made where nothing is on the line."""
+        return self.turned('%s where nothing is on the line' % word)
+
     def deliver(self, end):
         """The next unit comes."""
         unit = self.next_unit(end)
-        return unit is not None and self.comes(end, *unit, unit[1], not self.turned('what is delivered is never kept'))
+        if unit is None:
+            return self.nothing_comes('deliver')
+        return self.comes(end, *unit, unit[1], not self.turned('what is delivered is never kept'))
 
     def refuse(self, end):
         """The next unit comes and is not kept."""
         unit = self.next_unit(end)
-        return unit is not None and self.comes(end, *unit, unit[1], self.turned('what is refused is kept'))
+        if unit is None:
+            return self.nothing_comes('refuse')
+        return self.comes(end, *unit, unit[1], self.turned('what is refused is kept'))
 
     def lose(self, end):
         """The next unit is lost."""
@@ -151,18 +159,20 @@ class Play:
             end.coming = [(number - 1, other) for number, other in end.coming]
         if unit is not None and self.turned('a lost unit has a line'):
             end.lines.append('r %d %s' % (unit[0], text_of(unit[1])))
-        return unit is not None or self.turned('nothing can be lost')
+        return unit is not None or self.nothing_comes('lose')
 
     def damage(self, end, place, change):
         """The next unit comes with a byte changed."""
         place, change = int(place), int(change)
-        length = len(end.coming[0][1]) if end.coming else 0
+        if not end.coming:
+            return self.nothing_comes('damage')
+        length = len(end.coming[0][1])
         if self.turned('damage behind the last byte'):
             length += 1
         if self.turned('no damage at the last byte'):
             length -= 1
         lowest = 0 if self.turned('damage by 0') else 1
-        if not end.coming or place >= length or not lowest <= change <= (254 if self.turned('damage by 254 at most') else 255):
+        if place >= length or not lowest <= change <= (254 if self.turned('damage by 254 at most') else 255):
             return change > 255 and self.turned('damage by a word')
         number, unit = self.next_unit(end)
         came = bytearray(unit)
@@ -180,13 +190,13 @@ class Play:
             kind = 'header bad'
         if turned('a bad header with SOH reads as bad data') and kind == 'header bad' and data[:1] == b'\x81':
             kind = 'data bad'
-        if kind not in ('header bad', 'data bad') and not turned('noise that is %s' % kind):
+        if kind not in ('header bad', 'data bad') and not turned('noise that is malformed' if kind == 'malformed' else 'noise that is sound'):
             return False
         end.lines.append('n ' + text_of(data))
         if turned('noise is the next unit'):
             self.next_unit(end)
         if not turned('noise brings nothing'):
-            arrived_at_station(end.station, reading(data), True)
+            arrived_at_station(end.station, reading(data)._replace(kind=kind), True)
         return True
 
     def comes(self, end, number, unit, came, has_buffer):

@@ -13,7 +13,7 @@ class Station:
     def __init__(self, turned):
         self.turned = turned
         self.state = 'HALTED'
-        self.owed = set()
+        self.owed, self.late = set(), set()
         self.received = self.acknowledged = self.gone = 0
         self.packets, self.behind = [], []
 
@@ -21,10 +21,13 @@ class Station:
         """It owes these, each once."""
         self.owed.update(things)
 
-    def enter(self, state, keeps_debts=False):
-        """It is in another state, and what it owed in that which it left is dropped."""
-        if not keeps_debts:
-            self.owed.clear()
+    def enter(self, state):
+        """It is in another state, and what it owed in that which it left is dropped. `late` is what a turned rule lets it owe once it runs."""
+        kept = {'STRT', 'STACK'} if self.turned('STRT and STACK stay owed') else set()
+        self.owed &= kept
+        if state == 'RUNNING':
+            self.owe(*self.late)
+            self.late.clear()
         self.state = state
 
     # ---- what the user and the timer do
@@ -49,7 +52,8 @@ class Station:
         """Whether the user can halt it; then it is halted."""
         if self.turned('never halts in %s' % self.state):
             return False
-        self.enter('HALTED', self.turned('a halt drops no debt'))
+        self.late.update(self.owed if self.turned('a halt drops no debt') and self.state == 'RUNNING' else ())
+        self.enter('HALTED')
         return True
 
     def time_out(self):
@@ -85,10 +89,14 @@ class Station:
 
     def unit(self, packet_of_links):
         """The next unit that it sends, or None. `packet_of_links()` is the next packet that the links have, or None."""
+        for kind in sorted({'STRT', 'STACK'} & self.owed):
+            if (kind, self.state) in (('STRT', 'ASTRT'), ('STRT', 'RUNNING'), ('STACK', 'RUNNING')):
+                self.owed.discard(kind)
+                return control_unit(kind, flags=0xc0)
         if self.state in ('ISTRT', 'ASTRT'):
             return self.unit_of_start(packet_of_links)
         if self.state == 'HALTED':
-            return self.unit_of_halt(packet_of_links)
+            return self.data(packet_of_links) if self.turned('data in HALTED') else None
         order = [self.nak, self.rep, lambda: self.data(packet_of_links), self.ack]
         for turn, first, second in (('REP before NAK', 0, 1), ('data before REP', 1, 2), ('ACK before data', 2, 3)):
             if self.turned(turn):
@@ -108,15 +116,7 @@ class Station:
             return control_unit(kind, flags=0 if self.turned('no flags in %s' % kind) else 0xc0)
         if self.turned('data in %s' % self.state):
             return self.data(packet_of_links)
-        if self.turned('NAK, REP and ACK in %s' % self.state):
-            return self.nak() or self.rep() or self.ack()
         return None
-
-    def unit_of_halt(self, packet_of_links):
-        """What it sends in HALTED: nothing."""
-        if self.turned('data in HALTED'):
-            return self.data(packet_of_links)
-        return self.nak() or self.rep() or self.ack() if self.turned('NAK, REP and ACK in HALTED') else None
 
     def resp(self):
         """RESP of what it sends."""
@@ -163,6 +163,7 @@ class Station:
 
     def data(self, packet_of_links):
         """The data message that it sends next, or None: a packet again, or a new one."""
+        is_new = False
         if self.gone < len(self.packets) and self.turned('new packets before those again'):
             packet = packet_of_links()
             if packet is not None:
@@ -172,11 +173,10 @@ class Station:
             if packet is None:
                 return None
             self.packets.append(packet)
+            is_new = True
         self.gone += 1
-        if not self.turned('data clear no ACK') and not (self.gone < len(self.packets) and self.turned('data again clear no ACK')):
+        if not self.turned('data clear no ACK') and (is_new or not self.turned('data again clear no ACK')):
             self.owed.discard('ACK')
-        if self.turned('data clear REP'):
-            self.owed.discard('REP')
         number = self.acknowledged + self.gone - (1 if self.turned('packets are counted from 0') else 0)
         wrap = 255 if self.turned('NUM wraps at 255') else 256
         packet = (self.behind + self.packets)[len(self.behind) + self.gone - 1] if self.gone < 1 else self.packets[self.gone - 1]
