@@ -203,7 +203,7 @@ def out_of_order(station, message):
 def no_buffer(station):
     """The next packet found no buffer."""
     turned = station.turned
-    if turned('no buffer, and the packet counts as received'):
+    if turned('an unkept packet counts as received'):
         station.received = (station.received + 1) % 256
     if not turned('no buffer brings nothing'):
         station.owe('ACK' if turned('no buffer brings ACK') else 9 if turned('no buffer brings NAK 9') else 8)

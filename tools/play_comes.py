@@ -94,7 +94,7 @@ def of_run(links, message):
     phases = ['Confirming', 'RUN'] + (['DI'] if turned('a message of RUN is acted on in DI') else [])
     if link is None or link.phase not in phases:
         return None
-    if link.phase == 'Confirming' and not turned('a message of RUN leaves Confirming'):
+    if link.phase == 'Confirming' and not turned('a message of RUN does not lead from Confirming'):
         links.enter(link, 'RUN', link.owed if turned('RUN keeps the CC') else ())
     return link
 

@@ -229,7 +229,10 @@ class Links:
             again.sort()
         if turned('the highest again first'):
             again.reverse()
-        has_new = link.handed and len(link.given) < self.window()
+        count = link.highest if turned('segments that are acknowledged fill the window') else len(link.given)
+        has_new = link.handed and count < self.window()
+        if turned('no segment again in a full window') and len(link.given) == WINDOW:
+            again = []
         if turned('new segments before those again') and has_new:
             again = []
         if again:

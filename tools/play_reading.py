@@ -56,6 +56,13 @@ class Play:
         a, b = ((area * 1024 + node).to_bytes(2, 'little') for area, node in ((area_a, node_a), (area_b, node_b)))
         self.turned = turned
         self.ends = {'a': End(turned, a, b), 'b': End(turned, b, a)}
+        nodes = head.split(' ')[2:]
+        self.ends['a'].head, self.ends['b'].head = 'ddcap 1 %s %s' % (nodes[0], nodes[1]), 'ddcap 1 %s %s' % (nodes[1], nodes[0])
+
+    def capture(self, side):
+        """The lines of the capture of a side, its head the first."""
+        end = self.ends[side]
+        return [] if not end.lines and self.turned('no head without a record') else [end.head] + end.lines
 
     def make(self, step):
         """Makes this step."""
@@ -213,11 +220,11 @@ class Play:
 
 
 def played(steps, turned=Turns(), head='ddplay 1 1.1 1.2'):
-    """How many of these steps are made, what the next one is ('bad step', 'full', 'syntax' or None), and the lines of both captures."""
-    play, count = Play(turned, head), 0
+    """How many of these steps are made, what the next one is ('bad step', 'full', 'syntax' or None), and both captures."""
+    play, count, fault = Play(turned, head), 0, None
     for step in steps:
         fault = play.make(step)
         if fault:
-            return count, fault, {side: end.lines for side, end in play.ends.items()}
+            break
         count += 1
-    return count, None, {side: end.lines for side, end in play.ends.items()}
+    return count, fault, {side: play.capture(side) for side in 'ab'}

@@ -122,7 +122,7 @@ class Station:
         """RESP of what it sends."""
         if self.turned('RESP is the number that it waits for'):
             return (self.received + 1) % 256
-        return self.received
+        return self.received % (255 if self.turned('RESP wraps at 255') else 256)
 
     def nak(self):
         """The NAK that it owes with the lowest reason, or None."""
@@ -151,7 +151,7 @@ class Station:
         number = self.acknowledged + (self.gone if self.turned('REP names the last that went') else len(self.packets))
         if self.turned('REP names the first outstanding'):
             number = self.acknowledged + 1
-        return control_unit('REP', num=number % 256)
+        return control_unit('REP', num=number % (255 if self.turned('NUM of REP wraps at 255') else 256))
 
     def ack(self):
         """The ACK that it owes, or None."""
@@ -178,12 +178,14 @@ class Station:
         if not self.turned('data clear no ACK') and (is_new or not self.turned('data again clear no ACK')):
             self.owed.discard('ACK')
         number = self.acknowledged + self.gone - (1 if self.turned('packets are counted from 0') else 0)
-        wrap = 255 if self.turned('NUM wraps at 255') else 256
+        wrap = 255 if self.turned('NUM of data wraps at 255') or not is_new and self.turned('NUM of data again wraps at 255') else 256
         packet = (self.behind + self.packets)[len(self.behind) + self.gone - 1] if self.gone < 1 else self.packets[self.gone - 1]
         return data_unit(0 if self.turned('RESP 0 in data') else self.resp(), number % wrap, packet)
 
     def has_room(self):
         """Whether it may give one more packet."""
+        if self.turned('packets that are acknowledged fill the window'):
+            return len(self.packets) + len(self.behind) < WINDOW
         if self.turned('254 packets outstanding at most'):
             return len(self.packets) < WINDOW - 1
         if self.turned('256 packets outstanding at most'):

@@ -35,8 +35,8 @@ class Block:
         return self.all_before() + self.asked
 
     def captures(self):
-        """The lines of both captures behind the head, the set-up's first."""
-        first = self.from_.captures() if self.from_ else {'a': [], 'b': []}
+        """The lines of both captures, their heads first and then the set-up's."""
+        first = self.from_.captures() if self.from_ else {side: [CAPTURE_HEADS[side]] for side in 'ab'}
         return {side: first[side] + self.lines[side] for side in 'ab'}
 
 
