@@ -7,7 +7,7 @@ from play_arrivals import arrived as arrived_at_station
 from play_comes import arrived as arrived_at_links
 from play_links import Links
 from play_station import Station
-from play_units import link_message, reading
+from play_units import checks, link_message, reading
 
 NODE = r'([1-9]\d?)\.([1-9]\d{0,3})'
 HEAD = re.compile('ddplay 1 %s %s' % (NODE, NODE))
@@ -192,7 +192,13 @@ class Play:
         turned, data = self.turned, bytes_of(text)
         if turned('no bytes are no noise') and not data or turned('fewer than 8 bytes are no noise') and len(data) < 8:
             return False
+        if turned('short bytes that check are no noise') and len(data) < 8 and checks(data):
+            return False
+        if turned('cut data that check are no noise') and checks(data[:8]) and checks(data[8:]):
+            return False
         kind = reading(data).kind
+        if turned('data of no bytes are bad data') and data[:3] == bytes([0x81, 0, 0]) and kind == 'malformed':
+            kind = 'data bad'
         if turned('data that are cut read as a bad header') and kind == 'data bad':
             kind = 'header bad'
         if turned('a bad header with SOH reads as bad data') and kind == 'header bad' and data[:1] == b'\x81':

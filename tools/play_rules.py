@@ -140,7 +140,8 @@ OF_LINE = {
          'damage puts V in place of the byte'],
     'noise':
         ['no bytes are no noise', 'fewer than 8 bytes are no noise', 'data that are cut read as a bad header',
-         'a bad header with SOH reads as bad data', 'noise that is sound', 'noise that is malformed', 'noise is the next unit',
+         'a bad header with SOH reads as bad data', 'short bytes that check are no noise', 'cut data that check are no noise',
+         'data of no bytes are bad data', 'noise that is sound', 'noise that is malformed', 'noise is the next unit',
          'noise brings nothing'],
 }
 
