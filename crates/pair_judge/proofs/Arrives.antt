@@ -14,6 +14,8 @@ use Rattle.dna_model.specs.WireBook.{wire_book, wire_arrival_refusal, wire_after
 use Rattle.dna_model.specs.WireLayers.{WireLayers, tag_or_none, wire_keeps_packet, wire_meets_on, to_wire_station}
 use Rattle.pair_judge.specs.declared.step_fault.StepFault.{StepFault}
 use Rattle.pair_judge.specs.declared.step_fault.StepFault.TheVariants.{Refused, OutOfMemory}
+use Rattle.pair_judge.specs.Memory.{IfNoMemory, MayKeep}
+use Rattle.pair_judge.specs.Receipts.{is_damage}
 use Rattle.pair_judge.specs.Steps.{IfRefused, with_link}
 use Rattle.pair_judge.specs.Wire.{judge_machine}
 
@@ -52,7 +54,18 @@ module _ (s : WireLayers) (link : Option LinkTag) (kept : Bool) where
   arrives_kept HeaderBad packet after tag r free taken after_is tag_is keeps = absurd (cc)
   arrives_kept DataBad packet after tag r free taken after_is tag_is keeps = absurd (cc)
 
+-- what is taken shows no damage, and was kept
+pub taken_may_keep : (s : WireLayers) (arrival : ArrivalValue Tag) (kept : Bool) (packet : List ℕ) → wire_taken s.station arrival kept ≡ Some packet → MayKeep kept (is_damage arrival)
+taken_may_keep s (Sound m tag) kept packet taken = ((taken_kept (takes_by wire_book s.station m tag) kept (body_of m) packet taken).0, refl)
+taken_may_keep s HeaderBad kept packet taken = absurd (cc)
+taken_may_keep s DataBad kept packet taken = absurd (cc)
+
 -- ---- by what was answered
+
+pub no_memory : {X P : Type 0} (r : Result X StepFault) → P → IfErr r (IfNoMemory P)
+no_memory (Ok x) holds = tt
+no_memory (Err (Refused refusal)) holds = tt
+no_memory (Err OutOfMemory) holds = holds
 
 pub on_ok : {X Z : Type 0} {P Q : Type 0} (r : Result X Z) → (P → Q) → OnOk r P → OnOk r Q
 on_ok (Ok x) follows holds = follows holds

@@ -28,7 +28,7 @@ use Rattle.pair_judge.specs.declared.reason.Reason.{Reason}
 use Rattle.pair_judge.specs.declared.reason.Reason.TheVariants as reasons
 use Rattle.pair_judge.specs.Answer.{answer_of, verdict_of}
 use Rattle.pair_judge.specs.Heads.{head_of}
-use Rattle.pair_judge.specs.Finding.{EndsFor, EndsWhere, IsCounted, IsFoundIn, IsVerdictBehind, of_side}
+use Rattle.pair_judge.specs.Finding.{EndsFor, EndsWhere, IsCounted, IsFinding, IsFoundIn, IsFindingBehind, of_side}
 use Rattle.pair_judge.specs.Faulty.{IsFaultyText, IsJudgeFault}
 use Rattle.pair_judge.specs.Reason.{reason_of}
 use Rattle.pair_judge.specs.Refusal.{AreRefused, AreTexts, IsRefusal, OffendsFor, WholeCapture}
@@ -52,14 +52,14 @@ pub record RunLaws : Type 0 where
 same_head : (head : Head) (read : ReadSoFar) → head.own ≡ read.own → head.peer ≡ read.peer → head ≡ head_of read
 same_head head read own peer = ap₂ (λ (o p : ℕ). record { own = o; peer = p }) own peer
 
--- what is the verdict behind what was read is the verdict on these captures
-pub verdict_on : (laws : WholeLaws) (bytes_a bytes_b : List ℕ) (head_a head_b : Head) (of_a of_b : List Record) (read_a read_b : ReadSoFar) (finding : Finding)
+-- what is the finding behind what was read is that of these captures
+pub finding_on : (laws : WholeLaws) (bytes_a bytes_b : List ℕ) (head_a head_b : Head) (of_a of_b : List Record) (read_a read_b : ReadSoFar) (finding : Finding)
     → IsText head_a.own head_a.peer of_a bytes_a → IsText head_b.own head_b.peer of_b bytes_b → IsReadSoFar (Some bytes_a) read_a → IsReadSoFar (Some bytes_b) read_b
-    → IsVerdictBehind read_a read_b finding → IsVerdict head_a head_b of_a of_b finding
-verdict_on laws bytes_a bytes_b head_a head_b of_a of_b read_a read_b finding is_a is_b from_a from_b verdict =
+    → IsFindingBehind read_a read_b finding → IsFinding head_a head_b of_a of_b finding
+finding_on laws bytes_a bytes_b head_a head_b of_a of_b read_a read_b finding is_a is_b from_a from_b behind =
     let x = laws.goes_on bytes_a head_a.own head_a.peer of_a read_a is_a from_a in
     let y = laws.goes_on bytes_b head_b.own head_b.peer of_b read_b is_b from_b in
-    at_heads (head_of read_a) (head_of read_b) head_a head_b of_a of_b finding (same_head head_a read_a x.0 x.1) (same_head head_b read_b y.0 y.1) (verdict of_a of_b x.2 y.2)
+    at_heads (head_of read_a) (head_of read_b) head_a head_b of_a of_b finding (same_head head_a read_a x.0 x.1) (same_head head_b read_b y.0 y.1) (behind of_a of_b x.2 y.2)
 
 no_run : (head_a head_b : Head) (of_a of_b : List Record) (side : Side) (place : ℕ) (cause : Cause) → IsVerdict head_a head_b of_a of_b (findings.Refused side place cause) → ¬ IsLayersRun head_a head_b of_a of_b
 no_run head_a head_b of_a of_b A place cause v = v.0
@@ -71,14 +71,14 @@ pub exact_of_found : (laws : WholeLaws) (text_a text_b : Option (List ℕ)) (fou
 exact_of_found laws None text_b found f = tt
 exact_of_found laws (Some bytes_a) None found f = tt
 exact_of_found laws (Some bytes_a) (Some bytes_b) found f = λ head_a head_b of_a of_b is_a is_b run.
-    by_finding found.finding found.summary head_a head_b of_a of_b run (verdict_on laws bytes_a bytes_b head_a head_b of_a of_b f.read_a f.read_b found.finding is_a is_b f.from_a f.from_b f.verdict)
+    by_finding found.finding found.summary head_a head_b of_a of_b run (finding_on laws bytes_a bytes_b head_a head_b of_a of_b f.read_a f.read_b found.finding is_a is_b f.from_a f.from_b f.finding).verdict
   where
     by_finding : (finding : Finding) (summary : Summary) (head_a head_b : Head) (of_a of_b : List Record) → IsLayersRun head_a head_b of_a of_b → IsVerdict head_a head_b of_a of_b finding → AcceptsOrFails (Ok (answer_of finding summary))
     by_finding findings.Accepted summary head_a head_b of_a of_b run v = tt
     by_finding (findings.Refused side place cause) summary head_a head_b of_a of_b run v = no_run head_a head_b of_a of_b side place cause v run
 
 -- no line of such a text departs
-faults_nowhere : (laws : WholeLaws) (bytes_a bytes_b : List ℕ) (head_a head_b : Head) (of_a of_b : List Record) (side : Side) (kind : Departure) (line : ℕ)
+pub faults_nowhere : (laws : WholeLaws) (bytes_a bytes_b : List ℕ) (head_a head_b : Head) (of_a of_b : List Record) (side : Side) (kind : Departure) (line : ℕ)
     → IsText head_a.own head_a.peer of_a bytes_a → IsText head_b.own head_b.peer of_b bytes_b → IsFaultyText (Some bytes_a) (Some bytes_b) side kind line → ⊥
 faults_nowhere laws bytes_a bytes_b head_a head_b of_a of_b A kind line is_a is_b (inl head) = laws.head_stands bytes_a head_a.own head_a.peer of_a kind line is_a head
 faults_nowhere laws bytes_a bytes_b head_a head_b of_a of_b B kind line is_a is_b (inl head) = laws.head_stands bytes_b head_b.own head_b.peer of_b kind line is_b head
@@ -155,22 +155,22 @@ ends_for : (side : Side) (place : ℕ) (cause : Cause) (behind_a behind_b : Behi
 ends_for A place cause behind_a behind_b ends = ends
 ends_for B place cause behind_a behind_b ends = ends
 
-refused_by : (text_a text_b : Option (List ℕ)) (read_a read_b : ReadSoFar) → IsReadSoFar text_a read_a → IsReadSoFar text_b read_b → (finding : Finding) (summary : Summary) → IsVerdictBehind read_a read_b finding → EndsWhere finding read_a.behind read_b.behind → IsRefusalWhere text_a text_b (Ok (answer_of finding summary))
-refused_by text_a text_b read_a read_b from_a from_b findings.Accepted summary verdict ends = tt
-refused_by text_a text_b read_a read_b from_a from_b (findings.Refused side place cause) summary verdict ends = record {
+refused_by : (text_a text_b : Option (List ℕ)) (read_a read_b : ReadSoFar) → IsReadSoFar text_a read_a → IsReadSoFar text_b read_b → (finding : Finding) (summary : Summary) → IsFindingBehind read_a read_b finding → EndsWhere finding read_a.behind read_b.behind → IsRefusalWhere text_a text_b (Ok (answer_of finding summary))
+refused_by text_a text_b read_a read_b from_a from_b findings.Accepted summary behind ends = tt
+refused_by text_a text_b read_a read_b from_a from_b (findings.Refused side place cause) summary behind ends = record {
   read_a = read_a;
   read_b = read_b;
   from_a = from_a;
   from_b = from_b;
-  named = named_within (head_of read_a) (head_of read_b) read_a.records read_b.records side place cause (verdict read_a.records read_b.records (goes_nowhere read_a) (goes_nowhere read_b));
+  named = named_within (head_of read_a) (head_of read_b) read_a.records read_b.records side place cause (behind read_a.records read_b.records (goes_nowhere read_a) (goes_nowhere read_b)).verdict;
   cause = cause;
   is_reason = refl;
   ends = ends_for side place cause read_a.behind read_b.behind ends;
-  verdict = verdict;
+  finding = behind;
 }
 
 pub refused_of_found : (text_a text_b : Option (List ℕ)) (found : Found) → IsFoundIn text_a text_b found → IsRefusalWhere text_a text_b (Ok (verdict_of found))
-refused_of_found text_a text_b found f = refused_by text_a text_b f.read_a f.read_b f.from_a f.from_b found.finding found.summary f.verdict f.ends
+refused_of_found text_a text_b found f = refused_by text_a text_b f.read_a f.read_b f.from_a f.from_b found.finding found.summary f.finding f.ends
 
 -- ---- of two whole captures
 
@@ -183,41 +183,12 @@ offends_for a b side place reason NoOrder is v unit order = absurd (order is)
 pub refused_captures : (laws : WholeLaws) (a b : WholeCapture) (bytes_a bytes_b : List ℕ) (side : Side) (place : ℕ) (reason : Reason)
     → IsText a.head.own a.head.peer a.records bytes_a → IsText b.head.own b.head.peer b.records bytes_b → IsRefusal (Some bytes_a) (Some bytes_b) side place reason → AreRefused a b side place reason
 refused_captures laws a b bytes_a bytes_b side place reason is_a is_b r =
-    let v = verdict_on laws bytes_a bytes_b a.head b.head a.records b.records r.read_a r.read_b (findings.Refused side place r.cause) is_a is_b r.from_a r.from_b r.verdict in
+    let f = finding_on laws bytes_a bytes_b a.head b.head a.records b.records r.read_a r.read_b (findings.Refused side place r.cause) is_a is_b r.from_a r.from_b r.finding in
     record {
-      no_run = no_run a.head b.head a.records b.records side place r.cause v;
+      no_run = no_run a.head b.head a.records b.records side place r.cause f.verdict;
       cause = r.cause;
       is_reason = r.is_reason;
-      verdict = v;
-      offends = offends_for a b side place reason r.cause r.is_reason v;
+      verdict = f.verdict;
+      first = f.first;
+      offends = offends_for a b side place reason r.cause r.is_reason f.verdict;
     }
-
--- ---- of texts in either format
-
--- a text has one head and one list
-abbrev OneList : Type 0
-OneList = (own peer own' peer' : ℕ) (rs ss : List Record) (bytes : List ℕ) → IsText own peer rs bytes → IsText own' peer' ss bytes → (own ≡ own') × (peer ≡ peer') × (rs ≡ ss)
-
-same_text : (own peer own' peer' : ℕ) (rs ss : List Record) (other : List ℕ) → (own ≡ own') × (peer ≡ peer') × (rs ≡ ss) → IsText own' peer' ss other → IsText own peer rs other
-same_text own peer own' peer' rs ss other same is = rw (same.0, same.1, same.2) is
-
-pub still_accepted : OneList → (a b : WholeCapture) (bytes_a bytes_b other_a other_b : List ℕ) (summary : Summary) (answer : Answer) → AreTexts a b bytes_a bytes_b → AreTexts a b other_a other_b
-    → IsAcceptance bytes_a bytes_b (Ok (Accepted summary)) → IsExact other_a other_b answer → AcceptsOrFails answer
-still_accepted one a b bytes_a bytes_b other_a other_b summary answer here there run exact =
-    exact (record { own = run.own_a; peer = run.peer_a }) (record { own = run.own_b; peer = run.peer_b }) run.of_a run.of_b
-    (same_text run.own_a run.peer_a a.head.own a.head.peer run.of_a a.records other_a (one run.own_a run.peer_a a.head.own a.head.peer run.of_a a.records bytes_a run.is_text_a here.of_a) there.of_a)
-    (same_text run.own_b run.peer_b b.head.own b.head.peer run.of_b b.records other_b (one run.own_b run.peer_b b.head.own b.head.peer run.of_b b.records bytes_b run.is_text_b here.of_b) there.of_b)
-    run.run
-
-at_captures : (own_a peer_a own_b peer_b : ℕ) (of_a of_b : List Record) (a b : WholeCapture) → (own_a ≡ a.head.own) × (peer_a ≡ a.head.peer) × (of_a ≡ a.records) → (own_b ≡ b.head.own) × (peer_b ≡ b.head.peer) × (of_b ≡ b.records)
-    → IsLayersRun (record { own = own_a; peer = peer_a }) (record { own = own_b; peer = peer_b }) of_a of_b → IsLayersRun a.head b.head a.records b.records
-at_captures own_a peer_a own_b peer_b of_a of_b a b same_a same_b run = rw (sym same_a.0, sym same_a.1, sym same_a.2, sym same_b.0, sym same_b.1, sym same_b.2) run
-
-pub never_accepted : WholeLaws → OneList → (a b : WholeCapture) (bytes_a bytes_b other_a other_b : List ℕ) (side : Side) (place : ℕ) (reason : Reason) (summary : Summary) → AreTexts a b bytes_a bytes_b
-    → AreTexts a b other_a other_b → IsRefusal (Some bytes_a) (Some bytes_b) side place reason → IsAcceptance other_a other_b (Ok (Accepted summary)) → ⊥
-never_accepted laws one a b bytes_a bytes_b other_a other_b side place reason summary here there refusal run =
-    (refused_captures laws a b bytes_a bytes_b side place reason here.of_a here.of_b refusal).no_run
-    (at_captures run.own_a run.peer_a run.own_b run.peer_b run.of_a run.of_b a b
-    (one run.own_a run.peer_a a.head.own a.head.peer run.of_a a.records other_a run.is_text_a there.of_a)
-    (one run.own_b run.peer_b b.head.own b.head.peer run.of_b b.records other_b run.is_text_b there.of_b)
-    run.run)

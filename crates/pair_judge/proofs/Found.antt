@@ -1,5 +1,5 @@
--- How the judge ends: its finding is a verdict on all captures that go on behind what was read.
-use Rattle.std.proofs.Common.{◌≡◌, ℕ, List, [], ◌∷◌, ◌++◌, length, Option, sym, ap, subst, ◌∙◌, append-nil, append_assoc}
+-- How the judge ends: its finding is that of all captures that go on behind what was read.
+use Rattle.std.proofs.Common.{◌≡◌, ℕ, Bool, true, false, List, [], ◌∷◌, ◌++◌, length, Option, sym, ap, subst, ◌∙◌, append-nil, append_assoc}
 use Rattle.capture.specs.declared.record.Record.{Record}
 use Rattle.capture.specs.Entries.{record_with}
 use Rattle.capture.specs.SoFar.{TheEnd, GoesOn, GoesOnBy}
@@ -11,15 +11,17 @@ use Rattle.dna_model.specs.declared.finding.Cause.{Cause}
 use Rattle.dna_model.specs.declared.finding.Cause.TheVariants.{Step, NoSuchUnit, NoOrder}
 use Rattle.dna_model.specs.declared.finding.Finding.{Finding}
 use Rattle.dna_model.specs.declared.finding.Finding.TheVariants.{Accepted, Refused}
-use Rattle.dna_model.specs.Verdict.{IsVerdict}
+use Rattle.pair_judge.specs.Finding.{IsFinding}
 use Rattle.pair_judge.specs.declared.course.Ahead.{Ahead}
 use Rattle.pair_judge.specs.declared.course.Ahead.TheVariants.{Unread, Waits, Ended}
-use Rattle.pair_judge.specs.Course.{IsRead, Track, behind, having_made, read_of, waiting, IsWaiting}
+use Rattle.pair_judge.specs.Course.{IsRead, Track, WaitsAt, behind, having_made, read_of, waiting, IsWaiting}
+use Rattle.pair_judge.specs.declared.course.Course.{Course}
+use Rattle.pair_judge.specs.declared.line.Line.{Line}
 use Rattle.dna_model.specs.Layers.{LayersNode}
 use Rattle.dna_model.specs.WireLayers.{WireLayers}
 use Rattle.pair_judge.specs.declared.end.End.{End}
 use Rattle.pair_judge.specs.declared.summary.SideSummary.{SideSummary}
-use Rattle.pair_judge.specs.Reached.{HasReached, HasRun, IsFound}
+use Rattle.pair_judge.specs.Reached.{HasReached, HasRun, IsFound, IsStopped}
 use Rattle.pair_judge.specs.Summary.{counts_of, summary_at, summary_of, summary_with}
 
 -- ---- what goes on behind what was read
@@ -56,88 +58,114 @@ at_the_end : (ahead : Ahead) (come : Option (List ℕ)) → ahead ≡ Ended → 
 at_the_end ahead come is = ap (λ (x : Ahead). behind x come) is
 
 -- the same of the same heads
-pub at_heads : (head_a head_b head_a' head_b' : Head) (xs ys : List Record) (finding : Finding) → head_a' ≡ head_a → head_b' ≡ head_b → IsVerdict head_a head_b xs ys finding → IsVerdict head_a' head_b' xs ys finding
+pub at_heads : (head_a head_b head_a' head_b' : Head) (xs ys : List Record) (finding : Finding) → head_a' ≡ head_a → head_b' ≡ head_b → IsFinding head_a head_b xs ys finding → IsFinding head_a' head_b' xs ys finding
 at_heads head_a head_b head_a' head_b' xs ys finding same_a same_b v =
-    subst (λ (h : Head). IsVerdict h head_b' xs ys finding) (sym same_a) (subst (λ (h : Head). IsVerdict head_a h xs ys finding) (sym same_b) v)
+    subst (λ (h : Head). IsFinding h head_b' xs ys finding) (sym same_a) (subst (λ (h : Head). IsFinding head_a h xs ys finding) (sym same_b) v)
 
 -- ---- the endings
 
 -- the two sides, and the heads and records of the run so far
 module _ (a b : Track) (head_a head_b : Head) (same_a : a.course.end.head ≡ head_a) (same_b : b.course.end.head ≡ head_b) (place : ℕ) where
-  verdict_at : (all_a all_b xs ys : List Record) (finding : Finding) → all_a ≡ xs → all_b ≡ ys → IsVerdict head_a head_b xs ys finding → IsVerdict a.course.end.head b.course.end.head all_a all_b finding
-  verdict_at all_a all_b xs ys finding ea eb v =
+  finding_at : (all_a all_b xs ys : List Record) (finding : Finding) → all_a ≡ xs → all_b ≡ ys → IsFinding head_a head_b xs ys finding → IsFinding a.course.end.head b.course.end.head all_a all_b finding
+  finding_at all_a all_b xs ys finding ea eb v =
       at_heads head_a head_b a.course.end.head b.course.end.head all_a all_b finding same_a same_b
-      (subst (λ (of_a : List Record). IsVerdict head_a head_b of_a all_b finding) (sym ea) (subst (λ (of_b : List Record). IsVerdict head_a head_b xs of_b finding) (sym eb) v))
+      (subst (λ (of_a : List Record). IsFinding head_a head_b of_a all_b finding) (sym ea) (subst (λ (of_b : List Record). IsFinding head_a head_b xs of_b finding) (sym eb) v))
 
   -- a's next record is refused
-  pub a_fails : (refusal : StepRefusal) (r : Record) → IsRead (having_made a (a.made ++ r ∷ [])) → IsRead b → ((rest_a rest_b : List Record) → IsVerdict head_a head_b (a.made ++ r ∷ rest_a) (b.made ++ rest_b) (Refused A place (Step refusal))) → IsFound a b (Refused A place (Step refusal))
+  pub a_fails : (refusal : StepRefusal) (r : Record) → IsRead (having_made a (a.made ++ r ∷ [])) → IsRead b → ((rest_a rest_b : List Record) → IsFinding head_a head_b (a.made ++ r ∷ rest_a) (b.made ++ rest_b) (Refused A place (Step refusal))) → IsFound a b (Refused A place (Step refusal))
   a_fails refusal r read_a read_b law = record {
     made_a = a.made ++ r ∷ [];
     made_b = b.made;
     read_a = read_a;
     read_b = read_b;
-    verdict = λ all_a all_b goes_a goes_b.
+    is_finding = λ all_a all_b goes_a goes_b.
         let x = goes_read a a.made all_a r goes_a in
         let y = goes_any b b.made all_b goes_b in
-        verdict_at all_a all_b (a.made ++ r ∷ x.0) (b.made ++ y.0) (Refused A place (Step refusal)) x.1 y.1 (law x.0 y.0);
+        finding_at all_a all_b (a.made ++ r ∷ x.0) (b.made ++ y.0) (Refused A place (Step refusal)) x.1 y.1 (law x.0 y.0);
     ends = tt;
     counts = λ e. cc;
   }
 
-  -- b's next record is refused
-  pub b_fails : (refusal : StepRefusal) (r : Record) → IsRead a → IsRead (having_made b (b.made ++ r ∷ [])) → ((rest_a rest_b : List Record) → IsVerdict head_a head_b (a.made ++ rest_a) (b.made ++ r ∷ rest_b) (Refused B place (Step refusal))) → IsFound a b (Refused B place (Step refusal))
-  b_fails refusal r read_a read_b law = record {
+  -- b's next record is refused, and a waits
+  pub b_fails_behind : (refusal : StepRefusal) (p r : Record) → IsRead a → IsRead (having_made b (b.made ++ r ∷ [])) → IsWaiting a.course.capture.bytes a.course.ahead p
+      → ((rest_a rest_b : List Record) → IsFinding head_a head_b (a.made ++ p ∷ rest_a) (b.made ++ r ∷ rest_b) (Refused B place (Step refusal))) → IsFound a b (Refused B place (Step refusal))
+  b_fails_behind refusal p r read_a read_b ahead_a law = record {
     made_a = a.made;
     made_b = b.made ++ r ∷ [];
     read_a = read_a;
     read_b = read_b;
-    verdict = λ all_a all_b goes_a goes_b.
-        let x = goes_any a a.made all_a goes_a in
+    is_finding = λ all_a all_b goes_a goes_b.
+        let x = goes_waits a a.made all_a p ahead_a goes_a in
         let y = goes_read b b.made all_b r goes_b in
-        verdict_at all_a all_b (a.made ++ x.0) (b.made ++ r ∷ y.0) (Refused B place (Step refusal)) x.1 y.1 (law x.0 y.0);
+        finding_at all_a all_b (a.made ++ p ∷ x.0) (b.made ++ r ∷ y.0) (Refused B place (Step refusal)) x.1 y.1 (law x.0 y.0);
     ends = tt;
     counts = λ e. cc;
   }
 
+  -- or a has ended
+  pub b_fails_last : (refusal : StepRefusal) (r : Record) → IsRead a → IsRead (having_made b (b.made ++ r ∷ [])) → a.course.ahead ≡ Ended
+      → ((rest_b : List Record) → IsFinding head_a head_b a.made (b.made ++ r ∷ rest_b) (Refused B place (Step refusal))) → IsFound a b (Refused B place (Step refusal))
+  b_fails_last refusal r read_a read_b ended law = record {
+    made_a = a.made;
+    made_b = b.made ++ r ∷ [];
+    read_a = read_a;
+    read_b = read_b;
+    is_finding = λ all_a all_b goes_a goes_b.
+        let y = goes_read b b.made all_b r goes_b in
+        finding_at all_a all_b a.made (b.made ++ r ∷ y.0) (Refused B place (Step refusal)) (goes_ended a a.made all_a ended goes_a) y.1 (law y.0);
+    ends = tt;
+    counts = λ e. cc;
+  }
+
+  -- whichever it is, where a's course was this one before its line was released
+  pub b_fails : (refusal : StepRefusal) (r : Record) (waits : Bool) (own : Course) (incoming : Line) → own.capture ≡ a.course.capture → own.ahead ≡ a.course.ahead → IsStopped waits own incoming
+      → IsRead a → IsRead (having_made b (b.made ++ r ∷ []))
+      → ((p : Record) (rest_a rest_b : List Record) → WaitsAt own.end incoming p → IsFinding head_a head_b (a.made ++ p ∷ rest_a) (b.made ++ r ∷ rest_b) (Refused B place (Step refusal)))
+      → ((rest_b : List Record) → IsFinding head_a head_b a.made (b.made ++ r ∷ rest_b) (Refused B place (Step refusal)))
+      → IsFound a b (Refused B place (Step refusal))
+  b_fails refusal r true own incoming capture ahead held read_a read_b behind last =
+      b_fails_behind refusal held.next r read_a read_b (rw (sym capture, sym ahead) held.ahead) (λ rest_a rest_b. behind held.next rest_a rest_b held.waits)
+  b_fails refusal r false own incoming capture ahead ended read_a read_b behind last = b_fails_last refusal r read_a read_b (sym ahead ∙ ended) last
+
   -- both wait
-  pub both_wait : (r s : Record) → IsRead a → IsRead b → IsWaiting a.course.capture.bytes a.course.ahead r → IsWaiting b.course.capture.bytes b.course.ahead s → ((rest_a rest_b : List Record) → IsVerdict head_a head_b (a.made ++ r ∷ rest_a) (b.made ++ s ∷ rest_b) (Refused A place NoOrder)) → IsFound a b (Refused A place NoOrder)
+  pub both_wait : (r s : Record) → IsRead a → IsRead b → IsWaiting a.course.capture.bytes a.course.ahead r → IsWaiting b.course.capture.bytes b.course.ahead s → ((rest_a rest_b : List Record) → IsFinding head_a head_b (a.made ++ r ∷ rest_a) (b.made ++ s ∷ rest_b) (Refused A place NoOrder)) → IsFound a b (Refused A place NoOrder)
   both_wait r s read_a read_b ahead_a ahead_b law = record {
     made_a = a.made;
     made_b = b.made;
     read_a = read_a;
     read_b = read_b;
-    verdict = λ all_a all_b goes_a goes_b.
+    is_finding = λ all_a all_b goes_a goes_b.
         let x = goes_waits a a.made all_a r ahead_a goes_a in
         let y = goes_waits b b.made all_b s ahead_b goes_b in
-        verdict_at all_a all_b (a.made ++ r ∷ x.0) (b.made ++ s ∷ y.0) (Refused A place NoOrder) x.1 y.1 (law x.0 y.0);
+        finding_at all_a all_b (a.made ++ r ∷ x.0) (b.made ++ s ∷ y.0) (Refused A place NoOrder) x.1 y.1 (law x.0 y.0);
     ends = tt;
     counts = λ e. cc;
   }
 
   -- a waits and b has ended
-  pub a_waits : (r : Record) → IsRead a → IsRead b → IsWaiting a.course.capture.bytes a.course.ahead r → b.course.ahead ≡ Ended → ((rest_a : List Record) → IsVerdict head_a head_b (a.made ++ r ∷ rest_a) b.made (Refused A place NoSuchUnit)) → IsFound a b (Refused A place NoSuchUnit)
+  pub a_waits : (r : Record) → IsRead a → IsRead b → IsWaiting a.course.capture.bytes a.course.ahead r → b.course.ahead ≡ Ended → ((rest_a : List Record) → IsFinding head_a head_b (a.made ++ r ∷ rest_a) b.made (Refused A place NoSuchUnit)) → IsFound a b (Refused A place NoSuchUnit)
   a_waits r read_a read_b ahead_a ahead_b law = record {
     made_a = a.made;
     made_b = b.made;
     read_a = read_a;
     read_b = read_b;
-    verdict = λ all_a all_b goes_a goes_b.
+    is_finding = λ all_a all_b goes_a goes_b.
         let x = goes_waits a a.made all_a r ahead_a goes_a in
-        verdict_at all_a all_b (a.made ++ r ∷ x.0) b.made (Refused A place NoSuchUnit) x.1 (goes_ended b b.made all_b ahead_b goes_b) (law x.0);
+        finding_at all_a all_b (a.made ++ r ∷ x.0) b.made (Refused A place NoSuchUnit) x.1 (goes_ended b b.made all_b ahead_b goes_b) (law x.0);
     ends = at_the_end b.course.ahead b.come ahead_b;
     counts = λ e. cc;
   }
 
   -- b waits and a has ended
-  pub b_waits : (r : Record) → IsRead a → IsRead b → a.course.ahead ≡ Ended → IsWaiting b.course.capture.bytes b.course.ahead r → ((rest_b : List Record) → IsVerdict head_a head_b a.made (b.made ++ r ∷ rest_b) (Refused B place NoSuchUnit)) → IsFound a b (Refused B place NoSuchUnit)
+  pub b_waits : (r : Record) → IsRead a → IsRead b → a.course.ahead ≡ Ended → IsWaiting b.course.capture.bytes b.course.ahead r → ((rest_b : List Record) → IsFinding head_a head_b a.made (b.made ++ r ∷ rest_b) (Refused B place NoSuchUnit)) → IsFound a b (Refused B place NoSuchUnit)
   b_waits r read_a read_b ahead_a ahead_b law = record {
     made_a = a.made;
     made_b = b.made;
     read_a = read_a;
     read_b = read_b;
-    verdict = λ all_a all_b goes_a goes_b.
+    is_finding = λ all_a all_b goes_a goes_b.
         let y = goes_waits b b.made all_b r ahead_b goes_b in
-        verdict_at all_a all_b a.made (b.made ++ r ∷ y.0) (Refused B place NoSuchUnit) (goes_ended a a.made all_a ahead_a goes_a) y.1 (law y.0);
+        finding_at all_a all_b a.made (b.made ++ r ∷ y.0) (Refused B place NoSuchUnit) (goes_ended a a.made all_a ahead_a goes_a) y.1 (law y.0);
     ends = at_the_end a.course.ahead a.come ahead_a;
     counts = λ e. cc;
   }
@@ -157,9 +185,9 @@ module _ (a b : Track) (reached : HasReached a.course.end b.course.end a.made b.
     made_b = b.made;
     read_a = read_a;
     read_b = read_b;
-    verdict = λ all_a all_b goes_a goes_b.
-        subst (λ (of_a : List Record). IsVerdict a.course.end.head b.course.end.head of_a all_b Accepted) (sym (goes_ended a a.made all_a ahead_a goes_a))
-        (subst (λ (of_b : List Record). IsVerdict a.course.end.head b.course.end.head a.made of_b Accepted) (sym (goes_ended b b.made all_b ahead_b goes_b)) law.run);
+    is_finding = λ all_a all_b goes_a goes_b.
+        subst (λ (of_a : List Record). IsFinding a.course.end.head b.course.end.head of_a all_b Accepted) (sym (goes_ended a a.made all_a ahead_a goes_a))
+        (subst (λ (of_b : List Record). IsFinding a.course.end.head b.course.end.head a.made of_b Accepted) (sym (goes_ended b b.made all_b ahead_b goes_b)) (record { verdict = law.run; first = tt }));
     ends = (at_the_end a.course.ahead a.come ahead_a, at_the_end b.course.ahead b.come ahead_b);
     counts = λ e. record {
       run = law.run;

@@ -7,8 +7,11 @@ pub mod Events
 pub mod Advances
 pub mod Courses
 pub mod Turns
+pub mod Halting
+pub mod OneFinding
 pub mod Found
 pub mod Starts
 pub mod Faults
 pub mod Clauses
+pub mod Alike
 pub mod Seen

@@ -92,7 +92,7 @@ found_in a b found f counts_a counts_b = record {
   read_b = read_of (having_made b f.made_b);
   from_a = f.read_a.so_far;
   from_b = f.read_b.so_far;
-  verdict = λ all_a all_b goes_a goes_b. at_heads a.course.end.head b.course.end.head _ _ all_a all_b found.finding (sym f.read_a.head) (sym f.read_b.head) (f.verdict all_a all_b goes_a goes_b);
+  finding = λ all_a all_b goes_a goes_b. at_heads a.course.end.head b.course.end.head _ _ all_a all_b found.finding (sym f.read_a.head) (sym f.read_b.head) (f.is_finding all_a all_b goes_a goes_b);
   ends = f.ends;
   counts = λ is. counted is f.ends (f.counts is);
 }

@@ -57,6 +57,13 @@ AcceptsOrFails (Err (Capture side (Departs kind line))) = ⊥
 AcceptsOrFails (Err (Capture side Read)) = Unit {0}
 AcceptsOrFails (Err OutOfMemory) = Unit {0}
 
+-- a verdict, or such a fault
+abbrev pub JudgesOrFails : Answer → Type 0
+JudgesOrFails (Ok verdict) = Unit {0}
+JudgesOrFails (Err (Capture side (Departs kind line))) = ⊥
+JudgesOrFails (Err (Capture side Read)) = Unit {0}
+JudgesOrFails (Err OutOfMemory) = Unit {0}
+
 -- Exact: where these bytes are the texts of two captures that are a run, nothing else is answered.
 abbrev pub IsExact : List ℕ → List ℕ → Answer → Type 0
 IsExact bytes_a bytes_b answer =

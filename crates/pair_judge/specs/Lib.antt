@@ -16,6 +16,7 @@ pub mod Runs
 pub mod Lines
 pub mod Receipts
 pub mod Steps
+pub mod Memory
 pub mod Making
 pub mod Course
 pub mod Reached

@@ -7,7 +7,6 @@ use Rattle.dna_model.specs.declared.head.Head.{Head}
 use Rattle.dna_model.specs.declared.finding.Finding.{Finding}
 use Rattle.dna_model.specs.LayersPair.{IsLayersRun}
 use Rattle.dna_model.specs.declared.finding.Finding.TheVariants.{Accepted}
-use Rattle.dna_model.specs.Verdict.{IsVerdict}
 use Rattle.pair_judge.specs.declared.line.Line.{Line}
 use Rattle.pair_judge.specs.declared.end.End.{End}
 use Rattle.pair_judge.specs.declared.course.Ahead.TheVariants.{Ended}
@@ -18,7 +17,7 @@ use Rattle.dna_model.specs.WireLayers.{wire_layers_pair, wire_layers_start}
 use Rattle.pair_judge.specs.Wire.{JudgeWorld}
 use Rattle.pair_judge.specs.Making.{StandsFor}
 use Rattle.pair_judge.specs.Course.{IsRead, Track, WaitsAt, IsWaiting, having_made, read_of}
-use Rattle.pair_judge.specs.Finding.{EndsWhere, IsCounted}
+use Rattle.pair_judge.specs.Finding.{EndsWhere, IsCounted, IsFinding}
 use Rattle.pair_judge.specs.Summary.{counts_of, summary_at}
 
 -- these records, which led the wire nodes to this world, are a run, and as many links began there
@@ -62,15 +61,15 @@ pub record HasGoneOn (a b : Track) : Type 0 where
   pub under_way : IsUnderWay (having_made a made_a) (having_made b made_b)
   pub one_more : length made_a + length made_b ≡ length a.made + length b.made + 1
 
--- The finding is the verdict on all captures that go on behind what was read; an acceptance comes with the counts of all
+-- The finding is that of all captures that go on behind what was read; an acceptance comes with the counts of all
 -- records.
 pub record IsFound (a b : Track) (finding : Finding) : Type 0 where
   pub made_a : List Record
   pub made_b : List Record
   pub read_a : IsRead (having_made a made_a)
   pub read_b : IsRead (having_made b made_b)
-  pub verdict : (all_a all_b : List Record) → GoesOn (read_of (having_made a made_a)) all_a → GoesOn (read_of (having_made b made_b)) all_b
-      → IsVerdict a.course.end.head b.course.end.head all_a all_b finding
+  pub is_finding : (all_a all_b : List Record) → GoesOn (read_of (having_made a made_a)) all_a → GoesOn (read_of (having_made b made_b)) all_b
+      → IsFinding a.course.end.head b.course.end.head all_a all_b finding
   pub ends : EndsWhere finding (read_of a).behind (read_of b).behind
   pub counts : finding ≡ Accepted → IsCounted a.course.end.head b.course.end.head made_a made_b (record { a = summary_at a.course.end; b = summary_at b.course.end })
 

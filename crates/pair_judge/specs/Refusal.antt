@@ -15,7 +15,7 @@ use Rattle.dna_model.specs.LayersPair.{layers_pair, layers_start, IsLayersRun}
 use Rattle.dna_model.specs.Verdict.{IsVerdict}
 use Rattle.pair_judge.specs.declared.reason.Reason.{Reason}
 use Rattle.pair_judge.specs.declared.reason.Reason.TheVariants.{NoSuchUnit, NoOrder}
-use Rattle.pair_judge.specs.Finding.{EndsFor, IsVerdictBehind, of_side}
+use Rattle.pair_judge.specs.Finding.{EndsFor, IsFindingBehind, IsFirst, of_side}
 use Rattle.pair_judge.specs.Reason.{reason_of}
 
 -- So much was read of the two texts, which may be faulty, endless or untold behind it. The named record is among what was read,
@@ -24,6 +24,7 @@ use Rattle.pair_judge.specs.Reason.{reason_of}
 --   it names a unit that the other side, whose text was read to its end, never sends, though all records of that side and the
 --   earlier ones of its own are a run (`NoSuchUnit`); or
 --   it is the next of side a where beginnings of both sides are a run, and each side's next record waits (`NoOrder`).
+-- A record of b is named only where none of a offends. So the captures alone tell which record is named, and why.
 pub record IsRefusal (text_a text_b : Option (List ℕ)) (side : Side) (place : ℕ) (reason : Reason) : Type 0 where
   pub read_a : ReadSoFar
   pub read_b : ReadSoFar
@@ -33,7 +34,7 @@ pub record IsRefusal (text_a text_b : Option (List ℕ)) (side : Side) (place : 
   pub cause : Cause
   pub is_reason : reason ≡ reason_of cause
   pub ends : EndsFor cause (of_side (other_side side) read_a.behind read_b.behind)
-  pub verdict : IsVerdictBehind read_a read_b (Refused side place cause)
+  pub finding : IsFindingBehind read_a read_b (Refused side place cause)
 
 -- ---- of two whole captures
 
@@ -54,10 +55,12 @@ pub record OffendsFor (a b : WholeCapture) (side : Side) (place : ℕ) (reason :
   pub offends : Offends layers_pair (layers_start (of_side side a.head b.head) (of_side side b.head a.head))
       (of_side side a.records b.records) (of_side side b.records a.records) place refusal
 
--- the captures are no run; a cause of this reason is the verdict; and but for two reasons the record offends
+-- the captures are no run; a cause of this reason is the verdict; a record of b is named only where none of a offends; and but
+-- for two reasons the named record offends
 pub record AreRefused (a b : WholeCapture) (side : Side) (place : ℕ) (reason : Reason) : Type 0 where
   pub no_run : ¬ IsLayersRun a.head b.head a.records b.records
   pub cause : Cause
   pub is_reason : reason ≡ reason_of cause
   pub verdict : IsVerdict a.head b.head a.records b.records (Refused side place cause)
+  pub first : IsFirst a.head b.head a.records b.records (Refused side place cause)
   pub offends : reason ≢ NoSuchUnit → reason ≢ NoOrder → OffendsFor a b side place reason

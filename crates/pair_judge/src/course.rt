@@ -12,6 +12,7 @@ ghost use Rattle.wire_base.specs.Tally.{tally_faults, tally_lent};
 ghost use Rattle.pair_judge.specs.Summary.{HasRoom};
 ghost use Rattle.pair_judge.specs.Course.{AdvanceIs, IsFaultOf, IsRead, IsReadyFor, MayRead, NextIs, along};
 ghost use Rattle.pair_judge.specs.Making.{move};
+ghost use Rattle.pair_judge.specs.Memory.{MayTakeMemory};
 ghost use Rattle.pair_judge.specs.Reached.{IsHeldUp};
 
 use crate::end::End;
@@ -154,6 +155,7 @@ impl Course {
         ensures capture { self.new.capture ≡ self.old.capture }
         ensures head { self.new.end.head ≡ self.old.end.head }
         ensures fault { IfErr result (λ fault. fault ≡ CaptureFault.OutOfMemory) }
+        ensures memory { IfErr result (λ _. MayTakeMemory self.old.end.layers (record_with entry self.old.capture.bytes)) }
     {
         let alloc = self.capture.alloc();
         match make(alloc, &mut self.end, incoming, entry, self.capture.bytes()) {

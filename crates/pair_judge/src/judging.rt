@@ -54,7 +54,8 @@ pub struct Found {
 ///
 /// `Refused`: however the texts go on behind what was read of them by then, they are no run, and the named record is the place:
 /// it can't be made for this reason though all that it rests on can; or it waits for a unit that is never sent (`NoSuchUnit`); or
-/// neither side can go on (`NoOrder`).
+/// neither side can go on (`NoOrder`). Where a record of each side can't be made, that of a is named; so the records alone tell what is
+/// answered, in whichever format they are spelled (`judged_in_any_format`).
 ///
 /// `Capture`: the line of that side departs from the format as named, and all records before it, with those of the other side that
 /// were made, are a run; or a read of that side failed. `OutOfMemory`: a growth was refused. At every answer but a failed read of a

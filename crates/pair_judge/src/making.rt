@@ -1,16 +1,18 @@
 //! One record of one side.
 
-ghost use Rattle.std.specs.Prelude.{◌≡◌, ◌≤◌, IfOk};
+ghost use Rattle.std.specs.Prelude.{◌≡◌, ◌≤◌, IfOk, IfErr};
+ghost use Rattle.ddcmp_msg.specs.Reading.{reading};
 ghost use Rattle.capture.specs.declared.record.Record.TheVariants as Record;
 ghost use Rattle.capture.specs.Entries.{record_with};
 ghost use Rattle.capture.specs.Range.{NumbersFit};
 ghost use Rattle.capture.specs.declared.limit.TheConstants.{MAX_HINT};
 ghost use Rattle.dna_model.specs.LinkUser.{view};
-ghost use Rattle.pair_judge.specs.Counting.{delivers};
+ghost use Rattle.pair_judge.specs.Counting.{delivers, shows_damage};
 ghost use Rattle.pair_judge.specs.Events.{event_of_station, event_of_links};
 ghost use Rattle.pair_judge.specs.Lines.{Shows};
 ghost use Rattle.pair_judge.specs.Summary.{HasRoom};
 ghost use Rattle.pair_judge.specs.declared.line.Line.{Line};
+ghost use Rattle.pair_judge.specs.Memory.{MayEnter, MayKeep, MaySend, MayTakeMemory};
 ghost use Rattle.pair_judge.specs.Making.{IfFails, IsEvent, LeavesWaiting, MadeIs, NeverWaits, StandsFor, move};
 ghost use Rattle.pair_judge.specs.Wire.{JudgeHalf};
 
@@ -38,7 +40,8 @@ pub enum Made {
 }
 
 /// Makes one record of a side, to which this line leads from the other side: that of the entry and these bytes. An error: there
-/// is no memory for the unit that the record sends, or for what the links keep of its packet or of its event.
+/// is no memory for the unit that the record sends, or for what the links keep of its packet or of its event. No other record takes
+/// any.
 #[inline(always)]
 pub fn make(
     alloc: Global,
@@ -54,12 +57,13 @@ pub fn make(
         MadeIs made (move own.old own.new incoming.old incoming.new) (record_with entry bytes.now) mine theirs) }
     ensures waits { IfOk result (λ made. LeavesWaiting made (move own.old own.new incoming.old incoming.new)) }
     ensures counts { IfOk result (λ made. IfFails made (own.new.counts ≡ own.old.counts)) }
+    ensures memory { IfErr result (λ _. MayTakeMemory own.old.layers (record_with entry bytes.now)) }
     ensures head { own.new.head ≡ own.old.head }
 {
     match entry {
         Entry::Sent => make_sent(alloc, own, bytes),
         Entry::Received { kept, hint } => make_received(own, incoming, hint, kept, bytes),
-        Entry::Noise => make_noise(own, bytes),
+        Entry::Noise => Ok(make_noise(own, bytes)),
         Entry::Start
         | Entry::Halt
         | Entry::Open { .. }
@@ -81,6 +85,7 @@ fn make_event_copied(own: &mut End, entry: Entry, bytes: &[u8]) -> Result<Made, 
         MadeIs made (move own.old own.new incoming incoming) (record_with entry bytes.now) mine theirs) }
     ensures waits { IfOk result NeverWaits }
     ensures counts { IfOk result (λ made. IfFails made (own.new.counts ≡ own.old.counts)) }
+    ensures memory { IfErr result (λ _. MayTakeMemory own.old.layers (record_with entry bytes.now)) }
     ensures head { own.new.head ≡ own.old.head }
 {
     let event = entry;
@@ -97,6 +102,7 @@ fn make_event(own: &mut End, entry: Entry, bytes: &[u8]) -> Result<Made, AllocEr
         MadeIs made (move own.old own.new incoming incoming) (record_with entry bytes.now) mine theirs) }
     ensures waits { IfOk result NeverWaits }
     ensures counts { IfOk result (λ made. IfFails made (own.new.counts ≡ own.old.counts)) }
+    ensures memory { IfErr result (λ _. MayTakeMemory own.old.layers (record_with entry bytes.now)) }
     ensures head { own.new.head ≡ own.old.head }
 {
     match entry {
@@ -132,6 +138,7 @@ fn make_sent(alloc: Global, own: &mut End, bytes: &[u8]) -> Result<Made, AllocEr
         MadeIs made (move own.old own.new incoming incoming) (Record.Sent bytes.now) mine theirs) }
     ensures waits { IfOk result NeverWaits }
     ensures counts { IfOk result (λ made. IfFails made (own.new.counts ≡ own.old.counts)) }
+    ensures memory { IfErr result (λ _. MaySend own.old.layers (reading bytes.now)) }
     ensures head { own.new.head ≡ own.old.head }
 {
     match send(alloc, &mut own.layers, &mut own.line, bytes) {
@@ -161,6 +168,7 @@ fn make_received(
         MadeIs made (move own.old own.new incoming.old incoming.new) (Record.Received hint kept bytes.now) mine theirs) }
     ensures waits { IfOk result (λ made. LeavesWaiting made (move own.old own.new incoming.old incoming.new)) }
     ensures counts { IfOk result (λ made. IfFails made (own.new.counts ≡ own.old.counts)) }
+    ensures memory { IfErr result (λ _. MayKeep kept (shows_damage (reading bytes.now))) }
     ensures head { own.new.head ≡ own.old.head }
 {
     match receive(&mut own.layers, incoming, hint, kept, bytes) {
@@ -176,22 +184,21 @@ fn make_received(
 
 // Bytes that nobody sent. What they need has no place on the way of a unit.
 #[inline(never)]
-fn make_noise(own: &mut End, bytes: &[u8]) -> Result<Made, AllocError>
+fn make_noise(own: &mut End, bytes: &[u8]) -> Made
     requires { HasRoom own.old }
-    ensures made { IfOk result (λ made. (incoming : Line) (mine theirs : JudgeHalf) →
+    ensures made { (incoming : Line) (mine theirs : JudgeHalf) →
         StandsFor own.old incoming mine → Shows incoming theirs.sent →
-        MadeIs made (move own.old own.new incoming incoming) (Record.Noise bytes.now) mine theirs) }
-    ensures waits { IfOk result NeverWaits }
-    ensures counts { IfOk result (λ made. IfFails made (own.new.counts ≡ own.old.counts)) }
+        MadeIs result (move own.old own.new incoming incoming) (Record.Noise bytes.now) mine theirs }
+    ensures waits { NeverWaits result }
+    ensures counts { IfFails result (own.new.counts ≡ own.old.counts) }
     ensures head { own.new.head ≡ own.old.head }
 {
     match hear(&mut own.layers, bytes) {
         Ok(()) => {
             own.counts = own.counts.with_receipt(true, false);
-            Ok(Made::Done)
+            Made::Done
         }
-        Err(StepFault::Refused(refusal)) => Ok(Made::Fails(refusal)),
-        Err(StepFault::OutOfMemory) => Err(AllocError),
+        Err(refusal) => Made::Fails(refusal),
     }
 }
 
@@ -222,6 +229,7 @@ fn make_link_event(own: &mut End, event: LinkEvent) -> Result<Made, AllocError>
         MadeIs made (move own.old own.new incoming incoming) (Record.User (event_of_links (view event.entry))) mine theirs) }
     ensures waits { IfOk result NeverWaits }
     ensures counts { IfOk result (λ made. IfFails made (own.new.counts ≡ own.old.counts)) }
+    ensures memory { IfErr result (λ _. MayEnter own.old.layers.links (view event.entry)) }
     ensures head { own.new.head ≡ own.old.head }
 {
     let delivers = is_delivery(&event);

@@ -3,7 +3,6 @@
 ghost use Rattle.std.specs.Prelude.{◌≡◌, ◌+◌, ◌^◌, ◌<◌, ◌≤◌, Ok, Err, OnOk, IfErr};
 ghost use Rattle.ddcmp_msg.specs.Reading.{reading};
 ghost use Rattle.dna_model.specs.WireStation.{load};
-ghost use Rattle.pair_judge.specs.Steps.{IfRefused};
 ghost use Rattle.pair_judge.specs.Wire.{judge_hears};
 
 use crate::held_link::HeldLink;
@@ -16,18 +15,23 @@ use dna_model::StepRefusal;
 /// These bytes came to the node and nobody sent them: the station meets them as a unit that shows damage. They name no unit, so the
 /// line stays as it is.
 ///
-/// `Refused(NotNoise)`: they show no damage, whether they read as a message or not. Takes no memory.
-pub fn hear(layers: &mut Layers, bytes: &[u8]) -> Result<(), StepFault>
+/// `NotNoise`: they show no damage, whether they read as a message or not. Takes no memory.
+pub fn hear(layers: &mut Layers, bytes: &[u8]) -> Result<(), StepRefusal>
     requires { load layers.old.station < 2 ^ 63 }
     ensures ok { OnOk result (judge_hears layers.old (reading bytes.now) ≡ Ok layers.new) }
-    ensures refused { IfErr result (IfRefused (λ refusal. judge_hears layers.old (reading bytes.now) ≡ Err refusal)) }
+    ensures refused { IfErr result (λ refusal. judge_hears layers.old (reading bytes.now) ≡ Err refusal) }
     ensures load { load layers.new.station ≤ load layers.old.station + 1 }
 {
     let no_tag = HeldLink::new(&None);
-    match read_unit(bytes) {
+    let heard = match read_unit(bytes) {
         Reading::HeaderBad => layers.arrived(Arrival::HeaderBad, &no_tag, false),
         Reading::DataBad => layers.arrived(Arrival::DataBad, &no_tag, false),
-        Reading::Sound(_) => Err(StepFault::Refused(StepRefusal::NotNoise)),
-        Reading::Malformed(_) => Err(StepFault::Refused(StepRefusal::NotNoise)),
+        Reading::Sound(_) => return Err(StepRefusal::NotNoise),
+        Reading::Malformed(_) => return Err(StepRefusal::NotNoise),
+    };
+    match heard {
+        Ok(()) => Ok(()),
+        Err(StepFault::Refused(refusal)) => Err(refusal),
+        Err(StepFault::OutOfMemory) => unreachable!(),
     }
 }

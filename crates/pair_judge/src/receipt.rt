@@ -1,6 +1,6 @@
 //! A receipt: the bytes that came beside the unit that their hint names.
 
-ghost use Rattle.std.specs.Prelude.{◌≡◌, ◌+◌, ◌^◌, ◌<◌, ◌≤◌, List, IfOk, IfSome, Ok};
+ghost use Rattle.std.specs.Prelude.{◌≡◌, ◌+◌, ◌^◌, ◌<◌, ◌≤◌, List, IfOk, IfErr, IfSome, Ok};
 ghost use Rattle.std.specs.Option.{option_map};
 ghost use Rattle.dna_model.specs.WireLayers.{WireLayersUnit};
 ghost use Rattle.dna_model.specs.WireStation.{load};
@@ -9,6 +9,7 @@ ghost use Rattle.ddcmp_station.specs.Arrival.{arrival_view};
 ghost use Rattle.ddcmp_msg.specs.Reading.{reading};
 ghost use Rattle.pair_judge.specs.Counting.{shows_damage};
 ghost use Rattle.pair_judge.specs.Lines.{Shows};
+ghost use Rattle.pair_judge.specs.Memory.{MayKeep};
 ghost use Rattle.pair_judge.specs.Steps.{with_link};
 ghost use Rattle.pair_judge.specs.Receipts.{ReceiptIs, came, is_damage, layers_move};
 
@@ -37,7 +38,7 @@ pub enum Receipt {
 ///
 /// It fails in this order: `HintOrder` where the unit or a later one came before; it waits where the unit is not sent yet;
 /// `Undetected` where the bytes are not the unit's and show no damage; and as the station and the links refuse the arrival. An error: there is
-/// no memory for what the links keep of a packet.
+/// no memory for what the links keep of a packet, which shows no damage and was kept.
 #[inline(always)]
 pub fn receive(
     layers: &mut Layers,
@@ -51,6 +52,7 @@ pub fn receive(
     ensures receipt { IfOk result (λ receipt. (sent : List WireLayersUnit) → Shows line.old sent →
         ReceiptIs receipt (layers_move layers.old layers.new line.old line.new) (came hint kept bytes.now) sent) }
     ensures waits { result ≡ Ok Receipt.Waits → (layers.new ≡ layers.old) × (line.new ≡ line.old) }
+    ensures memory { IfErr result (λ _. MayKeep kept (shows_damage (reading bytes.now))) }
     ensures load { load layers.new.station ≤ load layers.old.station + 1 }
 {
     if hint < line.gone {

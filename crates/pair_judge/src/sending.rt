@@ -5,6 +5,7 @@ ghost use Rattle.two_nodes.specs.Nodes.Answer.{Sends, Refuses};
 ghost use Rattle.ddcmp_msg.specs.Reading.{reading};
 ghost use Rattle.dna_model.specs.declared.head.Head.{Head};
 ghost use Rattle.dna_model.specs.WireStation.{load};
+ghost use Rattle.pair_judge.specs.Memory.{IfNoMemory, MaySend};
 ghost use Rattle.pair_judge.specs.Receipts.{node_at};
 ghost use Rattle.pair_judge.specs.Steps.{IfRefused, IsNotSent, IsSent};
 ghost use Rattle.pair_judge.specs.Unit.{unit_of, tags_of, IsSoundReading};
@@ -22,7 +23,7 @@ use std::alloc::Global;
 ///
 /// `Refused`, in this order: they are no sound message; the station may not send it now; the packet that it first sends can't be read, or
 /// the message in that; the links may not send it. `OutOfMemory`: there is no room on the line, for a new packet in the station, or for a
-/// piece in the links. After any of them the station may have gone on without its unit, so that no record can follow.
+/// piece in the links; the station may send the message then. After any of them the station may have gone on without its unit, so that no record can follow.
 #[inline(always)]
 pub fn send(
     alloc: Global,
@@ -34,6 +35,7 @@ pub fn send(
     ensures gone { line.new.gone ≡ line.old.gone }
     ensures load { load layers.new.station ≤ load layers.old.station }
     ensures err { IfErr result (IfRefused (IsNotSent layers.old bytes.now)) }
+    ensures memory { IfErr result (IfNoMemory (MaySend layers.old (reading bytes.now))) }
 {
     let tag = match sent(layers, bytes) {
         Ok(tag) => tag,
@@ -51,6 +53,8 @@ fn sent(layers: &mut Layers, bytes: &[u8]) -> Result<UnitTag, StepFault>
         ≡ Sends (node_at head layers.new front) (unit_of bytes.now (tags_of tag))) }
     ensures load { load layers.new.station ≤ load layers.old.station }
     ensures err { IfErr result (IfRefused (IsNotSent layers.old bytes.now)) }
+    ensures allowed { OnOk result (MaySend layers.old (reading bytes.now)) }
+    ensures memory { IfErr result (IfNoMemory (MaySend layers.old (reading bytes.now))) }
 {
     match read_unit(bytes) {
         Reading::Sound(message) => layers.sent(&message),

@@ -7,6 +7,8 @@ ghost use Rattle.dna_model.specs.WireStation.{load};
 ghost use Rattle.dna_model.specs.WireLayers.{tag_or_none, wire_keeps_packet};
 ghost use Rattle.ddcmp_station.specs.Arrival.{arrival_view};
 ghost use Rattle.pair_judge.specs.Packets.{lent_content};
+ghost use Rattle.pair_judge.specs.Memory.{IfNoMemory, MayKeep};
+ghost use Rattle.pair_judge.specs.Receipts.{is_damage};
 ghost use Rattle.pair_judge.specs.Steps.{IfRefused, with_link};
 ghost use Rattle.pair_judge.specs.Wire.{judge_machine};
 
@@ -24,7 +26,7 @@ impl Layers {
     /// links.
     ///
     /// `Refused`, in this order: as the station refuses; as the links refuse. `OutOfMemory`: memory for a link or for the piece of a
-    /// message was refused.
+    /// message was refused. What is damaged or not kept takes none.
     #[inline(always)]
     pub fn arrived(
         &mut self,
@@ -36,6 +38,7 @@ impl Layers {
         ensures ok { OnOk result (judge_machine.arrives self.old (with_link link.now (arrival_view arrival.entry)) kept ≡ Ok self.new) }
         ensures refused { IfErr result (IfRefused (λ refusal.
             judge_machine.arrives self.old (with_link link.now (arrival_view arrival.entry)) kept ≡ Err refusal)) }
+        ensures memory { IfErr result (IfNoMemory (MayKeep kept (is_damage (arrival_view arrival.entry)))) }
         ensures load { load self.new.station ≤ load self.old.station + 1 }
     {
         match self.station.arrived(arrival, kept) {

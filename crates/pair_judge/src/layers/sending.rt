@@ -1,12 +1,14 @@
 //! What the node of a side sends.
 
-ghost use Rattle.std.specs.Prelude.{◌≡◌, ◌<◌, ◌≤◌, Ok, Err, Some, length, IfOk, IfErr};
+ghost use Rattle.std.specs.Prelude.{◌≡◌, ◌<◌, ◌≤◌, Ok, Err, Some, None, length, OnOk, IfOk, IfErr};
 ghost use Rattle.ddcmp_msg.specs.Message.{view};
 ghost use Rattle.dna_model.specs.declared.tag.Tag.{Tag};
 ghost use Rattle.dna_model.specs.Book.{body_of};
 ghost use Rattle.dna_model.specs.Content as spec;
 ghost use Rattle.dna_model.specs.WireStation.{WireStation, load};
 ghost use Rattle.dna_model.specs.WireLayers.{WireLayers, first_tagged, wire_sends_first};
+ghost use Rattle.dna_model.specs.WireBook.{wire_sending_refusal};
+ghost use Rattle.pair_judge.specs.Memory.{IfNoMemory};
 ghost use Rattle.pair_judge.specs.Packets.{lent_content};
 ghost use Rattle.pair_judge.specs.Steps.{IfRefused};
 ghost use Rattle.pair_judge.specs.Unit.{tags_of};
@@ -32,6 +34,8 @@ impl Layers {
     pub fn sent(&mut self, message: &Message) -> Result<UnitTag, StepFault>
         ensures ok { IfOk result (λ tag. judge_machine.sends self.old (view message.now) ≡ Ok (self.new, tags_of tag)) }
         ensures refused { IfErr result (IfRefused (λ refusal. judge_machine.sends self.old (view message.now) ≡ Err refusal)) }
+        ensures allowed { OnOk result (wire_sending_refusal self.old.station (view message.now) ≡ None) }
+        ensures memory { IfErr result (IfNoMemory (wire_sending_refusal self.old.station (view message.now) ≡ None)) }
         ensures load { load self.new.station ≤ load self.old.station }
     {
         let sent = match self.station.sent(message) {

@@ -4,6 +4,7 @@ ghost use Rattle.std.specs.Prelude.{◌≡◌, ◌+◌, ◌^◌, ◌<◌, ◌≤
 ghost use Rattle.dna_model.specs.LinkUser.{view};
 ghost use Rattle.dna_model.specs.WireStation.{load};
 ghost use Rattle.pair_judge.specs.Events.{event_of_station, event_of_links};
+ghost use Rattle.pair_judge.specs.Memory.{IfNoMemory, MayEnter};
 ghost use Rattle.pair_judge.specs.Steps.{IfRefused};
 ghost use Rattle.pair_judge.specs.Wire.{judge_machine};
 
@@ -30,10 +31,11 @@ impl Layers {
     }
 
     /// The user of the links does this, and is refused as they refuse it. `OutOfMemory`: memory for a link, an address or a message was
-    /// refused.
+    /// refused. `Up` and `Close` take none, nor does what is refused.
     pub fn at_links(&mut self, event: LinkEvent) -> Result<(), StepFault>
         ensures ok { OnOk result (judge_machine.user self.old (event_of_links (view event.entry)) ≡ Ok self.new) }
         ensures refused { IfErr result (IfRefused (λ refusal. judge_machine.user self.old (event_of_links (view event.entry)) ≡ Err refusal)) }
+        ensures memory { IfErr result (IfNoMemory (MayEnter self.old.links (view event.entry))) }
         ensures station { self.new.station ≡ self.old.station }
     {
         match self.links.user(event) {

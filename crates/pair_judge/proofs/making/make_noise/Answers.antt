@@ -6,6 +6,6 @@ pub returns-in-Ok-clause-made : goal.returns-in-Ok-clause-made
 returns-in-Ok-clause-made c = λ incoming mine theirs stands shows.
     noise_made c.args.own.now _ incoming c.args.bytes.now mine theirs stands shows c.in-Ok.ensures.ok refl refl c.with_receipt-own.ensures c.hear.ensures.load
 
-pub returns-in-Err-Refused-clause-made : goal.returns-in-Err-Refused-clause-made
-returns-in-Err-Refused-clause-made c = λ incoming mine theirs stands shows.
-    noise_refused c.args.own.now incoming c.args.bytes.now mine theirs c.in-Err-Refused.refusal stands (rw c.in-Err-Refused.field-0-is at c.in-Err-Refused.ensures.refused)
+pub returns-in-Err-clause-made : goal.returns-in-Err-clause-made
+returns-in-Err-clause-made c = λ incoming mine theirs stands shows.
+    noise_refused c.args.own.now incoming c.args.bytes.now mine theirs c.in-Err.refusal stands c.in-Err.ensures.refused

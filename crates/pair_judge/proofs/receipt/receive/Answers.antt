@@ -68,3 +68,8 @@ returns-in-Err-Refused-clause-receipt c = λ sent shows.
     let was_sent : slice_get sent c.args.hint ≡ Some unit = sym (sym c.in-Some.is ∙ c.unit.ensures ∙ held_at c.args.line.now sent c.args.hint shows c.if-hint-line.false) in
     let comes : Some arrival ≡ coming unit c.args.bytes.now = ap (option_map (λ arrival. with_link unit.known.link (arrival_view arrival))) (sym c.in-Some-coming.is) ∙ c.coming.ensures.coming in
     (unit, was_sent, λ head. receives_at (n head) c.args.hint c.args.kept c.args.bytes.now unit (Some arrival) c.if-hint-line.false comes ∙ comes_refused (n head) c.args.hint c.args.kept arrival c.in-Err-Refused.refusal (at_link (λ link. judge_machine.arrives c.args.layers.now (with_link link (arrival_view c.in-Some-coming.arrival)) c.args.kept ≡ Err c.in-Err-Refused.refusal) (rw c.in-Err-Refused.field-0-is at c.in-Err-Refused.ensures.refused)))
+
+pub returns-in-Err-OutOfMemory-clause-memory : goal.returns-in-Err-OutOfMemory-clause-memory
+returns-in-Err-OutOfMemory-clause-memory c =
+    let m = rw c.in-Err-OutOfMemory.field-0-is at c.in-Err-OutOfMemory.ensures.memory in
+    (m.0, sym c.in-Some-coming.ensures.damage ∙ m.1)

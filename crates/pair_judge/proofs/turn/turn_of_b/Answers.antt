@@ -37,7 +37,12 @@ returns-in-Ok-Fails-clause-turn g c = λ text_a text_b come_a made_a made_b unde
     let refused = f.refused h.world.b h.world.a h.stands_b h.stands_a.sent in
     let place : c.advance.new.self.end.counts.records ≡ length made_b =
     next_place c.advance.new.self.end.counts made_b (f.counts ∙ h.counts_b) in
-    rw c.refused.ensures (at_place _ _ B (Step c.in-Ok-Fails.refusal) _ _ place (b_fails _ _ c.args.a.now.end.head c.args.b.now.end.head refl c.advance.ensures.head (length made_b) c.in-Ok-Fails.refusal f.next (same_read text_a c.args.a.now _ come_a made_a refl refl refl under.read_a) f.read (λ rest_a rest_b. c.endings.ensures.b_refused _ _ h.world made_a rest_a made_b rest_b f.next c.in-Ok-Fails.refusal h.run refused)))
+    rw c.refused.ensures (at_place _ _ B (Step c.in-Ok-Fails.refusal) _ _ place
+    (b_fails _ _ c.args.a.now.end.head c.args.b.now.end.head refl c.advance.ensures.head (length made_b) c.in-Ok-Fails.refusal f.next c.args.a_waits c.args.a.now c.args.b.now.end.line
+    refl refl stopped
+    (same_read text_a c.args.a.now _ come_a made_a refl refl refl under.read_a) f.read
+    (λ p rest_a rest_b waits. c.endings.ensures.b_refused_behind _ _ h.world made_a rest_a made_b rest_b p f.next c.in-Ok-Fails.refusal h.run (waits h.world.a h.world.b h.stands_a h.stands_b.sent) refused)
+    (λ rest_b. c.endings.ensures.b_refused_last _ _ h.world made_a made_b rest_b f.next c.in-Ok-Fails.refusal h.run refused)))
 
 pub returns-in-Ok-Blocked-clause-turn : goal.returns-in-Ok-Blocked-clause-turn
 returns-in-Ok-Blocked-clause-turn g c = λ text_a text_b come_a made_a made_b under stopped.
