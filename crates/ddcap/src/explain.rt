@@ -43,6 +43,7 @@ fn text_of(alloc: Global, explanation: &Explanation) -> Result<String, AllocErro
     } = *explanation;
     let number = reason.number();
     format!(in alloc;
-        "{number} {reason}\n\n{rule}\n\nAllowed: {allowed}\n\nBy whose fault: {fault}.\n\nLook for:\n\n{look_for}\n\nA pair that is refused for it: docs/REASONS.md\n"
+        "{number} {reason}\n\n{rule}\n\nAllowed: {allowed}\n\nBy whose fault: {fault}.\n\n\
+         Look for:\n\n{look_for}\n\nA pair that is refused for it: docs/REASONS.md\n"
     )
 }
