@@ -1,11 +1,11 @@
 //! Refusals of texts that are more than captures: what stands behind the named record is not met. The clause `refused` of `judge`
 //! speaks of each, since it tells of what was read, and of whatever goes on behind it.
 
-ghost use Rattle.std.specs.Prelude.{ℕ, List, IfSome, Ok};
+ghost use Rattle.std.specs.Prelude.{◌≡◌, ℕ, List, IfSome, Some, Ok};
 ghost use Rattle.capture.specs.Range.{IsText};
-ghost use Rattle.pair_judge.specs.declared.summary.Summary.{Summary as Counts};
+ghost use Rattle.pair_judge.specs.declared.verdict.Verdict.{Verdict as Judgement};
 ghost use Rattle.pair_judge.specs.declared.verdict.Verdict.TheVariants as verdicts;
-ghost use Rattle.pair_judge.specs.Judged.{IsAcceptance};
+ghost use Rattle.pair_judge.specs.Judged.{IsAnswer};
 ghost use Rattle.pair_judge.specs.Refusal.{AreRefused, AreTexts, WholeCapture};
 
 use super::{HEAD_A, HEAD_B};
@@ -101,14 +101,15 @@ fn a_refusal_stands_in_front_of_a_read_that_would_fail(rt: HostRuntime) {
     expect_refused(&rt, rt.alloc(), &mut a, &mut b, "readers that fail");
 }
 
-/// The refusal of two texts. Where they are the texts of two captures, the law on whole captures tells what it says of them, and no texts of
-/// these in another format are accepted.
+/// The refusal of two texts. Where they are the texts of two captures, the law on whole captures tells what it says of them, and each verdict on
+/// texts of these in another format is the same refusal.
 fn refusal_of(alloc: Global, text_a: &[u8], text_b: &[u8]) -> Option<(Side, u64, Reason)>
     ensures told { (a b : WholeCapture) → IsText a.head.own a.head.peer a.records text_a.now →
         IsText b.head.own b.head.peer b.records text_b.now →
         IfSome result (λ named. AreRefused a b named.0 named.1 named.2) }
-    ensures any_format { (a b : WholeCapture) (other_a other_b : List ℕ) (summary : Counts) → AreTexts a b text_a.now text_b.now →
-        AreTexts a b other_a other_b → IfSome result (λ named. IsAcceptance other_a other_b (Ok (verdicts.Accepted summary)) → ⊥) }
+    ensures any_format { (a b : WholeCapture) (other_a other_b : List ℕ) (other : Judgement) → AreTexts a b text_a.now text_b.now →
+        AreTexts a b other_a other_b → IsAnswer (Some other_a) (Some other_b) (Ok other) →
+        IfSome result (λ named. verdicts.Refused named.0 named.1 named.2 ≡ other) }
 {
     refused_captures();
     judged_in_any_format();

@@ -6,5 +6,10 @@ returns-in-Ok-Refused-clause-told c = λ a b text_a text_b. c.refused_captures.e
     (rw (c.in-Ok-Refused.field-0-is, c.new-a.ensures.lent, c.new-b.ensures.lent) at c.in-Ok-Refused.ensures.refused)
 
 pub returns-in-Ok-Refused-clause-any_format : goal.returns-in-Ok-Refused-clause-any_format
-returns-in-Ok-Refused-clause-any_format c = λ a b other_a other_b summary here there. c.judged_in_any_format.ensures.refused a b _ _ other_a other_b _ _ _ summary here there
-    (rw (c.in-Ok-Refused.field-0-is, c.new-a.ensures.lent, c.new-b.ensures.lent) at c.in-Ok-Refused.ensures.refused)
+returns-in-Ok-Refused-clause-any_format c = λ a b other_a other_b other here there is.
+    c.judged_in_any_format.ensures.alike a b _ _ other_a other_b _ other here there (record {
+      exact = rw (c.in-Ok-Refused.field-0-is, c.new-a.ensures.lent, c.new-b.ensures.lent) at c.in-Ok-Refused.ensures.exact;
+      accepted = tt;
+      refused = rw (c.in-Ok-Refused.field-0-is, c.new-a.ensures.lent, c.new-b.ensures.lent) at c.in-Ok-Refused.ensures.refused;
+      faulty = tt;
+    }) is
