@@ -27,18 +27,21 @@ address_takes text address e =
     let p = and_then (cut_at 46 text) _ address e in
     let a = and_then (positive_at 63 p.0.0) _ address p.2 in
     let n = and_then (positive_at 1023 p.0.1) _ address a.2 in
-    address_from text p.0.0 p.0.1 a.0 n.0 address (cut_takes 46 text p.0 p.1) (positive_takes 63 p.0.0 a.0 (lit< tt) a.1) (positive_takes 1023 p.0.1 n.0 (lit< tt) n.1) (same_Some _ _ n.2)
+    address_from text p.0.0 p.0.1 a.0 n.0 address (cut_takes 46 text p.0 p.1) (positive_takes 63 p.0.0 a.0 (lit< tt) a.1)
+    (positive_takes 1023 p.0.1 n.0 (lit< tt) n.1) (same_Some _ _ n.2)
 
 pub address_again : (address : ℕ) → IsNode address → address_at (address_text address) ≡ Some address
 unfolding address_at
 address_again address h =
     let area = positive_again 63 (address / 1024) (lit< tt) h.most_area h.least_area in
     let node = positive_again 1023 (address % 1024) (lit< tt) (omega arith) h.least_node in
-    let cut = cut_again 46 (decimal (address / 1024)) (decimal (address % 1024)) (decimal_lacks 46 (address / 1024) (lit< tt) (omega (arith, h.most_area))) in
+    let cut = cut_again 46 (decimal (address / 1024)) (decimal (address % 1024))
+    (decimal_lacks 46 (address / 1024) (lit< tt) (omega (arith, h.most_area))) in
     let whole : address / 1024 * 1024 + address % 1024 ≡ address = omega arith in
     rw (cut, area, node, whole) refl
 
 pub address_lacks : (mark address : ℕ) → mark < 46 → IsNode address → HasNo mark (address_text address)
 address_lacks mark address low h =
-    HasNo-append mark (decimal (address / 1024)) (46 ∷ decimal (address % 1024)) (decimal_lacks mark (address / 1024) (omega arith) (omega (arith, h.most_area)))
+    HasNo-append mark (decimal (address / 1024)) (46 ∷ decimal (address % 1024))
+    (decimal_lacks mark (address / 1024) (omega arith) (omega (arith, h.most_area)))
     (λ e. absurd (omega arith), decimal_lacks mark (address % 1024) (omega arith) (omega arith))

@@ -1,12 +1,14 @@
 -- BYTES: what is read is the one spelling of its bytes, and their spelling is read.
-use Rattle.std.proofs.Common.{◌≡◌, ◌≢◌, ℕ, zero, suc, ◌+◌, ◌*◌, ◌/◌, ◌%◌, ◌<◌, ◌≤◌, Bool, true, false, cond, eqb, ltb, leb, ◌&&◌, List, [], ◌∷◌, length, get_or, Option, Some, None, Result, Ok, Err, refl, sym, ap, ◌∙◌, inl, inr, arith}
+use Rattle.std.proofs.Common.{◌≡◌, ◌≢◌, ℕ, zero, suc, ◌+◌, ◌*◌, ◌/◌, ◌%◌, ◌<◌, ◌≤◌, Bool, true, false, cond, eqb, ltb, leb, ◌&&◌, List, [], ◌∷◌}
+use Rattle.std.proofs.Common.{length, get_or, Option, Some, None, Result, Ok, Err, refl, sym, ap, ◌∙◌, inl, inr, arith}
 use Rattle.std.specs.Prelude.{codes}
 use Rattle.std.specs.List.{list_all}
 use Rattle.std.specs.Str.{bytes_eq}
 use Rattle.std.proofs.lemmas.Bool.{cases_Bool, and_parts, and_from, and_right, cases_lt, eqb-true, ltb-true, leb-true, leb-false, cond_both}
 use Rattle.std.proofs.lemmas.Option.{same_Some}
 use Rattle.std.proofs.lemmas.Slice.Eq.{bytes_eq-Decides}
-use Rattle.hex.specs.Hex.{IsBytes, decode_of, decode_pairs, hex_digit_value, value_at, pair_value, digit_or_error, encode_lower, encode_with, lower_digits}
+use Rattle.hex.specs.Hex.{IsBytes, decode_of, decode_pairs, hex_digit_value, value_at, pair_value, digit_or_error, encode_lower, encode_with}
+use Rattle.hex.specs.Hex.{lower_digits}
 use Rattle.hex.specs.Hex as hex
 use Rattle.hex.specs.declared.error.FromHexError.{FromHexError}
 use Rattle.hex.proofs.HexLemmas.{decode_of-encode_lower, decode_of-ok, decode_of-even}
@@ -67,7 +69,8 @@ digit_read c i (Some w) v h = ap Some (ok_same w v h)
     ok_same x y e = cc
 digit_read c i None v h = absurd cc
 
-hex_bind : {A B : Type 0} (r : Result A FromHexError) (f : A → Result B FromHexError) (y : B) → hex.◌>>=◌ r f ≡ Ok y → (x : A) × (r ≡ Ok x) × (f x ≡ Ok y)
+hex_bind : {A B : Type 0} (r : Result A FromHexError) (f : A → Result B FromHexError) (y : B) → hex.◌>>=◌ r f ≡ Ok y → (x : A) × (r ≡ Ok x) ×
+    (f x ≡ Ok y)
 hex_bind (Ok x) f y h = (x, refl, h)
 hex_bind (Err e) f y h = absurd cc
 
@@ -170,7 +173,8 @@ any_bytes_again (b ∷ bytes) fits =
 abbrev pub limited : {A : Type 0} → ℕ → List ℕ → A → Result A Departure
 limited most bytes x = cond (leb (length bytes) most) (Ok x) (Err TooLong)
 
-pub limited_then : {A B : Type 0} (most : ℕ) (bytes : List ℕ) (x : A) (f : A → B) → (limited most bytes x >>= λ y. Ok (f y)) ≡ limited most bytes (f x)
+pub limited_then : {A B : Type 0} (most : ℕ) (bytes : List ℕ) (x : A) (f : A → B) → (limited most bytes x >>= λ y. Ok (f y)) ≡ limited most bytes
+    (f x)
 limited_then most bytes x f = by_test (leb (length bytes) most)
   where
     by_test : (t : Bool) → (cond t (Ok x) (Err TooLong) >>= λ y. Ok (f y)) ≡ cond t (Ok (f x)) (Err TooLong)
@@ -192,4 +196,5 @@ pub bytes_shows : (most : ℕ) (text : List ℕ) → Shows (IsBytesOf most text)
 unfolding bytes_at
 bytes_shows most text = shows_must (IsBytesOf most text) (IsLongOf most text) (any_bytes_at text) _ (λ bytes e.
     let p = any_bytes_takes text bytes e in
-    cond_both (leb (length bytes) most) (Ok bytes) (Err TooLong) (Shows (IsBytesOf most text) (IsLongOf most text)) (λ t. (p.0, p.1, leb-true _ _ t)) (λ t. (bytes, (p.0, p.1, leb-false _ _ t))))
+    cond_both (leb (length bytes) most) (Ok bytes) (Err TooLong) (Shows (IsBytesOf most text) (IsLongOf most text)) (λ t. (p.0, p.1, leb-true _ _ t))
+    (λ t. (bytes, (p.0, p.1, leb-false _ _ t))))

@@ -1,5 +1,6 @@
 -- What was converted of a text, from one record to the next.
-use Rattle.std.proofs.Common.{◌≡◌, ℕ, ◌+◌, ◌<◌, ◌≤◌, Bool, true, false, inr, List, [], ◌∷◌, ◌++◌, length, take, Option, Some, None, Ok, Err, refl, sym, ap, subst, ◌∙◌, arith, length-append, append-nil, append_assoc, lit<}
+use Rattle.std.proofs.Common.{◌≡◌, ℕ, ◌+◌, ◌<◌, ◌≤◌, Bool, true, false, inr, List, [], ◌∷◌, ◌++◌, length, take, Option, Some, None, Ok, Err, refl}
+use Rattle.std.proofs.Common.{sym, ap, subst, ◌∙◌, arith, length-append, append-nil, append_assoc, lit<}
 use Rattle.std.specs.Prelude.{codes}
 use Rattle.std.specs.Option.{IfSome}
 use Rattle.std.specs.Io.KnownBytes.{Appends, IsAtEnd}
@@ -42,42 +43,54 @@ pieces p a h t =
     ∙ append_assoc ((p ++ a) ++ 32 ∷ []) h (32 ∷ (t ++ 10 ∷ []))
     ∙ append_assoc (p ++ a) (32 ∷ []) (h ++ 32 ∷ (t ++ 10 ∷ []))
     ∙ append_assoc p a (32 ∷ (h ++ 32 ∷ (t ++ 10 ∷ [])))
-    ∙ ap (λ (x : List ℕ). p ++ x) (sym (append_assoc a (32 ∷ (h ++ 32 ∷ t)) (10 ∷ []) ∙ ap (λ (x : List ℕ). a ++ 32 ∷ x) (append_assoc h (32 ∷ t) (10 ∷ []))))
+    ∙ ap (λ (x : List ℕ). p ++ x)
+    (sym (append_assoc a (32 ∷ (h ++ 32 ∷ t)) (10 ∷ []) ∙ ap (λ (x : List ℕ). a ++ 32 ∷ x) (append_assoc h (32 ∷ t) (10 ∷ []))))
 
 -- the words of a receipt, cut at both spaces
-parted : (from : HintForm) (hint : ℕ) (bytes line letter rest number text : List ℕ) (a : List ℕ) → FormFits from → hint ≤ MAX_HINT → cut_at 32 line ≡ Some (a, spaced (hint_text from hint) (bytes_text bytes))
+parted : (from : HintForm) (hint : ℕ) (bytes line letter rest number text : List ℕ) (a : List ℕ) → FormFits from → hint ≤ MAX_HINT →
+    cut_at 32 line ≡ Some (a, spaced (hint_text from hint) (bytes_text bytes))
     → Some (letter, rest) ≡ cut_at 32 line → Some (number, text) ≡ cut_at 32 rest → (letter ≡ a) × (text ≡ bytes_text bytes)
 parted from hint bytes line letter rest number text a fits small first e f =
     let one : ◌≡◌ {A = List ℕ × List ℕ} (letter, rest) (a, spaced (hint_text from hint) (bytes_text bytes)) = same_Some _ _ (e ∙ first) in
     let behind : rest ≡ spaced (hint_text from hint) (bytes_text bytes) = ap (λ (z : List ℕ × List ℕ). z.1) one in
     let two : ◌≡◌ {A = List ℕ × List ℕ} (number, text) (hint_text from hint, bytes_text bytes) =
-    same_Some _ _ (f ∙ ap (cut_at 32) behind ∙ cut_again 32 (hint_text from hint) (bytes_text bytes) (hint_lacks from 32 hint (lit< tt) fits small)) in
+    same_Some _ _ (f ∙ ap (cut_at 32) behind ∙ cut_again 32 (hint_text from hint) (bytes_text bytes) (hint_lacks from 32 hint (lit< tt) fits small))
+    in
     (ap (λ (z : List ℕ × List ℕ). z.0) one, ap (λ (z : List ℕ × List ℕ). z.1) two)
 
-pub receipt_line : (to from : HintForm) (hint : ℕ) (kept : Bool) (bytes line letter rest number text page : List ℕ) → Some (letter, rest) ≡ cut_at 32 line → Some (number, text) ≡ cut_at 32 rest
+pub receipt_line : (to from : HintForm) (hint : ℕ) (kept : Bool) (bytes line letter rest number text page : List ℕ) →
+    Some (letter, rest) ≡ cut_at 32 line → Some (number, text) ≡ cut_at 32 rest
     → FormFits from → hint ≤ MAX_HINT → line ≡ record_text from (Received hint kept bytes)
     → (((((page ++ letter) ++ 32 ∷ []) ++ hint_text to hint) ++ 32 ∷ []) ++ text) ++ 10 ∷ [] ≡ page ++ record_line to (Received hint kept bytes)
 receipt_line to from hint false bytes line letter rest number text page e f fits small is =
-    let p = parted from hint bytes line letter rest number text (codes "r") fits small (ap (cut_at 32) is ∙ cut_again 32 (codes "r") (spaced (hint_text from hint) (bytes_text bytes)) ((λ h. absurd (omega arith)), tt)) e f in
+    let p = parted from hint bytes line letter rest number text (codes "r") fits small
+    (ap (cut_at 32) is ∙ cut_again 32 (codes "r") (spaced (hint_text from hint) (bytes_text bytes)) ((λ h. absurd (omega arith)), tt)) e f in
     rw (p.0, p.1) (pieces page (codes "r") (hint_text to hint) (bytes_text bytes))
 receipt_line to from hint true bytes line letter rest number text page e f fits small is =
-    let p = parted from hint bytes line letter rest number text (codes "k") fits small (ap (cut_at 32) is ∙ cut_again 32 (codes "k") (spaced (hint_text from hint) (bytes_text bytes)) ((λ h. absurd (omega arith)), tt)) e f in
+    let p = parted from hint bytes line letter rest number text (codes "k") fits small
+    (ap (cut_at 32) is ∙ cut_again 32 (codes "k") (spaced (hint_text from hint) (bytes_text bytes)) ((λ h. absurd (omega arith)), tt)) e f in
     rw (p.0, p.1) (pieces page (codes "k") (hint_text to hint) (bytes_text bytes))
 
 -- a receipt has two spaces
-pub has_space : (from : HintForm) (hint : ℕ) (kept : Bool) (bytes : List ℕ) → cut_at 32 (record_text from (Received hint kept bytes)) ≡ Some (take 1 (record_text from (Received hint kept bytes)), spaced (hint_text from hint) (bytes_text bytes))
+pub has_space : (from : HintForm) (hint : ℕ) (kept : Bool) (bytes : List ℕ) → cut_at 32 (record_text from (Received hint kept bytes)) ≡ Some
+    (take 1 (record_text from (Received hint kept bytes)), spaced (hint_text from hint) (bytes_text bytes))
 has_space from hint false bytes = cut_again 32 (codes "r") (spaced (hint_text from hint) (bytes_text bytes)) ((λ h. absurd (omega arith)), tt)
 has_space from hint true bytes = cut_again 32 (codes "k") (spaced (hint_text from hint) (bytes_text bytes)) ((λ h. absurd (omega arith)), tt)
 
 -- there is a second space
-pub second_space : (from : HintForm) (hint : ℕ) (kept : Bool) (bytes line letter rest : List ℕ) → Some (letter, rest) ≡ cut_at 32 line → None ≡ cut_at 32 rest → FormFits from → hint ≤ MAX_HINT → line ≡ record_text from (Received hint kept bytes) → ⊥
+pub second_space : (from : HintForm) (hint : ℕ) (kept : Bool) (bytes line letter rest : List ℕ) → Some (letter, rest) ≡ cut_at 32 line →
+    None ≡ cut_at 32 rest → FormFits from → hint ≤ MAX_HINT → line ≡ record_text from (Received hint kept bytes) → ⊥
 second_space from hint kept bytes line letter rest e none fits small is =
-    let one : ◌≡◌ {A = List ℕ × List ℕ} (letter, rest) (take 1 (record_text from (Received hint kept bytes)), spaced (hint_text from hint) (bytes_text bytes)) = same_Some _ _ (e ∙ ap (cut_at 32) is ∙ has_space from hint kept bytes) in
+    let one : ◌≡◌ {A = List ℕ × List ℕ} (letter, rest)
+    (take 1 (record_text from (Received hint kept bytes)), spaced (hint_text from hint) (bytes_text bytes)) =
+    same_Some _ _ (e ∙ ap (cut_at 32) is ∙ has_space from hint kept bytes) in
     let behind : rest ≡ spaced (hint_text from hint) (bytes_text bytes) = ap (λ (z : List ℕ × List ℕ). z.1) one in
-    let found : ◌≡◌ {A = Option (List ℕ × List ℕ)} None (Some (hint_text from hint, bytes_text bytes)) = none ∙ ap (cut_at 32) behind ∙ cut_again 32 (hint_text from hint) (bytes_text bytes) (hint_lacks from 32 hint (lit< tt) fits small) in
+    let found : ◌≡◌ {A = Option (List ℕ × List ℕ)} None (Some (hint_text from hint, bytes_text bytes)) =
+    none ∙ ap (cut_at 32) behind ∙ cut_again 32 (hint_text from hint) (bytes_text bytes) (hint_lacks from 32 hint (lit< tt) fits small) in
     cc
 
-pub line_short : (text : Option (List ℕ)) (read : ReadSoFar) (r : Record) (line : List ℕ) → IsReadSoFar text read → IsRecord r → line ≡ record_text read.form r → length line ≤ MAX_LINE
+pub line_short : (text : Option (List ℕ)) (read : ReadSoFar) (r : Record) (line : List ℕ) → IsReadSoFar text read → IsRecord r →
+    line ≡ record_text read.form r → length line ≤ MAX_LINE
 line_short text read r line h is_record is = omega (arith, record_short read.form r (form_marked text read h) is_record, ap length is)
 
 -- ---- between two records
@@ -108,8 +121,10 @@ pub record IsUnderWay (to : Format) (text old : Option (List ℕ)) (at : Place) 
 
 module _ (to : Format) (text old : Option (List ℕ)) (at : Place) (h : IsUnderWay to text old at) where
   -- one more record was read, and its line put on the page
-  pub line_on : (new : Place) (kept : List ℕ) (r : Record) → new.capture.own ≡ at.capture.own → new.capture.peer ≡ at.capture.peer → NextGives at.capture new.capture at.come new.come (Ok (Some r))
-      → HandsOver at.page kept at.taken new.taken → new.page ≡ kept ++ record_line at.form r → new.form ≡ form_after at.form r → new.count ≡ at.count + 1 → IsUnderWay to text old new
+  pub line_on : (new : Place) (kept : List ℕ) (r : Record) → new.capture.own ≡ at.capture.own → new.capture.peer ≡ at.capture.peer →
+      NextGives at.capture new.capture at.come new.come (Ok (Some r))
+      → HandsOver at.page kept at.taken new.taken → new.page ≡ kept ++ record_line at.form r → new.form ≡ form_after at.form r →
+      new.count ≡ at.count + 1 → IsUnderWay to text old new
   line_on new kept r own peer gives over put form count =
       let few = gives.1 in
       let same = h.count in
@@ -122,7 +137,8 @@ module _ (to : Format) (text old : Option (List ℕ)) (at : Place) (h : IsUnderW
       ∙ append_assoc (h.written ++ over.written) kept line ∙ ap (λ (x : List ℕ). (h.written ++ over.written) ++ x) (sym put) in
       record {
         records = h.records ++ r ∷ [];
-        read = rw (own, peer, gives.5) (one_more text at.come new.come at.capture.form at.capture.own at.capture.peer h.records r h.read (omega arith) gives.0 gives.4);
+        read = rw (own, peer, gives.5)
+            (one_more text at.come new.come at.capture.form at.capture.own at.capture.peer h.records r h.read (omega arith) gives.0 gives.4);
         count = omega (arith, length-append h.records (r ∷ []));
         counted = omega (arith, gives.2);
         reading = gives.3;
@@ -137,25 +153,30 @@ module _ (to : Format) (text old : Option (List ℕ)) (at : Place) (h : IsUnderW
   by_then = so_far at.capture.form at.capture.own at.capture.peer h.records (ToCome at.come)
 
   -- the page was written
-  pub all_taken : (rest : List ℕ) (later : Option (List ℕ)) → HandsOver at.page rest at.taken later → rest ≡ [] → Appends old later (capture_text to at.capture.own at.capture.peer h.records)
+  pub all_taken : (rest : List ℕ) (later : Option (List ℕ)) → HandsOver at.page rest at.taken later → rest ≡ [] →
+      Appends old later (capture_text to at.capture.own at.capture.peer h.records)
   all_taken rest later over none =
-      subst (Appends old later) (sym (h.text_is ∙ ap (λ (x : List ℕ). h.written ++ x) (over.parts ∙ ap (λ (x : List ℕ). over.written ++ x) none ∙ append-nil over.written)))
+      subst (Appends old later)
+      (sym (h.text_is ∙ ap (λ (x : List ℕ). h.written ++ x) (over.parts ∙ ap (λ (x : List ℕ). over.written ++ x) none ∙ append-nil over.written)))
       (Appends-trans old at.taken later h.written over.written h.taken over.taken)
 
   -- a beginning of it was written
-  pub some_taken : (later : Option (List ℕ)) → AppendsBeginning at.taken later at.page → (read : ReadSoFar) × IsReadSoFar text read × AppendsBeginning old later (text_of to read)
+  pub some_taken : (later : Option (List ℕ)) → AppendsBeginning at.taken later at.page → (read : ReadSoFar) × IsReadSoFar text read ×
+      AppendsBeginning old later (text_of to read)
   some_taken later some =
       let taken = some.0 in
       let within : taken < length at.page = some.1 in
       let all : AppendsBeginning old later (h.written ++ at.page) = (
         length h.written + taken,
         omega (arith, length-append h.written at.page),
-        subst (Appends old later) (sym (take-append-add h.written at.page taken)) (Appends-trans old at.taken later h.written (take taken at.page) h.taken some.2),
+        subst (Appends old later) (sym (take-append-add h.written at.page taken))
+            (Appends-trans old at.taken later h.written (take taken at.page) h.taken some.2),
       ) in
       (by_then, h.read, subst (AppendsBeginning old later) (sym h.text_is) all)
 
   -- the text has ended
-  pub finished : (later : Option (List ℕ)) (rest : List ℕ) → IsAtEnd at.come → HandsOver at.page rest at.taken later → rest ≡ [] → Converts to text old later (Ok at.count)
+  pub finished : (later : Option (List ℕ)) (rest : List ℕ) → IsAtEnd at.come → HandsOver at.page rest at.taken later → rest ≡ [] →
+      Converts to text old later (Ok at.count)
   finished later rest end over none = (
     so_far at.capture.form at.capture.own at.capture.peer h.records TheEnd,
     record { from = ended text at.come at.capture.form at.capture.own at.capture.peer h.records h.read end; taken = all_taken rest later over none },
@@ -164,7 +185,8 @@ module _ (to : Format) (text old : Option (List ℕ)) (at : Place) (h : IsUnderW
   )
 
   -- or its next record is not known
-  pub stopped : (fault : CaptureFault) (later : Option (List ℕ)) (rest : List ℕ) → (fault ≡ OutOfMemory → ⊥) → FaultShows (RecordDeparts at.capture.form at.capture.records) (at.capture.records + 2) at.come fault
+  pub stopped : (fault : CaptureFault) (later : Option (List ℕ)) (rest : List ℕ) → (fault ≡ OutOfMemory → ⊥) →
+      FaultShows (RecordDeparts at.capture.form at.capture.records) (at.capture.records + 2) at.come fault
       → HandsOver at.page rest at.taken later → rest ≡ [] → Converts to text old later (Err (convert_fault fault))
   stopped (Departs kind line) later rest memory shows over none =
       let same = h.counted ∙ sym h.count in
@@ -181,7 +203,8 @@ module _ (to : Format) (text old : Option (List ℕ)) (at : Place) (h : IsUnderW
   stopped Failed later rest memory shows over none = absurd shows
 
   -- where that is a failed read, each whole line was read and written
-  pub lines_at_fault : (fault : CaptureFault) (left later : Option (List ℕ)) (rest : List ℕ) → WhereReadFails (is_read_fault fault) (IsCutBehind at.come left) → HandsOver at.page rest at.taken later → rest ≡ []
+  pub lines_at_fault : (fault : CaptureFault) (left later : Option (List ℕ)) (rest : List ℕ) →
+      WhereReadFails (is_read_fault fault) (IsCutBehind at.come left) → HandsOver at.page rest at.taken later → rest ≡ []
       → ConvertsWholeLines to (devices text left old later) (Err (convert_fault fault))
   lines_at_fault (Departs kind line) left later rest cut over none = tt
   lines_at_fault Read left later rest cut over none = inr (by_then, record { from = h.read; taken = all_taken rest later over none }, cut)
@@ -194,7 +217,8 @@ same_records : (behind : Behind) (read all : List Record) → behind ≡ TheEnd 
 same_records (ToCome bytes) read all e h = absurd cc
 same_records TheEnd read all e h = h
 
-pub converted_is_same : (to : Format) (bytes made : List ℕ) (own peer : ℕ) (rs : List Record) (count : ℕ) → IsText own peer rs bytes → Converts to (Some bytes) (Some []) (Some made) (Ok count) → IsTextIn to own peer rs made × (count ≡ length rs)
+pub converted_is_same : (to : Format) (bytes made : List ℕ) (own peer : ℕ) (rs : List Record) (count : ℕ) → IsText own peer rs bytes →
+    Converts to (Some bytes) (Some []) (Some made) (Ok count) → IsTextIn to own peer rs made × (count ≡ length rs)
 converted_is_same to bytes made own peer rs count is_text h =
     let read = h.0 in
     let goes = goes_on bytes own peer rs read is_text h.1.from in
@@ -202,7 +226,8 @@ converted_is_same to bytes made own peer rs count is_text h =
     let text : made ≡ capture_text to read.own read.peer read.records = h.1.taken in
     (record { fits = is_text.is_text.fits; spelled = text ∙ rw (goes.0, goes.1, all) refl }, h.3 ∙ ap length (sym all))
 
-pub converted_back : (from to : Format) (bytes made back : List ℕ) (own peer : ℕ) (rs : List Record) (count again : ℕ) → IsTextIn from own peer rs bytes
+pub converted_back : (from to : Format) (bytes made back : List ℕ) (own peer : ℕ) (rs : List Record) (count again : ℕ) →
+    IsTextIn from own peer rs bytes
     → Converts to (Some bytes) (Some []) (Some made) (Ok count) → Converts from (Some made) (Some []) (Some back) (Ok again) → back ≡ bytes
 converted_back from to bytes made back own peer rs count again is_text there here =
     let first = converted_is_same to bytes made own peer rs count (record { format = from; is_text = is_text }) there in

@@ -1,5 +1,6 @@
 -- The digits of BYTES, as they are read: they are told by their spelling, piece by piece, and what is no such spelling departs.
-use Rattle.std.proofs.Common.{◌≡◌, ℕ, zero, suc, ◌+◌, ◌*◌, ◌%◌, ◌<◌, ◌≤◌, Bool, true, false, cond, leb, not, ◌⊎◌, List, [], ◌∷◌, ◌++◌, ◌-◌, length, take, drop, Option, Some, None, Result, Ok, Err, refl, sym, ap, ap₂, ◌∙◌, inl, inr, arith}
+use Rattle.std.proofs.Common.{◌≡◌, ℕ, zero, suc, ◌+◌, ◌*◌, ◌%◌, ◌<◌, ◌≤◌, Bool, true, false, cond, leb, not, ◌⊎◌, List, [], ◌∷◌, ◌++◌, ◌-◌, length}
+use Rattle.std.proofs.Common.{take, drop, Option, Some, None, Result, Ok, Err, refl, sym, ap, ap₂, ◌∙◌, inl, inr, arith}
 use Rattle.std.specs.Prelude.{codes, is_ok, MatchResult}
 use Rattle.std.specs.List.{list_all}
 use Rattle.std.specs.Str.{bytes_eq}
@@ -40,7 +41,8 @@ encode_with-take t (suc n) (x ∷ xs) =
     rw (twice, encode_with-take t n xs) refl
 
 -- how one piece of the bytes is spelled
-pub encoded_piece : (t : List ℕ) (from many : ℕ) (xs : List ℕ) → encode_with t (take many (drop from xs)) ≡ take (2 * many) (drop (2 * from) (encode_with t xs))
+pub encoded_piece : (t : List ℕ) (from many : ℕ) (xs : List ℕ) → encode_with t (take many (drop from xs)) ≡ take (2 * many)
+    (drop (2 * from) (encode_with t xs))
 encoded_piece t from many xs = encode_with-take t many (drop from xs) ∙ ap (take (2 * many)) (encode_with-drop t from xs)
 
 -- a text that is the spelling as far as some byte, and a piece further
@@ -50,8 +52,10 @@ pub spelled_more : (bytes text out : List ℕ) (from to : ℕ) → from ≤ to �
 spelled_more bytes text out from to order before is same =
     let whole : 2 * from + 2 * (to - from) ≡ 2 * to = omega arith in
     let long : 2 * to - 2 * from ≡ 2 * (to - from) = omega arith in
-    let piece = (bytes_eq-Decides (take (2 * to - 2 * from) (drop (2 * from) text)) out).0 same ∙ is ∙ encoded_piece lower_digits from (to - from) bytes in
-    let here : take (2 * (to - from)) (drop (2 * from) text) ≡ take (2 * (to - from)) (drop (2 * from) (encode_lower bytes)) = sym (ap (λ n. take n (drop (2 * from) text)) long) ∙ piece in
+    let piece = (bytes_eq-Decides (take (2 * to - 2 * from) (drop (2 * from) text)) out).0 same ∙ is ∙ encoded_piece lower_digits from (to - from)
+    bytes in
+    let here : take (2 * (to - from)) (drop (2 * from) text) ≡ take (2 * (to - from)) (drop (2 * from) (encode_lower bytes)) =
+    sym (ap (λ n. take n (drop (2 * from) text)) long) ∙ piece in
     ap (λ n. take n (encode_lower bytes)) (sym whole) ∙ take-add (2 * from) (2 * (to - from)) (encode_lower bytes)
     ∙ ap₂ ◌++◌ before (sym here) ∙ sym (take-add (2 * from) (2 * (to - from)) text) ∙ ap (λ n. take n text) whole
 
@@ -69,7 +73,8 @@ pub spelled_piece : (bytes text out : List ℕ) (from to : ℕ) → from ≤ to 
 spelled_piece bytes text out from to order e is =
     let long : 2 * to - 2 * from ≡ 2 * (to - from) = omega arith in
     (bytes_eq-Decides (take (2 * to - 2 * from) (drop (2 * from) text)) out).1
-    (ap (λ n. take n (drop (2 * from) text)) long ∙ ap (λ s. take (2 * (to - from)) (drop (2 * from) s)) (sym e) ∙ sym (encoded_piece lower_digits from (to - from) bytes) ∙ sym is)
+    (ap (λ n. take n (drop (2 * from) text)) long ∙ ap (λ s. take (2 * (to - from)) (drop (2 * from) s)) (sym e) ∙
+    sym (encoded_piece lower_digits from (to - from) bytes) ∙ sym is)
 
 pub spelled_whole : (bytes text : List ℕ) (done : ℕ) → length text ≡ 2 * length bytes → length bytes ≤ done
     → take (2 * done) (encode_lower bytes) ≡ take (2 * done) text → encode_lower bytes ≡ text
@@ -81,7 +86,8 @@ pub all_behind : (n : ℕ) (xs : List ℕ) → take (length xs - n) (drop n xs) 
 all_behind n xs = take_all (length xs - n) (drop n xs) (omega (arith, length-drop n xs))
 
 -- a text that is spelled so in two parts
-pub spelled_parts : (bytes text : List ℕ) (n : ℕ) → encode_lower (take n bytes) ≡ take (2 * n) text → encode_lower (drop n bytes) ≡ drop (2 * n) text → encode_lower bytes ≡ text
+pub spelled_parts : (bytes text : List ℕ) (n : ℕ) → encode_lower (take n bytes) ≡ take (2 * n) text →
+    encode_lower (drop n bytes) ≡ drop (2 * n) text → encode_lower bytes ≡ text
 spelled_parts bytes text n front rest =
     sym (take-append-drop (2 * n) (encode_lower bytes))
     ∙ ap₂ ◌++◌ (sym (encode_with-take lower_digits n bytes) ∙ front) (sym (encode_with-drop lower_digits n bytes) ∙ rest)
@@ -159,7 +165,8 @@ pairs_decoded [] n r out digits twice some h = absurd (omega arith)
 pairs_decoded (b ∷ text) n r out digits twice some h =
     pairs_of_digits b text digits ∙ ap decoded (sym (decode_sized-twice (b ∷ text) n twice)) ∙ by_answer (decode_sized (b ∷ text) n) h
   where
-    by_answer : (d : Result (List ℕ) FromHexError) → MatchResult d (λ bytes. (r ≡ Ok tt) × (out ≡ bytes)) (λ e. r ≡ Err e) → decoded d ≡ cond (is_ok r) (Some out) None
+    by_answer : (d : Result (List ℕ) FromHexError) → MatchResult d (λ bytes. (r ≡ Ok tt) × (out ≡ bytes)) (λ e. r ≡ Err e) →
+        decoded d ≡ cond (is_ok r) (Some out) None
     by_answer (Ok bytes) k = rw (k.0, k.1) refl
     by_answer (Err e) k = rw k refl
 
@@ -211,7 +218,8 @@ bytes_odd most text other odd =
     ]
 
 -- many digits alone are too many bytes
-pub bytes_long : (most : ℕ) (text : List ℕ) → length text % 2 ≡ 0 → 2 * most < length text → list_all is_digit text ≡ true → bytes_at most text ≡ Err TooLong
+pub bytes_long : (most : ℕ) (text : List ℕ) → length text % 2 ≡ 0 → 2 * most < length text → list_all is_digit text ≡ true →
+    bytes_at most text ≡ Err TooLong
 bytes_long most [] even long e = absurd (omega arith)
 bytes_long most (b ∷ text) even long e =
     let all = b ∷ text in
@@ -221,7 +229,8 @@ bytes_long most (b ∷ text) even long e =
     too_long most all found.0 read (omega (arith, size.2))
 
 -- what is no digit departs at once
-pub bytes_bad : (most : ℕ) (text : List ℕ) → length text % 2 ≡ 0 → 2 * most < length text → list_all is_digit text ≡ false → bytes_at most text ≡ Err Syntax
+pub bytes_bad : (most : ℕ) (text : List ℕ) → length text % 2 ≡ 0 → 2 * most < length text → list_all is_digit text ≡ false →
+    bytes_at most text ≡ Err Syntax
 bytes_bad most text even long e =
     elim (some_or_none (pairs_at text)) [
       | inl found ↦ absurd (let digits = digits_of_pairs text found.0 found.1 in cc)

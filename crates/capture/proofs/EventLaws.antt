@@ -47,7 +47,11 @@ links_show text =
 links_again : (partner link : ℕ) → IsLink partner → IsLink link → links_at (spaced (decimal partner) (decimal link)) ≡ Ok (partner, link)
 unfolding links_at
 links_again partner link p q =
-    rw (cut_again 32 (decimal partner) (decimal link) (decimal_lacks 32 partner (lit< tt) (link_lacks partner p)), link_again partner p, link_again link q) refl
+    rw (
+      cut_again 32 (decimal partner) (decimal link) (decimal_lacks 32 partner (lit< tt) (link_lacks partner p)),
+      link_again partner p,
+      link_again link q,
+    ) refl
 
 -- ---- a link and a message
 
@@ -64,14 +68,20 @@ message_shows text =
     shows_must (IsMessageOf text) (IsLongMessageOf text) (positive_at MAX_LINK parts.0) _ (λ link first.
     let p = link_takes parts.0 link first in
     let front = cut_takes 32 text parts cut ∙ ap (λ (t : List ℕ). t ++ 32 ∷ parts.1) p.0 in
-    shows_map (IsBytesOf MAX_MESSAGE parts.1) (IsLongOf MAX_MESSAGE parts.1) (IsMessageOf text) (IsLongMessageOf text) (λ bytes. (link, bytes)) (bytes_at MAX_MESSAGE parts.1) (bytes_shows MAX_MESSAGE parts.1)
+    shows_map (IsBytesOf MAX_MESSAGE parts.1) (IsLongOf MAX_MESSAGE parts.1) (IsMessageOf text) (IsLongMessageOf text) (λ bytes. (link, bytes))
+    (bytes_at MAX_MESSAGE parts.1) (bytes_shows MAX_MESSAGE parts.1)
     (λ bytes h. (front ∙ ap (λ (t : List ℕ). decimal link ++ 32 ∷ t) h.0, p.1, h.1, h.2))
     (λ bytes h. (front ∙ ap (λ (t : List ℕ). decimal link ++ 32 ∷ t) h.0, p.1, h.1, h.2))))
 
-pub message_again : (link : ℕ) (bytes : List ℕ) → IsLink link → IsBytes bytes → message_at (spaced (decimal link) (bytes_text bytes)) ≡ limited MAX_MESSAGE bytes (link, bytes)
+pub message_again : (link : ℕ) (bytes : List ℕ) → IsLink link → IsBytes bytes → message_at (spaced (decimal link) (bytes_text bytes)) ≡ limited
+    MAX_MESSAGE bytes (link, bytes)
 unfolding message_at
 message_again link bytes h fits =
-    rw (cut_again 32 (decimal link) (bytes_text bytes) (decimal_lacks 32 link (lit< tt) (link_lacks link h)), link_again link h, bytes_again MAX_MESSAGE bytes fits) (limited_then MAX_MESSAGE bytes bytes (λ b. (link, b)))
+    rw (
+      cut_again 32 (decimal link) (bytes_text bytes) (decimal_lacks 32 link (lit< tt) (link_lacks link h)),
+      link_again link h,
+      bytes_again MAX_MESSAGE bytes fits,
+    ) (limited_then MAX_MESSAGE bytes bytes (λ b. (link, b)))
 
 -- ---- events
 
@@ -90,29 +100,37 @@ unfolding link_event_at
 link_event_shows text =
     shows_or_else (IsEventOf text) (IsLongEventOf text) (after (codes "open ") text) _ _
     (λ rest e. shows_must (IsEventOf text) (IsLongEventOf text) (positive_at MAX_LINK rest) _ (λ link f.
-    let p = link_takes rest link f in (after_takes (codes "open ") text rest e ∙ ap (λ (t : List ℕ). codes "open " ++ t) p.0, p.1, no_bytes, omega arith)))
+    let p = link_takes rest link f in
+    (after_takes (codes "open ") text rest e ∙ ap (λ (t : List ℕ). codes "open " ++ t) p.0, p.1, no_bytes, omega arith)))
     (shows_or_else (IsEventOf text) (IsLongEventOf text) (after (codes "close ") text) _ _
     (λ rest e. shows_must (IsEventOf text) (IsLongEventOf text) (positive_at MAX_LINK rest) _ (λ link f.
-    let p = link_takes rest link f in (after_takes (codes "close ") text rest e ∙ ap (λ (t : List ℕ). codes "close " ++ t) p.0, p.1, no_bytes, omega arith)))
+    let p = link_takes rest link f in
+    (after_takes (codes "close ") text rest e ∙ ap (λ (t : List ℕ). codes "close " ++ t) p.0, p.1, no_bytes, omega arith)))
     (shows_or_else (IsEventOf text) (IsLongEventOf text) (after (codes "accept ") text) _ _
     (λ rest e. shows_map (AreLinksOf rest) Never (IsEventOf text) (IsLongEventOf text) (λ m. Accept m.0 m.1) (links_at rest) (links_show rest)
-    (λ m h. (after_takes (codes "accept ") text rest e ∙ ap (λ (t : List ℕ). codes "accept " ++ t) h.0, (h.1, h.2), no_bytes, omega arith)) (λ m h. absurd h))
+    (λ m h. (after_takes (codes "accept ") text rest e ∙ ap (λ (t : List ℕ). codes "accept " ++ t) h.0, (h.1, h.2), no_bytes, omega arith))
+    (λ m h. absurd h))
     (shows_or_else (IsEventOf text) (IsLongEventOf text) (after (codes "reject ") text) _ _
     (λ rest e. shows_map (AreLinksOf rest) Never (IsEventOf text) (IsLongEventOf text) (λ m. Reject m.0 m.1) (links_at rest) (links_show rest)
-    (λ m h. (after_takes (codes "reject ") text rest e ∙ ap (λ (t : List ℕ). codes "reject " ++ t) h.0, (h.1, h.2), no_bytes, omega arith)) (λ m h. absurd h))
+    (λ m h. (after_takes (codes "reject ") text rest e ∙ ap (λ (t : List ℕ). codes "reject " ++ t) h.0, (h.1, h.2), no_bytes, omega arith))
+    (λ m h. absurd h))
     tt)))
 
 pub event_shows : (text : List ℕ) → Shows (IsEventOf text) (IsLongEventOf text) (event_at text)
 unfolding event_at
 event_shows text =
-    cond_both (bytes_eq text (codes "start")) _ _ (Shows (IsEventOf text) (IsLongEventOf text)) (λ t. ((bytes_eq-Decides text (codes "start")).0 t, tt, no_bytes, omega arith)) (λ _.
-    cond_both (bytes_eq text (codes "halt")) _ _ (Shows (IsEventOf text) (IsLongEventOf text)) (λ t. ((bytes_eq-Decides text (codes "halt")).0 t, tt, no_bytes, omega arith)) (λ _.
+    cond_both (bytes_eq text (codes "start")) _ _ (Shows (IsEventOf text) (IsLongEventOf text))
+    (λ t. ((bytes_eq-Decides text (codes "start")).0 t, tt, no_bytes, omega arith)) (λ _.
+    cond_both (bytes_eq text (codes "halt")) _ _ (Shows (IsEventOf text) (IsLongEventOf text))
+    (λ t. ((bytes_eq-Decides text (codes "halt")).0 t, tt, no_bytes, omega arith)) (λ _.
     shows_or_else (IsEventOf text) (IsLongEventOf text) (after (codes "in ") text) _ _
-    (λ rest e. shows_map (IsMessageOf rest) (IsLongMessageOf rest) (IsEventOf text) (IsLongEventOf text) (λ m. In m.0 m.1) (message_at rest) (message_shows rest)
+    (λ rest e. shows_map (IsMessageOf rest) (IsLongMessageOf rest) (IsEventOf text) (IsLongEventOf text) (λ m. In m.0 m.1) (message_at rest)
+    (message_shows rest)
     (λ m h. (after_takes (codes "in ") text rest e ∙ ap (λ (t : List ℕ). codes "in " ++ t) h.0, h.1, h.2, h.3))
     (λ m h. (after_takes (codes "in ") text rest e ∙ ap (λ (t : List ℕ). codes "in " ++ t) h.0, h.1, h.2, h.3)))
     (shows_or_else (IsEventOf text) (IsLongEventOf text) (after (codes "up ") text) _ _
-    (λ rest e. shows_map (IsMessageOf rest) (IsLongMessageOf rest) (IsEventOf text) (IsLongEventOf text) (λ m. Up m.0 m.1) (message_at rest) (message_shows rest)
+    (λ rest e. shows_map (IsMessageOf rest) (IsLongMessageOf rest) (IsEventOf text) (IsLongEventOf text) (λ m. Up m.0 m.1) (message_at rest)
+    (message_shows rest)
     (λ m h. (after_takes (codes "up ") text rest e ∙ ap (λ (t : List ℕ). codes "up " ++ t) h.0, h.1, h.2, h.3))
     (λ m h. (after_takes (codes "up ") text rest e ∙ ap (λ (t : List ℕ). codes "up " ++ t) h.0, h.1, h.2, h.3)))
     (link_event_shows text))))

@@ -11,7 +11,8 @@ use Rattle.capture.specs.declared.hint.HintForm.{HintForm}
 use Rattle.capture.specs.declared.hint.HintForm.TheVariants.{Number, Distance}
 use Rattle.capture.specs.declared.format.Format.TheVariants.{One, Two}
 use Rattle.capture.specs.Text.{address_text, capture_text, ended, form_behind, record_text, spaced}
-use Rattle.capture.specs.Reading.{address_at, any_bytes_at, bytes_at, head_at, hint_above, hint_at, hint_below, nodes_at, number_at, pairs_at, positive_at, receipt_at, record_at}
+use Rattle.capture.specs.Reading.{address_at, any_bytes_at, bytes_at, head_at, hint_above, hint_at, hint_below, nodes_at, number_at, pairs_at}
+use Rattle.capture.specs.Reading.{positive_at, receipt_at, record_at}
 use Rattle.capture.proofs.AddressLaws.{address_takes}
 use Rattle.capture.proofs.NumberLaws.{number_takes}
 

@@ -25,13 +25,15 @@ nodes_take text nodes e =
     let second = address_takes b.0.1 d.0 d.1 in
     from_parts b.0.0 b.0.1 c.0 d.0 (cut_takes 32 text b.0 b.1) first second (same_Some _ _ d.2)
   where
-    from_parts : (x y : List ℕ) (p q : ℕ) → text ≡ x ++ 32 ∷ y → (x ≡ address_text p) × IsNode p → (y ≡ address_text q) × IsNode q → ◌≡◌ {A = ℕ × ℕ} (p, q) nodes → AreNodesOf text nodes
+    from_parts : (x y : List ℕ) (p q : ℕ) → text ≡ x ++ 32 ∷ y → (x ≡ address_text p) × IsNode p → (y ≡ address_text q) × IsNode q →
+        ◌≡◌ {A = ℕ × ℕ} (p, q) nodes → AreNodesOf text nodes
     from_parts x y p q cut f s same =
         rw (← same) (record { spelled = cut ∙ rw (f.0, s.0) refl; own_fits = f.1; peer_fits = s.1 })
 
 nodes_again : (own peer : ℕ) → IsNode own → IsNode peer → nodes_at (spaced (address_text own) (address_text peer)) ≡ Some (own, peer)
 unfolding nodes_at
-nodes_again own peer p q = rw (cut_again 32 (address_text own) (address_text peer) (address_lacks 32 own (lit< tt) p), address_again own p, address_again peer q) refl
+nodes_again own peer p q =
+    rw (cut_again 32 (address_text own) (address_text peer) (address_lacks 32 own (lit< tt) p), address_again own p, address_again peer q) refl
 
 -- a head that was read
 pub record IsHeadOf (text : List ℕ) (format : Format) (own peer : ℕ) : Type 0 where
@@ -39,7 +41,8 @@ pub record IsHeadOf (text : List ℕ) (format : Format) (own peer : ℕ) : Type 
   pub own_fits : IsNode own
   pub peer_fits : IsNode peer
 
-headed_takes : (found : Format) (text rest : List ℕ) (format : Format) (own peer : ℕ) → text ≡ format_text found ++ rest → headed found rest ≡ Some (format, own, peer) → IsHeadOf text format own peer
+headed_takes : (found : Format) (text rest : List ℕ) (format : Format) (own peer : ℕ) → text ≡ format_text found ++ rest →
+    headed found rest ≡ Some (format, own, peer) → IsHeadOf text format own peer
 headed_takes found text rest format own peer cut e =
     let m = map_some (λ (nodes : ℕ × ℕ). (found, nodes.0, nodes.1)) (nodes_at rest) (format, own, peer) e in
     from_nodes m.0.0 m.0.1 (nodes_take rest m.0 m.1) m.2
@@ -59,11 +62,13 @@ pub head_takes : (text : List ℕ) (format : Format) (own peer : ℕ) → head_a
 unfolding head_at
 head_takes text format own peer e = by_first (after (format_text One) text) refl e
   where
-    by_second : (o : Option (List ℕ)) → after (format_text Two) text ≡ o → or_else o (headed Two) None ≡ Some (format, own, peer) → IsHeadOf text format own peer
+    by_second : (o : Option (List ℕ)) → after (format_text Two) text ≡ o → or_else o (headed Two) None ≡ Some (format, own, peer) →
+        IsHeadOf text format own peer
     by_second None begins f = absurd cc
     by_second (Some rest) begins f = headed_takes Two text rest format own peer (after_takes (format_text Two) text rest begins) f
 
-    by_first : (o : Option (List ℕ)) → after (format_text One) text ≡ o → or_else o (headed One) (or_else (after (format_text Two) text) (headed Two) None) ≡ Some (format, own, peer) → IsHeadOf text format own peer
+    by_first : (o : Option (List ℕ)) → after (format_text One) text ≡ o →
+        or_else o (headed One) (or_else (after (format_text Two) text) (headed Two) None) ≡ Some (format, own, peer) → IsHeadOf text format own peer
     by_first None begins f = by_second (after (format_text Two) text) refl f
     by_first (Some rest) begins f = headed_takes One text rest format own peer (after_takes (format_text One) text rest begins) f
 

@@ -41,7 +41,8 @@ above_takes mark text hint e =
     let far : d.0 ≡ hint - mark = omega arith in
     (p.0 ∙ ap decimal far ∙ sym (at_distance mark hint (omega arith)), omega arith)
 
-below_takes : (mark : ℕ) (text : List ℕ) (hint : ℕ) → mark ≤ MAX_MARK → hint_below mark text ≡ Some hint → (45 ∷ text ≡ hint_text (Distance mark) hint) × (hint ≤ MAX_HINT)
+below_takes : (mark : ℕ) (text : List ℕ) (hint : ℕ) → mark ≤ MAX_MARK → hint_below mark text ≡ Some hint →
+    (45 ∷ text ≡ hint_text (Distance mark) hint) × (hint ≤ MAX_HINT)
 unfolding hint_below
 below_takes mark text hint fits e =
     let d = map_some (λ distance. mark - distance) (positive_at mark text) hint e in
@@ -52,7 +53,8 @@ below_takes mark text hint fits e =
     let far : d.0 ≡ mark - hint = omega arith in
     (ap (λ (t : List ℕ). 45 ∷ t) (p.0 ∙ ap decimal far) ∙ sym (before_mark mark hint (omega arith)), omega arith)
 
-distance_takes : (mark : ℕ) (text : List ℕ) (hint : ℕ) → mark ≤ MAX_MARK → (o : Option (List ℕ)) → after (codes "-") text ≡ o → or_else o (hint_below mark) (hint_above mark text) ≡ Some hint
+distance_takes : (mark : ℕ) (text : List ℕ) (hint : ℕ) → mark ≤ MAX_MARK → (o : Option (List ℕ)) → after (codes "-") text ≡ o →
+    or_else o (hint_below mark) (hint_above mark text) ≡ Some hint
     → (text ≡ hint_text (Distance mark) hint) × (hint ≤ MAX_HINT)
 distance_takes mark text hint fits None begins e = above_takes mark text hint e
 distance_takes mark text hint fits (Some rest) begins e =
@@ -74,7 +76,8 @@ below_again mark hint fits below =
 
 -- ---- in each form
 
-pub hint_takes : (form : HintForm) (text : List ℕ) (hint : ℕ) → FormFits form → hint_at form text ≡ Some hint → (text ≡ hint_text form hint) × (hint ≤ MAX_HINT)
+pub hint_takes : (form : HintForm) (text : List ℕ) (hint : ℕ) → FormFits form → hint_at form text ≡ Some hint → (text ≡ hint_text form hint) ×
+    (hint ≤ MAX_HINT)
 unfolding hint_at
 hint_takes Number text hint fits e = number_takes MAX_HINT text hint (lit< tt) e
 hint_takes (Distance mark) text hint fits e = distance_takes mark text hint fits (after (codes "-") text) refl e
@@ -97,8 +100,10 @@ pub hint_short : (form : HintForm) (hint : ℕ) → FormFits form → hint ≤ M
 hint_short Number hint fits small = let short = length-decimal-le 18 hint (lit< tt) (omega arith) (omega arith) in omega arith
 hint_short (Distance mark) hint fits small =
     elim (cases_lt hint mark) [
-      | inl below ↦ let short = length-decimal-le 19 (mark - hint) (lit< tt) (omega arith) (omega arith) in rw (before_mark mark hint below) (omega arith)
-      | inr above ↦ let short = length-decimal-le 18 (hint - mark) (lit< tt) (omega arith) (omega arith) in rw (at_distance mark hint above) (omega arith)
+      | inl below ↦ let short = length-decimal-le 19 (mark - hint) (lit< tt) (omega arith) (omega arith) in
+          rw (before_mark mark hint below) (omega arith)
+      | inr above ↦ let short = length-decimal-le 18 (hint - mark) (lit< tt) (omega arith) (omega arith) in
+          rw (at_distance mark hint above) (omega arith)
     ]
 
 -- a mark is one more than some hint

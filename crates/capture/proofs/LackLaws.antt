@@ -41,25 +41,39 @@ event_lacks : (e : Event) → EventNumbersFit e → IsBytes (event_bytes e) → 
 event_lacks Start h fits = lacks 10 (codes "start") refl
 event_lacks Halt h fits = lacks 10 (codes "halt") refl
 event_lacks (Open link) h fits = HasNo-append 10 (codes "open ") (decimal link) (lacks 10 (codes "open ") refl) (link_lacks link h)
-event_lacks (Accept partner link) h fits = HasNo-append 10 (codes "accept ") (spaced (decimal partner) (decimal link)) (lacks 10 (codes "accept ") refl) (spaced_lacks (decimal partner) (decimal link) (link_lacks partner h.0) (link_lacks link h.1))
-event_lacks (Reject partner link) h fits = HasNo-append 10 (codes "reject ") (spaced (decimal partner) (decimal link)) (lacks 10 (codes "reject ") refl) (spaced_lacks (decimal partner) (decimal link) (link_lacks partner h.0) (link_lacks link h.1))
-event_lacks (In link bytes) h fits = HasNo-append 10 (codes "in ") (spaced (decimal link) (bytes_text bytes)) (lacks 10 (codes "in ") refl) (spaced_lacks (decimal link) (bytes_text bytes) (link_lacks link h) (bytes_lack 10 bytes (lit< tt) fits))
-event_lacks (Up link bytes) h fits = HasNo-append 10 (codes "up ") (spaced (decimal link) (bytes_text bytes)) (lacks 10 (codes "up ") refl) (spaced_lacks (decimal link) (bytes_text bytes) (link_lacks link h) (bytes_lack 10 bytes (lit< tt) fits))
+event_lacks (Accept partner link) h fits =
+    HasNo-append 10 (codes "accept ") (spaced (decimal partner) (decimal link)) (lacks 10 (codes "accept ") refl)
+    (spaced_lacks (decimal partner) (decimal link) (link_lacks partner h.0) (link_lacks link h.1))
+event_lacks (Reject partner link) h fits =
+    HasNo-append 10 (codes "reject ") (spaced (decimal partner) (decimal link)) (lacks 10 (codes "reject ") refl)
+    (spaced_lacks (decimal partner) (decimal link) (link_lacks partner h.0) (link_lacks link h.1))
+event_lacks (In link bytes) h fits = HasNo-append 10 (codes "in ") (spaced (decimal link) (bytes_text bytes)) (lacks 10 (codes "in ") refl)
+    (spaced_lacks (decimal link) (bytes_text bytes) (link_lacks link h) (bytes_lack 10 bytes (lit< tt) fits))
+event_lacks (Up link bytes) h fits = HasNo-append 10 (codes "up ") (spaced (decimal link) (bytes_text bytes)) (lacks 10 (codes "up ") refl)
+    (spaced_lacks (decimal link) (bytes_text bytes) (link_lacks link h) (bytes_lack 10 bytes (lit< tt) fits))
 event_lacks (Close link) h fits = HasNo-append 10 (codes "close ") (decimal link) (lacks 10 (codes "close ") refl) (link_lacks link h)
 
 pub record_lacks : (form : HintForm) (r : Record) → FormFits form → HasSpelling r → HasNo 10 (record_text form r)
-record_lacks form (Sent bytes) fits h = HasNo-append 10 (codes "s ") (bytes_text bytes) (lacks 10 (codes "s ") refl) (bytes_lack 10 bytes (lit< tt) h.bytes)
-record_lacks form (Received hint false bytes) fits h = HasNo-append 10 (codes "r ") (spaced (hint_text form hint) (bytes_text bytes)) (lacks 10 (codes "r ") refl) (spaced_lacks (hint_text form hint) (bytes_text bytes) (hint_lacks form 10 hint (lit< tt) fits h.numbers) (bytes_lack 10 bytes (lit< tt) h.bytes))
-record_lacks form (Received hint true bytes) fits h = HasNo-append 10 (codes "k ") (spaced (hint_text form hint) (bytes_text bytes)) (lacks 10 (codes "k ") refl) (spaced_lacks (hint_text form hint) (bytes_text bytes) (hint_lacks form 10 hint (lit< tt) fits h.numbers) (bytes_lack 10 bytes (lit< tt) h.bytes))
-record_lacks form (Noise bytes) fits h = HasNo-append 10 (codes "n ") (bytes_text bytes) (lacks 10 (codes "n ") refl) (bytes_lack 10 bytes (lit< tt) h.bytes)
-record_lacks form (User event) fits h = HasNo-append 10 (codes "u ") (event_text event) (lacks 10 (codes "u ") refl) (event_lacks event h.numbers h.bytes)
+record_lacks form (Sent bytes) fits h =
+    HasNo-append 10 (codes "s ") (bytes_text bytes) (lacks 10 (codes "s ") refl) (bytes_lack 10 bytes (lit< tt) h.bytes)
+record_lacks form (Received hint false bytes) fits h =
+    HasNo-append 10 (codes "r ") (spaced (hint_text form hint) (bytes_text bytes)) (lacks 10 (codes "r ") refl)
+    (spaced_lacks (hint_text form hint) (bytes_text bytes) (hint_lacks form 10 hint (lit< tt) fits h.numbers) (bytes_lack 10 bytes (lit< tt) h.bytes))
+record_lacks form (Received hint true bytes) fits h =
+    HasNo-append 10 (codes "k ") (spaced (hint_text form hint) (bytes_text bytes)) (lacks 10 (codes "k ") refl)
+    (spaced_lacks (hint_text form hint) (bytes_text bytes) (hint_lacks form 10 hint (lit< tt) fits h.numbers) (bytes_lack 10 bytes (lit< tt) h.bytes))
+record_lacks form (Noise bytes) fits h =
+    HasNo-append 10 (codes "n ") (bytes_text bytes) (lacks 10 (codes "n ") refl) (bytes_lack 10 bytes (lit< tt) h.bytes)
+record_lacks form (User event) fits h =
+    HasNo-append 10 (codes "u ") (event_text event) (lacks 10 (codes "u ") refl) (event_lacks event h.numbers h.bytes)
 
 format_lacks : (format : Format) → HasNo 10 (format_text format)
 format_lacks One = lacks 10 (codes "ddcap 1 ") refl
 format_lacks Two = lacks 10 (codes "ddcap 2 ") refl
 
 pub head_lacks : (format : Format) (own peer : ℕ) → IsNode own → IsNode peer → HasNo 10 (head_text format own peer)
-head_lacks format own peer p q = HasNo-append 10 (format_text format) (spaced (address_text own) (address_text peer)) (format_lacks format) (spaced_lacks (address_text own) (address_text peer) (address_lacks 10 own (lit< tt) p) (address_lacks 10 peer (lit< tt) q))
+head_lacks format own peer p q = HasNo-append 10 (format_text format) (spaced (address_text own) (address_text peer)) (format_lacks format)
+    (spaced_lacks (address_text own) (address_text peer) (address_lacks 10 own (lit< tt) p) (address_lacks 10 peer (lit< tt) q))
 
 -- ---- lengths
 
@@ -77,16 +91,26 @@ event_short : (e : Event) → EventNumbersFit e → length (event_bytes e) ≤ M
 event_short Start h short = omega arith
 event_short Halt h short = omega arith
 event_short (Open link) h short = let n = link_short link h in omega arith
-event_short (Accept partner link) h short = let n = spaced_short (decimal partner) (decimal link) 5 5 (link_short partner h.0) (link_short link h.1) in omega arith
-event_short (Reject partner link) h short = let n = spaced_short (decimal partner) (decimal link) 5 5 (link_short partner h.0) (link_short link h.1) in omega arith
-event_short (In link bytes) h short = let n = spaced_short (decimal link) (bytes_text bytes) 5 131070 (link_short link h) (bytes_short MAX_MESSAGE bytes (omega arith) short) in omega arith
-event_short (Up link bytes) h short = let n = spaced_short (decimal link) (bytes_text bytes) 5 131070 (link_short link h) (bytes_short MAX_MESSAGE bytes (omega arith) short) in omega arith
+event_short (Accept partner link) h short =
+    let n = spaced_short (decimal partner) (decimal link) 5 5 (link_short partner h.0) (link_short link h.1) in omega arith
+event_short (Reject partner link) h short =
+    let n = spaced_short (decimal partner) (decimal link) 5 5 (link_short partner h.0) (link_short link h.1) in omega arith
+event_short (In link bytes) h short =
+    let n = spaced_short (decimal link) (bytes_text bytes) 5 131070 (link_short link h) (bytes_short MAX_MESSAGE bytes (omega arith) short) in
+    omega arith
+event_short (Up link bytes) h short =
+    let n = spaced_short (decimal link) (bytes_text bytes) 5 131070 (link_short link h) (bytes_short MAX_MESSAGE bytes (omega arith) short) in
+    omega arith
 event_short (Close link) h short = let n = link_short link h in omega arith
 
 pub record_short : (form : HintForm) (r : Record) → FormFits form → IsRecord r → length (record_text form r) ≤ MAX_LINE
 record_short form (Sent bytes) fits h = let n = bytes_short MAX_UNIT bytes (omega arith) h.short in omega arith
-record_short form (Received hint false bytes) fits h = let n = spaced_short (hint_text form hint) (bytes_text bytes) 20 32786 (hint_short form hint fits h.spelling.numbers) (bytes_short MAX_UNIT bytes (omega arith) h.short) in omega arith
-record_short form (Received hint true bytes) fits h = let n = spaced_short (hint_text form hint) (bytes_text bytes) 20 32786 (hint_short form hint fits h.spelling.numbers) (bytes_short MAX_UNIT bytes (omega arith) h.short) in omega arith
+record_short form (Received hint false bytes) fits h =
+    let n = spaced_short (hint_text form hint) (bytes_text bytes) 20 32786 (hint_short form hint fits h.spelling.numbers)
+    (bytes_short MAX_UNIT bytes (omega arith) h.short) in omega arith
+record_short form (Received hint true bytes) fits h =
+    let n = spaced_short (hint_text form hint) (bytes_text bytes) 20 32786 (hint_short form hint fits h.spelling.numbers)
+    (bytes_short MAX_UNIT bytes (omega arith) h.short) in omega arith
 record_short form (Noise bytes) fits h = let n = bytes_short MAX_UNIT bytes (omega arith) h.short in omega arith
 record_short form (User event) fits h = let n = event_short event h.spelling.numbers h.short in omega arith
 

@@ -1,5 +1,6 @@
 -- The first line of some bytes, and what is known of it once its beginning was read.
-use Rattle.std.proofs.Common.{◌≡◌, ◌≢◌, ℕ, zero, suc, ◌+◌, ◌<◌, true, false, eqb, List, [], ◌∷◌, ◌++◌, length, get_or, take, drop, Option, Some, None, refl, sym, ap, subst, ◌∙◌, inl, inr, arith}
+use Rattle.std.proofs.Common.{◌≡◌, ◌≢◌, ℕ, zero, suc, ◌+◌, ◌<◌, true, false, eqb, List, [], ◌∷◌, ◌++◌, length, get_or, take, drop, Option, Some, None}
+use Rattle.std.proofs.Common.{refl, sym, ap, subst, ◌∙◌, inl, inr, arith}
 use Rattle.std.specs.Prelude.{IfSome}
 use Rattle.std.specs.Io.KnownBytes.{prepend_known, Consumes, Keeps, IsAtEnd}
 use Rattle.std.proofs.lemmas.Bool.{cases_Bool, eqb-true, eq-eqb, ne_eqb}
@@ -10,7 +11,8 @@ use Rattle.capture.proofs.PartLaws.{HasNo}
 -- ---- by places
 
 -- an LF stands first at n
-pub line-found : (bytes : List ℕ) (n : ℕ) → n < length bytes → get_or bytes n 0 ≡ 10 → ((j : ℕ) → j < n → get_or bytes j 0 ≢ 10) → (length (first_line bytes) ≡ n) × (has_lf bytes ≡ true)
+pub line-found : (bytes : List ℕ) (n : ℕ) → n < length bytes → get_or bytes n 0 ≡ 10 → ((j : ℕ) → j < n → get_or bytes j 0 ≢ 10) →
+    (length (first_line bytes) ≡ n) × (has_lf bytes ≡ true)
 line-found [] n lt at none = absurd (omega arith)
 line-found (b ∷ bytes) zero lt at none = rw (eq-eqb b 10 at) (refl, refl)
 line-found (b ∷ bytes) (suc n) lt at none =
@@ -49,7 +51,8 @@ line-append_open (x ∷ a) b h =
     ]
 
 -- the line, its LF and the rest
-pub line-split : (bytes : List ℕ) → has_lf bytes ≡ true → (bytes ≡ first_line bytes ++ 10 ∷ drop (length (first_line bytes) + 1) bytes) × (first_line bytes ≡ take (length (first_line bytes)) bytes) × (length (first_line bytes) < length bytes)
+pub line-split : (bytes : List ℕ) → has_lf bytes ≡ true → (bytes ≡ first_line bytes ++ 10 ∷ drop (length (first_line bytes) + 1) bytes) ×
+    (first_line bytes ≡ take (length (first_line bytes)) bytes) × (length (first_line bytes) < length bytes)
 line-split [] h = absurd cc
 line-split (x ∷ bytes) h =
     elim (cases_Bool (eqb x 10)) [
@@ -70,20 +73,23 @@ line-ended (x ∷ text) rest h =
 
 -- ---- what is to come, where its beginning was read ahead
 
-pub if_known : (before after : Option (List ℕ)) (unread : List ℕ) (P : List ℕ → Type 0) → Keeps before (prepend_known unread after) → ((rest : List ℕ) → P (unread ++ rest)) → IfSome before P
+pub if_known : (before after : Option (List ℕ)) (unread : List ℕ) (P : List ℕ → Type 0) → Keeps before (prepend_known unread after) →
+    ((rest : List ℕ) → P (unread ++ rest)) → IfSome before P
 if_known None after unread P kept h = tt
 if_known (Some xs) None unread P kept h = absurd kept
 if_known (Some xs) (Some rest) unread P kept h = subst P kept (h rest)
 
 -- nothing follows
-pub if_all_known : (before after : Option (List ℕ)) (unread : List ℕ) (P : List ℕ → Type 0) → Keeps before (prepend_known unread after) → IsAtEnd after → P unread → IfSome before P
+pub if_all_known : (before after : Option (List ℕ)) (unread : List ℕ) (P : List ℕ → Type 0) → Keeps before (prepend_known unread after) →
+    IsAtEnd after → P unread → IfSome before P
 if_all_known None after unread P kept end h = tt
 if_all_known (Some xs) None unread P kept end h = absurd kept
 if_all_known (Some xs) (Some rest) unread P kept end h =
     let none : unread ++ rest ≡ unread = ap (λ (t : List ℕ). unread ++ t) end ∙ append-nil unread in
     subst P (sym none ∙ kept) h
 
-pub kept_on : (before mid after : Option (List ℕ)) (old new piece : List ℕ) → Keeps before (prepend_known old mid) → new ≡ old ++ piece → Consumes mid after piece → Keeps before (prepend_known new after)
+pub kept_on : (before mid after : Option (List ℕ)) (old new piece : List ℕ) → Keeps before (prepend_known old mid) → new ≡ old ++ piece →
+    Consumes mid after piece → Keeps before (prepend_known new after)
 kept_on None mid after old new piece kept e took = tt
 kept_on (Some xs) None after old new piece kept e took = absurd kept
 kept_on (Some xs) (Some ys) None old new piece kept e took = absurd took

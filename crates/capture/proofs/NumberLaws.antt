@@ -1,5 +1,6 @@
 -- Numbers: what is read is the number's one spelling, and its spelling is read.
-use Rattle.std.proofs.Common.{◌≡◌, ℕ, suc, ◌+◌, ◌-◌, ◌*◌, ◌^◌, ◌<◌, ◌≤◌, true, false, cond, eqb, ltb, leb, not, ◌&&◌, ◌||◌, List, [], ◌∷◌, ◌++◌, length, get_or, take, drop, Option, Some, None, refl, sym, ap, ap₂, ◌∙◌, inl, inr, arith, lit<}
+use Rattle.std.proofs.Common.{◌≡◌, ℕ, suc, ◌+◌, ◌-◌, ◌*◌, ◌^◌, ◌<◌, ◌≤◌, true, false, cond, eqb, ltb, leb, not, ◌&&◌, ◌||◌, List, [], ◌∷◌, ◌++◌}
+use Rattle.std.proofs.Common.{length, get_or, take, drop, Option, Some, None, refl, sym, ap, ap₂, ◌∙◌, inl, inr, arith, lit<}
 use Rattle.std.specs.Str.{all_ascii_digits}
 use Rattle.std.specs.Str.Parse.{digits_value, AllDigits}
 use Rattle.std.specs.Fmt.{decimal}
@@ -8,10 +9,12 @@ use Rattle.std.specs.Option.{option_map}
 use Rattle.std.specs.Char.{is_ascii_digit, digit_value}
 use Rattle.std.proofs.Math.Seq.{drop-cons}
 use Rattle.std.proofs.lemmas.List.{length-take, get_or-take, take-append-drop}
-use Rattle.std.proofs.lemmas.Bool.{and_parts, and_from, or_cases, or_left, or_right, ltb-true, leb-true, eqb-true, lt-ltb, le-leb, lt-leb, eq-eqb, ne_eqb, false_from_ne_true, not-true, not_from_false, cases_eq}
+use Rattle.std.proofs.lemmas.Bool.{and_parts, and_from, or_cases, or_left, or_right, ltb-true, leb-true, eqb-true, lt-ltb, le-leb, lt-leb, eq-eqb}
+use Rattle.std.proofs.lemmas.Bool.{ne_eqb, false_from_ne_true, not-true, not_from_false, cases_eq}
 use Rattle.std.proofs.lemmas.Option.{cond_some}
 use Rattle.std.proofs.lemmas.Str.Parse.{IsNumeralModel, numerals_by_value, tells_all_ascii_digits, digit_from_value, digit_at}
-use Rattle.std.proofs.lemmas.Fmt.{digits_decimal, digits_value-decimal, decimal-digits_value, length-decimal-le, decimal_nonempty, first_decimal, decimal_digit}
+use Rattle.std.proofs.lemmas.Fmt.{digits_decimal, digits_value-decimal, decimal-digits_value, length-decimal-le, decimal_nonempty, first_decimal}
+use Rattle.std.proofs.lemmas.Fmt.{decimal_digit}
 use Rattle.std.proofs.lemmas.Int.Digits.{digits_value-lt, digits_value_more, digits_more}
 use Rattle.std.proofs.Math.Nat.{pow-le-pow_right}
 use Rattle.capture.specs.Reading.{cut_at, is_number, number_at, positive_at}
@@ -33,7 +36,8 @@ pub record IsNumber (text : List ℕ) : Type 0 where
 
 number_parts : (text : List ℕ) → is_number text ≡ true → IsNumber text
 number_parts text h =
-    let a = and_parts (all_ascii_digits text && ltb 0 (length text) && leb (length text) 19) (not (eqb (get_or text 0 0) 48) || eqb (length text) 1) h in
+    let a = and_parts (all_ascii_digits text && ltb 0 (length text) && leb (length text) 19) (not (eqb (get_or text 0 0) 48) || eqb (length text) 1)
+    h in
     let b = and_parts (all_ascii_digits text && ltb 0 (length text)) (leb (length text) 19) a.0 in
     let d = and_parts (all_ascii_digits text) (ltb 0 (length text)) b.0 in
     record {
@@ -41,7 +45,8 @@ number_parts text h =
       some = ltb-true 0 (length text) d.1;
       short = leb-true (length text) 19 b.1;
       lead = λ zeroed. elim (or_cases (not (eqb (get_or text 0 0) 48)) (eqb (length text) 1) a.1) [
-        | inl other ↦ absurd (let f : eqb (get_or text 0 0) 48 ≡ false = not-true _ other in let t : eqb (get_or text 0 0) 48 ≡ true = eq-eqb _ _ zeroed in cc)
+        | inl other ↦ absurd
+            (let f : eqb (get_or text 0 0) 48 ≡ false = not-true _ other in let t : eqb (get_or text 0 0) 48 ≡ true = eq-eqb _ _ zeroed in cc)
         | inr single ↦ eqb-true _ _ single
       ];
     }
@@ -54,7 +59,8 @@ lead_or_one first long h =
     ]
 
 number_tested : (text : List ℕ) → IsNumber text → is_number text ≡ true
-number_tested text h = and_from _ _ (and_from _ _ (and_from _ _ (own.from text h.digits) (lt-ltb _ _ h.some)) (le-leb _ _ h.short)) (lead_or_one (get_or text 0 0) (length text) h.lead)
+number_tested text h = and_from _ _ (and_from _ _ (and_from _ _ (own.from text h.digits) (lt-ltb _ _ h.some)) (le-leb _ _ h.short))
+    (lead_or_one (get_or text 0 0) (length text) h.lead)
 
 pub number_none : (most : ℕ) (text : List ℕ) → (IsNumber text → ⊥) → None ≡ number_at most text
 unfolding number_at
@@ -108,7 +114,8 @@ read_small value i text h short =
     omega arith
 
 -- the whole text was read
-pub number_read : (value : ℕ) (text : List ℕ) → HasRead value text → 0 < length text → length text ≤ 19 → (get_or text 0 0 ≡ 48 → length text ≡ 1) → IsNumber text
+pub number_read : (value : ℕ) (text : List ℕ) → HasRead value text → 0 < length text → length text ≤ 19 → (get_or text 0 0 ≡ 48 → length text ≡ 1) →
+    IsNumber text
 number_read value text h some short lead = record { digits = h.each; some = some; short = short; lead = lead }
 
 pub number_takes : (most : ℕ) (text : List ℕ) (n : ℕ) → most < 10 ^ 19 → number_at most text ≡ Some n → (text ≡ decimal n) × (n ≤ most)
@@ -147,7 +154,8 @@ pub positive_takes : (most : ℕ) (text : List ℕ) (n : ℕ) → most < 10 ^ 19
 unfolding positive_at
 positive_takes most text n fits e = goes (number_at most text) (λ m f. number_takes most text m fits f) e
   where
-    goes : (o : Option ℕ) → ((m : ℕ) → o ≡ Some m → (text ≡ decimal m) × (m ≤ most)) → option_and_then (λ m. cond (ltb 0 m) (Some m) None) o ≡ Some n → (text ≡ decimal n) × (n ≤ most) × (1 ≤ n)
+    goes : (o : Option ℕ) → ((m : ℕ) → o ≡ Some m → (text ≡ decimal m) × (m ≤ most)) → option_and_then (λ m. cond (ltb 0 m) (Some m) None) o ≡ Some
+        n → (text ≡ decimal n) × (n ≤ most) × (1 ≤ n)
     goes None h f = absurd cc
     goes (Some m) h f =
         let c = cond_some (ltb 0 m) m n f in
@@ -173,7 +181,8 @@ decimal_lacks mark n low fits = digits_lack mark (decimal n) low (own.to (decima
 -- ---- a number before a space
 
 -- all digits were read as far as a space
-pub number_stands : (most value : ℕ) (text : List ℕ) (at : ℕ) → HasRead value (take at text) → 1 ≤ at → at ≤ 18 → at < length text → get_or text at 0 ≡ 32
+pub number_stands : (most value : ℕ) (text : List ℕ) (at : ℕ) → HasRead value (take at text) → 1 ≤ at → at ≤ 18 → at < length text →
+    get_or text at 0 ≡ 32
     → (get_or text 0 0 ≡ 48 → ⊥) → value ≤ most → Some (value, drop (at + 1) text) ≡ numbered most (cut_at 32 text)
 number_stands most value text at read some short lt space lead small =
     let long : length (take at text) ≡ at = omega (arith, length-take at text) in
@@ -183,4 +192,5 @@ number_stands most value text at read some short lt space lead small =
     let cut = ap (cut_at 32) whole ∙ cut_again 32 (take at text) (drop (at + 1) text) (digits_lack 32 (take at text) (lit< tt) read.each) in
     let first = get_or-take at text 0 0 some in
     let is = number_read value (take at text) read (omega arith) (omega arith) (λ zeroed. absurd (lead (sym first ∙ zeroed))) in
-    sym (ap (numbered most) cut ∙ ap (option_map (λ (number : ℕ). (number, drop (at + 1) text))) (sym (number_some most value (take at text) is read.worth small)))
+    sym (ap (numbered most) cut ∙ ap (option_map (λ (number : ℕ). (number, drop (at + 1) text)))
+    (sym (number_some most value (take at text) is read.worth small)))

@@ -21,7 +21,8 @@ receipt_numbered kept text read e = rw e (by_cut (cut_at 32 text))
     by_number rest None = refl
     by_number rest (Some n) = refl
 
-    by_cut : (o : Option (List ℕ × List ℕ)) → (must o >>= λ parts. must (number_at MAX_HINT parts.0) >>= λ hint. bytes_at MAX_UNIT parts.1 >>= λ bytes. Ok (Received hint kept bytes))
+    by_cut : (o : Option (List ℕ × List ℕ)) →
+        (must o >>= λ parts. must (number_at MAX_HINT parts.0) >>= λ hint. bytes_at MAX_UNIT parts.1 >>= λ bytes. Ok (Received hint kept bytes))
         ≡ told (option_map (λ (parts : ℕ × List ℕ). (entries.Received kept parts.0, parts.1)) (numbered MAX_HINT o))
     by_cut None = refl
     by_cut (Some parts) = by_number parts.1 (number_at MAX_HINT parts.0)
@@ -31,17 +32,20 @@ pub message_numbered : (text : List ℕ) → message_at text ≡ messaged (linke
 unfolding message_at positive_at
 message_numbered text = by_cut (cut_at 32 text)
   where
-    by_test : (n : ℕ) (rest : List ℕ) (some : Bool) → (must (cond some (Some n) None) >>= λ link. bytes_at MAX_MESSAGE rest >>= λ bytes. Ok (link, bytes))
+    by_test : (n : ℕ) (rest : List ℕ) (some : Bool) →
+        (must (cond some (Some n) None) >>= λ link. bytes_at MAX_MESSAGE rest >>= λ bytes. Ok (link, bytes))
         ≡ messaged (cond some (Some (n, rest)) None)
     by_test n rest true = refl
     by_test n rest false = refl
 
-    by_number : (rest : List ℕ) (o : Option ℕ) → (must (option_and_then (λ n. cond (ltb 0 n) (Some n) None) o) >>= λ link. bytes_at MAX_MESSAGE rest >>= λ bytes. Ok (link, bytes))
+    by_number : (rest : List ℕ) (o : Option ℕ) →
+        (must (option_and_then (λ n. cond (ltb 0 n) (Some n) None) o) >>= λ link. bytes_at MAX_MESSAGE rest >>= λ bytes. Ok (link, bytes))
         ≡ messaged (linked (option_map (λ number. (number, rest)) o))
     by_number rest None = refl
     by_number rest (Some n) = by_test n rest (ltb 0 n)
 
-    by_cut : (o : Option (List ℕ × List ℕ)) → (must o >>= λ parts. must (positive_at MAX_LINK parts.0) >>= λ link. bytes_at MAX_MESSAGE parts.1 >>= λ bytes. Ok (link, bytes))
+    by_cut : (o : Option (List ℕ × List ℕ)) →
+        (must o >>= λ parts. must (positive_at MAX_LINK parts.0) >>= λ link. bytes_at MAX_MESSAGE parts.1 >>= λ bytes. Ok (link, bytes))
         ≡ messaged (linked (numbered MAX_LINK o))
     by_cut None = refl
     by_cut (Some parts) = by_number parts.1 (number_at MAX_LINK parts.0)

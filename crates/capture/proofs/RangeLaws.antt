@@ -16,28 +16,50 @@ length_tested slice bytes most e t = leb-true (length bytes) most (ap (λ (b : L
 length_test : (slice bytes : List ℕ) (most : ℕ) → slice ≡ bytes → length bytes ≤ most → IsTrue (leb (length slice) most)
 length_test slice bytes most e le = ap (λ (b : List ℕ). leb (length b) most) e ∙ le-leb (length bytes) most le
 
-in_tested : (slice bytes : List ℕ) (link : ℕ) → slice ≡ bytes → IsBytes bytes → 0 < link → link < 65536 → IsTrue (leb (length slice) MAX_MESSAGE) ↔ IsEvent (In link bytes)
-in_tested slice bytes link e fits some small =
-    (λ t. record { numbers = record { least = omega arith; most = omega arith }; bytes = fits; short = length_tested slice bytes MAX_MESSAGE e t }, λ h. length_test slice bytes MAX_MESSAGE e h.short)
+in_tested : (slice bytes : List ℕ) (link : ℕ) → slice ≡ bytes → IsBytes bytes → 0 < link → link < 65536 →
+    IsTrue (leb (length slice) MAX_MESSAGE) ↔ IsEvent (In link bytes)
+in_tested slice bytes link e fits some small = (
+  λ t. record { numbers = record { least = omega arith; most = omega arith }; bytes = fits; short = length_tested slice bytes MAX_MESSAGE e t },
+  λ h. length_test slice bytes MAX_MESSAGE e h.short,
+)
 
-up_tested : (slice bytes : List ℕ) (link : ℕ) → slice ≡ bytes → IsBytes bytes → 0 < link → link < 65536 → IsTrue (leb (length slice) MAX_MESSAGE) ↔ IsEvent (Up link bytes)
-up_tested slice bytes link e fits some small =
-    (λ t. record { numbers = record { least = omega arith; most = omega arith }; bytes = fits; short = length_tested slice bytes MAX_MESSAGE e t }, λ h. length_test slice bytes MAX_MESSAGE e h.short)
+up_tested : (slice bytes : List ℕ) (link : ℕ) → slice ≡ bytes → IsBytes bytes → 0 < link → link < 65536 →
+    IsTrue (leb (length slice) MAX_MESSAGE) ↔ IsEvent (Up link bytes)
+up_tested slice bytes link e fits some small = (
+  λ t. record { numbers = record { least = omega arith; most = omega arith }; bytes = fits; short = length_tested slice bytes MAX_MESSAGE e t },
+  λ h. length_test slice bytes MAX_MESSAGE e h.short,
+)
 
 -- a message that is handed in or delivered
-pub message_tested : (event : Event) (slice bytes : List ℕ) (link : ℕ) → (event ≡ In link bytes) ⊎ (event ≡ Up link bytes) → slice ≡ bytes → IsBytes bytes → 0 < link → link < 65536
+pub message_tested : (event : Event) (slice bytes : List ℕ) (link : ℕ) → (event ≡ In link bytes) ⊎ (event ≡ Up link bytes) → slice ≡ bytes →
+    IsBytes bytes → 0 < link → link < 65536
     → IsTrue (leb (length slice) MAX_MESSAGE) ↔ IsEvent event
 message_tested event slice bytes link (inl is) e fits some small = rw is (in_tested slice bytes link e fits some small)
 message_tested event slice bytes link (inr is) e fits some small = rw is (up_tested slice bytes link e fits some small)
 
-pub sent_tested : (r : Record) (slice bytes : List ℕ) → r ≡ Sent bytes → slice ≡ bytes → IsBytes bytes → IsTrue (leb (length slice) MAX_UNIT) ↔ IsRecord r
+pub sent_tested : (r : Record) (slice bytes : List ℕ) → r ≡ Sent bytes → slice ≡ bytes → IsBytes bytes →
+    IsTrue (leb (length slice) MAX_UNIT) ↔ IsRecord r
 sent_tested r slice bytes is e fits =
-    rw is (λ t. record { spelling = record { numbers = tt; bytes = fits }; short = length_tested slice bytes MAX_UNIT e t }, λ h. length_test slice bytes MAX_UNIT e h.short)
+    rw is (
+      λ t. record { spelling = record { numbers = tt; bytes = fits }; short = length_tested slice bytes MAX_UNIT e t },
+      λ h. length_test slice
+          bytes MAX_UNIT e h.short,
+    )
 
-pub noise_tested : (r : Record) (slice bytes : List ℕ) → r ≡ Noise bytes → slice ≡ bytes → IsBytes bytes → IsTrue (leb (length slice) MAX_UNIT) ↔ IsRecord r
+pub noise_tested : (r : Record) (slice bytes : List ℕ) → r ≡ Noise bytes → slice ≡ bytes → IsBytes bytes →
+    IsTrue (leb (length slice) MAX_UNIT) ↔ IsRecord r
 noise_tested r slice bytes is e fits =
-    rw is (λ t. record { spelling = record { numbers = tt; bytes = fits }; short = length_tested slice bytes MAX_UNIT e t }, λ h. length_test slice bytes MAX_UNIT e h.short)
+    rw is (
+      λ t. record { spelling = record { numbers = tt; bytes = fits }; short = length_tested slice bytes MAX_UNIT e t },
+      λ h. length_test slice
+          bytes MAX_UNIT e h.short,
+    )
 
-pub received_tested : (r : Record) (slice bytes : List ℕ) (hint : ℕ) (kept : Bool) → r ≡ Received hint kept bytes → slice ≡ bytes → IsBytes bytes → hint ≤ MAX_HINT → IsTrue (leb (length slice) MAX_UNIT) ↔ IsRecord r
+pub received_tested : (r : Record) (slice bytes : List ℕ) (hint : ℕ) (kept : Bool) → r ≡ Received hint kept bytes → slice ≡ bytes → IsBytes bytes →
+    hint ≤ MAX_HINT → IsTrue (leb (length slice) MAX_UNIT) ↔ IsRecord r
 received_tested r slice bytes hint kept is e fits small =
-    rw is (λ t. record { spelling = record { numbers = small; bytes = fits }; short = length_tested slice bytes MAX_UNIT e t }, λ h. length_test slice bytes MAX_UNIT e h.short)
+    rw is (
+      λ t. record { spelling = record { numbers = small; bytes = fits }; short = length_tested slice bytes MAX_UNIT e t },
+      λ h. length_test slice
+          bytes MAX_UNIT e h.short,
+    )

@@ -18,13 +18,15 @@ shows_map P Q P' Q' f (Err TooLong) h p q = (f h.0, q h.0 h.1)
 shows_map P Q P' Q' f (Err Syntax) h p q = tt
 shows_map P Q P' Q' f (Err TooMany) h p q = absurd h
 
-pub shows_weaker : {A : Type 0} (P Q P' Q' : A → Type 0) (r : Result A Departure) → Shows P Q r → ((x : A) → P x → P' x) → ((x : A) → Q x → Q' x) → Shows P' Q' r
+pub shows_weaker : {A : Type 0} (P Q P' Q' : A → Type 0) (r : Result A Departure) → Shows P Q r → ((x : A) → P x → P' x) → ((x : A) → Q x → Q' x) →
+    Shows P' Q' r
 shows_weaker P Q P' Q' (Ok x) h p q = p x h
 shows_weaker P Q P' Q' (Err TooLong) h p q = (h.0, q h.0 h.1)
 shows_weaker P Q P' Q' (Err Syntax) h p q = tt
 shows_weaker P Q P' Q' (Err TooMany) h p q = absurd h
 
-pub shows_must : {A B : Type 0} (P Q : B → Type 0) (o : Option A) (k : A → Result B Departure) → ((x : A) → o ≡ Some x → Shows P Q (k x)) → Shows P Q (must o >>= k)
+pub shows_must : {A B : Type 0} (P Q : B → Type 0) (o : Option A) (k : A → Result B Departure) → ((x : A) → o ≡ Some x → Shows P Q (k x)) →
+    Shows P Q (must o >>= k)
 shows_must P Q None k h = tt
 shows_must P Q (Some x) k h = h x refl
 

@@ -1,5 +1,6 @@
 -- One record's turn, and the head's.
-use Rattle.std.proofs.Common.{◌≡◌, ℕ, ◌+◌, ◌-◌, ◌<◌, ◌≤◌, Bool, true, false, cond, leb, List, [], ◌∷◌, ◌++◌, length, take, drop, Option, Some, None, Result, Ok, Err, sym, ap, subst, ◌∙◌, inr, arith}
+use Rattle.std.proofs.Common.{◌≡◌, ℕ, ◌+◌, ◌-◌, ◌<◌, ◌≤◌, Bool, true, false, cond, leb, List, [], ◌∷◌, ◌++◌, length, take, drop, Option, Some, None}
+use Rattle.std.proofs.Common.{Result, Ok, Err, sym, ap, subst, ◌∙◌, inr, arith}
 use Rattle.std.specs.Prelude.{IfSome}
 use Rattle.std.specs.Io.KnownBytes.{prepend_known, Consumes, Keeps}
 use Rattle.std.proofs.KnownBytes.{prepend_known-nil}
@@ -24,18 +25,17 @@ use Rattle.capture.proofs.Shown.{Shows}
 pub line_is : (unread : List ℕ) (len : ℕ) → IsWhole unread → len ≡ length (first_line unread) → take len unread ≡ first_line unread
 line_is unread len whole e = ap (λ (k : ℕ). take k unread) e ∙ sym (line-split unread whole.ended).1
 
-pub line_within : (unread : List ℕ) (len : ℕ) → IsWhole unread → len ≡ length (first_line unread) → len < length unread
-line_within unread len whole e = let lt = (line-split unread whole.ended).2 in omega arith
-
 -- it was the first of what was to come, and what stands behind it is to come now
-pub line_consumed : (unread : List ℕ) (len : ℕ) (before after : Option (List ℕ)) (text : List ℕ) → IsWhole unread → len ≡ length (first_line unread) → first_line unread ≡ text
-    → Keeps before (prepend_known unread after) → Consumes before (prepend_known (drop (len + 1) unread) after) (ended text)
+pub line_consumed : (unread : List ℕ) (len : ℕ) (before after : Option (List ℕ)) (text : List ℕ)
+    → IsWhole unread → len ≡ length (first_line unread) → take len unread ≡ text → Keeps before (prepend_known unread after)
+    → Consumes before (prepend_known (drop (len + 1) unread) after) (ended text)
 line_consumed unread len None after text whole e words kept = tt
 line_consumed unread len (Some xs) None text whole e words kept = absurd kept
 line_consumed unread len (Some xs) (Some rest) text whole e words kept =
     let split : unread ≡ ended text ++ drop (len + 1) unread =
     (line-split unread whole.ended).0 ∙ ap (λ (k : ℕ). first_line unread ++ 10 ∷ drop (k + 1) unread) (sym e)
-    ∙ ap (λ (t : List ℕ). t ++ 10 ∷ drop (len + 1) unread) words ∙ sym (append_assoc text (10 ∷ []) (drop (len + 1) unread)) in
+    ∙ ap (λ (t : List ℕ). t ++ 10 ∷ drop (len + 1) unread) (sym (line_is unread len whole e) ∙ words)
+    ∙ sym (append_assoc text (10 ∷ []) (drop (len + 1) unread)) in
     sym kept ∙ ap (λ (t : List ℕ). t ++ rest) split ∙ append_assoc (ended text) (drop (len + 1) unread) rest
 
 -- a whole line stays as it is, whatever follows
@@ -50,7 +50,8 @@ record_from : (form : HintForm) (text : List ℕ) (r : Record) → IsRecordOf fo
 record_from form text r h = (record { spelling = record { numbers = h.1; bytes = h.2 }; short = h.3 }, h.0)
 
 pub record_ok : (form : HintForm) (text : List ℕ) (r : Record) → FormFits form → record_at form text ≡ Ok r → IsRecord r × (text ≡ record_text form r)
-record_ok form text r fits e = record_from form text r (subst (Shows (IsRecordOf form text) (IsLongRecordOf form text)) e (record_shows form text fits))
+record_ok form text r fits e =
+    record_from form text r (subst (Shows (IsRecordOf form text) (IsLongRecordOf form text)) e (record_shows form text fits))
 
 -- neither `Ok` nor `TooLong` is `Syntax`
 limited_apart : (most : ℕ) (bytes : List ℕ) (r : Record) → limited most bytes r ≡ Err Syntax → ⊥
@@ -61,7 +62,8 @@ limited_apart most bytes r e = by_test (leb (length bytes) most) e
     by_test false h = cc
 
 pub words_depart : (form : HintForm) (kind : Departure) (text : List ℕ) → FormFits form → record_at form text ≡ Err kind → WordsDepart form kind text
-words_depart form Syntax text fits e = λ r h spelled. limited_apart (most_bytes r) (record_bytes r) r (sym (record_again form r fits h) ∙ ap (record_at form) (sym spelled) ∙ e)
+words_depart form Syntax text fits e =
+    λ r h spelled. limited_apart (most_bytes r) (record_bytes r) r (sym (record_again form r fits h) ∙ ap (record_at form) (sym spelled) ∙ e)
 words_depart form TooLong text fits e =
     let shown = subst (Shows (IsRecordOf form text) (IsLongRecordOf form text)) e (record_shows form text fits) in
     long_from shown.0 shown.1
@@ -72,7 +74,8 @@ words_depart form TooMany text fits e = subst (Shows (IsRecordOf form text) (IsL
 
 -- ---- departures of what was to come
 
-pub record_departs : (form : HintForm) (kind : Departure) (unread : List ℕ) (len taken : ℕ) (before after : Option (List ℕ)) → FormFits form → taken < MAX_RECORDS + 1 → 1 ≤ taken → IsWhole unread → len ≡ length (first_line unread)
+pub record_departs : (form : HintForm) (kind : Departure) (unread : List ℕ) (len taken : ℕ) (before after : Option (List ℕ)) → FormFits form →
+    taken < MAX_RECORDS + 1 → 1 ≤ taken → IsWhole unread → len ≡ length (first_line unread)
     → Keeps before (prepend_known unread after) → record_at form (take len unread) ≡ Err kind → IfSome before (RecordDeparts form (taken - 1) kind)
 record_departs form kind unread len taken before after fits lt some whole e kept read =
     let departs = words_depart form kind (first_line unread) fits (ap (record_at form) (sym (line_is unread len whole e)) ∙ read) in
@@ -82,15 +85,19 @@ record_departs form kind unread len taken before after fits lt some whole e kept
 
 -- ---- the head
 
-pub no_head : (unread : List ℕ) (len : ℕ) (before after : Option (List ℕ)) → IsWhole unread → len ≡ length (first_line unread) → Keeps before (prepend_known unread after)
+pub no_head : (unread : List ℕ) (len : ℕ) (before after : Option (List ℕ)) → IsWhole unread → len ≡ length (first_line unread) →
+    Keeps before (prepend_known unread after)
     → head_at (take len unread) ≡ None → IfSome before (HeadDeparts Syntax)
 no_head unread len before after whole e kept read =
     let none : head_at (first_line unread) ≡ None = ap head_at (sym (line_is unread len whole e)) ∙ read in
-    let departs : HeadWordsDepart Syntax (first_line unread) = λ format own peer p q spelled. absurd (let some : None ≡ Some (format, own, peer) = sym none ∙ ap head_at spelled ∙ head_again format own peer p q in cc) in
+    let departs : HeadWordsDepart Syntax (first_line unread) =
+    λ format own peer p q spelled. absurd
+    (let some : None ≡ Some (format, own, peer) = sym none ∙ ap head_at spelled ∙ head_again format own peer p q in cc) in
     if_known before after unread (HeadDeparts Syntax) kept (λ rest.
     let same = whole-append unread rest whole in
     inr (same.0, subst (HeadWordsDepart Syntax) (sym same.1) departs))
 
 -- nothing was read ahead
 pub start_kept : (unread : List ℕ) (before after : Option (List ℕ)) → unread ≡ [] → Keeps (prepend_known unread before) after → Keeps before after
-start_kept unread before after e h = subst (λ (a : Option (List ℕ)). Keeps a after) (ap (λ (t : List ℕ). prepend_known t before) e ∙ prepend_known-nil before) h
+start_kept unread before after e h =
+    subst (λ (a : Option (List ℕ)). Keeps a after) (ap (λ (t : List ℕ). prepend_known t before) e ∙ prepend_known-nil before) h

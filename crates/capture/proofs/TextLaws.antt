@@ -1,5 +1,6 @@
 -- A text is read in one way alone.
-use Rattle.std.proofs.Common.{◌≡◌, ℕ, ◌<◌, true, List, [], ◌∷◌, ◌++◌, length, Option, Some, Result, Ok, Err, refl, sym, ap, subst, ◌∙◌, inl, inr, arith}
+use Rattle.std.proofs.Common.{◌≡◌, ℕ, ◌<◌, true, List, [], ◌∷◌, ◌++◌, length, Option, Some, Result, Ok, Err, refl, sym, ap, subst, ◌∙◌, inl, inr}
+use Rattle.std.proofs.Common.{arith}
 use Rattle.std.specs.List.{AllByRecursion}
 use Rattle.std.proofs.lemmas.Option.{same_Some}
 use Rattle.std.proofs.lemmas.List.{append_assoc, append-nil, append_cancel_left}
@@ -36,19 +37,25 @@ same_ended a b x y p q e =
 
 same_read : (form : HintForm) (r s : Record) → FormFits form → IsRecord r → IsRecord s → record_text form r ≡ record_text form s → r ≡ s
 same_read form r s fits p q e =
-    let both : ◌≡◌ {A = Result Record Departure} (Ok r) (Ok s) = sym (record_read form r fits p) ∙ ap (record_at form) e ∙ record_read form s fits q in
+    let both : ◌≡◌ {A = Result Record Departure} (Ok r) (Ok s) = sym (record_read form r fits p) ∙ ap (record_at form) e ∙
+    record_read form s fits q in
     cc
 
-pub one_record_line : (form : HintForm) (r s : Record) (x y : List ℕ) → FormFits form → IsRecord r → IsRecord s → record_line form r ++ x ≡ record_line form s ++ y → (r ≡ s) × (x ≡ y)
+pub one_record_line : (form : HintForm) (r s : Record) (x y : List ℕ) → FormFits form → IsRecord r → IsRecord s →
+    record_line form r ++ x ≡ record_line form s ++ y → (r ≡ s) × (x ≡ y)
 one_record_line form r s x y fits p q e =
-    let same = same_ended (record_text form r) (record_text form s) x y (record_lacks form r fits p.spelling) (record_lacks form s fits q.spelling) e in
+    let same = same_ended (record_text form r) (record_text form s) x y (record_lacks form r fits p.spelling) (record_lacks form s fits q.spelling)
+    e in
     (same_read form r s fits p q same.0, same.1)
 
-pub one_head_line : (format format' : Format) (own peer own' peer' : ℕ) (x y : List ℕ) → IsNode own → IsNode peer → IsNode own' → IsNode peer' → head_line format own peer ++ x ≡ head_line format' own' peer' ++ y
+pub one_head_line : (format format' : Format) (own peer own' peer' : ℕ) (x y : List ℕ) → IsNode own → IsNode peer → IsNode own' → IsNode peer' →
+    head_line format own peer ++ x ≡ head_line format' own' peer' ++ y
     → (format ≡ format') × (own ≡ own') × (peer ≡ peer') × (x ≡ y)
 one_head_line format format' own peer own' peer' x y p q p' q' e =
-    let same = same_ended (head_text format own peer) (head_text format' own' peer') x y (head_lacks format own peer p q) (head_lacks format' own' peer' p' q') e in
-    let both : ◌≡◌ {A = Option (Format × ℕ × ℕ)} (Some (format, own, peer)) (Some (format', own', peer')) = sym (head_again format own peer p q) ∙ ap head_at same.0 ∙ head_again format' own' peer' p' q' in
+    let same = same_ended (head_text format own peer) (head_text format' own' peer') x y (head_lacks format own peer p q)
+    (head_lacks format' own' peer' p' q') e in
+    let both : ◌≡◌ {A = Option (Format × ℕ × ℕ)} (Some (format, own, peer)) (Some (format', own', peer')) =
+    sym (head_again format own peer p q) ∙ ap head_at same.0 ∙ head_again format' own' peer' p' q' in
     let parts : ◌≡◌ {A = Format × ℕ × ℕ} (format, own, peer) (format', own', peer') = same_Some _ _ both in
     (ap (λ (z : Format × ℕ × ℕ). z.0) parts, ap (λ (z : Format × ℕ × ℕ). z.1) parts, ap (λ (z : Format × ℕ × ℕ). z.2) parts, same.1)
 
@@ -58,15 +65,19 @@ line_some [] rest e = cc
 line_some (b ∷ text) rest e = cc
 
 -- a list of records whose lines begin with these begins with these
-pub begun_lines : (form : HintForm) (ps rs : List Record) (rest : List ℕ) → FormFits form → AllByRecursion IsRecord ps → AllByRecursion IsRecord rs → record_lines form rs ≡ record_lines form ps ++ rest
+pub begun_lines : (form : HintForm) (ps rs : List Record) (rest : List ℕ) → FormFits form → AllByRecursion IsRecord ps → AllByRecursion IsRecord rs →
+    record_lines form rs ≡ record_lines form ps ++ rest
     → (more : List Record) × (rs ≡ ps ++ more) × (rest ≡ record_lines (form_behind form ps) more)
 begun_lines form [] rs rest fits p q e = (rs, refl, sym e)
 begun_lines form (r ∷ ps) [] rest fits p q e =
-    absurd (line_some (record_text form r) (record_lines (form_after form r) ps ++ rest) (sym (e ∙ append_assoc (record_line form r) (record_lines (form_after form r) ps) rest)))
+    absurd (line_some (record_text form r) (record_lines (form_after form r) ps ++ rest)
+    (sym (e ∙ append_assoc (record_line form r) (record_lines (form_after form r) ps) rest)))
 begun_lines form (r ∷ ps) (s ∷ rs) rest fits p q e =
-    let one = one_record_line form s r (record_lines (form_after form s) rs) (record_lines (form_after form r) ps ++ rest) fits q.0 p.0 (e ∙ append_assoc (record_line form r) (record_lines (form_after form r) ps) rest) in
+    let one = one_record_line form s r (record_lines (form_after form s) rs) (record_lines (form_after form r) ps ++ rest) fits q.0 p.0
+    (e ∙ append_assoc (record_line form r) (record_lines (form_after form r) ps) rest) in
     let head : s ≡ r = one.0 in
-    let later : record_lines (form_after form r) rs ≡ record_lines (form_after form r) ps ++ rest = ap (λ (t : Record). record_lines (form_after form t) rs) (sym head) ∙ one.1 in
+    let later : record_lines (form_after form r) rs ≡ record_lines (form_after form r) ps ++ rest =
+    ap (λ (t : Record). record_lines (form_after form t) rs) (sym head) ∙ one.1 in
     let ih = begun_lines (form_after form r) ps rs rest (form_fits form r fits p.0.spelling.numbers) p.1 q.1 later in
     let tail : rs ≡ ps ++ ih.0 = ih.1 in
     (ih.0, cc, ih.2)
@@ -75,7 +86,8 @@ pub nothing_more : (form : HintForm) (rs : List Record) → [] ≡ record_lines 
 nothing_more form [] e = refl
 nothing_more form (r ∷ rs) e = absurd (line_some (record_text form r) (record_lines (form_after form r) rs) (sym e))
 
-pub one_list : (form : HintForm) (rs ss : List Record) → FormFits form → AllByRecursion IsRecord rs → AllByRecursion IsRecord ss → record_lines form rs ≡ record_lines form ss → rs ≡ ss
+pub one_list : (form : HintForm) (rs ss : List Record) → FormFits form → AllByRecursion IsRecord rs → AllByRecursion IsRecord ss →
+    record_lines form rs ≡ record_lines form ss → rs ≡ ss
 one_list form rs ss fits p q e =
     let begun = begun_lines form ss rs [] fits q p (e ∙ sym (append-nil (record_lines form ss))) in
     begun.1 ∙ ap (λ (t : List Record). ss ++ t) (nothing_more (form_behind form ss) begun.0 begun.2) ∙ append-nil ss
@@ -84,14 +96,17 @@ pub first_fits : (format : Format) → FormFits (first_form format)
 first_fits One = tt
 first_fits Two = omega arith
 
-pub one_text : (format format' : Format) (own peer own' peer' : ℕ) (rs ss : List Record) (bytes : List ℕ) → IsTextIn format own peer rs bytes → IsTextIn format' own' peer' ss bytes
+pub one_text : (format format' : Format) (own peer own' peer' : ℕ) (rs ss : List Record) (bytes : List ℕ) → IsTextIn format own peer rs bytes →
+    IsTextIn format' own' peer' ss bytes
     → (format ≡ format') × (own ≡ own') × (peer ≡ peer') × (rs ≡ ss)
 one_text format format' own peer own' peer' rs ss bytes a b =
-    let one = one_head_line format format' own peer own' peer' (record_lines (first_form format) rs) (record_lines (first_form format') ss) a.fits.own_fits a.fits.peer_fits b.fits.own_fits b.fits.peer_fits (sym a.spelled ∙ b.spelled) in
+    let one = one_head_line format format' own peer own' peer' (record_lines (first_form format) rs) (record_lines (first_form format') ss)
+    a.fits.own_fits a.fits.peer_fits b.fits.own_fits b.fits.peer_fits (sym a.spelled ∙ b.spelled) in
     let lines = one.3 ∙ ap (λ (f : Format). record_lines (first_form f) ss) (sym one.0) in
     (one.0, one.1, one.2, one_list (first_form format) rs ss (first_fits format) a.fits.each b.fits.each lines)
 
-pub one_of_texts : (own peer own' peer' : ℕ) (rs ss : List Record) (bytes : List ℕ) → IsText own peer rs bytes → IsText own' peer' ss bytes → (own ≡ own') × (peer ≡ peer') × (rs ≡ ss)
+pub one_of_texts : (own peer own' peer' : ℕ) (rs ss : List Record) (bytes : List ℕ) → IsText own peer rs bytes → IsText own' peer' ss bytes →
+    (own ≡ own') × (peer ≡ peer') × (rs ≡ ss)
 one_of_texts own peer own' peer' rs ss bytes a b =
     let one = one_text a.format b.format own peer own' peer' rs ss bytes a.is_text b.is_text in
     (one.1, one.2, one.3)
@@ -102,11 +117,13 @@ words_fit : (form : HintForm) (kind : Departure) (r : Record) → FormFits form 
 words_fit form Syntax r fits h d = d r h.spelling refl
 words_fit form TooMany r fits h d = d
 words_fit form TooLong r fits h d =
-    let both : ◌≡◌ {A = Result Record Departure} (Ok r) (Err TooLong) = sym (record_read form r fits h) ∙ ap (record_at form) d.3 ∙ record_too_long form d.0 fits d.1 d.2 in
+    let both : ◌≡◌ {A = Result Record Departure} (Ok r) (Err TooLong) = sym (record_read form r fits h) ∙ ap (record_at form) d.3 ∙
+    record_too_long form d.0 fits d.1 d.2 in
     cc
 
 -- where a record's line comes first, and may come, nothing departs
-pub no_departure : (form : HintForm) (kind : Departure) (r : Record) (rest : List ℕ) (records : ℕ) → FormFits form → IsRecord r → records < MAX_RECORDS → RecordDeparts form records kind (record_line form r ++ rest) → ⊥
+pub no_departure : (form : HintForm) (kind : Departure) (r : Record) (rest : List ℕ) (records : ℕ) → FormFits form → IsRecord r →
+    records < MAX_RECORDS → RecordDeparts form records kind (record_line form r ++ rest) → ⊥
 no_departure form kind r rest records fits h few (inl d) = by_kind kind d
   where
     first : (first_line (record_line form r ++ rest) ≡ record_text form r) × (has_lf (record_line form r ++ rest) ≡ true)
@@ -146,7 +163,8 @@ whole_or_not most taken bytes Syntax p lt whole = let open_line = p.3 in let end
 whole_or_not most taken bytes TooLong p lt whole = let long = p.1 in let short = whole.short in omega arith
 whole_or_not most taken bytes TooMany p lt whole = let le = p.0 in omega arith
 
-pub departs_once : (form : HintForm) (records : ℕ) (bytes : List ℕ) (a b : Departure) → RecordDeparts form records a bytes → RecordDeparts form records b bytes → a ≡ b
+pub departs_once : (form : HintForm) (records : ℕ) (bytes : List ℕ) (a b : Departure) → RecordDeparts form records a bytes →
+    RecordDeparts form records b bytes → a ≡ b
 departs_once form records bytes a b (inl p) (inl q) = line_once MAX_RECORDS records bytes a b p q
 departs_once form records bytes a b (inr p) (inr q) = words_once form (first_line bytes) a b p.2 q.2
 departs_once form records bytes a b (inl p) (inr q) = absurd (whole_or_not MAX_RECORDS records bytes a p q.0 q.1)
@@ -164,7 +182,8 @@ head_words_fit : (format : Format) (own peer : ℕ) → IsNode own → IsNode pe
 head_words_fit format own peer p q d = d format own peer p q refl
 
 -- where a head's line comes first, nothing departs
-pub no_head_departure : (kind : Departure) (format : Format) (own peer : ℕ) (rest : List ℕ) → IsNode own → IsNode peer → HeadDeparts kind (head_line format own peer ++ rest) → ⊥
+pub no_head_departure : (kind : Departure) (format : Format) (own peer : ℕ) (rest : List ℕ) → IsNode own → IsNode peer →
+    HeadDeparts kind (head_line format own peer ++ rest) → ⊥
 no_head_departure TooMany format own peer rest p q d = d
 no_head_departure TooLong format own peer rest p q d =
     let first = ended_first (head_text format own peer) rest (head_lacks format own peer p q) in

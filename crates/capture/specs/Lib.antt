@@ -3,15 +3,12 @@ pub mod Range
 pub mod Departing
 pub mod Reading
 pub mod Lines
-pub mod Block
 pub mod Faulty
 pub mod Reader
 pub mod SoFar
-pub mod Captured
 pub mod Writing
-pub mod PageBlock
 pub mod Paged
 pub mod Converting
 pub mod Entries
 pub mod Worded
-pub mod Spelled
+pub mod inner

@@ -1,5 +1,6 @@
 -- What a contract sees of a reader of lines, and what one call of it finds.
-use Rattle.std.specs.Prelude.{◌≡◌, ◌≢◌, ℕ, ◌<◌, ◌≤◌, Bool, false, MatchBool, slice_index, List, [], ◌++◌, length, Option, Some, None, Result, Ok, Err, IfSome}
+use Rattle.std.specs.Prelude.{◌≡◌, ◌≢◌, ℕ, ◌<◌, ◌≤◌, Bool, false, MatchBool, slice_index, List, [], ◌++◌, length, Option, Some, None, Result, Ok, Err}
+use Rattle.std.specs.Prelude.{IfSome}
 use Rattle.std.specs.Io.KnownBytes.{prepend_known, Consumes, Keeps, IsAtEnd}
 use Rattle.capture.specs.declared.fault.LineFault.{LineFault}
 use Rattle.capture.specs.declared.fault.LineFault.TheVariants.{Departs, Read}
@@ -35,9 +36,11 @@ IsCutBehind come left = (piece : List ℕ) × (has_lf piece ≡ false) × Consum
 
 -- A read moved bytes from the reader behind those read ahead, and none only where the reader is at its end.
 abbrev pub ReadsAhead : List ℕ → List ℕ → Option (List ℕ) → Option (List ℕ) → Bool → Type 0
-ReadsAhead old new before after more = (piece : List ℕ) × (new ≡ old ++ piece) × Consumes before after piece × MatchBool more (0 < length piece) ((piece ≡ []) × IsAtEnd after)
+ReadsAhead old new before after more = (piece : List ℕ) × (new ≡ old ++ piece) × Consumes before after piece × MatchBool more (0 < length piece)
+    ((piece ≡ []) × IsAtEnd after)
 
 -- the first LF from `searched` on
 abbrev pub FindsLf : ℕ → List ℕ → Option ℕ → Type 0
 FindsLf searched unread None = (j : ℕ) → searched ≤ j → j < length unread → slice_index unread j ≢ 10
-FindsLf searched unread (Some at) = (searched ≤ at) × (at < length unread) × (slice_index unread at ≡ 10) × ((j : ℕ) → searched ≤ j → j < at → slice_index unread j ≢ 10)
+FindsLf searched unread (Some at) = (searched ≤ at) × (at < length unread) × (slice_index unread at ≡ 10) ×
+    ((j : ℕ) → searched ≤ j → j < at → slice_index unread j ≢ 10)

@@ -63,7 +63,8 @@ TakesRecord turn taken before after (Err fault) =
 -- nothing was to come; or a fault of the line at hand.
 abbrev pub NextGives : CaptureState → CaptureState → Option (List ℕ) → Option (List ℕ) → Result (Option Record) CaptureFault → Type 0
 NextGives old new before after (Ok (Some r)) =
-    IsRecord r × (old.records < MAX_RECORDS) × (new.records ≡ old.records + 1) × (new.phase ≡ phases.Reading) × Consumes before after (record_line old.form r)
+    IsRecord r × (old.records < MAX_RECORDS) × (new.records ≡ old.records + 1) × (new.phase ≡ phases.Reading) ×
+    Consumes before after (record_line old.form r)
     × (new.form ≡ form_after old.form r)
 NextGives old new before after (Ok None) = IsAtEnd before × (new.records ≡ old.records) × (new.phase ≡ phases.Ended) × (new.form ≡ old.form)
 NextGives old new before after (Err fault) =

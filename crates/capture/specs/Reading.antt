@@ -1,5 +1,6 @@
 -- Reading the words of a line from left to right, with the first departure that is met.
-use Rattle.std.specs.Prelude.{◌≡◌, ℕ, ◌+◌, ◌-◌, ◌*◌, ◌==◌, ◌&&◌, ◌||◌, nat_le, nat_lt, not, Bool, true, false, if◌then◌else◌, List, [], ◌∷◌, length, codes, Option, Some, None, option_and_then, option_map, Result, Ok, Err, slice_index}
+use Rattle.std.specs.Prelude.{◌≡◌, ℕ, ◌+◌, ◌-◌, ◌*◌, ◌==◌, ◌&&◌, ◌||◌, nat_le, nat_lt, not, Bool, true, false, if◌then◌else◌, List, [], ◌∷◌, length}
+use Rattle.std.specs.Prelude.{codes, Option, Some, None, option_and_then, option_map, Result, Ok, Err, slice_index}
 use Rattle.std.specs.Str.{all_ascii_digits, bytes_eq}
 use Rattle.std.specs.Str.Parse.{digits_value}
 use Rattle.std.specs.List.{list_all}
@@ -105,7 +106,8 @@ or_else None read others = others
 
 -- a hint at the mark or above it, by its distance
 unfoldable pub hint_above : ℕ → List ℕ → Option ℕ
-hint_above mark text = option_and_then (λ distance. if nat_le (mark + distance) MAX_HINT then Some (mark + distance) else None) (number_at MAX_HINT text)
+hint_above mark text = option_and_then (λ distance. if nat_le (mark + distance) MAX_HINT then Some (mark + distance) else None)
+    (number_at MAX_HINT text)
 
 -- a hint below the mark, by its distance
 unfoldable pub hint_below : ℕ → List ℕ → Option ℕ

@@ -1,8 +1,9 @@
 //! The bytes of a unit or of a message, in memory of their own.
 
-ghost use Rattle.std.specs.Prelude.{◌≡◌, ◌↔◌, [], length, IsTrue};
+ghost use Rattle.std.specs.Prelude.{◌≡◌, ◌↔◌, [], length, IfOk, IsTrue};
 ghost use Rattle.hex.specs.Hex.{IsBytes};
 
+use std::alloc::{AllocError, Global};
 use std::marker::Model;
 
 /// Bytes that their record owns. A contract sees them as the list of the bytes.
@@ -25,6 +26,14 @@ impl Bytes {
         ensures { result ≡ owned.items }
     {
         Bytes { owned }
+    }
+
+    /// A copy of these bytes, in memory of its own. `AllocError` where there is none.
+    pub(crate) fn copied(alloc: Global, bytes: &[u8]) -> Result<Bytes, AllocError>
+        ensures { IfOk result (λ copy. copy ≡ bytes.now) }
+    {
+        let owned = Vec::from_slice(alloc, bytes)?;
+        Ok(Bytes { owned })
     }
 
     /// The bytes, in the memory that they have. Takes no memory.

@@ -164,21 +164,11 @@ fn put_hint(page: &mut Page, form: HintForm, hint: u64)
     ensures bytes { page.new ≡ page.old ++ hint_text form hint }
     ensures len { length page.new ≤ length page.old + 41 }
 {
-    match form {
-        HintForm::Number => page.put_number(hint),
-        HintForm::Distance { mark } => put_distance(page, mark, hint),
-    }
-}
-
-fn put_distance(page: &mut Page, mark: u64, hint: u64)
-    requires { length page.old + 41 ≤ PAGE_SIZE }
-    ensures bytes { page.new ≡ page.old ++ hint_text (HintForm.Distance mark) hint }
-    ensures len { length page.new ≤ length page.old + 41 }
-{
-    if mark <= hint {
-        page.put_number(hint - mark);
+    let (below, number) = form.spelled(hint);
+    if below {
+        page.put(b"-");
+        page.put_number(number);
         return;
     }
-    page.put(b"-");
-    page.put_number(mark - hint);
+    page.put_number(number);
 }

@@ -1,6 +1,7 @@
 //! BYTES: the bytes of a unit or of a message, as digits.
 
-ghost use Rattle.std.specs.Prelude.{◌≡◌, ◌↔◌, ◌+◌, ◌*◌, ◌≤◌, ◌<◌, ◌%◌, ◌/◌, min, length, take, IsTrue, Some, None, Err, IfOk, if◌then◌else◌};
+ghost use Rattle.std.specs.Prelude.{◌≡◌, ◌↔◌, ◌+◌, ◌*◌, ◌≤◌, ◌<◌, ◌%◌, ◌/◌, min, length, take};
+ghost use Rattle.std.specs.Prelude.{IsTrue, Some, None, Err, IfOk, if◌then◌else◌};
 ghost use Rattle.std.specs.Option.{is_some};
 ghost use Rattle.std.specs.List.{list_all};
 ghost use Rattle.hex.specs.Hex.{IsBytes, encode_lower};

@@ -8,7 +8,7 @@ ghost use Rattle.capture.specs.declared.hint.HintForm.TheVariants.{Number};
 
 use crate::entry::Entry;
 use crate::hint::HintForm;
-use crate::line_words::{put_bytes, put_links, put_message, put_number, put_receipt};
+use crate::line_words::{put_link, put_links, put_message, put_receipt, put_unit};
 use std::alloc::AllocError;
 
 /// Puts the line of the record of this entry and these bytes, at most 65,535, with its LF, behind a text. Bytes beside an entry whose line has no
@@ -19,58 +19,47 @@ pub fn put_line(text: &mut Vec<u8>, entry: Entry, bytes: &[u8]) -> Result<(), Al
     requires { length bytes.now ≤ MAX_MESSAGE }
     ensures { OnOk result (text.new.items ≡ text.old.items ++ record_line Number (record_with entry bytes.now)) }
 {
-    put_words(text, entry, bytes)?;
+    put_line_in(text, HintForm::Number, entry, bytes)
+}
+
+/// The same in any form of hints.
+#[inline(always)]
+pub(crate) fn put_line_in(
+    text: &mut Vec<u8>,
+    form: HintForm,
+    entry: Entry,
+    bytes: &[u8],
+) -> Result<(), AllocError>
+    requires { length bytes.now ≤ MAX_MESSAGE }
+    ensures { OnOk result (text.new.items ≡ text.old.items ++ record_line form (record_with entry bytes.now)) }
+{
+    put_words(text, form, entry, bytes)?;
     text.push(b'\n')?;
     Ok(())
 }
 
 #[inline(always)]
-fn put_words(text: &mut Vec<u8>, entry: Entry, bytes: &[u8]) -> Result<(), AllocError>
+fn put_words(
+    text: &mut Vec<u8>,
+    form: HintForm,
+    entry: Entry,
+    bytes: &[u8],
+) -> Result<(), AllocError>
     requires { length bytes.now ≤ MAX_MESSAGE }
-    ensures { OnOk result (text.new.items ≡ text.old.items ++ record_text Number (record_with entry bytes.now)) }
+    ensures { OnOk result (text.new.items ≡ text.old.items ++ record_text form (record_with entry bytes.now)) }
 {
     match entry {
-        Entry::Sent => {
-            text.extend_from_slice(b"s ")?;
-            put_bytes(text, bytes)
-        }
-        Entry::Received { kept: false, hint } => {
-            text.extend_from_slice(b"r ")?;
-            put_receipt(text, HintForm::Number, hint, bytes)
-        }
-        Entry::Received { kept: true, hint } => {
-            text.extend_from_slice(b"k ")?;
-            put_receipt(text, HintForm::Number, hint, bytes)
-        }
-        Entry::Noise => {
-            text.extend_from_slice(b"n ")?;
-            put_bytes(text, bytes)
-        }
-        Entry::In { link } => {
-            text.extend_from_slice(b"u in ")?;
-            put_message(text, link, bytes)
-        }
-        Entry::Up { link } => {
-            text.extend_from_slice(b"u up ")?;
-            put_message(text, link, bytes)
-        }
+        Entry::Sent => put_unit(text, b"s ", bytes),
+        Entry::Received { kept: false, hint } => put_receipt(text, b"r ", form, hint, bytes),
+        Entry::Received { kept: true, hint } => put_receipt(text, b"k ", form, hint, bytes),
+        Entry::Noise => put_unit(text, b"n ", bytes),
+        Entry::In { link } => put_message(text, b"u in ", link, bytes),
+        Entry::Up { link } => put_message(text, b"u up ", link, bytes),
         Entry::Start => text.extend_from_slice(b"u start"),
         Entry::Halt => text.extend_from_slice(b"u halt"),
-        Entry::Open { link } => {
-            text.extend_from_slice(b"u open ")?;
-            put_number(text, u64::from(link))
-        }
-        Entry::Accept { partner, link } => {
-            text.extend_from_slice(b"u accept ")?;
-            put_links(text, partner, link)
-        }
-        Entry::Reject { partner, link } => {
-            text.extend_from_slice(b"u reject ")?;
-            put_links(text, partner, link)
-        }
-        Entry::Close { link } => {
-            text.extend_from_slice(b"u close ")?;
-            put_number(text, u64::from(link))
-        }
+        Entry::Open { link } => put_link(text, b"u open ", link),
+        Entry::Accept { partner, link } => put_links(text, b"u accept ", partner, link),
+        Entry::Reject { partner, link } => put_links(text, b"u reject ", partner, link),
+        Entry::Close { link } => put_link(text, b"u close ", link),
     }
 }

@@ -1,6 +1,7 @@
 //! What a node's user did, or got.
 
 use crate::bytes::Bytes;
+use crate::entry::Entry;
 use crate::limit::MAX_MESSAGE;
 
 /// An event at a node's user. `link` is an address that this node gave to a link, and `partner` one
@@ -26,8 +27,10 @@ pub enum Event {
 }
 
 impl Event {
-    ghost use Rattle.std.specs.Prelude.{◌↔◌, IsTrue};
-    ghost use Rattle.capture.specs.Range.{IsEvent};
+    ghost use Rattle.std.specs.Prelude.{◌≡◌, ◌↔◌, IsTrue};
+    ghost use Rattle.capture.specs.declared.record.Record.TheVariants.{User};
+    ghost use Rattle.capture.specs.Entries.{record_with};
+    ghost use Rattle.capture.specs.Range.{IsEvent, event_bytes};
 
     /// Whether the event has a line: its addresses are from 1, and its message has at most 65,535
     /// bytes. Takes no memory.
@@ -42,6 +45,35 @@ impl Event {
             Event::In { link, bytes } | Event::Up { link, bytes } => {
                 *link > 0 && bytes.as_slice().len() <= MAX_MESSAGE
             }
+        }
+    }
+
+    /// What the line of its record says beside its message, and the message: no bytes where it has none. Takes no memory.
+    pub fn parts(&self) -> (Entry, &[u8])
+        ensures whole { record_with result.0 result.1.now ≡ User self.now }
+        ensures bytes { result.1.now ≡ event_bytes self.now }
+    {
+        match self {
+            Event::Start => (Entry::Start, &[]),
+            Event::Halt => (Entry::Halt, &[]),
+            Event::Open { link } => (Entry::Open { link: *link }, &[]),
+            Event::Accept { partner, link } => (
+                Entry::Accept {
+                    partner: *partner,
+                    link: *link,
+                },
+                &[],
+            ),
+            Event::Reject { partner, link } => (
+                Entry::Reject {
+                    partner: *partner,
+                    link: *link,
+                },
+                &[],
+            ),
+            Event::In { link, bytes } => (Entry::In { link: *link }, bytes.as_slice()),
+            Event::Up { link, bytes } => (Entry::Up { link: *link }, bytes.as_slice()),
+            Event::Close { link } => (Entry::Close { link: *link }, &[]),
         }
     }
 }

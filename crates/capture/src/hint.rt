@@ -1,9 +1,10 @@
 //! How a line spells the hint of a receipt.
 
-ghost use Rattle.std.specs.Prelude.{◌≡◌, ℕ, [], List};
+ghost use Rattle.std.specs.Prelude.{◌≡◌, ℕ, [], ◌∷◌, List, if◌then◌else◌};
+ghost use Rattle.std.specs.Fmt.{decimal};
 ghost use Rattle.capture.specs.Entries.{record_with};
 ghost use Rattle.capture.specs.Range.{NumbersFit};
-ghost use Rattle.capture.specs.Text.{form_after, format_of, mark_after};
+ghost use Rattle.capture.specs.Text.{form_after, format_of, hint_text, mark_after};
 
 use crate::entry::Entry;
 use crate::format::Format;
@@ -28,6 +29,18 @@ impl HintForm {
         match self {
             HintForm::Number => Format::One,
             HintForm::Distance { mark: _ } => Format::Two,
+        }
+    }
+
+    /// How a line spells this hint: whether `-` stands before the number, and the number. Takes no memory.
+    #[inline(always)]
+    pub(crate) fn spelled(self, hint: u64) -> (bool, u64)
+        ensures { hint_text self hint ≡ (if result.0 then 45 ∷ decimal result.1 else decimal result.1) }
+    {
+        match self {
+            HintForm::Number => (false, hint),
+            HintForm::Distance { mark } if mark <= hint => (false, hint - mark),
+            HintForm::Distance { mark } => (true, mark - hint),
         }
     }
 

@@ -24,7 +24,8 @@ pub fn one_head_and_list()
 /// Of records whose lines begin with the lines of others, in the same form of hints, the first are the others, and the
 /// lines of the rest are what follows.
 pub fn begun_list()
-    ensures { (form : Form) (begun rs : List Line) (rest : List ℕ) → FormFits form → AllByRecursion IsRecord begun → AllByRecursion IsRecord rs →
+    ensures { (form : Form) (begun rs : List Line) (rest : List ℕ) → FormFits form →
+        AllByRecursion IsRecord begun → AllByRecursion IsRecord rs →
         record_lines form rs ≡ record_lines form begun ++ rest →
         (more : List Line) × (rs ≡ begun ++ more) × (rest ≡ record_lines (form_behind form begun) more) }
 {}
@@ -37,8 +38,10 @@ pub fn no_line_begins_another()
 
 /// No head begins another.
 pub fn no_head_begins_another()
-    ensures { (format format' : Layout) (own peer own' peer' : ℕ) (x y : List ℕ) → IsNode own → IsNode peer → IsNode own' → IsNode peer' →
-        head_line format own peer ++ x ≡ head_line format' own' peer' ++ y → (format ≡ format') × (own ≡ own') × (peer ≡ peer') × (x ≡ y) }
+    ensures { (format format' : Layout) (own peer own' peer' : ℕ) (x y : List ℕ) →
+        IsNode own → IsNode peer → IsNode own' → IsNode peer' →
+        head_line format own peer ++ x ≡ head_line format' own' peer' ++ y →
+        (format ≡ format') × (own ≡ own') × (peer ≡ peer') × (x ≡ y) }
 {}
 
 /// Where a record's line comes first, and a record may come, no line departs.
@@ -84,7 +87,8 @@ pub fn converted_is_same()
 
 /// What is converted and then converted back is the first text again.
 pub fn converted_back()
-    ensures { (from to : Layout) (bytes made back : List ℕ) (own peer : ℕ) (rs : List Line) (count again : ℕ) → IsTextIn from own peer rs bytes →
+    ensures { (from to : Layout) (bytes made back : List ℕ) (own peer : ℕ) (rs : List Line) (count again : ℕ) →
+        IsTextIn from own peer rs bytes →
         Converts to (Some bytes) (Some []) (Some made) (Ok count) →
         Converts from (Some made) (Some []) (Some back) (Ok again) → back ≡ bytes }
 {}

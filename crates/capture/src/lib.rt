@@ -50,7 +50,7 @@ pub use laws::{
 };
 pub use limit::{MAX_HINT, MAX_LINE, MAX_LINK, MAX_MARK, MAX_MESSAGE, MAX_RECORDS, MAX_UNIT};
 pub use line_reader::LineReader;
-pub use line_words::put_head;
+pub use line_words::{put_head, put_head_line};
 pub use number::{number_of, positive_of};
 pub use page::{PAGE_SIZE, Page};
 pub use part::{after, cut_at};

@@ -1,6 +1,7 @@
 //! The lines of a text, read in large blocks.
 
-ghost use Rattle.std.specs.Prelude.{◌≡◌, ◌≢◌, ℕ, ◌+◌, ◌<◌, ◌≤◌, ◌^◌, [], ◌++◌, length, take, drop, true, false, slice_index, IfOk, OnOk, OnErr, List, MatchOption, MatchBool, Err};
+ghost use Rattle.std.specs.Prelude.{◌≡◌, ◌+◌, ◌<◌, ◌≤◌, ◌^◌, [], length, take, drop};
+ghost use Rattle.std.specs.Prelude.{IfOk, IfSome, OnOk, OnErr};
 ghost use Rattle.std.specs.List.{between};
 ghost use Rattle.capture.specs.declared.line_reader.TheConstants.{BLOCK};
 ghost use Rattle.std.specs.Io.KnownBytes.{Consumes, IsAtEnd, Keeps};
@@ -43,7 +44,7 @@ impl Model for LineReader {
 
     ghost Value = { LineState };
 
-    ghost use Rattle.capture.specs.Block.{line_state, IsBlock};
+    ghost use Rattle.capture.specs.inner.Block.{line_state, IsBlock};
 
     ghost view = { line_state };
 
@@ -109,6 +110,15 @@ impl LineReader {
         self.taken += 1;
     }
 
+    /// Counts the line that was left behind last no more: what it says was not kept. Where the next line begins stays as it is, so it is for
+    /// a reader that reads no further. Takes no memory.
+    pub(crate) fn uncount(&mut self)
+        requires { 1 ≤ self.old.taken }
+        ensures { self.new.taken + 1 ≡ self.old.taken }
+    {
+        self.taken -= 1;
+    }
+
     /// Finds the line at hand, and reads as much as that takes, in a text that may have `most` lines:
     /// how many bytes it has before its LF, or `None` where no byte is to come.
     ///
@@ -125,6 +135,7 @@ impl LineReader {
         ensures found { FindsLine most self.new
             (to_come self.old.unread (R.remaining (tally_lent reader.old)))
             (to_come self.new.unread (R.remaining (tally_lent reader.new))) result }
+        ensures within { IfOk result (λ found. IfSome found (λ len. len < length self.new.unread)) }
         ensures taken { self.new.taken ≡ self.old.taken }
         ensures reads { CountsReads (is_failed_line_read result) (tally_faults reader.old) (tally_faults reader.new) }
     {
@@ -163,6 +174,7 @@ impl LineReader {
         ensures found { FindsLine most self.new
             (to_come self.old.unread (R.remaining (tally_lent reader.old)))
             (to_come self.new.unread (R.remaining (tally_lent reader.new))) result }
+        ensures within { IfOk result (λ found. IfSome found (λ len. len < length self.new.unread)) }
         ensures taken { self.new.taken ≡ self.old.taken }
         ensures reads { CountsReads (is_failed_line_read result) (tally_faults reader.old) (tally_faults reader.new) }
     {

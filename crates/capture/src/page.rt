@@ -24,7 +24,7 @@ pub struct Page {
 
 impl Model for Page {
     ghost use Rattle.std.specs.Prelude.{List, ℕ};
-    ghost use Rattle.capture.specs.PageBlock.{HasRoom};
+    ghost use Rattle.capture.specs.inner.PageBlock.{HasRoom};
 
     ghost Value = { List ℕ };
 

@@ -10,14 +10,14 @@ ghost use Rattle.capture.specs.Range.{FormFits};
 ghost use Rattle.capture.specs.Reader.{NextGives, Opens, TakesRecord, WhereReadFails};
 ghost use Rattle.capture.specs.Text.{format_number, format_of, record_text};
 
+use crate::bytes::Bytes;
 use crate::entry::Entry;
-use crate::fault::{CaptureFault, Departure, LineFault, PartFault};
-use crate::hint::HintForm;
+use crate::fault::{CaptureFault, Departure, LineFault};
 use crate::limit::{MAX_MESSAGE, MAX_RECORDS};
 use crate::line_reader::LineReader;
 use crate::phase::Phase;
 use crate::record::Record;
-use crate::record_words::{head_of, line_into, record_of};
+use crate::record_words::{head_of, line_into};
 use crate::spelling::Spelling;
 use crate::wording::Wording;
 use std::alloc::Global;
@@ -54,45 +54,11 @@ impl Model for CaptureReader {
 
     ghost Value = { CaptureState };
 
-    ghost use Rattle.capture.specs.Captured.{capture_state, IsCounted};
+    ghost use Rattle.capture.specs.inner.Captured.{capture_state, IsCounted};
 
     ghost view = { capture_state };
 
     ghost invariant = { IsCounted };
-}
-
-// One record's turn.
-#[inline(always)]
-fn take_record<R: Read>(
-    alloc: Global,
-    form: HintForm,
-    lines: &mut LineReader,
-    reader: &mut Tally<R>,
-) -> Result<Option<Record>, CaptureFault>
-    requires form { FormFits form }
-    requires head { 1 ≤ lines.old.taken }
-    requires few { lines.old.taken ≤ MAX_RECORDS + 1 }
-    ensures takes { TakesRecord (record { form = form; taken = lines.old.taken }) lines.new.taken
-        (to_come lines.old.unread (R.remaining (tally_lent reader.old)))
-        (to_come lines.new.unread (R.remaining (tally_lent reader.new))) result }
-    ensures cut { WhereReadFails (is_failed_read result)
-        (IsCutBehind (to_come lines.old.unread (R.remaining (tally_lent reader.old))) (R.remaining (tally_lent reader.new))) }
-    ensures reads { CountsReads (is_failed_read result) (tally_faults reader.old) (tally_faults reader.new) }
-{
-    let number = lines.taken() + 1;
-    match lines.next(MAX_RECORDS + 1, reader) {
-        Ok(Some(len)) => match record_of(alloc, form, lines.line(len)) {
-            Ok(record) => {
-                lines.skip(len);
-                Ok(Some(record))
-            }
-            Err(PartFault::Departs(kind)) => Err(CaptureFault::Departs { kind, line: number }),
-            Err(PartFault::OutOfMemory) => Err(CaptureFault::OutOfMemory),
-        },
-        Ok(None) => Ok(None),
-        Err(LineFault::Departs(kind)) => Err(CaptureFault::Departs { kind, line: number }),
-        Err(LineFault::Read) => Err(CaptureFault::Read),
-    }
 }
 
 // One record's turn, with its bytes at the front of the room: how many they are beside its entry.
@@ -261,7 +227,7 @@ impl CaptureReader {
         &self.room[..self.len]
     }
 
-    /// Reads the next record, or finds that none is left.
+    /// Reads the next record, or finds that none is left: [`advance`](CaptureReader::advance), with a copy of the bytes that it keeps.
     ///
     /// Record i, counted from 0, stands on line i + 2. `Departs` names that line, with the first of
     /// these kinds: `TooMany` after 1,000,000,000,000 records, whatever the line holds; `TooLong` at
@@ -281,25 +247,17 @@ impl CaptureReader {
         ensures head { (self.new.own ≡ self.old.own) × (self.new.peer ≡ self.old.peer) × (format_of self.new.form ≡ format_of self.old.form) }
         ensures reads { CountsReads (is_failed_read result) (tally_faults reader.old) (tally_faults reader.new) }
     {
-        match self.phase {
-            Phase::Reading => {}
-            Phase::Ended => return Ok(None),
-            Phase::Failed => return Err(CaptureFault::Failed),
-        }
-        let alloc = self.alloc;
-        match take_record(alloc, self.wording.form, &mut self.lines, reader) {
-            Ok(Some(record)) => {
-                self.wording.form = self.wording.form.after_record(&record);
-                Ok(Some(record))
-            }
-            Ok(None) => {
-                self.phase = Phase::Ended;
-                Ok(None)
-            }
-            Err(fault) => {
-                self.phase = Phase::Failed;
-                Err(fault)
-            }
+        match self.advance(reader) {
+            Ok(Some(entry)) => match Bytes::copied(self.alloc, self.bytes()) {
+                Ok(bytes) => Ok(Some(entry.with(bytes))),
+                Err(_) => {
+                    self.lines.uncount();
+                    self.phase = Phase::Failed;
+                    Err(CaptureFault::OutOfMemory)
+                }
+            },
+            Ok(None) => Ok(None),
+            Err(fault) => Err(fault),
         }
     }
 }

@@ -1,6 +1,7 @@
 //! One record of a capture: what one side saw.
 
 use crate::bytes::Bytes;
+use crate::entry::Entry;
 use crate::event::Event;
 use crate::limit::{MAX_HINT, MAX_UNIT};
 
@@ -26,8 +27,9 @@ pub enum Record {
 }
 
 impl Record {
-    ghost use Rattle.std.specs.Prelude.{◌↔◌, IsTrue};
-    ghost use Rattle.capture.specs.Range.{IsRecord};
+    ghost use Rattle.std.specs.Prelude.{◌≡◌, ◌↔◌, IsTrue};
+    ghost use Rattle.capture.specs.Entries.{record_with};
+    ghost use Rattle.capture.specs.Range.{IsRecord, record_bytes};
 
     /// Whether the record has a line: its hint is at most 999,999,999,999,999,999, its unit has at
     /// most 16,393 bytes, its noise as many, and its event is in range. Takes no memory.
@@ -43,6 +45,25 @@ impl Record {
             } => { *hint <= MAX_HINT && bytes.as_slice().len() <= MAX_UNIT }
             Record::Noise(bytes) => bytes.as_slice().len() <= MAX_UNIT,
             Record::User(event) => event.in_range(),
+        }
+    }
+
+    /// What its line says beside its bytes, and the bytes: none where its line has no BYTES. Takes no memory.
+    pub fn parts(&self) -> (Entry, &[u8])
+        ensures whole { record_with result.0 result.1.now ≡ self.now }
+        ensures bytes { result.1.now ≡ record_bytes self.now }
+    {
+        match self {
+            Record::Sent(bytes) => (Entry::Sent, bytes.as_slice()),
+            Record::Received { hint, kept, bytes } => (
+                Entry::Received {
+                    hint: *hint,
+                    kept: *kept,
+                },
+                bytes.as_slice(),
+            ),
+            Record::Noise(bytes) => (Entry::Noise, bytes.as_slice()),
+            Record::User(event) => event.parts(),
         }
     }
 }

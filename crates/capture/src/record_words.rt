@@ -69,7 +69,8 @@ fn receipt_of(form: HintForm, text: &[u8]) -> Option<(u64, &[u8])>
 
 #[inline(always)]
 fn receipt_by_number(text: &[u8]) -> Option<(u64, &[u8])>
-    ensures { (kept : Bool) → receipt_at HintForm.Number kept text.now ≡ told (option_map (λ parts. (Received kept parts.0, parts.1.now)) result) }
+    ensures { (kept : Bool) → receipt_at HintForm.Number kept text.now
+        ≡ told (option_map (λ parts. (Received kept parts.0, parts.1.now)) result) }
 {
     match number_before(text, MAX_HINT) {
         Some((hint, bytes)) => Some((hint, bytes)),

@@ -14,7 +14,7 @@ pub struct Spelling {
 
 impl Model for Spelling {
     ghost use Rattle.std.specs.Prelude.{List, ℕ};
-    ghost use Rattle.capture.specs.Spelled.{IsSpelling};
+    ghost use Rattle.capture.specs.inner.Spelled.{IsSpelling};
 
     ghost Value = { List ℕ };
 

@@ -1,18 +1,18 @@
 //! Writing a capture, line by line.
 
-ghost use Rattle.std.specs.Prelude.{◌≡◌, ◌≤◌, Err, length, IfOk, OnOk};
+ghost use Rattle.std.specs.Prelude.{◌≡◌, ◌≤◌, Err, IfOk, OnOk};
 ghost use Rattle.std.specs.Io.KnownBytes.{Appends};
 ghost use Rattle.wire_base.specs.Tally.{tally_faults, tally_lent};
-ghost use Rattle.capture.specs.declared.limit.TheConstants.{MAX_MARK, MAX_MESSAGE};
+ghost use Rattle.capture.specs.declared.limit.TheConstants.{MAX_MARK};
 ghost use Rattle.capture.specs.Text.{head_line, mark_after, record_line};
-ghost use Rattle.capture.specs.Range.{IsNode, IsRecord, record_bytes};
+ghost use Rattle.capture.specs.Range.{IsNode, IsRecord};
 ghost use Rattle.capture.specs.Writing.{WriteMeans};
 
-use crate::event::Event;
+use crate::entry_line::put_line_in;
 use crate::fault::WriteFault;
 use crate::format::Format;
 use crate::hint::{HintForm, next_mark_of};
-use crate::line_words::{put_head, put_record};
+use crate::line_words::put_head_line;
 use crate::record::Record;
 use std::alloc::{AllocError, Global};
 use std::io::Write;
@@ -34,7 +34,8 @@ pub fn write_head<W: Write>(
 ) -> Result<(), WriteFault>
     requires own { IsNode own }
     requires peer { IsNode peer }
-    ensures ok { OnOk result (Appends (W.contents (tally_lent writer.old)) (W.contents (tally_lent writer.new)) (head_line Format.One own peer)) }
+    ensures ok { OnOk result (Appends (W.contents (tally_lent writer.old)) (W.contents (tally_lent writer.new))
+        (head_line Format.One own peer)) }
     ensures fault { WriteMeans (W.contents (tally_lent writer.old)) (W.contents (tally_lent writer.new))
         (tally_faults writer.old) (tally_faults writer.new) (head_line Format.One own peer) result }
 {
@@ -53,7 +54,8 @@ pub fn write_head_2<W: Write>(
 ) -> Result<(), WriteFault>
     requires own { IsNode own }
     requires peer { IsNode peer }
-    ensures ok { OnOk result (Appends (W.contents (tally_lent writer.old)) (W.contents (tally_lent writer.new)) (head_line Format.Two own peer)) }
+    ensures ok { OnOk result (Appends (W.contents (tally_lent writer.old)) (W.contents (tally_lent writer.new))
+        (head_line Format.Two own peer)) }
     ensures fault { WriteMeans (W.contents (tally_lent writer.old)) (W.contents (tally_lent writer.new))
         (tally_faults writer.old) (tally_faults writer.new) (head_line Format.Two own peer) result }
 {
@@ -70,7 +72,8 @@ pub fn write_head_in<W: Write>(
 ) -> Result<(), WriteFault>
     requires own { IsNode own }
     requires peer { IsNode peer }
-    ensures ok { OnOk result (Appends (W.contents (tally_lent writer.old)) (W.contents (tally_lent writer.new)) (head_line format own peer)) }
+    ensures ok { OnOk result (Appends (W.contents (tally_lent writer.old)) (W.contents (tally_lent writer.new))
+        (head_line format own peer)) }
     ensures fault { WriteMeans (W.contents (tally_lent writer.old)) (W.contents (tally_lent writer.new))
         (tally_faults writer.old) (tally_faults writer.new) (head_line format own peer) result }
 {
@@ -87,8 +90,7 @@ fn head_words(alloc: Global, format: Format, own: u16, peer: u16) -> Result<Vec<
     ensures { IfOk result (λ line. line.items ≡ head_line format own peer) }
 {
     let mut line = Vec::with_capacity(alloc, WORDS)?;
-    put_head(&mut line, format, own, peer)?;
-    line.push(b'\n')?;
+    put_head_line(&mut line, format, own, peer)?;
     Ok(line)
 }
 
@@ -102,7 +104,8 @@ pub fn write_record<W: Write>(
     writer: &mut Tally<W>,
 ) -> Result<(), WriteFault>
     requires { IsRecord «record».now }
-    ensures ok { OnOk result (Appends (W.contents (tally_lent writer.old)) (W.contents (tally_lent writer.new)) (record_line HintForm.Number «record».now)) }
+    ensures ok { OnOk result (Appends (W.contents (tally_lent writer.old)) (W.contents (tally_lent writer.new))
+        (record_line HintForm.Number «record».now)) }
     ensures fault { WriteMeans (W.contents (tally_lent writer.old)) (W.contents (tally_lent writer.new))
         (tally_faults writer.old) (tally_faults writer.new) (record_line HintForm.Number «record».now) result }
 {
@@ -122,7 +125,8 @@ pub fn write_record_2<W: Write>(
 ) -> Result<u64, WriteFault>
     requires mark { mark ≤ MAX_MARK }
     requires record { IsRecord «record».now }
-    ensures ok { OnOk result (Appends (W.contents (tally_lent writer.old)) (W.contents (tally_lent writer.new)) (record_line (HintForm.Distance mark) «record».now)) }
+    ensures ok { OnOk result (Appends (W.contents (tally_lent writer.old)) (W.contents (tally_lent writer.new))
+        (record_line (HintForm.Distance mark) «record».now)) }
     ensures mark { IfOk result (λ after. after ≡ mark_after mark «record».now) }
     ensures fault { WriteMeans (W.contents (tally_lent writer.old)) (W.contents (tally_lent writer.new))
         (tally_faults writer.old) (tally_faults writer.new) (record_line (HintForm.Distance mark) «record».now) result }
@@ -140,7 +144,8 @@ fn write_record_in<W: Write>(
     writer: &mut Tally<W>,
 ) -> Result<(), WriteFault>
     requires { IsRecord «record».now }
-    ensures ok { OnOk result (Appends (W.contents (tally_lent writer.old)) (W.contents (tally_lent writer.new)) (record_line form «record».now)) }
+    ensures ok { OnOk result (Appends (W.contents (tally_lent writer.old)) (W.contents (tally_lent writer.new))
+        (record_line form «record».now)) }
     ensures fault { WriteMeans (W.contents (tally_lent writer.old)) (W.contents (tally_lent writer.new))
         (tally_faults writer.old) (tally_faults writer.new) (record_line form «record».now) result }
 {
@@ -157,18 +162,8 @@ fn record_words(alloc: Global, form: HintForm, record: &Record) -> Result<Vec<u8
     requires { IsRecord «record».now }
     ensures { IfOk result (λ line. line.items ≡ record_line form «record».now) }
 {
-    let mut line = Vec::with_capacity(alloc, WORDS + 2 * bytes_len(record))?;
-    put_record(&mut line, form, record)?;
-    line.push(b'\n')?;
+    let (entry, bytes) = record.parts();
+    let mut line = Vec::with_capacity(alloc, WORDS + 2 * bytes.len())?;
+    put_line_in(&mut line, form, entry, bytes)?;
     Ok(line)
-}
-
-fn bytes_len(record: &Record) -> usize
-    ensures { result ≡ length (record_bytes «record».now) }
-{
-    match record {
-        Record::Sent(bytes) | Record::Received { bytes, .. } | Record::Noise(bytes) => bytes.len(),
-        Record::User(Event::In { bytes, .. } | Event::Up { bytes, .. }) => bytes.len(),
-        Record::User(_) => 0,
-    }
 }

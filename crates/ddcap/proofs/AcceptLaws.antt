@@ -2,8 +2,8 @@
 use Rattle.std.proofs.Common.{ℕ, inl, inr, List, [], Option, Some, None, Result, Ok, Err, sym, subst, arith}
 use Rattle.std.specs.Io.KnownBytes.{Appends}
 use Rattle.capture.specs.Range.{IsText}
-use Rattle.dna_model.specs.Played.{head_a, head_b}
-use Rattle.dna_model.specs.PlayRun.{StartsOnce}
+use Rattle.dna_play.specs.Played.{head_a, head_b}
+use Rattle.dna_play.specs.PlayRun.{StartsOnce}
 use Rattle.pair_judge.specs.declared.fault.JudgeFault.TheVariants as judge
 use Rattle.pair_judge.specs.declared.fault.TextFault.TheVariants as of_text
 use Rattle.pair_judge.specs.declared.verdict.Verdict.TheVariants.{Accepted, Refused}

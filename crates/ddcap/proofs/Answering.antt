@@ -9,7 +9,8 @@ no_text None text_b = tt
 no_text (Some bytes_a) None = tt
 no_text (Some bytes_a) (Some bytes_b) = λ head_a head_b of_a of_b is_a is_b run. tt
 
-pub nothing_accepted : (text_a text_b : Option (List ℕ)) (fault : JudgeFault) → IfTold text_a text_b (λ bytes_a bytes_b. IsAcceptance bytes_a bytes_b (Err fault))
+pub nothing_accepted : (text_a text_b : Option (List ℕ)) (fault : JudgeFault) →
+    IfTold text_a text_b (λ bytes_a bytes_b. IsAcceptance bytes_a bytes_b (Err fault))
 nothing_accepted None text_b fault = tt
 nothing_accepted (Some bytes_a) None fault = tt
 nothing_accepted (Some bytes_a) (Some bytes_b) fault = tt

@@ -1,5 +1,6 @@
 -- The lines of a capture's records, as they grow from one record to the next.
-use Rattle.std.proofs.Common.{◌≡◌, ℕ, ◌+◌, ◌<◌, inl, inr, List, [], ◌∷◌, ◌++◌, length, take, Option, Some, Ok, refl, sym, ap, subst, ◌∙◌, arith, length-append, append-nil, append_assoc}
+use Rattle.std.proofs.Common.{◌≡◌, ℕ, ◌+◌, ◌<◌, inl, inr, List, [], ◌∷◌, ◌++◌, length, take, Option, Some, Ok, refl, sym, ap, subst, ◌∙◌, arith}
+use Rattle.std.proofs.Common.{length-append, append-nil, append_assoc}
 use Rattle.std.specs.Option.{IfSome}
 use Rattle.std.specs.Io.KnownBytes.{Appends, Consumes, IsAtEnd}
 use Rattle.std.proofs.KnownBytes.{Appends-nil, Appends-trans}
@@ -26,7 +27,8 @@ use Rattle.ddcap.specs.Showing.{HasBegun, HasRead, HasReadAll, IsReadTo, ListsWh
 
 -- ---- lists of records
 
-shown_lines-push : (number : ℕ) (rs : List Record) (r : Record) → shown_lines number (rs ++ r ∷ []) ≡ shown_lines number rs ++ shown_line (number + length rs) r
+shown_lines-push : (number : ℕ) (rs : List Record) (r : Record) → shown_lines number (rs ++ r ∷ []) ≡ shown_lines number rs ++
+    shown_line (number + length rs) r
 shown_lines-push number [] r =
     let same : number ≡ number + 0 = omega arith in
     append-nil (shown_line number r) ∙ ap (λ n. shown_line n r) same
@@ -44,8 +46,12 @@ all_on a b c xs ys first second = (Appends-trans a.bytes b.bytes c.bytes xs ys f
 beginning_on : (a b c : Option (List ℕ)) (xs ys : List ℕ) → Appends a b xs → AppendsBeginning b c ys → AppendsBeginning a c (xs ++ ys)
 beginning_on a b c xs ys first second =
     let taken = second.0 in
-    let within : taken < length ys = second.1 in
-    (length xs + taken, omega (arith, length-append xs ys), subst (Appends a c) (sym (take-append-add xs ys taken)) (Appends-trans a b c xs (take taken ys) first second.2))
+    let within : taken < length ys = second.1 in (
+      length xs + taken,
+      omega (arith, length-append xs ys),
+      subst (Appends a c) (sym (take-append-add xs ys taken))
+          (Appends-trans a b c xs (take taken ys) first second.2),
+    )
 
 pub some_on : (a b c : Stream) (xs ys : List ℕ) → WritesAll a b xs → WritesSome b c ys → WritesSome a c (xs ++ ys)
 some_on a b c xs ys first second =
@@ -55,10 +61,13 @@ some_on a b c xs ys first second =
 
 -- the laws of a text that is read on
 pub record GrowingLaws : Type 0 where
-  pub opened : (text left : Option (List ℕ)) (state : CaptureState) → Opens text left (Ok state) → IsReadSoFar text (so_far state.form state.own state.peer [] (ToCome (to_come state.unread left)))
-  pub one_more : (text before after : Option (List ℕ)) (form : HintForm) (own peer : ℕ) (rs : List Record) (r : Record) → IsReadSoFar text (so_far form own peer rs (ToCome before)) → length rs < MAX_RECORDS → IsRecord r → Consumes before after (record_line form r)
+  pub opened : (text left : Option (List ℕ)) (state : CaptureState) → Opens text left (Ok state) →
+      IsReadSoFar text (so_far state.form state.own state.peer [] (ToCome (to_come state.unread left)))
+  pub one_more : (text before after : Option (List ℕ)) (form : HintForm) (own peer : ℕ) (rs : List Record) (r : Record) →
+      IsReadSoFar text (so_far form own peer rs (ToCome before)) → length rs < MAX_RECORDS → IsRecord r → Consumes before after (record_line form r)
       → IsReadSoFar text (so_far (form_after form r) own peer (rs ++ r ∷ []) (ToCome after))
-  pub ended : (text before : Option (List ℕ)) (form : HintForm) (own peer : ℕ) (rs : List Record) → IsReadSoFar text (so_far form own peer rs (ToCome before)) → IsAtEnd before → IsReadSoFar text (so_far form own peer rs TheEnd)
+  pub ended : (text before : Option (List ℕ)) (form : HintForm) (own peer : ℕ) (rs : List Record) →
+      IsReadSoFar text (so_far form own peer rs (ToCome before)) → IsAtEnd before → IsReadSoFar text (so_far form own peer rs TheEnd)
 
 -- a reader in this state has read so many records of the text; a part of their lines was written, and the rest waits on the page
 pub record HasListed (text come : Option (List ℕ)) (capture : CaptureState) (number : ℕ) (out : Moved) (page : List ℕ) : Type 0 where
@@ -71,7 +80,8 @@ pub record HasListed (text come : Option (List ℕ)) (capture : CaptureState) (n
   pub lines : shown_lines 0 records ≡ written ++ page
   pub on_out : WritesAll out.old out.new written
 
-pub opened : (laws : GrowingLaws) (text after : Option (List ℕ)) (capture : CaptureState) (out : Stream) (page : List ℕ) → Opens text after (Ok capture) → page ≡ [] → HasListed text (to_come capture.unread after) capture 0 (record { old = out; new = out }) page
+pub opened : (laws : GrowingLaws) (text after : Option (List ℕ)) (capture : CaptureState) (out : Stream) (page : List ℕ) →
+    Opens text after (Ok capture) → page ≡ [] → HasListed text (to_come capture.unread after) capture 0 (record { old = out; new = out }) page
 opened laws text after capture out page opens empty = record {
   records = [];
   read = laws.opened text after capture opens;
@@ -83,7 +93,10 @@ opened laws text after capture out page opens empty = record {
   on_out = (Appends-nil out.bytes, refl);
 }
 
-pub listed_on : (laws : GrowingLaws) (text before after : Option (List ℕ)) (old new : CaptureState) (number : ℕ) (out_old out out' : Stream) (page kept page' : List ℕ) (r : Record) → HasListed text before old number (record { old = out_old; new = out }) page → new.own ≡ old.own → new.peer ≡ old.peer → NextGives old new before after (Ok (Some r)) → HandsOver page kept out.bytes out'.bytes → out'.faults ≡ out.faults → page' ≡ kept ++ shown_line number r → HasListed text after new (number + 1) (record { old = out_old; new = out' }) page'
+pub listed_on : (laws : GrowingLaws) (text before after : Option (List ℕ)) (old new : CaptureState) (number : ℕ) (out_old out out' : Stream)
+    (page kept page' : List ℕ) (r : Record) → HasListed text before old number (record { old = out_old; new = out }) page → new.own ≡ old.own →
+    new.peer ≡ old.peer → NextGives old new before after (Ok (Some r)) → HandsOver page kept out.bytes out'.bytes → out'.faults ≡ out.faults →
+    page' ≡ kept ++ shown_line number r → HasListed text after new (number + 1) (record { old = out_old; new = out' }) page'
 listed_on laws text before after old new number out_old out out' page kept page' r h own peer gives over faults put =
     let count = h.count in
     let counted = h.counted in
@@ -108,23 +121,33 @@ listed_on laws text before after old new number out_old out out' page kept page'
 
 -- ---- the three endings
 
-module _ (text before : Option (List ℕ)) (capture : CaptureState) (number : ℕ) (out : Moved) (page : List ℕ) (h : HasListed text before capture number out page) where
+module _ (text before : Option (List ℕ)) (capture : CaptureState) (number : ℕ) (out : Moved) (page : List ℕ)
+    (h : HasListed text before capture number out page) where
   -- what was read by then
   abbrev has_read : HasRead text h.records
   has_read = record { form = capture.form; own = capture.own; peer = capture.peer; come = before; read = h.read }
 
-  pub all_lines : (out' : Stream) (rest : List ℕ) → HandsOver page rest out.new.bytes out'.bytes → rest ≡ [] → out'.faults ≡ out.new.faults → WritesAll out.old out' (shown_lines 0 h.records)
+  pub all_lines : (out' : Stream) (rest : List ℕ) → HandsOver page rest out.new.bytes out'.bytes → rest ≡ [] → out'.faults ≡ out.new.faults →
+      WritesAll out.old out' (shown_lines 0 h.records)
   all_lines out' rest over none faults =
       let parts : page ≡ over.written = over.parts ∙ ap (λ text. over.written ++ text) none ∙ append-nil over.written in
-      subst (WritesAll out.old out') (sym (h.lines ∙ ap (λ text. h.written ++ text) parts)) (all_on out.old out.new out' h.written over.written h.on_out (over.taken, faults))
+      subst (WritesAll out.old out') (sym (h.lines ∙ ap (λ text. h.written ++ text) parts))
+      (all_on out.old out.new out' h.written over.written h.on_out (over.taken, faults))
 
   pub some_lines : (out' : Stream) → WritesSome out.new out' page → WritesSome out.old out' (shown_lines 0 h.records)
   some_lines out' some = subst (WritesSome out.old out') (sym h.lines) (some_on out.old out.new out' h.written page h.on_out some)
 
   pub read_all : (laws : GrowingLaws) → IsAtEnd before → HasReadAll text h.records
-  read_all laws end = record { form = capture.form; own = capture.own; peer = capture.peer; read = laws.ended text before capture.form capture.own capture.peer h.records h.read end }
+  read_all laws end = record {
+    form = capture.form;
+    own = capture.own;
+    peer = capture.peer;
+    read =
+        laws.ended text before capture.form capture.own capture.peer h.records h.read end;
+  }
 
-  pub read_to_fault : (fault : CaptureFault) → FaultShows (RecordDeparts capture.form capture.records) (capture.records + 2) before fault → IsReadTo (Faulty fault) text h.records
+  pub read_to_fault : (fault : CaptureFault) → FaultShows (RecordDeparts capture.form capture.records) (capture.records + 2) before fault →
+      IsReadTo (Faulty fault) text h.records
   read_to_fault (Departs kind line) shows =
       let same = h.counted ∙ sym h.count in
       inr (
@@ -139,7 +162,8 @@ module _ (text before : Option (List ℕ)) (capture : CaptureState) (number : �
   read_to_fault Failed shows = absurd shows
 
   -- where that is a failed read, each whole line was read
-  pub whole_to_fault : (fault : CaptureFault) (left : Option (List ℕ)) → WhereReadFails (is_read_fault fault) (IsCutBehind before left) → ListsWholeLines (Faulty fault) text left h.records
+  pub whole_to_fault : (fault : CaptureFault) (left : Option (List ℕ)) → WhereReadFails (is_read_fault fault) (IsCutBehind before left) →
+      ListsWholeLines (Faulty fault) text left h.records
   whole_to_fault (Departs kind line) left cut = tt
   whole_to_fault Read left cut = inr (has_read, cut)
   whole_to_fault OutOfMemory left cut = tt
@@ -154,7 +178,8 @@ head_fault text Read shows = inl refl
 head_fault text OutOfMemory shows = inl refl
 head_fault text Failed shows = absurd shows
 
-pub whole_at_head : (text left : Option (List ℕ)) (fault : CaptureFault) → WhereReadFails (is_read_fault fault) (IsCutBehind text left) → ListsWholeLines (Faulty fault) text left []
+pub whole_at_head : (text left : Option (List ℕ)) (fault : CaptureFault) → WhereReadFails (is_read_fault fault) (IsCutBehind text left) →
+    ListsWholeLines (Faulty fault) text left []
 whole_at_head text left (Departs kind line) cut = tt
 whole_at_head text left Read cut = inl (refl, cut)
 whole_at_head text left OutOfMemory cut = tt

@@ -50,7 +50,8 @@ TellsPlayed out err (Err fault) status = Writes err.old err.new (play_fault_text
 pub record IsPlaying (script : Moved) (captures : Moved × Moved) (out err : Moved) (status : ℕ) : Type 0 where
   pub answer : Result Played PlayFault
   pub plays : Plays script.old.bytes (held captures.0.old.bytes captures.1.old.bytes) (held captures.0.new.bytes captures.1.new.bytes) answer
-  pub lines : PlaysWholeLines script.old.bytes script.new.bytes (held captures.0.old.bytes captures.1.old.bytes) (held captures.0.new.bytes captures.1.new.bytes) answer
+  pub lines : PlaysWholeLines script.old.bytes script.new.bytes (held captures.0.old.bytes captures.1.old.bytes)
+      (held captures.0.new.bytes captures.1.new.bytes) answer
   pub reads : CountsReadsOf answer script.old.faults script.new.faults
   pub writes_a : CountsWritesOf A answer captures.0.old.faults captures.0.new.faults
   pub writes_b : CountsWritesOf B answer captures.1.old.faults captures.1.new.faults

@@ -22,7 +22,8 @@ flags_text flags = flags_digits flags.quick_sync flags.select
 -- the words of a data message, but for its body
 abbrev pub data_words : Flags → (resp num count : ℕ) → List ℕ
 data_words flags resp num count =
-    codes "data flags " ++ (flags_text flags ++ (codes " resp " ++ (decimal resp ++ (codes " num " ++ (decimal num ++ (codes " count " ++ decimal count))))))
+    codes "data flags " ++
+    (flags_text flags ++ (codes " resp " ++ (decimal resp ++ (codes " num " ++ (decimal num ++ (codes " count " ++ decimal count))))))
 
 -- the words of each message
 abbrev pub message_words : MessageValue → List ℕ

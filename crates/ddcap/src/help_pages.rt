@@ -99,7 +99,7 @@ Status:
   2  a faulty line, as script: line 13: syntax (or too long, too many), or a
      step that can't be made: bad step, or full where a side has no address
      left for a link; A and B have the steps before it
-  3  script: cannot open, script: read failed (or a: or b:), a: write failed
+  3  script: cannot open (or a: or b:), script: read failed, a: write failed
      (or b:), out of memory, or a failed write to standard output or error
 ";
 

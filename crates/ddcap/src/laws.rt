@@ -2,9 +2,9 @@
 //! that starts each side at most once it accepts them.
 
 ghost use Rattle.std.specs.Prelude.{ℕ, List, Option, Result, Some, Ok};
-ghost use Rattle.dna_model.specs.PlayRun.{StartsOnce};
-ghost use Rattle.dna_model.specs.Script.{Script};
-ghost use Rattle.dna_model.specs.ScriptText.{IsScriptText};
+ghost use Rattle.dna_play.specs.PlayRun.{StartsOnce};
+ghost use Rattle.dna_play.specs.Script.{Script};
+ghost use Rattle.dna_play.specs.ScriptText.{IsScriptText};
 ghost use Rattle.pair_judge.specs.declared.reason.Reason.{Reason as Why};
 ghost use Rattle.pair_judge.specs.declared.verdict.Verdict.TheVariants.{Refused};
 ghost use Rattle.pair_judge.specs.Judged.{AcceptsOrFails, Answer, IsAnswer};
@@ -31,7 +31,8 @@ pub fn played_texts_stand()
 /// him. So it is of all that the player answers behind the head of a script, where no device and no memory failed; and of the program: where
 /// `play` ends with status 0, `check` of what it wrote ends with 0, or with 3 for want of memory or a failed device.
 pub fn played_is_accepted()
-    ensures reached { (text : Option (List ℕ)) (r : Reached) (written : Held) (answer : Answer) → HasPlayed text r → StartsOnce r.script.steps →
+    ensures reached { (text : Option (List ℕ)) (r : Reached) (written : Held) (answer : Answer) →
+        HasPlayed text r → StartsOnce r.script.steps →
         HasWritten empty_captures written r → IsAnswer written.a written.b answer → AcceptsOrFails answer }
     ensures answered { (text : Option (List ℕ)) (written : Held) (played : Result Played PlayFault) (answer : Answer) →
         Plays text empty_captures written played → HasCaptures played → StartsOnceThroughout text →

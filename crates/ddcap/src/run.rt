@@ -40,14 +40,30 @@ pub fn run<R: Env + Files + AllocGlobal, O: Write, E: Write>(
         Ok(words) => words,
         Err(fault) => return print_words_fault(err, fault),
     };
-    match task_of(rt.alloc(), words.as_slice()) {
-        Ok(Task::Check { a, b }) => check_files(rt, a, b, out, err),
-        Ok(Task::Show { a }) => show_file(rt, a, out, err),
-        Ok(Task::Play { script, a, b }) => play_file(rt, script, a, b, out, err),
-        Ok(Task::Convert { to, a, b }) => convert_file(rt, to, a, b, out, err),
-        Ok(Task::Help { topic }) => help_to(out, topic),
-        Ok(Task::Explain { reason }) => explain_to(rt.alloc(), &explanation_of(reason), out, err),
-        Err(fault) => print_words_fault(err, fault),
+    let task = match task_of(rt.alloc(), words.as_slice()) {
+        Ok(task) => task,
+        Err(fault) => return print_words_fault(err, fault),
+    };
+    match do_task(rt, task, out, err) {
+        Ok(status) => status,
+        Err(status) => status,
+    }
+}
+
+// Does the task, and answers its status. `Err`: that of a file which can't be opened, which was told.
+fn do_task<R: Files + AllocGlobal, O: Write, E: Write>(
+    rt: &R,
+    task: Task<'_>,
+    out: &mut Tally<O>,
+    err: &mut Tally<E>,
+) -> Result<u8, u8> {
+    match task {
+        Task::Check { a, b } => check_files(rt, a, b, out, err),
+        Task::Show { a } => show_file(rt, a, out, err),
+        Task::Play { script, a, b } => play_file(rt, script, a, b, out, err),
+        Task::Convert { to, a, b } => convert_file(rt, to, a, b, out, err),
+        Task::Help { topic } => Ok(help_to(out, topic)),
+        Task::Explain { reason } => Ok(explain_to(rt.alloc(), &explanation_of(reason), out, err)),
     }
 }
 
@@ -76,25 +92,17 @@ fn print_words_fault<W: Write>(err: &mut Tally<W>, fault: WordsFault) -> u8
     }
 }
 
-// Opens the two files, a's first, and checks what they hold. The first that can't be opened ends it.
+// Opens the two files, a's first, and checks what they hold.
 fn check_files<R: Files + AllocGlobal, O: Write, E: Write>(
     rt: &R,
     path_a: &str,
     path_b: &str,
     out: &mut Tally<O>,
     err: &mut Tally<E>,
-) -> u8 {
-    let file_a = match fs::open(rt, path_a) {
-        Ok(file) => file,
-        Err(error) => return print_not_opened(err, Named::A, &error),
-    };
-    let file_b = match fs::open(rt, path_b) {
-        Ok(file) => file,
-        Err(error) => return print_not_opened(err, Named::B, &error),
-    };
-    let mut a = Tally::new(file_a);
-    let mut b = Tally::new(file_b);
-    check_to(rt.alloc(), &mut a, &mut b, out, err)
+) -> Result<u8, u8> {
+    let mut a = opened(rt, path_a, Named::A, err)?;
+    let mut b = opened(rt, path_b, Named::B, err)?;
+    Ok(check_to(rt.alloc(), &mut a, &mut b, out, err))
 }
 
 // Opens the file, and shows what it holds.
@@ -103,17 +111,12 @@ fn show_file<R: Files + AllocGlobal, O: Write, E: Write>(
     path: &str,
     out: &mut Tally<O>,
     err: &mut Tally<E>,
-) -> u8 {
-    let file = match fs::open(rt, path) {
-        Ok(file) => file,
-        Err(error) => return print_not_opened(err, Named::A, &error),
-    };
-    let mut a = Tally::new(file);
-    show_to(rt.alloc(), &mut a, out, err)
+) -> Result<u8, u8> {
+    let mut a = opened(rt, path, Named::A, err)?;
+    Ok(show_to(rt.alloc(), &mut a, out, err))
 }
 
-// Opens the one file, creates or empties the other, and writes into it what the first one holds, in this format. The first that
-// can't be opened ends it.
+// Opens the one file, creates or empties the other, and writes into it what the first one holds, in this format.
 fn convert_file<R: Files + AllocGlobal, O: Write, E: Write>(
     rt: &R,
     to: Format,
@@ -121,22 +124,13 @@ fn convert_file<R: Files + AllocGlobal, O: Write, E: Write>(
     path_b: &str,
     out: &mut Tally<O>,
     err: &mut Tally<E>,
-) -> u8 {
-    let file_a = match fs::open(rt, path_a) {
-        Ok(file) => file,
-        Err(error) => return print_not_opened(err, Named::A, &error),
-    };
-    let file_b = match fs::create(rt, path_b) {
-        Ok(file) => file,
-        Err(error) => return print_not_opened(err, Named::B, &error),
-    };
-    let mut src = Tally::new(file_a);
-    let mut dest = Tally::new(file_b);
-    convert_to(rt.alloc(), to.number(), &mut src, &mut dest, out, err)
+) -> Result<u8, u8> {
+    let mut src = opened(rt, path_a, Named::A, err)?;
+    let mut dest = created(rt, path_b, Named::B, err)?;
+    Ok(convert_to(rt.alloc(), to.number(), &mut src, &mut dest, out, err))
 }
 
-// Opens the script, creates or empties both captures, a's first, and plays the script into them. The first that can't be opened
-// ends it.
+// Opens the script, creates or empties both captures, a's first, and plays the script into them.
 fn play_file<R: Files + AllocGlobal, O: Write, E: Write>(
     rt: &R,
     path: &str,
@@ -144,23 +138,37 @@ fn play_file<R: Files + AllocGlobal, O: Write, E: Write>(
     path_b: &str,
     out: &mut Tally<O>,
     err: &mut Tally<E>,
-) -> u8 {
-    let file = match fs::open(rt, path) {
-        Ok(file) => file,
-        Err(error) => return print_not_opened(err, Named::Script, &error),
-    };
-    let file_a = match fs::create(rt, path_a) {
-        Ok(file) => file,
-        Err(error) => return print_not_opened(err, Named::A, &error),
-    };
-    let file_b = match fs::create(rt, path_b) {
-        Ok(file) => file,
-        Err(error) => return print_not_opened(err, Named::B, &error),
-    };
-    let mut script = Tally::new(file);
-    let mut a = Tally::new(file_a);
-    let mut b = Tally::new(file_b);
-    play_to(rt.alloc(), &mut script, &mut a, &mut b, out, err)
+) -> Result<u8, u8> {
+    let mut script = opened(rt, path, Named::Script, err)?;
+    let mut a = created(rt, path_a, Named::A, err)?;
+    let mut b = created(rt, path_b, Named::B, err)?;
+    Ok(play_to(rt.alloc(), &mut script, &mut a, &mut b, out, err))
+}
+
+// Opens a file to be read. `Err`: it can't be opened, which was told, with this status.
+fn opened<R: Files, E: Write>(
+    rt: &R,
+    path: &str,
+    named: Named,
+    err: &mut Tally<E>,
+) -> Result<Tally<R::File>, u8> {
+    match fs::open(rt, path) {
+        Ok(file) => Ok(Tally::new(file)),
+        Err(error) => Err(print_not_opened(err, named, &error)),
+    }
+}
+
+// Creates or empties a file to be written. `Err` as for `opened`.
+fn created<R: Files, E: Write>(
+    rt: &R,
+    path: &str,
+    named: Named,
+    err: &mut Tally<E>,
+) -> Result<Tally<R::File>, u8> {
+    match fs::create(rt, path) {
+        Ok(file) => Ok(Tally::new(file)),
+        Err(error) => Err(print_not_opened(err, named, &error)),
+    }
 }
 
 // Prints that a file can't be opened, or that memory was wanting for it, and answers the status.

@@ -13,8 +13,11 @@ pub by_rule : (unit : List ℕ) (answer : ReadingValue) → IsBytes unit → (re
 by_rule unit answer fits = (λ e. subst (λ (r : ReadingValue). IsReading r unit) e (reading_follows unit fits), reading_is answer unit fits)
 
 pub by_grammar : (message : MessageValue) (unit : List ℕ) → IsUnit message unit ↔ (IsInRange message × IsBytes unit × (unit ≡ spelling message))
-by_grammar message unit =
-    (λ u. (u.in_range, u.bytes, spelled_once message unit u), λ h. (by_rule unit (Sound message) h.1).0 (ap reading h.2 ∙ reading-spelling message h.0))
+by_grammar message unit = (
+  λ u. (u.in_range, u.bytes, spelled_once message unit u),
+  λ h. (by_rule unit (Sound message) h.1).0
+      (ap reading h.2 ∙ reading-spelling message h.0),
+)
 
 sound_is : (one other : MessageValue) → Sound one ≡ Sound other → one ≡ other
 sound_is one other e = cc
@@ -26,5 +29,6 @@ one_message one other unit u v = sound_is one other (sym (unit_is_sound one unit
 pub rule_of : (unit : List ℕ) (found : ReadingValue) → IsBytes unit → found ≡ reading unit → IsReading found unit
 rule_of unit found fits e = subst (λ (r : ReadingValue). IsReading r unit) (sym e) (reading_follows unit fits)
 
-pub sound_of : (unit : List ℕ) (found : ReadingValue) (message : MessageValue) → IsBytes unit → found ≡ reading unit → (found ≡ Sound message) ↔ IsUnit message unit
+pub sound_of : (unit : List ℕ) (found : ReadingValue) (message : MessageValue) → IsBytes unit → found ≡ reading unit →
+    (found ≡ Sound message) ↔ IsUnit message unit
 sound_of unit found message fits e = (λ s. (by_rule unit (Sound message) fits).0 (sym e ∙ s), λ u. e ∙ unit_is_sound message unit u)

@@ -1,5 +1,6 @@
 -- A field with its check behind it is good, and good bytes are that.
-use Rattle.std.proofs.Common.{◌≡◌, ℕ, ◌+◌, ◌-◌, ◌*◌, ◌/◌, ◌%◌, ◌<◌, ◌≤◌, true, List, [], ◌∷◌, ◌++◌, length, get_or, take, drop, refl, sym, ap, ◌∙◌, arith}
+use Rattle.std.proofs.Common.{◌≡◌, ℕ, ◌+◌, ◌-◌, ◌*◌, ◌/◌, ◌%◌, ◌<◌, ◌≤◌, true, List, [], ◌∷◌, ◌++◌, length, get_or, take, drop, refl, sym, ap, ◌∙◌}
+use Rattle.std.proofs.Common.{arith}
 use Rattle.std.proofs.lemmas.Bool.{le-leb, leb-true, eq-eqb, eqb-true, and_parts, and_from}
 use Rattle.std.proofs.lemmas.List.{length-append, length-drop, get_or-drop, take_at, drop_at, take-append-drop}
 use Rattle.wire_base.specs.BlockCheck.{check_of, check_bytes, is_good, row_of}
@@ -19,7 +20,8 @@ is_good-with_check field =
     (and_from _ _ (le-leb _ _ (omega (arith, length-with_check field))) (eq-eqb _ _ (sym back))))
 
 -- two bytes are those of the number that they make
-two_bytes : (bytes : List ℕ) (check : ℕ) → length bytes ≡ 2 → get_or bytes 0 0 < 256 → get_or bytes 1 0 < 256 → row_of bytes ≡ check → bytes ≡ (check % 256) ∷ (check / 256) ∷ []
+two_bytes : (bytes : List ℕ) (check : ℕ) → length bytes ≡ 2 → get_or bytes 0 0 < 256 → get_or bytes 1 0 < 256 → row_of bytes ≡ check →
+    bytes ≡ (check % 256) ∷ (check / 256) ∷ []
 two_bytes [] check len first second e = absurd (omega arith)
 two_bytes (a ∷ []) check len first second e = absurd (omega arith)
 two_bytes (a ∷ b ∷ []) check len first second e =

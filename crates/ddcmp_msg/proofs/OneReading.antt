@@ -9,7 +9,8 @@ use Rattle.ddcmp_msg.specs.declared.departure.Departure.{Departure}
 use Rattle.ddcmp_msg.specs.declared.departure.Departure.TheVariants.{UnknownStart, Maintenance, WrongLength, UnknownType, WrongField}
 use Rattle.ddcmp_msg.specs.Message.{MessageValue, Ack, Nak, Rep, Strt, Stack, IsBytes, reason_number, reason_of}
 use Rattle.ddcmp_msg.specs.Spelling.{IsUnit}
-use Rattle.ddcmp_msg.specs.Reading.{ReadingValue, Sound, HeaderBad, DataBad, Malformed, reading, count_of, type_of, subtype_of, unit_flags, address_of, data_reading, nak_reading, plain_reading, control_reading, checked_reading}
+use Rattle.ddcmp_msg.specs.Reading.{ReadingValue, Sound, HeaderBad, DataBad, Malformed, reading, count_of, type_of, subtype_of, unit_flags}
+use Rattle.ddcmp_msg.specs.Reading.{address_of, data_reading, nak_reading, plain_reading, control_reading, checked_reading}
 use Rattle.ddcmp_msg.specs.ReadingRule.{HasGoodHeader, HasGoodData, HasKnownType, Departs, IsReading, start_of}
 use Rattle.ddcmp_msg.proofs.Fields.{low_back, reason-lt}
 use Rattle.ddcmp_msg.proofs.Rule.{unit_is_sound, reason_is, reading_follows}
@@ -53,13 +54,22 @@ data_too_long unit fits part more =
     cond_both (nat_eq (count_of unit) 0) (Malformed WrongLength) _ (λ r. r ≡ Malformed WrongLength) (λ _. refl) (λ _.
     rw (le-ltb _ _ part.long, test_from_good _ (part_fits unit fits) part.check, lt-ltb _ _ more) refl)
 
-data_field : (unit : List ℕ) → IsBytes unit → count_of unit ≢ 0 → HasGoodData unit → length unit ≡ count_of unit + 10 → address_of unit ≢ 1 → data_reading unit ≡ Malformed WrongField
+data_field : (unit : List ℕ) → IsBytes unit → count_of unit ≢ 0 → HasGoodData unit → length unit ≡ count_of unit + 10 → address_of unit ≢ 1 →
+    data_reading unit ≡ Malformed WrongField
 data_field unit fits some part len address =
-    rw (ne_eqb _ _ some, le-ltb _ _ part.long, test_from_good _ (part_fits unit fits) part.check, le-ltb (count_of unit + 10) (length unit) (omega arith), ne_eqb _ _ address) refl
+    rw (
+      ne_eqb _ _ some,
+      le-ltb _ _ part.long,
+      test_from_good _ (part_fits unit fits) part.check,
+      le-ltb (count_of unit + 10) (length unit)
+          (omega arith),
+      ne_eqb _ _ address,
+    ) refl
 
 -- ---- control messages
 
-unknown_reason : (unit : List ℕ) (found : Option NakReason) → ¬ HasKnownType unit → type_of unit ≡ 2 → reason_of (subtype_of unit) ≡ found → nak_reading found unit ≡ Malformed UnknownType
+unknown_reason : (unit : List ℕ) (found : Option NakReason) → ¬ HasKnownType unit → type_of unit ≡ 2 → reason_of (subtype_of unit) ≡ found →
+    nak_reading found unit ≡ Malformed UnknownType
 unknown_reason unit None unknown t e = refl
 unknown_reason unit (Some reason) unknown t e =
     let s = reason_is (subtype_of unit) reason e in
@@ -86,14 +96,19 @@ unknown_type unit unknown len =
     cond_both (nat_eq (subtype_of unit) 0) _ (Malformed UnknownType) P (λ e. unknown_plain unit unknown (eqb-true _ _ e)) (λ _. refl)))
 
 -- Of a control message with a known type that is no unit only the fields can be wrong: every other reading says otherwise.
-control_field : (unit : List ℕ) (r : ReadingValue) → HasGoodHeader unit → start_of unit ≡ 5 → length unit ≡ 8 → HasKnownType unit → ((message : MessageValue) → ¬ IsUnit message unit) → IsReading r unit → r ≡ Malformed WrongField
+control_field : (unit : List ℕ) (r : ReadingValue) → HasGoodHeader unit → start_of unit ≡ 5 → length unit ≡ 8 → HasKnownType unit →
+    ((message : MessageValue) → ¬ IsUnit message unit) → IsReading r unit → r ≡ Malformed WrongField
 control_field unit (Sound message) good start len known none h = absurd (none message h)
 control_field unit HeaderBad good start len known none h = absurd (h good)
 control_field unit DataBad good start len known none h = absurd (omega (arith, start, h.1))
 control_field unit (Malformed UnknownStart) good start len known none h = absurd (h.1.1 start)
 control_field unit (Malformed Maintenance) good start len known none h = absurd (omega (arith, start, h.1))
 control_field unit (Malformed WrongLength) good start len known none h =
-    elim h.1 [ inl a ↦ absurd (omega (arith, start, a.0)) | inr b ↦ elim b [ inl a ↦ absurd (omega (arith, start, a.0)) | inr a ↦ absurd (omega (arith, len, a.1)) ] ]
+    elim h.1 [
+      | inl a ↦ absurd (omega (arith, start, a.0))
+      | inr b ↦ elim b
+          [ inl a ↦ absurd (omega (arith, start, a.0)) | inr a ↦ absurd (omega (arith, len, a.1)) ]
+    ]
 control_field unit (Malformed UnknownType) good start len known none h = absurd (h.1.2 known)
 control_field unit (Malformed WrongField) good start len known none h = refl
 

@@ -7,12 +7,15 @@ use Rattle.ddcmp_msg.specs.declared.departure.Departure.TheVariants.{UnknownStar
 use Rattle.ddcmp_msg.specs.declared.reading.Reading.{Reading}
 use Rattle.ddcmp_msg.specs.declared.reading.Reading.TheVariants as variants
 use Rattle.ddcmp_msg.specs.declared.message.Message.{Message}
-use Rattle.ddcmp_msg.specs.Reading.{ReadingValue, reading_view, Sound, HeaderBad, DataBad, Malformed, reading, count_of, data_message, data_reading, control_reading, checked_reading, type_of, subtype_of, unit_flags, receiver_of, sender_of, address_of, IsSound}
+use Rattle.ddcmp_msg.specs.Reading.{ReadingValue, reading_view, Sound, HeaderBad, DataBad, Malformed, reading, count_of, data_message, data_reading}
+use Rattle.ddcmp_msg.specs.Reading.{control_reading, checked_reading, type_of, subtype_of, unit_flags, receiver_of, sender_of, address_of, IsSound}
 use Rattle.ddcmp_msg.specs.Message.{Ack}
 use Rattle.ddcmp_msg.specs.Spelling.{ADDRESS}
 
 -- a fact of every sound reading of the unit, that holds once it is told by its first byte
-by_start : (unit : List ℕ) (P : ReadingValue → Type 0) → (8 ≤ length unit → IsSound (checked_reading (slice_index unit 0) unit) → P (checked_reading (slice_index unit 0) unit)) → IsSound (reading unit) → P (reading unit)
+by_start : (unit : List ℕ) (P : ReadingValue → Type 0) →
+    (8 ≤ length unit → IsSound (checked_reading (slice_index unit 0) unit) → P (checked_reading (slice_index unit 0) unit)) → IsSound (reading unit) →
+    P (reading unit)
 unfolding reading
 by_start unit P rest =
     cond_both (nat_lt (length unit) 8) HeaderBad _ (λ r. IsSound r → P r) (λ _ s. absurd s) (λ long.
@@ -40,7 +43,8 @@ in_data unit =
 
 pub data_unit : (unit : List ℕ) → IsSound (reading unit) → slice_index unit 0 ≡ 129 → IsData unit (reading unit)
 data_unit unit sound start =
-    by_start unit (IsData unit) (λ _. subst (λ (b : ℕ). IsSound (checked_reading b unit) → IsData unit (checked_reading b unit)) (sym start) (in_data unit)) sound
+    by_start unit (IsData unit)
+    (λ _. subst (λ (b : ℕ). IsSound (checked_reading b unit) → IsData unit (checked_reading b unit)) (sym start) (in_data unit)) sound
 
 pub control_unit : (unit : List ℕ) → IsSound (reading unit) → slice_index unit 0 ≢ 129 → reading unit ≡ control_reading unit
 control_unit unit sound other =
@@ -55,7 +59,8 @@ control_unit unit sound other =
         cond_both (nat_eq b 144) (Malformed Maintenance) (Malformed UnknownStart) P (λ _ s. absurd s) (λ _ s. absurd s)))
 
 -- one of TYPE 1 is the ACK of its fields
-pub ack_unit : (unit : List ℕ) → IsSound (reading unit) → slice_index unit 0 ≢ 129 → type_of unit ≡ 1 → reading unit ≡ Sound (Ack (unit_flags unit) (receiver_of unit))
+pub ack_unit : (unit : List ℕ) → IsSound (reading unit) → slice_index unit 0 ≢ 129 → type_of unit ≡ 1 →
+    reading unit ≡ Sound (Ack (unit_flags unit) (receiver_of unit))
 ack_unit unit sound other is_ack =
     let same = control_unit unit sound other in
     same ∙ in_ack (subst IsSound same sound)

@@ -1,5 +1,6 @@
 -- The grammar and the spelling: a unit of a message, made of what its bytes say, and the one spelling of it.
-use Rattle.std.proofs.Common.{◌≡◌, ℕ, zero, suc, ◌+◌, ◌-◌, ◌/◌, ◌%◌, ◌≤◌, List, [], ◌∷◌, ◌++◌, length, get_or, take, drop, refl, sym, ap, subst, ◌∙◌, arith}
+use Rattle.std.proofs.Common.{◌≡◌, ℕ, zero, suc, ◌+◌, ◌-◌, ◌/◌, ◌%◌, ◌≤◌, List, [], ◌∷◌, ◌++◌, length, get_or, take, drop, refl, sym, ap, subst, ◌∙◌}
+use Rattle.std.proofs.Common.{arith}
 use Rattle.std.specs.Prelude.{slice_range}
 use Rattle.std.proofs.lemmas.List.{length-append, length-drop, length-take, take-append-drop, take_at, take-take, take_all}
 use Rattle.wire_base.specs.BlockCheck.{HasGoodCheck}
@@ -24,11 +25,13 @@ pub IsChecked-from : (field bytes : List ℕ) → 2 ≤ length bytes → take (l
 IsChecked-from field bytes long e good =
     let n = length bytes - 2 in
     let last = two (drop n bytes) (omega (arith, length-drop n bytes)) in
-    let whole : bytes ≡ field ++ (get_or (drop n bytes) 0 0 ∷ get_or (drop n bytes) 1 0 ∷ []) = sym (take-append-drop n bytes) ∙ ap (λ (t : List ℕ). t ++ drop n bytes) e ∙ ap (λ (t : List ℕ). field ++ t) last in
+    let whole : bytes ≡ field ++ (get_or (drop n bytes) 0 0 ∷ get_or (drop n bytes) 1 0 ∷ []) =
+    sym (take-append-drop n bytes) ∙ ap (λ (t : List ℕ). t ++ drop n bytes) e ∙ ap (λ (t : List ℕ). field ++ t) last in
     (get_or (drop n bytes) 0 0, get_or (drop n bytes) 1 0, whole, good)
 
 -- the first six bytes, one by one
-pub six : (unit : List ℕ) → 6 ≤ length unit → take 6 unit ≡ get_or unit 0 0 ∷ get_or unit 1 0 ∷ get_or unit 2 0 ∷ get_or unit 3 0 ∷ get_or unit 4 0 ∷ get_or unit 5 0 ∷ []
+pub six : (unit : List ℕ) → 6 ≤ length unit → take 6 unit ≡ get_or unit 0 0 ∷ get_or unit 1 0 ∷ get_or unit 2 0 ∷ get_or unit 3 0 ∷ get_or unit 4 0 ∷
+    get_or unit 5 0 ∷ []
 six [] h = absurd (omega arith)
 six (a ∷ []) h = absurd (omega arith)
 six (a ∷ b ∷ []) h = absurd (omega arith)
@@ -52,21 +55,33 @@ data_head unit fits long start address =
 
 -- ---- a unit from its parts
 
-pub IsUnit-from : (message : MessageValue) (unit : List ℕ) → IsBytes unit → HasGoodHeader unit → IsInRange message → take 6 unit ≡ header message → IsRest message (drop 8 unit) → IsUnit message unit
+pub IsUnit-from : (message : MessageValue) (unit : List ℕ) → IsBytes unit → HasGoodHeader unit → IsInRange message → take 6 unit ≡ header message →
+    IsRest message (drop 8 unit) → IsUnit message unit
 IsUnit-from message unit fits good in_range head rest =
     let long = good.long in
     let len : length (take 8 unit) ≡ 8 = omega (arith, length-take 8 unit) in
     let front : take (length (take 8 unit) - 2) (take 8 unit) ≡ header message = rw len (take-take 6 8 unit (omega arith) ∙ head) in
-    record { in_range = in_range; bytes = fits; head = take 8 unit; rest = drop 8 unit; whole = sym (take-append-drop 8 unit); head_is = IsChecked-from (header message) (take 8 unit) (omega arith) front good.check; rest_is = rest }
+    record {
+      in_range = in_range;
+      bytes = fits;
+      head = take 8 unit;
+      rest = drop 8 unit;
+      whole = sym (take-append-drop 8 unit);
+      head_is =
+          IsChecked-from (header message) (take 8 unit) (omega arith) front good.check;
+      rest_is = rest;
+    }
 
 -- of a data message: all of its bytes are there, and no more
-pub data_rest : (unit : List ℕ) → HasGoodData unit → length unit ≡ count_of unit + 10 → IsChecked (slice_range unit 8 (8 + count_of unit)) (drop 8 unit)
+pub data_rest : (unit : List ℕ) → HasGoodData unit → length unit ≡ count_of unit + 10 → IsChecked (slice_range unit 8 (8 + count_of unit))
+    (drop 8 unit)
 data_rest unit good len =
     let n = count_of unit in
     let k : length (drop 8 unit) ≡ n + 2 = omega (arith, length-drop 8 unit) in
     let all : take (n + 10 - 8) (drop 8 unit) ≡ drop 8 unit = take_all (n + 10 - 8) (drop 8 unit) (omega arith) in
     let same : length (drop 8 unit) - 2 ≡ 8 + n - 8 = omega arith in
-    IsChecked-from (slice_range unit 8 (8 + n)) (drop 8 unit) (omega arith) (ap (λ (i : ℕ). take i (drop 8 unit)) same) (subst HasGoodCheck all good.check)
+    IsChecked-from (slice_range unit 8 (8 + n)) (drop 8 unit) (omega arith) (ap (λ (i : ℕ). take i (drop 8 unit)) same)
+    (subst HasGoodCheck all good.check)
 
 -- ---- one spelling
 

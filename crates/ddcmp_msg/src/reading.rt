@@ -5,7 +5,8 @@ ghost use Rattle.std.specs.Borrow.{Bor};
 ghost use Rattle.ddcmp_msg.specs.Message.{MessageValue, view, reason_of};
 ghost use Rattle.ddcmp_msg.specs.Spelling.{SOH, IsUnit};
 ghost use Rattle.ddcmp_msg.specs.ReadingRule.{IsReading};
-ghost use Rattle.ddcmp_msg.specs.Reading.{Sound, IsSound, reading_view, BodyLiesIn, LiesIn, count_of, data_reading, control_reading, nak_reading, plain_reading, if_zero, if_address, reading};
+ghost use Rattle.ddcmp_msg.specs.Reading.{Sound, IsSound, reading_view, BodyLiesIn, LiesIn, count_of, data_reading, control_reading, nak_reading};
+ghost use Rattle.ddcmp_msg.specs.Reading.{plain_reading, if_zero, if_address, reading};
 
 use crate::layout::{ACK, ADDRESS, CHECK_LEN, DLE, ENQ, HEADER_LEN, NAK, REP, SOH, STACK, STRT};
 use crate::{Departure, Flags, Message, NakReason};

@@ -1,7 +1,7 @@
 -- Which refusal a fault is.
 use Rattle.std.specs.Prelude.{◌≡◌, Bool, true, false, Option, Some, None}
-use Rattle.dna_model.specs.declared.refusal.StationRefusal.{StationRefusal}
-use Rattle.dna_model.specs.declared.refusal.StationRefusal.TheVariants.{WrongState, WrongNumber, WrongResponse, Changed, NoCause}
+use Rattle.dna_station.specs.declared.refusal.StationRefusal.{StationRefusal}
+use Rattle.dna_station.specs.declared.refusal.StationRefusal.TheVariants.{WrongState, WrongNumber, WrongResponse, Changed, NoCause}
 use Rattle.ddcmp_station.specs.declared.fault.StationFault.{StationFault}
 use Rattle.ddcmp_station.specs.declared.fault.StationFault.TheVariants.{Refused, OutOfMemory}
 

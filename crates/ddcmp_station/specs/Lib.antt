@@ -1,5 +1,5 @@
--- What a contract sees of the types of this crate; the rules stand in `dna_model`
+-- What a contract sees of the types of this crate; the rules stand in `dna_station`
 pub mod Arrival
-pub mod Counts
 pub mod Fault
 pub mod Sent
+pub mod inner

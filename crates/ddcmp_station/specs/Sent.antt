@@ -1,7 +1,7 @@
 -- What a station says of a message that it let its node send.
 use Rattle.ddcmp_msg.specs.Message.{MessageValue}
-use Rattle.dna_model.specs.WireStation.{WireStation}
-use Rattle.dna_model.specs.WireBook.{wire_tag, gives_new, label_again}
+use Rattle.dna_station.specs.WireStation.{WireStation}
+use Rattle.dna_station.specs.WireBook.{wire_tag, gives_new, label_again}
 use Rattle.ddcmp_station.specs.declared.sent_as.SentAs.{SentAs}
 
 module _ {L : Type 0} where

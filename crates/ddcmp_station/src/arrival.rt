@@ -1,7 +1,7 @@
 //! What comes to a station.
 
 use ddcmp_msg::Message;
-use dna_model::Tag;
+use dna_station::Tag;
 
 /// What comes to a station from its line.
 #[derive(Clone, Copy, Debug, PartialEq, Eq)]

@@ -1,8 +1,8 @@
 //! What a station may answer with a NAK.
 
 ghost use Rattle.std.specs.Prelude.{◌≡◌, ◌+◌, ◌^◌, ◌<◌, ◌≤◌, true};
-ghost use Rattle.dna_model.specs.Causes.{no_causes, with_cause, has_cause, without_cause};
-ghost use Rattle.ddcmp_station.specs.Counts.{open_causes};
+ghost use Rattle.dna_station.specs.Causes.{no_causes, with_cause, has_cause, without_cause};
+ghost use Rattle.ddcmp_station.specs.inner.Counts.{open_causes};
 
 use ddcmp_msg::NakReason;
 use std::marker::Model;
@@ -18,7 +18,7 @@ pub struct Causes {
 }
 
 impl Model for Causes {
-    ghost use Rattle.dna_model.specs.Causes.{Causes};
+    ghost use Rattle.dna_station.specs.Causes.{Causes};
 
     ghost Value = { Causes };
 

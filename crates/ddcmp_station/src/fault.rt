@@ -1,6 +1,6 @@
 //! Why a station made no step.
 
-use dna_model::StationRefusal;
+use dna_station::StationRefusal;
 
 /// Why a station made no step. It is as it was.
 #[derive(Clone, Copy, Debug, PartialEq, Eq)]

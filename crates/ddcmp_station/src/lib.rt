@@ -6,14 +6,11 @@
 mod arrival;
 mod causes;
 mod fault;
-mod held_packet;
 mod sent_as;
 mod station;
-mod station_variables;
 
 pub use arrival::Arrival;
-pub use dna_model::{State, StationEvent, StationRefusal, Tag};
+pub use dna_station::{State, StationEvent, StationRefusal, Tag};
 pub use fault::StationFault;
-pub use held_packet::HeldPacket;
 pub use sent_as::SentAs;
-pub use station::Station;
+pub use station::{HeldPacket, Station};

@@ -1,6 +1,6 @@
 //! What a station says of a message that it let its node send.
 
-use dna_model::Tag;
+use dna_station::Tag;
 
 /// How a message was sent.
 #[derive(Clone, Copy, Debug, PartialEq, Eq)]

@@ -1,20 +1,23 @@
 //! The station, and what its user does.
 
 ghost use Rattle.std.specs.Prelude.{◌≡◌, ◌+◌, ◌^◌, ◌<◌, ◌≤◌, length, IfOk, OnOk, OnErr, IfErr};
-ghost use Rattle.dna_model.specs.Table.{user_refusal};
-ghost use Rattle.dna_model.specs.WireStation.{new_wire_station, wire_after_event, wire_after_label, load};
+ghost use Rattle.dna_station.specs.Table.{user_refusal};
+ghost use Rattle.dna_station.specs.WireStation.{new_wire_station, wire_after_event, wire_after_label, load};
 ghost use Rattle.ddcmp_station.specs.Fault.{IsRefused};
 
 mod arriving;
 mod sending;
 
+use crate::StationFault;
 use crate::causes::Causes;
-use crate::station_variables::StationVariables;
-use crate::{HeldPacket, StationFault};
-use dna_model::{State, StationEvent, StationRefusal};
+use dna_station::{State, StationEvent, StationRefusal};
+use station_variables::StationVariables;
 use std::alloc::{AllocError, Global};
 use std::marker::Model;
-use wire_base::Window;
+use wire_base::{Copied, Window};
+
+/// A packet that has a number and is not acknowledged: a copy of its bytes, and the label of type `T` that the node put beside it, if it did.
+pub type HeldPacket<T> = station_variables::HeldPacket<T, Copied>;
 
 /// One station, with three verbs: [`Station::user`], what its user does; [`Station::sent`], its node sent this;
 /// [`Station::arrived`], this came.
@@ -32,7 +35,7 @@ use wire_base::Window;
 /// the open causes of a NAK. A refused call changes nothing.
 #[derive(Drop)]
 pub struct Station<T: Copy, W: Window<HeldPacket<T>, 256>> {
-    variables: StationVariables<T, W>,
+    variables: StationVariables<T, Copied, W>,
     // how many starts there were: the number of the present period
     period: u64,
     // the other side's period that the present one goes with, once it is known
@@ -44,7 +47,7 @@ pub struct Station<T: Copy, W: Window<HeldPacket<T>, 256>> {
 }
 
 impl<T: Copy, W: Window<HeldPacket<T>, 256>> Model for Station<T, W> {
-    ghost use Rattle.dna_model.specs.WireStation.{WireStation};
+    ghost use Rattle.dna_station.specs.WireStation.{WireStation};
 
     ghost Value = { WireStation T };
 

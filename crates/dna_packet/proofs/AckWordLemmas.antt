@@ -1,5 +1,6 @@
 -- An acknowledgement word that is read is the word that was written, and what was written is read again.
-use Rattle.std.proofs.Common.{◌≡◌, ℕ, zero, suc, ◌+◌, ◌*◌, ◌/◌, ◌%◌, ◌^◌, ◌<◌, ◌≤◌, true, false, eqb, leb, List, [], ◌∷◌, ◌++◌, length, get_or, take, Option, Some, None, Ok, refl, ap, subst, ◌∙◌, arith, inl, inr}
+use Rattle.std.proofs.Common.{◌≡◌, ℕ, zero, suc, ◌+◌, ◌*◌, ◌/◌, ◌%◌, ◌^◌, ◌<◌, ◌≤◌, true, false, eqb, leb, List, [], ◌∷◌, ◌++◌, length, get_or, take}
+use Rattle.std.proofs.Common.{Option, Some, None, Ok, refl, ap, subst, ◌∙◌, arith, inl, inr}
 use Rattle.std.specs.Prelude.{ok_or}
 use Rattle.std.specs.List.{AllByRecursion}
 use Rattle.std.specs.Option.{option_map}
@@ -87,9 +88,11 @@ ack_again ack rest fits =
 
 -- ---- the words of a segment
 
-pub acks_take : (room : ℕ) (bytes : List ℕ) (x : List AckWord × List ℕ) → IsBytes bytes → acks_at room bytes ≡ Ok x → Takes bytes (ack_bytes x.0) x.1 × AllByRecursion IsAckWord x.0 × (length x.0 ≤ room)
+pub acks_take : (room : ℕ) (bytes : List ℕ) (x : List AckWord × List ℕ) → IsBytes bytes → acks_at room bytes ≡ Ok x →
+    Takes bytes (ack_bytes x.0) x.1 × AllByRecursion IsAckWord x.0 × (length x.0 ≤ room)
 acks_take zero bytes x fits e =
-    subst (λ (y : List AckWord × List ℕ). Takes bytes (ack_bytes y.0) y.1 × AllByRecursion IsAckWord y.0 × (length y.0 ≤ 0)) (ok_is {Z = NspFault} ([], bytes) x e) (record { parts = refl; rest_fits = fits }, tt, omega arith)
+    subst (λ (y : List AckWord × List ℕ). Takes bytes (ack_bytes y.0) y.1 × AllByRecursion IsAckWord y.0 × (length y.0 ≤ 0))
+    (ok_is {Z = NspFault} ([], bytes) x e) (record { parts = refl; rest_fits = fits }, tt, omega arith)
 acks_take (suc room) bytes x fits e = elim (chosen (is_ack_next bytes) _ _ (Ok x) e) [
   | inl is ↦
       let a = bind_ok (ack_at bytes) (λ first. acks_at room first.1 >>= λ others. Ok (first.0 ∷ others.0, others.1)) x is.1 in
@@ -98,41 +101,54 @@ acks_take (suc room) bytes x fits e = elim (chosen (is_ack_next bytes) _ _ (Ok x
       let others = acks_take room a.0.1 b.0 first.0.rest_fits b.1 in
       let both = Takes-then bytes (word (ack_word a.0.0)) a.0.1 (ack_bytes b.0.0) b.0.1 first.0 others.0 in
       let made : List AckWord × List ℕ = (a.0.0 ∷ b.0.0, b.0.1) in
-      subst (λ (y : List AckWord × List ℕ). Takes bytes (ack_bytes y.0) y.1 × AllByRecursion IsAckWord y.0 × (length y.0 ≤ suc room)) (ok_is {Z = NspFault} made x b.2) (both, (first.1, others.1), omega (arith, others.2))
+      subst (λ (y : List AckWord × List ℕ). Takes bytes (ack_bytes y.0) y.1 × AllByRecursion IsAckWord y.0 × (length y.0 ≤ suc room))
+      (ok_is {Z = NspFault} made x b.2) (both, (first.1, others.1), omega (arith, others.2))
   | inr none ↦
-      subst (λ (y : List AckWord × List ℕ). Takes bytes (ack_bytes y.0) y.1 × AllByRecursion IsAckWord y.0 × (length y.0 ≤ suc room)) (ok_is {Z = NspFault} ([], bytes) x none.1) (record { parts = refl; rest_fits = fits }, tt, omega arith)
+      subst (λ (y : List AckWord × List ℕ). Takes bytes (ack_bytes y.0) y.1 × AllByRecursion IsAckWord y.0 × (length y.0 ≤ suc room))
+      (ok_is {Z = NspFault} ([], bytes) x none.1) (record { parts = refl; rest_fits = fits }, tt, omega arith)
 ]
 
 -- Where a word with bit 15 clear follows, no more acknowledgement words are read than were written.
-pub acks_again : (room : ℕ) (acks : List AckWord) (rest : List ℕ) → AllByRecursion IsAckWord acks → length acks ≤ room → is_ack_next rest ≡ false → acks_at room (ack_bytes acks ++ rest) ≡ Ok (acks, rest)
+pub acks_again : (room : ℕ) (acks : List AckWord) (rest : List ℕ) → AllByRecursion IsAckWord acks → length acks ≤ room → is_ack_next rest ≡ false →
+    acks_at room (ack_bytes acks ++ rest) ≡ Ok (acks, rest)
 acks_again zero [] rest fits le ends = refl
 acks_again (suc room) [] rest fits le ends = rw ends refl
 acks_again zero (ack ∷ acks) rest fits le ends = absurd (omega (arith, le))
 acks_again (suc room) (ack ∷ acks) rest fits le ends =
     let next : leb 128 (ack_word ack / 256 % 256) ≡ true = le-leb _ _ (omega (arith, (ack_word_fits ack fits.0).0, (ack_word_fits ack fits.0).1)) in
     let others = acks_again room acks rest fits.1 (omega arith) ends in
-    rw next (ap (λ r. r >>= λ (first : AckWord × List ℕ). acks_at room first.1 >>= λ others. Ok (first.0 ∷ others.0, others.1)) (ack_again ack (ack_bytes acks ++ rest) fits.0) ∙ rw others refl)
+    rw next (ap (λ r. r >>= λ (first : AckWord × List ℕ). acks_at room first.1 >>= λ others. Ok (first.0 ∷ others.0, others.1))
+    (ack_again ack (ack_bytes acks ++ rest) fits.0) ∙ rw others refl)
 
 -- ---- the words of a data acknowledgement
 
-second_takes : (first : AckWord) (bytes : List ℕ) (x : List AckWord × List ℕ) → IsBytes bytes → IsAckWord first → second_ack_at first bytes ≡ Ok x → Takes (word (ack_word first) ++ bytes) (ack_bytes x.0) x.1 × AllByRecursion IsAckWord x.0 × (1 ≤ length x.0) × (length x.0 ≤ 2)
+second_takes : (first : AckWord) (bytes : List ℕ) (x : List AckWord × List ℕ) → IsBytes bytes → IsAckWord first → second_ack_at first bytes ≡ Ok x →
+    Takes (word (ack_word first) ++ bytes) (ack_bytes x.0) x.1 × AllByRecursion IsAckWord x.0 × (1 ≤ length x.0) × (length x.0 ≤ 2)
 second_takes first [] x fits one e =
-    subst (λ (y : List AckWord × List ℕ). Takes (word (ack_word first) ++ []) (ack_bytes y.0) y.1 × AllByRecursion IsAckWord y.0 × (1 ≤ length y.0) × (length y.0 ≤ 2)) (ok_is {Z = NspFault} (first ∷ [], []) x e) (record { parts = refl; rest_fits = fits }, (one, tt), omega arith, omega arith)
+    subst (λ (y : List AckWord × List ℕ). Takes (word (ack_word first) ++ []) (ack_bytes y.0) y.1 × AllByRecursion IsAckWord y.0 × (1 ≤ length y.0) ×
+    (length y.0 ≤ 2)) (ok_is {Z = NspFault} (first ∷ [], []) x e) (record { parts = refl; rest_fits = fits }, (one, tt), omega arith, omega arith)
 second_takes first (byte ∷ rest) x fits one e =
     let b = bind_ok (ack_at (byte ∷ rest)) (λ second. Ok (first ∷ second.0 ∷ [], second.1)) x e in
     let second = ack_takes (byte ∷ rest) b.0 fits b.1 in
     let made : List AckWord × List ℕ = (first ∷ b.0.0 ∷ [], b.0.1) in
-    subst (λ (y : List AckWord × List ℕ). Takes (word (ack_word first) ++ (byte ∷ rest)) (ack_bytes y.0) y.1 × AllByRecursion IsAckWord y.0 × (1 ≤ length y.0) × (length y.0 ≤ 2)) (ok_is {Z = NspFault} made x b.2)
-    (record { parts = ap (λ (t : List ℕ). word (ack_word first) ++ t) second.0.parts; rest_fits = second.0.rest_fits }, (one, (second.1, tt)), omega arith, omega arith)
+    subst (λ (y : List AckWord × List ℕ). Takes (word (ack_word first) ++ (byte ∷ rest)) (ack_bytes y.0) y.1 × AllByRecursion IsAckWord y.0 ×
+    (1 ≤ length y.0) × (length y.0 ≤ 2)) (ok_is {Z = NspFault} made x b.2) (
+      record { parts = ap (λ (t : List ℕ). word (ack_word first) ++ t) second.0.parts; rest_fits = second.0.rest_fits },
+      (one, (second.1, tt)),
+      omega arith,
+      omega arith,
+    )
 
-pub data_acks_take : (bytes : List ℕ) (x : List AckWord × List ℕ) → IsBytes bytes → data_acks_at bytes ≡ Ok x → Takes bytes (ack_bytes x.0) x.1 × AllByRecursion IsAckWord x.0 × (1 ≤ length x.0) × (length x.0 ≤ 2)
+pub data_acks_take : (bytes : List ℕ) (x : List AckWord × List ℕ) → IsBytes bytes → data_acks_at bytes ≡ Ok x → Takes bytes (ack_bytes x.0) x.1 ×
+    AllByRecursion IsAckWord x.0 × (1 ≤ length x.0) × (length x.0 ≤ 2)
 data_acks_take bytes x fits e =
     let a = bind_ok (ack_at bytes) (λ first. second_ack_at first.0 first.1) x e in
     let first = ack_takes bytes a.0 fits a.1 in
     let both = second_takes a.0.0 a.0.1 x first.0.rest_fits first.1 a.2 in
     (record { parts = first.0.parts ∙ both.0.parts; rest_fits = both.0.rest_fits }, both.1, both.2, both.3)
 
-pub data_acks_again : (acks : List AckWord) → AllByRecursion IsAckWord acks → 1 ≤ length acks → length acks ≤ 2 → data_acks_at (ack_bytes acks) ≡ Ok (acks, [])
+pub data_acks_again : (acks : List AckWord) → AllByRecursion IsAckWord acks → 1 ≤ length acks → length acks ≤ 2 →
+    data_acks_at (ack_bytes acks) ≡ Ok (acks, [])
 data_acks_again [] fits least most = absurd (omega (arith, least))
 data_acks_again (one ∷ []) fits least most = rw (ack_again one [] fits.0) refl
 data_acks_again (one ∷ two ∷ []) fits least most = rw (ack_again one (word (ack_word two)) fits.0) (rw (ack_again two [] fits.1.0) refl)
@@ -144,5 +160,6 @@ pub ack_bytes-append : (front back : List AckWord) → ack_bytes (front ++ back)
 ack_bytes-append [] back = refl
 ack_bytes-append (ack ∷ front) back = ap (λ (t : List ℕ). word (ack_word ack) ++ t) (ack_bytes-append front back)
 
-pub ack_bytes_more : (acks : List AckWord) (i : ℕ) (d : AckWord) → i < length acks → ack_bytes (take (i + 1) acks) ≡ ack_bytes (take i acks) ++ word (ack_word (get_or acks i d))
+pub ack_bytes_more : (acks : List AckWord) (i : ℕ) (d : AckWord) → i < length acks → ack_bytes (take (i + 1) acks) ≡ ack_bytes (take i acks) ++
+    word (ack_word (get_or acks i d))
 ack_bytes_more acks i d lt = ap ack_bytes (take_more acks i d lt) ∙ ack_bytes-append (take i acks) (get_or acks i d ∷ [])

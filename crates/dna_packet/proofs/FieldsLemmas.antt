@@ -1,5 +1,6 @@
 -- A field that is read is the field that was written, and what was written is read again.
-use Rattle.std.proofs.Common.{◌≡◌, ℕ, suc, ◌+◌, ◌*◌, ◌/◌, ◌%◌, ◌^◌, ◌<◌, ◌⊎◌, Bool, true, false, cond, List, [], ◌∷◌, ◌++◌, get_or, Result, Ok, Err, refl, sym, ap, subst, ◌∙◌, append_assoc, arith, inl, inr}
+use Rattle.std.proofs.Common.{◌≡◌, ℕ, suc, ◌+◌, ◌*◌, ◌/◌, ◌%◌, ◌^◌, ◌<◌, ◌⊎◌, Bool, true, false, cond, List, [], ◌∷◌, ◌++◌, get_or, Result, Ok, Err}
+use Rattle.std.proofs.Common.{refl, sym, ap, subst, ◌∙◌, append_assoc, arith, inl, inr}
 use Rattle.dna_packet.specs.Fields.{word, ◌>>=◌, byte_at, word_at}
 
 abbrev pub IsBytes : List ℕ → Type 0
@@ -56,8 +57,14 @@ module _ {Z : Type 0} (missing : Z) where
   word_takes [] x fits e = absurd cc
   word_takes (low ∷ []) x fits e = absurd cc
   word_takes (low ∷ high ∷ bytes) x fits e =
-      subst (λ (y : ℕ × List ℕ). Takes (low ∷ high ∷ bytes) (word y.0) y.1 × (y.0 < 2 ^ 16)) (ok_is {Z = Z} (low + 256 * high, bytes) x e)
-      (record { parts = ap (λ (t : List ℕ). t ++ bytes) (word_of low high (fits 0) (fits 1)); rest_fits = IsBytes-rest high bytes (IsBytes-rest low (high ∷ bytes) fits) }, omega (arith, fits 0, fits 1))
+      subst (λ (y : ℕ × List ℕ). Takes (low ∷ high ∷ bytes) (word y.0) y.1 × (y.0 < 2 ^ 16)) (ok_is {Z = Z} (low + 256 * high, bytes) x e) (
+        record {
+          parts = ap (λ (t : List ℕ). t ++ bytes) (word_of low high (fits 0) (fits 1));
+          rest_fits =
+              IsBytes-rest high bytes (IsBytes-rest low (high ∷ bytes) fits);
+        },
+        omega (arith, fits 0, fits 1),
+      )
 
   pub word_again : (n : ℕ) (rest : List ℕ) → n < 2 ^ 16 → word_at missing (word n ++ rest) ≡ Ok (n, rest)
   word_again n rest p = ap (λ (k : ℕ). Ok (k, rest)) (word_fits n p)

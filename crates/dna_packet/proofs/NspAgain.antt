@@ -5,7 +5,9 @@ use Rattle.std.specs.Global.{Vec}
 use Rattle.dna_packet.specs.declared.fault.NspFault.{NspFault}
 use Rattle.dna_packet.specs.Fields.{word}
 use Rattle.dna_packet.specs.AckWord.{ack_bytes}
-use Rattle.dna_packet.specs.Nsp.{SegmentValue, NspValue, DataSegment, LinkService, DataAck, OtherDataAck, ConnectAck, NoOperation, ConnectInitiate, ConnectConfirm, DisconnectInitiate, DisconnectConfirm, addresses, connect_fields, segment_flag, segnum, nsp_bytes, AreConnectFields, IsInRange, IsNsp, Spells}
+use Rattle.dna_packet.specs.Nsp.{SegmentValue, NspValue, DataSegment, LinkService, DataAck, OtherDataAck, ConnectAck, NoOperation, ConnectInitiate}
+use Rattle.dna_packet.specs.Nsp.{ConnectConfirm, DisconnectInitiate, DisconnectConfirm, addresses, connect_fields, segment_flag, segnum, nsp_bytes}
+use Rattle.dna_packet.specs.Nsp.{AreConnectFields, IsInRange, IsNsp, Spells}
 use Rattle.dna_packet.specs.ReadingNsp.{segment_at, connect_initiate_at, message_at, nsp_at}
 use Rattle.dna_packet.proofs.FieldsLemmas.{ok_is, word_fits}
 use Rattle.dna_packet.proofs.NspFieldsLemmas.{segnum_again, segnum_ends}
@@ -17,7 +19,9 @@ segment_row true false rest = refl
 segment_row false true rest = refl
 segment_row true true rest = refl
 
-segment_again : (s : SegmentValue) → IsNsp (DataSegment s) → segment_at s.begins s.ends (addresses s.dstaddr s.srcaddr ++ (ack_bytes s.acks ++ (word (segnum s.number s.bit_12) ++ s.body))) ≡ Ok (DataSegment s)
+segment_again : (s : SegmentValue) → IsNsp (DataSegment s) →
+    segment_at s.begins s.ends (addresses s.dstaddr s.srcaddr ++ (ack_bytes s.acks ++ (word (segnum s.number s.bit_12) ++ s.body))) ≡ Ok
+    (DataSegment s)
 segment_again s fits =
     let dst = word_fits s.dstaddr fits.1.0.0 in
     let src = word_fits s.srcaddr fits.1.0.1 in
@@ -26,11 +30,14 @@ segment_again s fits =
     rw (dst, src, acks) (rw n refl)
 
 initiate_again : (retransmitted : Bool) (src services info segsize : ℕ) (user_data : List ℕ) → src < 2 ^ 16 → AreConnectFields services info segsize
-    → connect_initiate_at retransmitted (addresses 0 src ++ (connect_fields services info segsize ++ user_data)) ≡ Ok (ConnectInitiate retransmitted src services info segsize user_data)
+    → connect_initiate_at retransmitted (addresses 0 src ++ (connect_fields services info segsize ++ user_data)) ≡ Ok
+    (ConnectInitiate retransmitted src services info segsize user_data)
 initiate_again retransmitted src services info segsize user_data fits fields = rw (word_fits src fits, word_fits segsize fields.2) refl
 
 pub nsp_again : (m : NspValue) → IsNsp m → nsp_at (nsp_bytes m) ≡ Ok m
-nsp_again (DataSegment s) fits = segment_row s.begins s.ends (addresses s.dstaddr s.srcaddr ++ (ack_bytes s.acks ++ (word (segnum s.number s.bit_12) ++ s.body))) ∙ segment_again s fits
+nsp_again (DataSegment s) fits =
+    segment_row s.begins s.ends (addresses s.dstaddr s.srcaddr ++ (ack_bytes s.acks ++ (word (segnum s.number s.bit_12) ++ s.body))) ∙
+    segment_again s fits
 nsp_again (LinkService true dst src rest) fits = rw (word_fits dst fits.1.0, word_fits src fits.1.1) refl
 nsp_again (LinkService false dst src rest) fits = rw (word_fits dst fits.1.0, word_fits src fits.1.1) refl
 nsp_again (DataAck dst src acks) fits =
@@ -40,13 +47,16 @@ nsp_again (OtherDataAck dst src rest) fits = rw (word_fits dst fits.1.0, word_fi
 nsp_again (ConnectAck dst) fits = rw (word_fits dst fits.1) refl
 nsp_again (NoOperation rest) fits = refl
 nsp_again (ConnectInitiate true src services info segsize user_data) fits = initiate_again true src services info segsize user_data fits.1.0 fits.1.1
-nsp_again (ConnectInitiate false src services info segsize user_data) fits = initiate_again false src services info segsize user_data fits.1.0 fits.1.1
-nsp_again (ConnectConfirm dst src services info segsize user_data) fits = rw (word_fits dst fits.1.0.0, word_fits src fits.1.0.1, word_fits segsize fits.1.1.2) refl
+nsp_again (ConnectInitiate false src services info segsize user_data) fits =
+    initiate_again false src services info segsize user_data fits.1.0 fits.1.1
+nsp_again (ConnectConfirm dst src services info segsize user_data) fits =
+    rw (word_fits dst fits.1.0.0, word_fits src fits.1.0.1, word_fits segsize fits.1.1.2) refl
 nsp_again (DisconnectInitiate dst src reason user_data) fits = rw (word_fits dst fits.1.0.0, word_fits src fits.1.0.1, word_fits reason fits.1.1) refl
 nsp_again (DisconnectConfirm dst src reason) fits = rw (word_fits dst fits.1.0.0, word_fits src fits.1.0.1, word_fits reason fits.1.1) refl
 
 -- what was written of a message is read back as that message
-pub reads_back : {E : Type 0} (m : NspValue) (written : Result (Vec ℕ) E) → IsInRange m → IfOk written (Spells m) → IfOk written (λ v. nsp_at v.items ≡ Ok m)
+pub reads_back : {E : Type 0} (m : NspValue) (written : Result (Vec ℕ) E) → IsInRange m → IfOk written (Spells m) →
+    IfOk written (λ v. nsp_at v.items ≡ Ok m)
 reads_back m (Ok v) range spelled = ap nsp_at spelled.0 ∙ nsp_again m (range, spelled.1)
 reads_back m (Err e) range spelled = tt
 

@@ -12,7 +12,8 @@ use Rattle.dna_packet.proofs.FieldsLemmas.{IsBytes, bind_ok, chosen, ok_is, Take
 pub made : {A : Type 0} (P : A → Type 0) (x y : A) → (let ok : A → Result A NspFault = λ v. Ok v in ok x ≡ ok y) → P x → P y
 made P x y e p = subst P (ok_is {Z = NspFault} x y e) p
 
-pub addresses_take : (bytes : List ℕ) (x : ℕ × ℕ × List ℕ) → IsBytes bytes → addresses_at bytes ≡ Ok x → Takes bytes (addresses x.0 x.1) x.2 × AreAddresses x.0 x.1
+pub addresses_take : (bytes : List ℕ) (x : ℕ × ℕ × List ℕ) → IsBytes bytes → addresses_at bytes ≡ Ok x → Takes bytes (addresses x.0 x.1) x.2 ×
+    AreAddresses x.0 x.1
 addresses_take bytes x fits e =
     let a = bind_ok (word_at MissingField bytes) _ x e in
     let b = bind_ok (word_at MissingField a.0.1) _ x a.2 in
@@ -25,7 +26,8 @@ addresses_take bytes x fits e =
 pub addresses_again : (dst src : ℕ) (rest : List ℕ) → AreAddresses dst src → addresses_at (addresses dst src ++ rest) ≡ Ok (dst, src, rest)
 addresses_again dst src rest fits = rw (word_fits dst fits.0, word_fits src fits.1) refl
 
-pub connect_fields_take : (bytes : List ℕ) (x : ℕ × ℕ × ℕ × List ℕ) → IsBytes bytes → connect_fields_at bytes ≡ Ok x → Takes bytes (connect_fields x.0 x.1 x.2) x.3 × AreConnectFields x.0 x.1 x.2
+pub connect_fields_take : (bytes : List ℕ) (x : ℕ × ℕ × ℕ × List ℕ) → IsBytes bytes → connect_fields_at bytes ≡ Ok x →
+    Takes bytes (connect_fields x.0 x.1 x.2) x.3 × AreConnectFields x.0 x.1 x.2
 connect_fields_take bytes x fits e =
     let a = bind_ok (byte_at MissingField bytes) _ x e in
     let b = bind_ok (byte_at MissingField a.0.1) _ x a.2 in
@@ -36,9 +38,11 @@ connect_fields_take bytes x fits e =
     let two = Takes-then a.0.1 (b.0.0 ∷ []) b.0.1 (word c.0.0) c.0.1 info.0 segsize.0 in
     let three = Takes-then bytes (a.0.0 ∷ []) a.0.1 (b.0.0 ∷ word c.0.0) c.0.1 services.0 two in
     let read : ℕ × ℕ × ℕ × List ℕ = (a.0.0, b.0.0, c.0.0, c.0.1) in
-    made (λ (y : ℕ × ℕ × ℕ × List ℕ). Takes bytes (connect_fields y.0 y.1 y.2) y.3 × AreConnectFields y.0 y.1 y.2) read x c.2 (three, (services.1, info.1, segsize.1))
+    made (λ (y : ℕ × ℕ × ℕ × List ℕ). Takes bytes (connect_fields y.0 y.1 y.2) y.3 × AreConnectFields y.0 y.1 y.2) read x c.2
+    (three, (services.1, info.1, segsize.1))
 
-pub connect_fields_again : (services info segsize : ℕ) (rest : List ℕ) → AreConnectFields services info segsize → connect_fields_at (connect_fields services info segsize ++ rest) ≡ Ok (services, info, segsize, rest)
+pub connect_fields_again : (services info segsize : ℕ) (rest : List ℕ) → AreConnectFields services info segsize →
+    connect_fields_at (connect_fields services info segsize ++ rest) ≡ Ok (services, info, segsize, rest)
 connect_fields_again services info segsize rest fits = rw (word_fits segsize fits.2) refl
 
 pub no_more : (bytes : List ℕ) (x : Unit {0}) → no_more_at bytes ≡ Ok x → bytes ≡ []
@@ -52,7 +56,8 @@ segnum_is : (n : ℕ) (b : Bool) → n < 0x2000 → leb 0x1000 n ≡ b → segnu
 segnum_is n true lt e = let le = leb-true 0x1000 n e in omega arith
 segnum_is n false lt e = let below = leb-false 0x1000 n e in omega arith
 
-pub segnum_takes : (bytes : List ℕ) (x : ℕ × Bool × List ℕ) → IsBytes bytes → segnum_at bytes ≡ Ok x → Takes bytes (word (segnum x.0 x.1)) x.2 × (x.0 < 0x1000)
+pub segnum_takes : (bytes : List ℕ) (x : ℕ × Bool × List ℕ) → IsBytes bytes → segnum_at bytes ≡ Ok x → Takes bytes (word (segnum x.0 x.1)) x.2 ×
+    (x.0 < 0x1000)
 segnum_takes bytes x fits e =
     let a = bind_ok (word_at MissingField bytes) _ x e in
     let n = word_takes MissingField bytes a.0 fits a.1 in
@@ -72,7 +77,8 @@ segnum_below : (number : ℕ) (bit_12 : Bool) → number < 0x1000 → (segnum nu
 segnum_below number true lt = (omega arith, omega arith)
 segnum_below number false lt = (omega arith, omega arith)
 
-pub segnum_again : (number : ℕ) (bit_12 : Bool) (rest : List ℕ) → number < 0x1000 → segnum_at (word (segnum number bit_12) ++ rest) ≡ Ok (number, bit_12, rest)
+pub segnum_again : (number : ℕ) (bit_12 : Bool) (rest : List ℕ) → number < 0x1000 → segnum_at (word (segnum number bit_12) ++ rest) ≡ Ok
+    (number, bit_12, rest)
 segnum_again number bit_12 rest lt =
     let below = segnum_below number bit_12 lt in
     let whole = word_fits (segnum number bit_12) (omega (arith, below.0)) in

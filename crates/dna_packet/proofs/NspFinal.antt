@@ -1,15 +1,20 @@
 -- A fault other than a missing field is decided where it is found: no bytes that follow change it.
-use Rattle.std.proofs.Common.{◌≡◌, ℕ, zero, suc, ◌+◌, ◌*◌, ◌%◌, Bool, true, false, cond, eqb, leb, ltb, List, [], ◌∷◌, ◌++◌, Result, Ok, Err, refl, sym, ◌∙◌}
+use Rattle.std.proofs.Common.{◌≡◌, ℕ, zero, suc, ◌+◌, ◌*◌, ◌%◌, Bool, true, false, cond, eqb, leb, ltb, List, [], ◌∷◌, ◌++◌, Result, Ok, Err, refl}
+use Rattle.std.proofs.Common.{sym, ◌∙◌}
 use Rattle.std.specs.Prelude.{◌≢◌, ok_or}
 use Rattle.dna_packet.specs.declared.ack_word.AckWord.{AckWord}
 use Rattle.dna_packet.specs.declared.fault.NspFault.{NspFault}
 use Rattle.dna_packet.specs.declared.fault.NspFault.TheVariants.{MissingField, BadAckWord, BadSegnum, NonzeroDstaddr}
 use Rattle.dna_packet.specs.Fields.{◌>>=◌, word_at}
 use Rattle.dna_packet.specs.AckWord.{ack_of}
-use Rattle.dna_packet.specs.Nsp.{NspValue, DataSegment, LinkService, DataAck, OtherDataAck, ConnectAck, NoOperation, ConnectInitiate, ConnectConfirm, DisconnectInitiate, DisconnectConfirm}
-use Rattle.dna_packet.specs.ReadingNsp.{addresses_at, no_more_at, acks_at, segnum_at, segment_at, link_service_at, other_data_ack_at, second_ack_at, data_acks_at, data_ack_at, connect_ack_at, connect_fields_at, connect_initiate_at, connect_confirm_at, disconnect_initiate_at, disconnect_confirm_at, message_at, nsp_at}
+use Rattle.dna_packet.specs.Nsp.{NspValue, DataSegment, LinkService, DataAck, OtherDataAck, ConnectAck, NoOperation, ConnectInitiate, ConnectConfirm}
+use Rattle.dna_packet.specs.Nsp.{DisconnectInitiate, DisconnectConfirm}
+use Rattle.dna_packet.specs.ReadingNsp.{addresses_at, no_more_at, acks_at, segnum_at, segment_at, link_service_at, other_data_ack_at, second_ack_at}
+use Rattle.dna_packet.specs.ReadingNsp.{data_acks_at, data_ack_at, connect_ack_at, connect_fields_at, connect_initiate_at, connect_confirm_at}
+use Rattle.dna_packet.specs.ReadingNsp.{disconnect_initiate_at, disconnect_confirm_at, message_at, nsp_at}
 
-then_assoc : {A B C : Type 0} (r : Result A NspFault) (f : A → Result B NspFault) (k : B → Result C NspFault) → ((r >>= f) >>= k) ≡ (r >>= λ x. f x >>= k)
+then_assoc : {A B C : Type 0} (r : Result A NspFault) (f : A → Result B NspFault) (k : B → Result C NspFault) →
+    ((r >>= f) >>= k) ≡ (r >>= λ x. f x >>= k)
 then_assoc (Ok x) f k = refl
 then_assoc (Err e) f k = refl
 
@@ -45,7 +50,8 @@ module _ (more : List ℕ) (fault : NspFault) (is_found : fault ≢ MissingField
   by_addresses f (a ∷ b ∷ c ∷ d ∷ rest) final e = final (a + 256 * b) (c + 256 * d) rest e
 
   segnum_tested : (g : ℕ × Bool × List ℕ → NspValue) (right : Bool) (x y : ℕ × Bool × List ℕ)
-      → (cond right (Ok x) (Err BadSegnum) >>= λ n. answers (g n)) ≡ fails fault → (cond right (Ok y) (Err BadSegnum) >>= λ n. answers (g n)) ≡ fails fault
+      → (cond right (Ok x) (Err BadSegnum) >>= λ n. answers (g n)) ≡ fails fault → (cond right (Ok y) (Err BadSegnum) >>= λ n. answers (g n)) ≡ fails
+      fault
   segnum_tested g true x y e = absurd (answered (g x) e)
   segnum_tested g false x y e = e
 
@@ -62,7 +68,8 @@ module _ (more : List ℕ) (fault : NspFault) (is_found : fault ≢ MissingField
   words_at g acks = acks >>= λ words. segnum_at words.1 >>= λ n. answers (g words.0 n)
 
   abbrev IsFinalAt : ℕ → Type 0
-  IsFinalAt room = (g : List AckWord → ℕ × Bool × List ℕ → NspValue) (bytes : List ℕ) → words_at g (acks_at room bytes) ≡ fails fault → words_at g (acks_at room (bytes ++ more)) ≡ fails fault
+  IsFinalAt room = (g : List AckWord → ℕ × Bool × List ℕ → NspValue) (bytes : List ℕ) → words_at g (acks_at room bytes) ≡ fails fault →
+      words_at g (acks_at room (bytes ++ more)) ≡ fails fault
 
   abbrev behind : ℕ → List ℕ → Result AckWord NspFault → Result (List AckWord × List ℕ) NspFault
   behind room rest ack = (ack >>= λ word. with_rest word rest) >>= λ first. acks_at room first.1 >>= λ others. Ok (first.0 ∷ others.0, others.1)
@@ -71,12 +78,15 @@ module _ (more : List ℕ) (fault : NspFault) (is_found : fault ≢ MissingField
       → words_at g (behind room rest ack) ≡ fails fault → words_at g (behind room (rest ++ more) ack) ≡ fails fault
   ack_final room final g rest (Err f) e = e
   ack_final room final g rest (Ok ack) e =
-      let regrouped : (bytes : List ℕ) → words_at g (behind room bytes (Ok ack)) ≡ words_at (λ acks. g (ack ∷ acks)) (acks_at room bytes) = λ bytes. then_assoc (acks_at room bytes) (λ others. Ok (ack ∷ others.0, others.1)) (λ words. segnum_at words.1 >>= λ n. answers (g words.0 n)) in
+      let regrouped : (bytes : List ℕ) → words_at g (behind room bytes (Ok ack)) ≡ words_at (λ acks. g (ack ∷ acks)) (acks_at room bytes) =
+      λ bytes. then_assoc (acks_at room bytes) (λ others. Ok (ack ∷ others.0, others.1))
+      (λ words. segnum_at words.1 >>= λ n. answers (g words.0 n)) in
       regrouped (rest ++ more) ∙ final (λ acks. g (ack ∷ acks)) rest (sym (regrouped rest) ∙ e)
 
   next_final : (room : ℕ) → IsFinalAt room → (g : List AckWord → ℕ × Bool × List ℕ → NspValue) (a b : ℕ) (rest : List ℕ) (is_ack : Bool)
       → words_at g (cond is_ack (behind room rest (ok_or (ack_of (a + 256 * b)) BadAckWord)) (Ok ([], a ∷ b ∷ rest))) ≡ fails fault
-      → words_at g (cond is_ack (behind room (rest ++ more) (ok_or (ack_of (a + 256 * b)) BadAckWord)) (Ok ([], a ∷ b ∷ (rest ++ more)))) ≡ fails fault
+      → words_at g (cond is_ack (behind room (rest ++ more) (ok_or (ack_of (a + 256 * b)) BadAckWord)) (Ok ([], a ∷ b ∷ (rest ++ more)))) ≡ fails
+      fault
   next_final room final g a b rest true e = ack_final room final g rest (ok_or (ack_of (a + 256 * b)) BadAckWord) e
   next_final room final g a b rest false e = segnum_final (g []) (a ∷ b ∷ rest) e
 
@@ -105,7 +115,8 @@ module _ (more : List ℕ) (fault : NspFault) (is_found : fault ≢ MissingField
   first_final g (a ∷ []) (Ok ack) e = absurd (missed e)
   first_final g (a ∷ b ∷ rest) (Ok ack) e = second_final g ack rest (ok_or (ack_of (a + 256 * b)) BadAckWord) e
 
-  data_acks_final : (g : List AckWord → NspValue) (bytes : List ℕ) → ends_at g (data_acks_at bytes) ≡ fails fault → ends_at g (data_acks_at (bytes ++ more)) ≡ fails fault
+  data_acks_final : (g : List AckWord → NspValue) (bytes : List ℕ) → ends_at g (data_acks_at bytes) ≡ fails fault →
+      ends_at g (data_acks_at (bytes ++ more)) ≡ fails fault
   data_acks_final g [] e = absurd (missed e)
   data_acks_final g (a ∷ []) e = absurd (missed e)
   data_acks_final g (a ∷ b ∷ rest) e = first_final g rest (ok_or (ack_of (a + 256 * b)) BadAckWord) e
@@ -120,19 +131,31 @@ module _ (more : List ℕ) (fault : NspFault) (is_found : fault ≢ MissingField
 
   -- ---- the messages
 
-  segment_final : (begins ends : Bool) (bytes : List ℕ) → segment_at begins ends bytes ≡ fails fault → segment_at begins ends (bytes ++ more) ≡ fails fault
+  segment_final : (begins ends : Bool) (bytes : List ℕ) → segment_at begins ends bytes ≡ fails fault → segment_at begins ends (bytes ++ more) ≡ fails
+      fault
   segment_final begins ends bytes e =
-      by_addresses (λ dst src rest. words_at (λ acks n. DataSegment (record { begins = begins; ends = ends; dstaddr = dst; srcaddr = src; acks = acks; number = n.0; bit_12 = n.1; body = n.2 })) (acks_at 2 rest)) bytes
-      (λ dst src rest. words_final 2 (λ acks n. DataSegment (record { begins = begins; ends = ends; dstaddr = dst; srcaddr = src; acks = acks; number = n.0; bit_12 = n.1; body = n.2 })) rest) e
+      by_addresses (λ dst src rest. words_at
+      (λ acks n. DataSegment (record
+      { begins = begins; ends = ends; dstaddr = dst; srcaddr = src; acks = acks; number = n.0; bit_12 = n.1; body = n.2 })) (acks_at 2 rest))
+      bytes
+      (λ dst src rest. words_final 2
+      (λ acks n. DataSegment (record
+      { begins = begins; ends = ends; dstaddr = dst; srcaddr = src; acks = acks; number = n.0; bit_12 = n.1; body = n.2 })) rest) e
 
-  link_service_final : (interrupt : Bool) (bytes : List ℕ) → link_service_at interrupt bytes ≡ fails fault → link_service_at interrupt (bytes ++ more) ≡ fails fault
-  link_service_final interrupt bytes e = by_addresses (λ dst src rest. answers (LinkService interrupt dst src rest)) bytes (λ dst src rest none. absurd (answered (LinkService interrupt dst src rest) none)) e
+  link_service_final : (interrupt : Bool) (bytes : List ℕ) → link_service_at interrupt bytes ≡ fails fault →
+      link_service_at interrupt (bytes ++ more) ≡ fails fault
+  link_service_final interrupt bytes e =
+      by_addresses (λ dst src rest. answers (LinkService interrupt dst src rest)) bytes
+      (λ dst src rest none. absurd (answered (LinkService interrupt dst src rest) none)) e
 
   other_data_ack_final : (bytes : List ℕ) → other_data_ack_at bytes ≡ fails fault → other_data_ack_at (bytes ++ more) ≡ fails fault
-  other_data_ack_final bytes e = by_addresses (λ dst src rest. answers (OtherDataAck dst src rest)) bytes (λ dst src rest none. absurd (answered (OtherDataAck dst src rest) none)) e
+  other_data_ack_final bytes e =
+      by_addresses (λ dst src rest. answers (OtherDataAck dst src rest)) bytes
+      (λ dst src rest none. absurd (answered (OtherDataAck dst src rest) none)) e
 
   data_ack_final : (bytes : List ℕ) → data_ack_at bytes ≡ fails fault → data_ack_at (bytes ++ more) ≡ fails fault
-  data_ack_final bytes e = by_addresses (λ dst src rest. ends_at (DataAck dst src) (data_acks_at rest)) bytes (λ dst src rest. data_acks_final (DataAck dst src) rest) e
+  data_ack_final bytes e =
+      by_addresses (λ dst src rest. ends_at (DataAck dst src) (data_acks_at rest)) bytes (λ dst src rest. data_acks_final (DataAck dst src) rest) e
 
   connect_ack_final : (bytes : List ℕ) → connect_ack_at bytes ≡ fails fault → connect_ack_at (bytes ++ more) ≡ fails fault
   connect_ack_final [] e = absurd (missed e)
@@ -142,18 +165,23 @@ module _ (more : List ℕ) (fault : NspFault) (is_found : fault ≢ MissingField
 
   -- behind a DSTADDR of 0 a field of a CI may only be missing
   initiate_answers : (retransmitted : Bool) (rest : List ℕ)
-      → (word_at MissingField rest >>= λ src. connect_fields_at src.1 >>= λ fields. answers (ConnectInitiate retransmitted src.0 fields.0 fields.1 fields.2 fields.3)) ≡ fails fault → ⊥
+      → (word_at MissingField rest >>= λ src. connect_fields_at src.1 >>= λ fields. answers
+      (ConnectInitiate retransmitted src.0 fields.0 fields.1 fields.2 fields.3)) ≡ fails fault → ⊥
   initiate_answers retransmitted [] e = missed e
   initiate_answers retransmitted (a ∷ []) e = missed e
-  initiate_answers retransmitted (a ∷ b ∷ rest) e = fields_answer (λ fields. ConnectInitiate retransmitted (a + 256 * b) fields.0 fields.1 fields.2 fields.3) rest e
+  initiate_answers retransmitted (a ∷ b ∷ rest) e =
+      fields_answer (λ fields. ConnectInitiate retransmitted (a + 256 * b) fields.0 fields.1 fields.2 fields.3) rest e
 
   address_final : (retransmitted is_zero : Bool) (rest longer : List ℕ)
-      → (cond is_zero (Ok rest) (Err NonzeroDstaddr) >>= λ left. word_at MissingField left >>= λ src. connect_fields_at src.1 >>= λ fields. answers (ConnectInitiate retransmitted src.0 fields.0 fields.1 fields.2 fields.3)) ≡ fails fault
-      → (cond is_zero (Ok longer) (Err NonzeroDstaddr) >>= λ left. word_at MissingField left >>= λ src. connect_fields_at src.1 >>= λ fields. answers (ConnectInitiate retransmitted src.0 fields.0 fields.1 fields.2 fields.3)) ≡ fails fault
+      → (cond is_zero (Ok rest) (Err NonzeroDstaddr) >>= λ left. word_at MissingField left >>= λ src. connect_fields_at src.1 >>= λ fields. answers
+      (ConnectInitiate retransmitted src.0 fields.0 fields.1 fields.2 fields.3)) ≡ fails fault
+      → (cond is_zero (Ok longer) (Err NonzeroDstaddr) >>= λ left. word_at MissingField left >>= λ src. connect_fields_at src.1 >>= λ fields. answers
+      (ConnectInitiate retransmitted src.0 fields.0 fields.1 fields.2 fields.3)) ≡ fails fault
   address_final retransmitted true rest longer e = absurd (initiate_answers retransmitted rest e)
   address_final retransmitted false rest longer e = e
 
-  connect_initiate_final : (retransmitted : Bool) (bytes : List ℕ) → connect_initiate_at retransmitted bytes ≡ fails fault → connect_initiate_at retransmitted (bytes ++ more) ≡ fails fault
+  connect_initiate_final : (retransmitted : Bool) (bytes : List ℕ) → connect_initiate_at retransmitted bytes ≡ fails fault →
+      connect_initiate_at retransmitted (bytes ++ more) ≡ fails fault
   connect_initiate_final retransmitted [] e = absurd (missed e)
   connect_initiate_final retransmitted (a ∷ []) e = absurd (missed e)
   connect_initiate_final retransmitted (a ∷ b ∷ rest) e = address_final retransmitted (eqb (a + 256 * b) 0) rest (rest ++ more) e
@@ -163,7 +191,8 @@ module _ (more : List ℕ) (fault : NspFault) (is_found : fault ≢ MissingField
       by_addresses (λ dst src rest. connect_fields_at rest >>= λ fields. answers (ConnectConfirm dst src fields.0 fields.1 fields.2 fields.3)) bytes
       (λ dst src rest none. absurd (fields_answer (λ fields. ConnectConfirm dst src fields.0 fields.1 fields.2 fields.3) rest none)) e
 
-  reason_answers : (dst src : ℕ) (rest : List ℕ) → (word_at MissingField rest >>= λ reason. answers (DisconnectInitiate dst src reason.0 reason.1)) ≡ fails fault → ⊥
+  reason_answers : (dst src : ℕ) (rest : List ℕ) →
+      (word_at MissingField rest >>= λ reason. answers (DisconnectInitiate dst src reason.0 reason.1)) ≡ fails fault → ⊥
   reason_answers dst src [] e = missed e
   reason_answers dst src (a ∷ []) e = missed e
   reason_answers dst src (a ∷ b ∷ rest) e = answered (DisconnectInitiate dst src (a + 256 * b) rest) e
@@ -183,10 +212,12 @@ module _ (more : List ℕ) (fault : NspFault) (is_found : fault ≢ MissingField
 
   disconnect_confirm_final : (bytes : List ℕ) → disconnect_confirm_at bytes ≡ fails fault → disconnect_confirm_at (bytes ++ more) ≡ fails fault
   disconnect_confirm_final bytes e =
-      by_addresses (λ dst src rest. word_at MissingField rest >>= λ reason. no_more_at reason.1 >>= λ end. answers (DisconnectConfirm dst src reason.0)) bytes reason_final e
+      by_addresses (λ dst src rest. word_at MissingField rest >>= λ reason. no_more_at reason.1 >>= λ end. answers
+      (DisconnectConfirm dst src reason.0)) bytes reason_final e
 
   -- one row of the table of flag bytes
-  row : (is_this : Bool) (here there here_longer there_longer : Read) → (here ≡ fails fault → here_longer ≡ fails fault) → (there ≡ fails fault → there_longer ≡ fails fault)
+  row : (is_this : Bool) (here there here_longer there_longer : Read) → (here ≡ fails fault → here_longer ≡ fails fault) →
+      (there ≡ fails fault → there_longer ≡ fails fault)
       → cond is_this here there ≡ fails fault → cond is_this here_longer there_longer ≡ fails fault
   row true here there here_longer there_longer this others e = this e
   row false here there here_longer there_longer this others e = others e

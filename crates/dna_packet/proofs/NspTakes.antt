@@ -8,8 +8,11 @@ use Rattle.dna_packet.specs.declared.fault.NspFault.{NspFault}
 use Rattle.dna_packet.specs.declared.fault.NspFault.TheVariants.{UnknownFlag, MissingField}
 use Rattle.dna_packet.specs.Fields.{word, word_at, Gives}
 use Rattle.dna_packet.specs.AckWord.{ack_bytes}
-use Rattle.dna_packet.specs.Nsp.{view, SegmentValue, NspValue, DataSegment, LinkService, DataAck, OtherDataAck, ConnectAck, NoOperation, ConnectInitiate, ConnectConfirm, DisconnectInitiate, DisconnectConfirm, addresses, segment_flag, nsp_bytes, IsNsp}
-use Rattle.dna_packet.specs.ReadingNsp.{addresses_at, no_more_at, acks_at, segnum_at, segment_at, link_service_at, other_data_ack_at, data_acks_at, data_ack_at, connect_ack_at, connect_fields_at, zero_address_at, connect_initiate_at, connect_confirm_at, disconnect_initiate_at, disconnect_confirm_at, message_at, nsp_at}
+use Rattle.dna_packet.specs.Nsp.{view, SegmentValue, NspValue, DataSegment, LinkService, DataAck, OtherDataAck, ConnectAck, NoOperation}
+use Rattle.dna_packet.specs.Nsp.{ConnectInitiate, ConnectConfirm, DisconnectInitiate, DisconnectConfirm, addresses, segment_flag, nsp_bytes, IsNsp}
+use Rattle.dna_packet.specs.ReadingNsp.{addresses_at, no_more_at, acks_at, segnum_at, segment_at, link_service_at, other_data_ack_at, data_acks_at}
+use Rattle.dna_packet.specs.ReadingNsp.{data_ack_at, connect_ack_at, connect_fields_at, zero_address_at, connect_initiate_at, connect_confirm_at}
+use Rattle.dna_packet.specs.ReadingNsp.{disconnect_initiate_at, disconnect_confirm_at, message_at, nsp_at}
 use Rattle.dna_packet.proofs.FieldsLemmas.{IsBytes, IsBytes-rest, bind_ok, chosen, Takes, word_takes}
 use Rattle.dna_packet.proofs.NspFieldsLemmas.{made, addresses_take, connect_fields_take, no_more, segnum_takes, zero_address_takes}
 use Rattle.dna_packet.proofs.AckWordLemmas.{acks_take, data_acks_take}
@@ -22,7 +25,8 @@ Reads bytes m = IsNsp m × (bytes ≡ nsp_bytes m)
 pub along : (a x b c : List ℕ) → Takes a x b → b ≡ c → a ≡ x ++ c
 along a x b c p e = p.parts ∙ ap (λ (t : List ℕ). x ++ t) e
 
-segment_takes : (begins ends : Bool) (bytes : List ℕ) (m : NspValue) → IsBytes bytes → segment_at begins ends bytes ≡ Ok m → Reads (segment_flag begins ends ∷ bytes) m
+segment_takes : (begins ends : Bool) (bytes : List ℕ) (m : NspValue) → IsBytes bytes → segment_at begins ends bytes ≡ Ok m →
+    Reads (segment_flag begins ends ∷ bytes) m
 segment_takes begins ends bytes m fits e =
     let a = bind_ok (addresses_at bytes) _ m e in
     let b = bind_ok (acks_at 2 a.0.2) _ m a.2 in
@@ -31,15 +35,18 @@ segment_takes begins ends bytes m fits e =
     let acks = acks_take 2 a.0.2 b.0 links.0.rest_fits b.1 in
     let n = segnum_takes b.0.1 c.0 acks.0.rest_fits c.1 in
     let all = along bytes (addresses a.0.0 a.0.1) a.0.2 _ links.0 (along a.0.2 (ack_bytes b.0.0) b.0.1 _ acks.0 n.0.parts) in
-    let segment : SegmentValue = record { begins = begins; ends = ends; dstaddr = a.0.0; srcaddr = a.0.1; acks = b.0.0; number = c.0.0; bit_12 = c.0.1; body = c.0.2 } in
+    let segment : SegmentValue =
+    record { begins = begins; ends = ends; dstaddr = a.0.0; srcaddr = a.0.1; acks = b.0.0; number = c.0.0; bit_12 = c.0.1; body = c.0.2 } in
     made (Reads (segment_flag begins ends ∷ bytes)) (DataSegment segment) m c.2
     (((acks.1, n.1), (links.1, acks.2)), ap (λ (t : List ℕ). segment_flag begins ends ∷ t) all)
 
-link_service_takes : (interrupt : Bool) (flag : ℕ) (bytes : List ℕ) (m : NspValue) → IsBytes bytes → flag ≡ cond interrupt 0x30 0x10 → link_service_at interrupt bytes ≡ Ok m → Reads (flag ∷ bytes) m
+link_service_takes : (interrupt : Bool) (flag : ℕ) (bytes : List ℕ) (m : NspValue) → IsBytes bytes → flag ≡ cond interrupt 0x30 0x10 →
+    link_service_at interrupt bytes ≡ Ok m → Reads (flag ∷ bytes) m
 link_service_takes interrupt flag bytes m fits flag_is e =
     let a = bind_ok (addresses_at bytes) _ m e in
     let links = addresses_take bytes a.0 fits a.1 in
-    made (Reads (flag ∷ bytes)) (LinkService interrupt a.0.0 a.0.1 a.0.2) m a.2 ((tt, links.1), rw flag_is (ap (λ (t : List ℕ). cond interrupt 0x30 0x10 ∷ t) links.0.parts))
+    made (Reads (flag ∷ bytes)) (LinkService interrupt a.0.0 a.0.1 a.0.2) m a.2
+    ((tt, links.1), rw flag_is (ap (λ (t : List ℕ). cond interrupt 0x30 0x10 ∷ t) links.0.parts))
 
 other_data_ack_takes : (bytes : List ℕ) (m : NspValue) → IsBytes bytes → other_data_ack_at bytes ≡ Ok m → Reads (0x14 ∷ bytes) m
 other_data_ack_takes bytes m fits e =
@@ -54,7 +61,8 @@ data_ack_takes bytes m fits e =
     let c = bind_ok (no_more_at b.0.1) _ m b.2 in
     let links = addresses_take bytes a.0 fits a.1 in
     let acks = data_acks_take a.0.2 b.0 links.0.rest_fits b.1 in
-    let whole : a.0.2 ≡ ack_bytes b.0.0 = acks.0.parts ∙ ap (λ (t : List ℕ). ack_bytes b.0.0 ++ t) (no_more b.0.1 c.0 c.1) ∙ append-nil (ack_bytes b.0.0) in
+    let whole : a.0.2 ≡ ack_bytes b.0.0 = acks.0.parts ∙ ap (λ (t : List ℕ). ack_bytes b.0.0 ++ t) (no_more b.0.1 c.0 c.1) ∙
+    append-nil (ack_bytes b.0.0) in
     let all = along bytes (addresses a.0.0 a.0.1) a.0.2 _ links.0 whole in
     made (Reads (0x04 ∷ bytes)) (DataAck a.0.0 a.0.1 b.0.0) m c.2 (((acks.1, acks.2), (links.1, acks.3)), ap (λ (t : List ℕ). 0x04 ∷ t) all)
 
@@ -66,7 +74,8 @@ connect_ack_takes bytes m fits e =
     let all = along bytes (word a.0.0) a.0.1 _ dst.0 (no_more a.0.1 b.0 b.1) in
     made (Reads (0x24 ∷ bytes)) (ConnectAck a.0.0) m b.2 ((tt, dst.1), ap (λ (t : List ℕ). 0x24 ∷ t) all)
 
-connect_initiate_takes : (retransmitted : Bool) (flag : ℕ) (bytes : List ℕ) (m : NspValue) → IsBytes bytes → flag ≡ cond retransmitted 0x68 0x18 → connect_initiate_at retransmitted bytes ≡ Ok m → Reads (flag ∷ bytes) m
+connect_initiate_takes : (retransmitted : Bool) (flag : ℕ) (bytes : List ℕ) (m : NspValue) → IsBytes bytes → flag ≡ cond retransmitted 0x68 0x18 →
+    connect_initiate_at retransmitted bytes ≡ Ok m → Reads (flag ∷ bytes) m
 connect_initiate_takes retransmitted flag bytes m fits flag_is e =
     let a = bind_ok (zero_address_at bytes) _ m e in
     let b = bind_ok (word_at MissingField a.0) _ m a.2 in
@@ -85,7 +94,8 @@ connect_confirm_takes bytes m fits e =
     let links = addresses_take bytes a.0 fits a.1 in
     let fields = connect_fields_take a.0.2 b.0 links.0.rest_fits b.1 in
     let all = along bytes (addresses a.0.0 a.0.1) a.0.2 _ links.0 fields.0.parts in
-    made (Reads (0x28 ∷ bytes)) (ConnectConfirm a.0.0 a.0.1 b.0.0 b.0.1 b.0.2 b.0.3) m b.2 ((tt, (links.1, fields.1)), ap (λ (t : List ℕ). 0x28 ∷ t) all)
+    made (Reads (0x28 ∷ bytes)) (ConnectConfirm a.0.0 a.0.1 b.0.0 b.0.1 b.0.2 b.0.3) m b.2
+    ((tt, (links.1, fields.1)), ap (λ (t : List ℕ). 0x28 ∷ t) all)
 
 disconnect_initiate_takes : (bytes : List ℕ) (m : NspValue) → IsBytes bytes → disconnect_initiate_at bytes ≡ Ok m → Reads (0x38 ∷ bytes) m
 disconnect_initiate_takes bytes m fits e =
@@ -140,6 +150,7 @@ pub nsp_takes : (bytes : List ℕ) (m : NspValue) → IsBytes bytes → nsp_at b
 nsp_takes [] m fits e = absurd cc
 nsp_takes (flag ∷ rest) m fits e = message_takes flag rest m (IsBytes-rest flag rest fits) e
 
-pub is_found : (bytes : List ℕ) (r : Result Nsp NspFault) → IsBytes bytes → Gives view r (nsp_at bytes) → IfOk r (λ m. IsNsp (view m) × (bytes ≡ nsp_bytes (view m)))
+pub is_found : (bytes : List ℕ) (r : Result Nsp NspFault) → IsBytes bytes → Gives view r (nsp_at bytes) →
+    IfOk r (λ m. IsNsp (view m) × (bytes ≡ nsp_bytes (view m)))
 is_found bytes (Ok m) fits given = nsp_takes bytes (view m) fits given
 is_found bytes (Err e) fits given = tt

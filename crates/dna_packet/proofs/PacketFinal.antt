@@ -32,15 +32,20 @@ module _ (more : List ℕ) (fault : PacketFault) (is_found : fault ≢ Short) wh
   data_answers rtflg (a ∷ b ∷ c ∷ d ∷ forward ∷ nsp) e = answered (Data rtflg (a + 256 * b) (c + 256 * d) forward nsp) e
 
   abbrev tested : (padded control long short : Bool) → ℕ → List ℕ → Read
-  tested padded control long short rtflg rest = cond padded (fails Padded) (cond control (answers (Control (rtflg ∷ rest))) (cond long (fails LongFormat) (cond short (data_at rtflg rest) (fails UnknownFlags))))
+  tested padded control long short rtflg rest =
+      cond padded (fails Padded) (cond control (answers (Control (rtflg ∷ rest)))
+      (cond long (fails LongFormat) (cond short (data_at rtflg rest) (fails UnknownFlags))))
 
-  tests_final : (padded control long short : Bool) (rtflg : ℕ) (rest : List ℕ) → tested padded control long short rtflg rest ≡ fails fault → tested padded control long short rtflg (rest ++ more) ≡ fails fault
+  tests_final : (padded control long short : Bool) (rtflg : ℕ) (rest : List ℕ) → tested padded control long short rtflg rest ≡ fails fault →
+      tested padded control long short rtflg (rest ++ more) ≡ fails fault
   tests_final true control long short rtflg rest e = e
   tests_final false true long short rtflg rest e = absurd (answered (Control (rtflg ∷ rest)) e)
   tests_final false false true short rtflg rest e = e
   tests_final false false false true rtflg rest e = absurd (data_answers rtflg rest e)
   tests_final false false false false rtflg rest e = e
 
-pub packet_final : (bytes more : List ℕ) (fault : PacketFault) → fault ≢ Short → packet_at bytes ≡ fails fault → packet_at (bytes ++ more) ≡ fails fault
+pub packet_final : (bytes more : List ℕ) (fault : PacketFault) → fault ≢ Short → packet_at bytes ≡ fails fault →
+    packet_at (bytes ++ more) ≡ fails fault
 packet_final [] more fault is_found e = absurd (missed more fault is_found e)
-packet_final (rtflg ∷ rest) more fault is_found e = tests_final more fault is_found (leb 128 rtflg) (eqb (rtflg % 2) 1) (eqb (rtflg % 8) 6) (eqb (rtflg % 8) 2) rtflg rest e
+packet_final (rtflg ∷ rest) more fault is_found e =
+    tests_final more fault is_found (leb 128 rtflg) (eqb (rtflg % 2) 1) (eqb (rtflg % 8) 6) (eqb (rtflg % 8) 2) rtflg rest e

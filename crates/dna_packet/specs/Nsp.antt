@@ -35,7 +35,17 @@ pub data NspValue : Type 0 where
   DisconnectConfirm : (dstaddr srcaddr reason : ℕ) → NspValue
 
 abbrev pub segment_view : Segment → SegmentValue
-segment_view s = record { begins = s.begins; ends = s.ends; dstaddr = s.dstaddr; srcaddr = s.srcaddr; acks = s.acks.items; number = s.number; bit_12 = s.bit_12; body = s.body.now }
+segment_view s = record {
+  begins = s.begins;
+  ends = s.ends;
+  dstaddr = s.dstaddr;
+  srcaddr = s.srcaddr;
+  acks = s.acks.items;
+  number = s.number;
+  bit_12 =
+      s.bit_12;
+  body = s.body.now;
+}
 
 abbrev pub view : Nsp → NspValue
 view (rust.DataSegment s) = DataSegment (segment_view s)
@@ -76,7 +86,8 @@ nsp_bytes (DataAck dst src acks) = 0x04 ∷ (addresses dst src ++ ack_bytes acks
 nsp_bytes (OtherDataAck dst src rest) = 0x14 ∷ (addresses dst src ++ rest)
 nsp_bytes (ConnectAck dst) = 0x24 ∷ word dst
 nsp_bytes (NoOperation rest) = 0x08 ∷ rest
-nsp_bytes (ConnectInitiate retransmitted src services info segsize user_data) = (if retransmitted then 0x68 else 0x18) ∷ (addresses 0 src ++ (connect_fields services info segsize ++ user_data))
+nsp_bytes (ConnectInitiate retransmitted src services info segsize user_data) =
+    (if retransmitted then 0x68 else 0x18) ∷ (addresses 0 src ++ (connect_fields services info segsize ++ user_data))
 nsp_bytes (ConnectConfirm dst src services info segsize user_data) = 0x28 ∷ (addresses dst src ++ (connect_fields services info segsize ++ user_data))
 nsp_bytes (DisconnectInitiate dst src reason user_data) = 0x38 ∷ (addresses dst src ++ (word reason ++ user_data))
 nsp_bytes (DisconnectConfirm dst src reason) = 0x48 ∷ (addresses dst src ++ word reason)

@@ -5,7 +5,8 @@ use Rattle.dna_packet.specs.declared.fault.NspFault.{NspFault}
 use Rattle.dna_packet.specs.declared.fault.NspFault.TheVariants.{UnknownFlag, MissingField, BadAckWord, BadSegnum, TrailingBytes, NonzeroDstaddr}
 use Rattle.dna_packet.specs.Fields.{◌>>=◌, byte_at, word_at}
 use Rattle.dna_packet.specs.AckWord.{ack_of}
-use Rattle.dna_packet.specs.Nsp.{NspValue, DataSegment, LinkService, DataAck, OtherDataAck, ConnectAck, NoOperation, ConnectInitiate, ConnectConfirm, DisconnectInitiate, DisconnectConfirm}
+use Rattle.dna_packet.specs.Nsp.{NspValue, DataSegment, LinkService, DataAck, OtherDataAck, ConnectAck, NoOperation, ConnectInitiate, ConnectConfirm}
+use Rattle.dna_packet.specs.Nsp.{DisconnectInitiate, DisconnectConfirm}
 
 -- no byte stands after the end
 abbrev pub no_more_at : List ℕ → Result (Unit {0}) NspFault
@@ -53,7 +54,8 @@ segment_at begins ends bytes = do
   links ← addresses_at bytes
   acks ← acks_at 2 links.2
   n ← segnum_at acks.1
-  Ok (DataSegment (record { begins = begins; ends = ends; dstaddr = links.0; srcaddr = links.1; acks = acks.0; number = n.0; bit_12 = n.1; body = n.2 }))
+  Ok (DataSegment (record
+      { begins = begins; ends = ends; dstaddr = links.0; srcaddr = links.1; acks = acks.0; number = n.0; bit_12 = n.1; body = n.2 }))
 
 abbrev pub link_service_at : Bool → List ℕ → Result NspValue NspFault
 link_service_at interrupt bytes = do

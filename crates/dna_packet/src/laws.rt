@@ -17,7 +17,8 @@ pub fn packet_reads_back()
 
 /// What is read from bytes is a packet, and these are its bytes.
 pub fn packet_is_spelled()
-    ensures { (bytes : List ℕ) (p : PacketValue) → ((i : ℕ) → slice_index bytes i < 256) → packet_at bytes ≡ Ok p → IsPacket p × (bytes ≡ packet_bytes p) }
+    ensures { (bytes : List ℕ) (p : PacketValue) → ((i : ℕ) → slice_index bytes i < 256) →
+        packet_at bytes ≡ Ok p → IsPacket p × (bytes ≡ packet_bytes p) }
 {}
 
 /// A row of bytes is that of one packet.
@@ -27,7 +28,8 @@ pub fn packet_is_unique()
 
 /// A fault other than [`crate::PacketFault::Short`] is decided by the first byte: no bytes that follow change it.
 pub fn packet_fault_is_final()
-    ensures { (bytes more : List ℕ) (fault : PacketFault) → fault ≢ Short → packet_at bytes ≡ Err fault → packet_at (bytes ++ more) ≡ Err fault }
+    ensures { (bytes more : List ℕ) (fault : PacketFault) → fault ≢ Short →
+        packet_at bytes ≡ Err fault → packet_at (bytes ++ more) ≡ Err fault }
 {}
 
 /// The bytes of a message are read as that message.
@@ -37,7 +39,8 @@ pub fn nsp_reads_back()
 
 /// What is read from bytes is a message, and these are its bytes.
 pub fn nsp_is_spelled()
-    ensures { (bytes : List ℕ) (m : NspValue) → ((i : ℕ) → slice_index bytes i < 256) → nsp_at bytes ≡ Ok m → IsNsp m × (bytes ≡ nsp_bytes m) }
+    ensures { (bytes : List ℕ) (m : NspValue) → ((i : ℕ) → slice_index bytes i < 256) →
+        nsp_at bytes ≡ Ok m → IsNsp m × (bytes ≡ nsp_bytes m) }
 {}
 
 /// A row of bytes is that of one message.
@@ -48,5 +51,6 @@ pub fn nsp_is_unique()
 /// A fault other than [`crate::NspFault::MissingField`] is decided by the field at which it is found: no bytes
 /// that follow change it.
 pub fn nsp_fault_is_final()
-    ensures { (bytes more : List ℕ) (fault : NspFault) → fault ≢ MissingField → nsp_at bytes ≡ Err fault → nsp_at (bytes ++ more) ≡ Err fault }
+    ensures { (bytes more : List ℕ) (fault : NspFault) → fault ≢ MissingField →
+        nsp_at bytes ≡ Err fault → nsp_at (bytes ++ more) ≡ Err fault }
 {}

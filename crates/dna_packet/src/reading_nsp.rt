@@ -3,7 +3,10 @@
 ghost use Rattle.std.specs.Prelude.{◌≡◌, IfOk, Ok};
 ghost use Rattle.dna_packet.specs.Fields.{Gives, IsEndOf};
 ghost use Rattle.dna_packet.specs.Nsp.{NspValue, view, nsp_bytes, IsNsp, PartsLieIn};
-ghost use Rattle.dna_packet.specs.ReadingNsp.{addresses_at, no_more_at, zero_address_at, segnum_at, segment_at, link_service_at, other_data_ack_at, data_ack_at, connect_ack_at, connect_fields_at, connect_initiate_at, connect_confirm_at, disconnect_initiate_at, disconnect_confirm_at, message_at, nsp_at};
+ghost use Rattle.dna_packet.specs.ReadingNsp.{addresses_at, no_more_at, zero_address_at, segnum_at, segment_at, link_service_at};
+ghost use Rattle.dna_packet.specs.ReadingNsp.{other_data_ack_at, data_ack_at, connect_ack_at, connect_fields_at};
+ghost use Rattle.dna_packet.specs.ReadingNsp.{connect_initiate_at, connect_confirm_at, disconnect_initiate_at};
+ghost use Rattle.dna_packet.specs.ReadingNsp.{disconnect_confirm_at, message_at, nsp_at};
 
 use crate::fault::NspFault;
 use crate::fields;

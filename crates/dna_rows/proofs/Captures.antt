@@ -4,10 +4,10 @@ use Rattle.wire_base.specs.declared.side.Side.{Side}
 use Rattle.capture.specs.declared.record.Record.{Record}
 use Rattle.capture.specs.declared.record.Record.TheVariants.{Sent, Received, User}
 use Rattle.capture.specs.declared.event.Event.TheVariants.{Start, Open, Accept}
-use Rattle.dna_model.specs.declared.refusal.StepRefusal.{StepRefusal}
-use Rattle.dna_model.specs.declared.finding.Cause.TheVariants.{Step}
-use Rattle.dna_model.specs.declared.finding.Finding.{Finding}
-use Rattle.dna_model.specs.declared.finding.Finding.TheVariants.{Refused}
+use Rattle.dna_station.specs.declared.refusal.StepRefusal.{StepRefusal}
+use Rattle.dna_node.specs.declared.finding.Cause.TheVariants.{Step}
+use Rattle.dna_node.specs.declared.finding.Finding.{Finding}
+use Rattle.dna_node.specs.declared.finding.Finding.TheVariants.{Refused}
 use Rattle.dna_rows.proofs.Units.{STRT, STACK, ACK, data_of, from_a, from_b, CI, CC, LINK_SERVICE}
 
 -- a starts and is in RUNNING; b answers and is in ASTRT

@@ -7,6 +7,7 @@ pub mod Scripts
 mod Station
 mod Line
 mod Links
+mod Layers
 mod Packets
 mod NotJudged
 mod Player

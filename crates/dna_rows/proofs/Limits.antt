@@ -11,11 +11,11 @@ use Rattle.capture.specs.declared.hint.HintForm.{HintForm}
 use Rattle.capture.specs.declared.hint.HintForm.TheVariants.{Distance}
 use Rattle.capture.specs.Range.{IsLink, IsNode, NumbersFit, FormFits, IsShort, IsRecord, IsCapture}
 use Rattle.capture.specs.Departing.{first_line, has_lf, IsWhole, LineDeparts, RecordDeparts}
-use Rattle.dna_model.specs.LinkUser as links
-use Rattle.dna_model.specs.Script.{Script}
-use Rattle.dna_model.specs.Script as step
-use Rattle.dna_model.specs.ScriptText.{IsStep, IsScript, StepDeparts, most_bytes}
-use Rattle.dna_model.specs.ScriptText as script_range
+use Rattle.dna_links.specs.User as links
+use Rattle.dna_play.specs.Script.{Script}
+use Rattle.dna_play.specs.Script as step
+use Rattle.dna_play.specs.ScriptText.{IsStep, IsScript, StepDeparts, most_bytes}
+use Rattle.dna_play.specs.ScriptText as script_range
 
 -- ---- a line of either text, before its LF: at most 131,081 bytes. Refuses another MAX_LINE
 

@@ -1,5 +1,15 @@
+mod Messages
+mod Steps
+pub mod OneLink
+mod User
+mod Arriving
 mod Calls
 mod Confirming
-mod Numbers
 mod Ends
+mod Numbers
+mod Requests
 mod Restarts
+mod Runs
+mod Sending
+mod Windows
+mod Words

@@ -3,13 +3,13 @@ use Rattle.std.proofs.Common.{true, false, [], ◌∷◌, ◌++◌, refl}
 use Rattle.wire_base.specs.BlockCheck.{is_good, check_of, after_byte, shift}
 use Rattle.wire_base.specs.declared.side.Side.TheVariants.{A}
 use Rattle.ddcmp_msg.specs.Reading.{reading}
-use Rattle.dna_model.specs.declared.head.Head.{Head}
+use Rattle.dna_station.specs.declared.head.Head.{Head}
 use Rattle.capture.specs.declared.record.Record.TheVariants.{Sent, Received, User}
 use Rattle.capture.specs.declared.event.Event.TheVariants.{Start, Open, Accept}
-use Rattle.dna_model.specs.declared.refusal.StationRefusal.TheVariants.{WrongState}
-use Rattle.dna_model.specs.declared.refusal.StepRefusal.TheVariants.{Station as OfStation, Links as OfLinks}
-use Rattle.dna_model.specs.declared.link_refusal.LinkRefusal.TheVariants.{NoLink}
-use Rattle.dna_model.specs.declared.finding.Finding.TheVariants.{Accepted}
+use Rattle.dna_station.specs.declared.refusal.StationRefusal.TheVariants.{WrongState}
+use Rattle.dna_station.specs.declared.refusal.StepRefusal.TheVariants.{Station as OfStation, Links as OfLinks}
+use Rattle.dna_station.specs.declared.link_refusal.LinkRefusal.TheVariants.{NoLink}
+use Rattle.dna_node.specs.declared.finding.Finding.TheVariants.{Accepted}
 use Rattle.dna_rows.proofs.Verdicts.{Verdict, verdict, VerdictOf}
 use Rattle.dna_rows.proofs.Units.{control, data_of, behind_a, CI}
 use Rattle.dna_rows.proofs.Captures.{started, answered, refused}

@@ -1,3 +1,12 @@
-mod Stations
+mod Steps
+mod BadSteps
+mod Bounds
 mod Links
 mod Messages
+mod Owing
+mod OwingStation
+mod Repeats
+mod Scripts
+mod Stations
+mod Text
+mod Worked

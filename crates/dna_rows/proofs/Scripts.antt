@@ -3,10 +3,10 @@
 use Rattle.std.proofs.Common.{◌≡◌, ℕ, ◌+◌, ◌%◌, zero, suc, List, [], ◌∷◌, ◌++◌, Result, Ok, Err}
 use Rattle.wire_base.specs.declared.side.Side.TheVariants.{A, B}
 use Rattle.capture.specs.declared.record.Record.{Record}
-use Rattle.dna_model.specs.Script.{StepValue, ScriptStep, Script, Start, Send, Deliver, Open, Accept}
-use Rattle.dna_model.specs.Stepped.{Stop}
-use Rattle.dna_model.specs.Played.{Played, Stopped, play}
-use Rattle.dna_model.specs.KeptPlayed.{KeptPlayed, KeptStopped, kept_play}
+use Rattle.dna_play.specs.Script.{StepValue, ScriptStep, Script, Start, Send, Deliver, Open, Accept}
+use Rattle.dna_play.specs.Stepped.{Stop}
+use Rattle.dna_play.specs.Played.{Played, Stopped, play}
+use Rattle.dna_play.specs.KeptPlayed.{KeptPlayed, KeptStopped, kept_play}
 
 abbrev pub a : StepValue → ScriptStep
 a step = record { side = A; step = step }

@@ -11,16 +11,16 @@ use Rattle.two_nodes.proofs.Listed.{next_offends}
 use Rattle.wire_base.specs.declared.side.Side.{Side}
 use Rattle.wire_base.specs.declared.side.Side.TheVariants.{A, B}
 use Rattle.capture.specs.declared.record.Record.{Record}
-use Rattle.dna_model.specs.declared.head.Head.{Head}
-use Rattle.dna_model.specs.declared.refusal.StepRefusal.{StepRefusal}
-use Rattle.dna_model.specs.declared.finding.Cause.{Cause}
-use Rattle.dna_model.specs.declared.finding.Cause.TheVariants.{Step}
-use Rattle.dna_model.specs.declared.finding.Finding.{Finding}
-use Rattle.dna_model.specs.declared.finding.Finding.TheVariants as finding
-use Rattle.dna_model.specs.Layers.{LayersNode, LayersUnit, new_layers_node}
-use Rattle.dna_model.specs.LayersPair.{layers_pair, layers_start}
-use Rattle.dna_model.specs.Tells.{layers_tell}
-use Rattle.dna_model.specs.Verdict.{IsVerdict}
+use Rattle.dna_station.specs.declared.head.Head.{Head}
+use Rattle.dna_station.specs.declared.refusal.StepRefusal.{StepRefusal}
+use Rattle.dna_node.specs.declared.finding.Cause.{Cause}
+use Rattle.dna_node.specs.declared.finding.Cause.TheVariants.{Step}
+use Rattle.dna_node.specs.declared.finding.Finding.{Finding}
+use Rattle.dna_node.specs.declared.finding.Finding.TheVariants as finding
+use Rattle.dna_node.specs.Layers.{LayersNode, LayersUnit, new_layers_node}
+use Rattle.dna_node.specs.LayersPair.{layers_pair, layers_start}
+use Rattle.dna_node.specs.inner.Tells.{layers_tell}
+use Rattle.dna_node.specs.Verdict.{IsVerdict}
 
 -- the heads of the rows: node 1.1 is side a, node 1.2 side b
 abbrev pub head_1 : Head

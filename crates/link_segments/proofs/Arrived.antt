@@ -1,13 +1,15 @@
 -- Pieces that came: where the first is missing, how one is held, and what whole messages they make.
-use Rattle.std.proofs.Common.{◌≡◌, ℕ, zero, suc, ◌+◌, ◌-◌, ◌≤◌, ◌<◌, Bool, true, false, cond, Option, Some, None, List, [], ◌∷◌, ◌++◌, length, take, drop, replicate, set, refl, sym, ap, ◌∙◌, arith, add-one, zero-add}
+use Rattle.std.proofs.Common.{◌≡◌, ℕ, zero, suc, ◌+◌, ◌-◌, ◌≤◌, ◌<◌, Bool, true, false, cond, Option, Some, None, List, [], ◌∷◌, ◌++◌, length, take}
+use Rattle.std.proofs.Common.{drop, replicate, set, refl, sym, ap, ◌∙◌, arith, add-one, zero-add}
 use Rattle.std.proofs.lemmas.List.{take-append-drop}
 use Rattle.std.proofs.Math.ListN.{drop_of_length-le}
 use Rattle.std.proofs.Math.Seq.{drop-append_seam, take-append_seam}
 use Rattle.std.specs.Str.{bytes_eq}
 use Rattle.std.specs.Bool.{one_answer}
 use Rattle.std.proofs.lemmas.Slice.Eq.{bytes_eq-Decides}
-use Rattle.dna_model.specs.Pieces.{Piece, Whole, in_order, hold, next_message, with_piece, in_whole_messages, one_more}
-use Rattle.link_segments.specs.Received.{piece_at, is_missing_at, pieces_if, pieces_of, delivered_pieces, without_front, count_of, next_count, more_pieces}
+use Rattle.dna_links.specs.Pieces.{Piece, Whole, in_order, hold, next_message, with_piece, in_whole_messages, one_more}
+use Rattle.link_segments.specs.Received.{piece_at, is_missing_at, pieces_if, pieces_of, delivered_pieces, without_front, count_of, next_count}
+use Rattle.link_segments.specs.Received.{more_pieces}
 
 -- ---- what comes before the first that is missing
 
@@ -108,13 +110,15 @@ kept_on kept i (suc more) = ap (λ (n : ℕ). kept_or kept i n) (two more) ∙ (
   two : (n : ℕ) → n + 2 ≡ suc (suc n)
   two n = omega arith
 
-pub whole_end : (kept i : ℕ) (xs : List (Option Piece)) (p : Piece) → piece_at i xs ≡ Some p → p.ends ≡ true → kept_or kept i (in_whole_messages (drop i xs)) ≡ kept_or (i + 1) (i + 1) (in_whole_messages (drop (i + 1) xs))
+pub whole_end : (kept i : ℕ) (xs : List (Option Piece)) (p : Piece) → piece_at i xs ≡ Some p → p.ends ≡ true →
+    kept_or kept i (in_whole_messages (drop i xs)) ≡ kept_or (i + 1) (i + 1) (in_whole_messages (drop (i + 1) xs))
 whole_end kept i xs p there e =
     ap (λ (ys : List (Option Piece)). kept_or kept i (in_whole_messages ys)) (step i xs p there)
     ∙ ap (λ (b : Bool). kept_or kept i (cond b (in_whole_messages (drop (i + 1) xs) + 1) (one_more (in_whole_messages (drop (i + 1) xs))))) e
     ∙ kept_end kept i (in_whole_messages (drop (i + 1) xs))
 
-pub whole_on : (kept i : ℕ) (xs : List (Option Piece)) (p : Piece) → piece_at i xs ≡ Some p → p.ends ≡ false → kept_or kept i (in_whole_messages (drop i xs)) ≡ kept_or kept (i + 1) (in_whole_messages (drop (i + 1) xs))
+pub whole_on : (kept i : ℕ) (xs : List (Option Piece)) (p : Piece) → piece_at i xs ≡ Some p → p.ends ≡ false →
+    kept_or kept i (in_whole_messages (drop i xs)) ≡ kept_or kept (i + 1) (in_whole_messages (drop (i + 1) xs))
 whole_on kept i xs p there e =
     ap (λ (ys : List (Option Piece)). kept_or kept i (in_whole_messages ys)) (step i xs p there)
     ∙ ap (λ (b : Bool). kept_or kept i (cond b (in_whole_messages (drop (i + 1) xs) + 1) (one_more (in_whole_messages (drop (i + 1) xs))))) e
@@ -124,9 +128,11 @@ pub whole_none : (kept i : ℕ) (xs : List (Option Piece)) → piece_at i xs ≡
 whole_none kept i xs e = ap (λ (n : ℕ). kept_or kept i n) (whole_stops (drop i xs) (stops i xs e))
 
 pub whole_all : (kept whole : ℕ) (xs : List (Option Piece)) → whole ≡ in_order xs → kept_or kept whole (in_whole_messages (drop whole xs)) ≡ kept
-whole_all kept whole xs e = ap (λ (n : ℕ). kept_or kept whole n) (none_left (in_whole_messages (drop whole xs)) (in_whole-le (drop whole xs)) (in_order-drop whole xs (omega arith))) where
-  none_left : (n : ℕ) → n ≤ in_order (drop whole xs) → in_order (drop whole xs) + whole ≡ in_order xs → n ≡ 0
-  none_left n h left = omega arith
+whole_all kept whole xs e =
+    ap (λ (n : ℕ). kept_or kept whole n)
+    (none_left (in_whole_messages (drop whole xs)) (in_whole-le (drop whole xs)) (in_order-drop whole xs (omega arith))) where
+      none_left : (n : ℕ) → n ≤ in_order (drop whole xs) → in_order (drop whole xs) + whole ≡ in_order xs → n ≡ 0
+      none_left n h left = omega arith
 
 -- ---- how many pieces the next message came in
 
@@ -163,24 +169,27 @@ module _ (i : ℕ) (xs : List (Option Piece)) where
     pub counted_end : p.ends ≡ true → more_pieces i (next_count (drop i xs)) ≡ Some (i + 1)
     counted_end e =
         ap (more_pieces i) counted_at
-        ∙ ap (λ (b : Bool). more_pieces i (count_of (cond b (Some (record { pieces = 1; message = p.body })) (with_piece p (next_message (drop (i + 1) xs)))))) e
+        ∙ ap (λ (b : Bool). more_pieces i
+        (count_of (cond b (Some (record { pieces = 1; message = p.body })) (with_piece p (next_message (drop (i + 1) xs)))))) e
 
     pub counted_on : p.ends ≡ false → more_pieces i (next_count (drop i xs)) ≡ more_pieces (i + 1) (next_count (drop (i + 1) xs))
     counted_on e =
         ap (more_pieces i) counted_at
-        ∙ ap (λ (b : Bool). more_pieces i (count_of (cond b (Some (record { pieces = 1; message = p.body })) (with_piece p (next_message (drop (i + 1) xs)))))) e
+        ∙ ap (λ (b : Bool). more_pieces i
+        (count_of (cond b (Some (record { pieces = 1; message = p.body })) (with_piece p (next_message (drop (i + 1) xs)))))) e
         ∙ ap (more_pieces i) (count_behind p (next_message (drop (i + 1) xs)))
         ∙ more_more i (next_count (drop (i + 1) xs))
 
 -- ---- a message against the pieces
 
 same_behind : (b m w : List ℕ) → b ≡ take (length b) m → bytes_eq m (b ++ w) ≡ bytes_eq (drop (length b) m) w
-same_behind b m w front = one_answer (bytes_eq m (b ++ w)) (bytes_eq (drop (length b) m) w) (bytes_eq-Decides m (b ++ w)) ((λ e. joined ((bytes_eq-Decides (drop (length b) m) w).0 e)), (λ e. (bytes_eq-Decides (drop (length b) m) w).1 (behind e))) where
-  joined : drop (length b) m ≡ w → m ≡ b ++ w
-  joined e = sym (take-append-drop (length b) m) ∙ ap (λ (x : List ℕ). x ++ drop (length b) m) (sym front) ∙ ap (λ (x : List ℕ). b ++ x) e
+same_behind b m w front = one_answer (bytes_eq m (b ++ w)) (bytes_eq (drop (length b) m) w) (bytes_eq-Decides m (b ++ w))
+    ((λ e. joined ((bytes_eq-Decides (drop (length b) m) w).0 e)), (λ e. (bytes_eq-Decides (drop (length b) m) w).1 (behind e))) where
+      joined : drop (length b) m ≡ w → m ≡ b ++ w
+      joined e = sym (take-append-drop (length b) m) ∙ ap (λ (x : List ℕ). x ++ drop (length b) m) (sym front) ∙ ap (λ (x : List ℕ). b ++ x) e
 
-  behind : m ≡ b ++ w → drop (length b) m ≡ w
-  behind e = ap (λ (x : List ℕ). drop (length b) x) e ∙ drop-append_seam b w
+      behind : m ≡ b ++ w → drop (length b) m ≡ w
+      behind e = ap (λ (x : List ℕ). drop (length b) x) e ∙ drop-append_seam b w
 
 differs : (b m w : List ℕ) → bytes_eq b (take (length b) m) ≡ false → bytes_eq m (b ++ w) ≡ false
 differs b m w e = by_answer (bytes_eq m (b ++ w)) refl where
@@ -197,7 +206,8 @@ abbrev pub told_behind : Option (List ℕ) → List (Option Piece) → Option �
 told_behind None later = None
 told_behind (Some rest) later = more_pieces 1 (delivered_pieces rest later)
 
-told_more : (m : List ℕ) (p : Piece) (later : List (Option Piece)) (b : Bool) (whole : Option Whole) → next_message later ≡ whole → bytes_eq p.body (take (length p.body) m) ≡ b → pieces_of m (with_piece p whole) ≡ told_behind (cond b (Some (drop (length p.body) m)) None) later
+told_more : (m : List ℕ) (p : Piece) (later : List (Option Piece)) (b : Bool) (whole : Option Whole) → next_message later ≡ whole →
+    bytes_eq p.body (take (length p.body) m) ≡ b → pieces_of m (with_piece p whole) ≡ told_behind (cond b (Some (drop (length p.body) m)) None) later
 told_more m p later false None next e = refl
 told_more m p later false (Some w) next e = ap (λ (r : Bool). pieces_if r (w.pieces + 1)) (differs p.body m w.message e)
 told_more m p later true None next e = ap (λ (o : Option Whole). more_pieces 1 (pieces_of (drop (length p.body) m) o)) (sym next)
@@ -220,10 +230,12 @@ module _ (i : ℕ) (xs : List (Option Piece)) (m : List ℕ) where
     told_at : delivered_pieces m (drop i xs) ≡ delivered_pieces m (Some p ∷ drop (i + 1) xs)
     told_at = ap (delivered_pieces m) (step i xs p there)
 
-    told_end : (same : Bool) → p.ends ≡ true → bytes_eq m p.body ≡ same → more_pieces i (delivered_pieces m (drop i xs)) ≡ more_pieces i (pieces_if same 1)
+    told_end : (same : Bool) → p.ends ≡ true → bytes_eq m p.body ≡ same → more_pieces i (delivered_pieces m (drop i xs)) ≡ more_pieces i
+        (pieces_if same 1)
     told_end same e is =
         ap (more_pieces i) told_at
-        ∙ ap (λ (b : Bool). more_pieces i (pieces_of m (cond b (Some (record { pieces = 1; message = p.body })) (with_piece p (next_message (drop (i + 1) xs)))))) e
+        ∙ ap (λ (b : Bool). more_pieces i
+        (pieces_of m (cond b (Some (record { pieces = 1; message = p.body })) (with_piece p (next_message (drop (i + 1) xs)))))) e
         ∙ ap (λ (r : Bool). more_pieces i (pieces_if r 1)) is
 
     pub told_same : p.ends ≡ true → bytes_eq m p.body ≡ true → more_pieces i (delivered_pieces m (drop i xs)) ≡ Some (i + 1)
@@ -241,8 +253,10 @@ module _ (i : ℕ) (xs : List (Option Piece)) (m : List ℕ) where
     pub told_differs : p.ends ≡ false → without_front p.body m ≡ None → more_pieces i (delivered_pieces m (drop i xs)) ≡ None
     told_differs e none = ap (more_pieces i) (told_goes e ∙ ap (λ (o : Option (List ℕ)). told_behind o (drop (i + 1) xs)) none)
 
-    pub told_on : (rest : List ℕ) → p.ends ≡ false → without_front p.body m ≡ Some rest → more_pieces i (delivered_pieces m (drop i xs)) ≡ more_pieces (i + 1) (delivered_pieces rest (drop (i + 1) xs))
-    told_on rest e is = ap (more_pieces i) (told_goes e ∙ ap (λ (o : Option (List ℕ)). told_behind o (drop (i + 1) xs)) is) ∙ more_more i (delivered_pieces rest (drop (i + 1) xs))
+    pub told_on : (rest : List ℕ) → p.ends ≡ false → without_front p.body m ≡ Some rest → more_pieces i (delivered_pieces m (drop i xs)) ≡ more_pieces
+        (i + 1) (delivered_pieces rest (drop (i + 1) xs))
+    told_on rest e is = ap (more_pieces i) (told_goes e ∙ ap (λ (o : Option (List ℕ)). told_behind o (drop (i + 1) xs)) is) ∙
+        more_more i (delivered_pieces rest (drop (i + 1) xs))
 
 -- ---- a piece is held
 
@@ -252,16 +266,19 @@ hold_none (suc place) p = ap (λ (ys : List (Option Piece)). None ∷ ys) (hold_
 
 hold_past : (more : ℕ) (p : Piece) (xs : List (Option Piece)) → hold (length xs + more) p xs ≡ xs ++ (replicate more None ++ Some p ∷ [])
 hold_past more p [] = ap (λ (n : ℕ). hold n p []) (zero-add more) ∙ hold_none more p
-hold_past more p (x ∷ xs) = ap (λ (n : ℕ). hold n p (x ∷ xs)) (one_in (length xs)) ∙ ap (λ (ys : List (Option Piece)). x ∷ ys) (hold_past more p xs) where
-  one_in : (n : ℕ) → suc n + more ≡ suc (n + more)
-  one_in n = omega arith
+hold_past more p (x ∷ xs) = ap (λ (n : ℕ). hold n p (x ∷ xs)) (one_in (length xs)) ∙ ap (λ (ys : List (Option Piece)). x ∷ ys) (hold_past more p xs)
+  where
+    one_in : (n : ℕ) → suc n + more ≡ suc (n + more)
+    one_in n = omega arith
 
-pub hold_append : (above room : ℕ) (p : Piece) (xs : List (Option Piece)) → room ≡ length xs - in_order xs → room < above → hold (in_order xs + above - 1) p xs ≡ xs ++ (replicate (above - room - 1) None ++ Some p ∷ [])
+pub hold_append : (above room : ℕ) (p : Piece) (xs : List (Option Piece)) → room ≡ length xs - in_order xs → room < above →
+    hold (in_order xs + above - 1) p xs ≡ xs ++ (replicate (above - room - 1) None ++ Some p ∷ [])
 hold_append above room p xs is far = let le = in_order-le xs in ap (λ (n : ℕ). hold n p xs) (place le) ∙ hold_past (above - room - 1) p xs where
   place : in_order xs ≤ length xs → in_order xs + above - 1 ≡ length xs + (above - room - 1)
   place le = omega arith
 
-pub hold_set : (place : ℕ) (p : Piece) (xs : List (Option Piece)) → place < length xs → is_missing_at place xs ≡ true → hold place p xs ≡ set xs place (Some p)
+pub hold_set : (place : ℕ) (p : Piece) (xs : List (Option Piece)) → place < length xs → is_missing_at place xs ≡ true →
+    hold place p xs ≡ set xs place (Some p)
 hold_set place p [] h e = absurd (omega arith)
 hold_set zero p (None ∷ xs) h e = refl
 hold_set zero p (Some q ∷ xs) h e = absurd (cc)
@@ -281,7 +298,8 @@ hold_order (suc place) p (None ∷ xs) = omega arith
 hold_order (suc place) p (Some q ∷ xs) = let h = hold_order place p xs in omega arith
 
 -- the first missing one moves up by the run of pieces from where it stood
-pub hold_more : (place : ℕ) (p : Piece) (xs : List (Option Piece)) → in_order (drop (in_order xs) (hold place p xs)) + in_order xs ≡ in_order (hold place p xs)
+pub hold_more : (place : ℕ) (p : Piece) (xs : List (Option Piece)) → in_order (drop (in_order xs) (hold place p xs)) + in_order xs ≡ in_order
+    (hold place p xs)
 hold_more place p xs = in_order-drop (in_order xs) (hold place p xs) (hold_order place p xs)
 
 pub ruleset arrived = (in_order-le, in_order-drop, in_order_step, in_order_stop)

@@ -1,11 +1,12 @@
 -- The next piece of what was handed in, and what it leaves.
-use Rattle.std.proofs.Common.{◌≡◌, ℕ, ◌+◌, ◌-◌, ◌≤◌, ◌<◌, Bool, true, false, cond, List, [], ◌∷◌, length, take, drop, get_or, ap, ap₂, sym, ◌∙◌, arith, length-take, length-drop, le-leb}
+use Rattle.std.proofs.Common.{◌≡◌, ℕ, ◌+◌, ◌-◌, ◌≤◌, ◌<◌, Bool, true, false, cond, List, [], ◌∷◌, length, take, drop, get_or, ap, ap₂, sym, ◌∙◌}
+use Rattle.std.proofs.Common.{arith, length-take, length-drop, le-leb}
 use Rattle.std.specs.Prelude.{nat_le, not}
 use Rattle.std.proofs.lemmas.Bool.{lt-leb}
 use Rattle.std.proofs.lemmas.List.{drop-drop, take_all}
-use Rattle.dna_model.specs.Pieces.{Piece, Unsent, left_of, without_piece}
-use Rattle.dna_model.specs.Compose.{next_piece, piece_with}
-use Rattle.link_segments.specs.Unsent.{without_given}
+use Rattle.dna_links.specs.Pieces.{Piece, Unsent, left_of, without_piece}
+use Rattle.dna_links.specs.Pieces.{next_piece, piece_with}
+use Rattle.link_segments.specs.inner.Unsent.{without_given}
 
 -- ---- the piece
 
@@ -44,7 +45,8 @@ after_next u = without_piece (next_piece u) u
 
 -- a piece that is not the last of its message
 module _ (begun : Bool) (given : ℕ) where
-  pub rest_left : (messages : List (List ℕ)) (message : List ℕ) → 0 < length messages → message ≡ get_or messages 0 message → 512 < length message - given →
+  pub rest_left : (messages : List (List ℕ)) (message : List ℕ) → 0 < length messages → message ≡ get_or messages 0 message →
+      512 < length message - given →
       unsent_as true (given + 512) messages ≡ after_next (unsent_as begun given messages)
   rest_left [] message h is many = absurd (omega (arith, h))
   rest_left (first ∷ later) message h is many =

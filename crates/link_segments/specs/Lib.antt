@@ -1,5 +1,5 @@
--- What a contract sees of the types of this crate; the rules stand in `dna_model`
+-- What a contract sees of the types of this crate; the rules stand in `dna_links`
 pub mod Piece
-pub mod Unsent
 pub mod Outstanding
 pub mod Received
+pub mod inner

@@ -1,9 +1,9 @@
 //! Look-ups: which link a message or an event is about.
 
 ghost use Rattle.std.specs.Prelude.{◌≡◌};
-ghost use Rattle.dna_model.specs.LinkTests as tests;
+ghost use Rattle.dna_links.specs.LookUps as tests;
 
-use dna_model::{LinkTest, Phase, Port};
+use dna_links::{LinkTest, Phase, Port};
 
 /// Whether a link is the one that is looked for.
 #[inline(always)]

@@ -2,8 +2,8 @@
 
 ghost use Rattle.std.specs.Prelude.{◌≡◌, ◌+◌, ◌-◌, ◌<◌, ◌≤◌, ◌++◌, ◌∷◌, [], length, drop, slice_get, option_copied, nat_le, OnOk, OnErr};
 ghost use Rattle.wire_base.specs.Window.{empty_from};
-ghost use Rattle.dna_model.specs.Flow.{wire, distance};
-ghost use Rattle.dna_model.specs.Flow as flow;
+ghost use Rattle.dna_links.specs.Flow.{wire, distance};
+ghost use Rattle.dna_links.specs.Flow as flow;
 ghost use Rattle.std.specs.List.{AllByRecursion};
 ghost use Rattle.dna_packet.specs.AckWord.{IsAckWord};
 ghost use Rattle.link_segments.specs.Outstanding.{acknowledged_to, acknowledged_words};

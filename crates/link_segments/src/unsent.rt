@@ -2,12 +2,11 @@
 
 ghost use Rattle.std.specs.Prelude.{◌≡◌, ◌≤◌, true, length, OnOk, OnErr};
 ghost use Rattle.dna_packet.specs.Nsp.{segment_view};
-ghost use Rattle.dna_model.specs.Pieces as spec;
-ghost use Rattle.dna_model.specs.NextSent.{has_more};
-ghost use Rattle.dna_model.specs.Compose.{next_piece};
-ghost use Rattle.dna_model.specs.Compose as compose;
+ghost use Rattle.dna_links.specs.Pieces as spec;
+ghost use Rattle.dna_links.specs.Pieces.{has_more};
+ghost use Rattle.dna_links.specs.Pieces.{next_piece};
 ghost use Rattle.link_segments.specs.Piece.{slice_view};
-ghost use Rattle.dna_model.specs.Pieces.{piece_of, none_unsent, with_message, is_next_piece, without_piece};
+ghost use Rattle.dna_links.specs.Pieces.{piece_of, none_unsent, with_message, is_next_piece, without_piece};
 
 use crate::PieceSlice;
 use dna_packet::Segment;
@@ -32,8 +31,8 @@ pub struct Unsent {
 }
 
 impl Model for Unsent {
-    ghost use Rattle.link_segments.specs.Unsent.{without_given, given_fits};
-    ghost use Rattle.dna_model.specs.Pieces.{Unsent};
+    ghost use Rattle.link_segments.specs.inner.Unsent.{without_given, given_fits};
+    ghost use Rattle.dna_links.specs.Pieces.{Unsent};
 
     ghost Value = { Unsent };
 
@@ -159,7 +158,7 @@ fn is_piece_of(segment: &Segment, begun: bool, rest: &[u8]) -> bool
 
 // The next piece of a message of which this is left, and which a segment has begun or has not.
 fn piece_with(begun: bool, rest: &[u8]) -> PieceSlice<'_>
-    ensures piece { slice_view result ≡ compose.piece_with begun rest.now }
+    ensures piece { slice_view result ≡ spec.piece_with begun rest.now }
     ensures short { length result.body.now ≤ 512 }
 {
     if rest.len() <= SEGSIZE {

@@ -1,23 +1,25 @@
 -- What a link that changes in its place makes of the links.
-use Rattle.std.proofs.Common.{◌≡◌, ℕ, ◌<◌, Bool, true, false, cond, Option, Some, None, Result, Ok, Err, OnOk, IfErr, List, length, get_or, set, refl, sym, subst, ap, ◌∙◌}
+use Rattle.std.proofs.Common.{◌≡◌, ℕ, ◌<◌, Bool, true, false, cond, Option, Some, None, Result, Ok, Err, OnOk, IfErr, List, length, get_or, set, refl}
+use Rattle.std.proofs.Common.{sym, subst, ap, ◌∙◌}
 use Rattle.std.specs.Prelude.{slice_get}
 use Rattle.std.proofs.lemmas.List.{set-get_or}
-use Rattle.dna_model.specs.declared.link_refusal.LinkRefusal.{LinkRefusal}
-use Rattle.dna_model.specs.declared.link_refusal.LinkRefusal.TheVariants.{WrongDelivery}
-use Rattle.dna_model.specs.Flow.{Sending}
-use Rattle.dna_model.specs.LinkUser.{delivered}
-use Rattle.dna_model.specs.LinkSending.{carries, truth_of}
+use Rattle.dna_station.specs.declared.link_refusal.LinkRefusal.{LinkRefusal}
+use Rattle.dna_station.specs.declared.link_refusal.LinkRefusal.TheVariants.{WrongDelivery}
+use Rattle.dna_links.specs.Flow.{Sending}
+use Rattle.dna_links.specs.User.{delivered}
+use Rattle.dna_links.specs.Sending.{carries, truth_of}
 use Rattle.nsp_link.specs.declared.fault.LinkFault.{LinkFault}
 use Rattle.nsp_link.specs.Fault.{IsFault}
 use Rattle.std.proofs.lemmas.Option.{slice_get_read}
-use Rattle.dna_model.specs.LinkTests.{is_live}
-use Rattle.dna_model.specs.Links.{LinkOf, changed, with_flow}
-use Rattle.dna_model.specs.WireFlow.{WireFlow, wire_flows, sending, delivers}
-use Rattle.dna_model.specs.WireLinks.{WireLinks}
-use Rattle.nsp_link.specs.Index.{IsIndexed, without}
+use Rattle.dna_links.specs.LookUps.{is_live}
+use Rattle.dna_links.specs.Links.{LinkOf, changed, with_flow}
+use Rattle.dna_links.specs.WireFlow.{WireFlow, wire_flows, sending, delivers}
+use Rattle.dna_links.specs.WireLinks.{WireLinks}
+use Rattle.nsp_link.specs.inner.Index.{IsIndexed, without}
 use Rattle.nsp_link.proofs.Index.{indexed_change, indexed_end}
 
-module _ (node peer : ℕ) (items : List (LinkOf WireFlow)) (s : WireLinks) (is : record { node = node; peer = peer; links = items } ≡ s) (n : ℕ) (l : LinkOf WireFlow) (within : n < length s.links) (there : l ≡ get_or items n l) where
+module _ (node peer : ℕ) (items : List (LinkOf WireFlow)) (s : WireLinks) (is : record { node = node; peer = peer; links = items } ≡ s) (n : ℕ)
+    (l : LinkOf WireFlow) (within : n < length s.links) (there : l ≡ get_or items n l) where
   shown_within : n < length items
   shown_within = subst (λ (t : WireLinks). n < length t.links) (sym is) within
 
@@ -28,50 +30,69 @@ module _ (node peer : ℕ) (items : List (LinkOf WireFlow)) (s : WireLinks) (is 
   link_found = ap (λ (t : WireLinks). slice_get t.links n) (sym is) ∙ link_there
 
   -- the index stays where the address does and the link lives on
-  pub change_indexed : (numbers : List ℕ) (holder : ℕ → Option ℕ) (m : LinkOf WireFlow) → IsIndexed items numbers holder → ((k : LinkOf WireFlow) → slice_get s.links n ≡ Some k → is_live k.port.phase ≡ true) → is_live m.port.phase ≡ true → m.port.own ≡ l.port.own → IsIndexed (set items n m) numbers holder
-  change_indexed numbers holder m index live lives own = indexed_change items numbers holder n l m index link_there (lives ∙ sym (live l link_found)) own
+  pub change_indexed : (numbers : List ℕ) (holder : ℕ → Option ℕ) (m : LinkOf WireFlow) → IsIndexed items numbers holder →
+      ((k : LinkOf WireFlow) → slice_get s.links n ≡ Some k → is_live k.port.phase ≡ true) → is_live m.port.phase ≡ true → m.port.own ≡ l.port.own →
+      IsIndexed (set items n m) numbers holder
+  change_indexed numbers holder m index live lives own = indexed_change items numbers holder n l m index link_there (lives ∙ sym (live l link_found))
+      own
 
   same_link : (link : LinkOf WireFlow) → slice_get s.links n ≡ Some link → l ≡ link
   same_link link e = let both : Some l ≡ Some link = sym link_found ∙ e in cc
 
   -- it is the change of the link that is there
-  pub change_made : (f : LinkOf WireFlow → LinkOf WireFlow) (m : LinkOf WireFlow) → m ≡ f l → (link : LinkOf WireFlow) → slice_get s.links n ≡ Some link → record { node = node; peer = peer; links = set items n m } ≡ changed n (f link) s
+  pub change_made : (f : LinkOf WireFlow → LinkOf WireFlow) (m : LinkOf WireFlow) → m ≡ f l → (link : LinkOf WireFlow) →
+      slice_get s.links n ≡ Some link → record { node = node; peer = peer; links = set items n m } ≡ changed n (f link) s
   change_made f m e link found =
       ap (λ (k : LinkOf WireFlow). changed n k (record { node = node; peer = peer; links = items })) (e ∙ ap f (same_link link found))
       ∙ ap (λ (t : WireLinks). changed n (f link) t) is
 
   -- one that stays as it was changes nothing
   pub change_none : (m : LinkOf WireFlow) → m ≡ l → record { node = node; peer = peer; links = set items n m } ≡ s
-  change_none m e = ap (λ (xs : List (LinkOf WireFlow)). record { node = node; peer = peer; links = xs }) (ap (λ (k : LinkOf WireFlow). set items n k) (e ∙ there) ∙ set-get_or items n l) ∙ is
+  change_none m e = ap (λ (xs : List (LinkOf WireFlow)). record { node = node; peer = peer; links = xs })
+      (ap (λ (k : LinkOf WireFlow). set items n k) (e ∙ there) ∙ set-get_or items n l) ∙ is
 
   -- one that ends
-  pub end_indexed : (numbers : List ℕ) (holder : ℕ → Option ℕ) (m : LinkOf WireFlow) → IsIndexed items numbers holder → is_live m.port.phase ≡ false → m.port.own ≡ l.port.own → IsIndexed (set items n m) (without n numbers) holder
+  pub end_indexed : (numbers : List ℕ) (holder : ℕ → Option ℕ) (m : LinkOf WireFlow) → IsIndexed items numbers holder → is_live m.port.phase ≡ false →
+      m.port.own ≡ l.port.own → IsIndexed (set items n m) (without n numbers) holder
   end_indexed numbers holder m index dead own = indexed_end items numbers holder n l m index link_there dead own
 
   -- a message that is sent
-  pub carry_made : (step : LinkOf WireFlow → Result (Sending WireFlow (Unit {0})) LinkRefusal) (m : LinkOf WireFlow) → m ≡ with_flow m.flow l → step l ≡ Ok (sending m.flow) → (link : LinkOf WireFlow) → slice_get s.links n ≡ Some link → carries wire_flows s n link (step link) ≡ Ok (record { links = record { node = node; peer = peer; links = set items n m }; truth = truth_of wire_flows n link tt })
+  pub carry_made : (step : LinkOf WireFlow → Result (Sending WireFlow (Unit {0})) LinkRefusal) (m : LinkOf WireFlow) → m ≡ with_flow m.flow l →
+      step l ≡ Ok (sending m.flow) → (link : LinkOf WireFlow) → slice_get s.links n ≡ Some link → carries wire_flows s n link (step link) ≡ Ok
+      (record { links = record { node = node; peer = peer; links = set items n m }; truth = truth_of wire_flows n link tt })
   carry_made step m rest e link found =
       ap (λ (r : Result (Sending WireFlow (Unit {0})) LinkRefusal). carries wire_flows s n link r) (ap step (sym (same_link link found)) ∙ e)
-      ∙ ap (λ (t : WireLinks). Ok (record { links = t; truth = truth_of wire_flows n link tt })) (sym (change_made (with_flow m.flow) m rest link found))
+      ∙ ap (λ (t : WireLinks). Ok (record { links = t; truth = truth_of wire_flows n link tt }))
+      (sym (change_made (with_flow m.flow) m rest link found))
 
-  pub fault_made : {A : Type 0} (step : LinkOf WireFlow → Result (Sending WireFlow (Unit {0})) LinkRefusal) (new : LinkOf WireFlow → Bool) (r : Result A LinkFault) → IfErr r (λ fault. IsFault (step l) (new l) fault) → (link : LinkOf WireFlow) → slice_get s.links n ≡ Some link → IfErr r (λ fault. IsFault (step link) (new link) fault)
+  pub fault_made : {A : Type 0} (step : LinkOf WireFlow → Result (Sending WireFlow (Unit {0})) LinkRefusal) (new : LinkOf WireFlow → Bool)
+      (r : Result A LinkFault) → IfErr r (λ fault. IsFault (step l) (new l) fault) → (link : LinkOf WireFlow) → slice_get s.links n ≡ Some link →
+      IfErr r (λ fault. IsFault (step link) (new link) fault)
   fault_made step new r h link found = subst (λ (k : LinkOf WireFlow). IfErr r (λ fault. IsFault (step k) (new k) fault)) (same_link link found) h
 
   -- why memory was asked for
-  pub held_made : {A E : Type 0} (test : LinkOf WireFlow → Bool) (r : Result A E) → IfErr r (λ e. test l ≡ true) → (link : LinkOf WireFlow) → slice_get s.links n ≡ Some link → IfErr r (λ e. test link ≡ true)
+  pub held_made : {A E : Type 0} (test : LinkOf WireFlow → Bool) (r : Result A E) → IfErr r (λ e. test l ≡ true) → (link : LinkOf WireFlow) →
+      slice_get s.links n ≡ Some link → IfErr r (λ e. test link ≡ true)
   held_made test r h link found = subst (λ (k : LinkOf WireFlow). IfErr r (λ e. test k ≡ true)) (same_link link found) h
 
-  pub refusal_made : {A : Type 0} (step : LinkOf WireFlow → Result (Sending WireFlow (Unit {0})) LinkRefusal) (r : Result A LinkRefusal) → IfErr r (λ refusal. step l ≡ Err refusal) → (link : LinkOf WireFlow) → slice_get s.links n ≡ Some link → IfErr r (λ refusal. step link ≡ Err refusal)
+  pub refusal_made : {A : Type 0} (step : LinkOf WireFlow → Result (Sending WireFlow (Unit {0})) LinkRefusal) (r : Result A LinkRefusal) →
+      IfErr r (λ refusal. step l ≡ Err refusal) → (link : LinkOf WireFlow) → slice_get s.links n ≡ Some link →
+      IfErr r (λ refusal. step link ≡ Err refusal)
   refusal_made step (Ok x) h link found = h
   refusal_made step (Err refusal) h link found = ap step (sym (same_link link found)) ∙ h
 
   -- a message that is delivered, or not
-  pub told_made : (message : List ℕ) (r : Bool) (m : LinkOf WireFlow) → m ≡ with_flow m.flow l → (r ≡ true → delivers message l.flow ≡ Some m.flow) → (r ≡ false → (delivers message l.flow ≡ None) × (m ≡ l)) → (link : LinkOf WireFlow) → slice_get s.links n ≡ Some link → delivered wire_flows n link s (delivers message link.flow) ≡ cond r (Ok (record { node = node; peer = peer; links = set items n m })) (Err WrongDelivery)
+  pub told_made : (message : List ℕ) (r : Bool) (m : LinkOf WireFlow) → m ≡ with_flow m.flow l → (r ≡ true → delivers message l.flow ≡ Some m.flow) →
+      (r ≡ false → (delivers message l.flow ≡ None) × (m ≡ l)) → (link : LinkOf WireFlow) → slice_get s.links n ≡ Some link →
+      delivered wire_flows n link s (delivers message link.flow) ≡ cond r (Ok (record { node = node; peer = peer; links = set items n m }))
+      (Err WrongDelivery)
   told_made message true m rest told none link found =
-      ap (λ (o : Option WireFlow). delivered wire_flows n link s o) (ap (λ (k : LinkOf WireFlow). delivers message k.flow) (sym (same_link link found)) ∙ told refl)
+      ap (λ (o : Option WireFlow). delivered wire_flows n link s o)
+      (ap (λ (k : LinkOf WireFlow). delivers message k.flow) (sym (same_link link found)) ∙ told refl)
       ∙ ap Ok (sym (change_made (with_flow m.flow) m rest link found))
   told_made message false m rest told none link found =
-      ap (λ (o : Option WireFlow). delivered wire_flows n link s o) (ap (λ (k : LinkOf WireFlow). delivers message k.flow) (sym (same_link link found)) ∙ (none refl).0)
+      ap (λ (o : Option WireFlow). delivered wire_flows n link s o)
+      (ap (λ (k : LinkOf WireFlow). delivers message k.flow) (sym (same_link link found)) ∙ (none refl).0)
 
 pub map_ok : {A E P Q : Type 0} (r : Result A E) → (P → Q) → OnOk r P → OnOk r Q
 map_ok (Ok x) f h = f h

@@ -1,8 +1,8 @@
 -- A message that is delivered, by the pieces that it came in.
 use Rattle.std.proofs.Common.{◌≡◌, ℕ, ◌+◌, ◌≤◌, Bool, true, false, cond, Option, Some, None, List, [], ◌∷◌, drop, refl, ap, arith}
 use Rattle.std.specs.Str.{bytes_eq}
-use Rattle.dna_model.specs.Pieces.{Piece, Whole, in_order, next_message, with_piece}
-use Rattle.dna_model.specs.WireFlow.{WireFlow, delivers, delivers_whole, delivered_as}
+use Rattle.dna_links.specs.Pieces.{Piece, Whole, in_order, next_message, with_piece}
+use Rattle.dna_links.specs.WireFlow.{WireFlow, delivers, delivers_whole, delivered_as}
 use Rattle.link_segments.specs.Received.{pieces_if, pieces_of, delivered_pieces}
 
 -- ---- a whole message has no more pieces than come before the first that is missing
@@ -15,7 +15,8 @@ one_more : (p : Piece) (o : Option Whole) (count : ℕ) → IsWithin o count →
 one_more p None count h = NoWhole (1 + count)
 one_more p (Some w) count (Within _ _ h) = Within _ (1 + count) (omega arith)
 
-by_end : (p : Piece) (b : Bool) (o : Option Whole) (count : ℕ) → IsWithin o count → IsWithin (cond b (Some (record { pieces = 1; message = p.body })) (with_piece p o)) (1 + count)
+by_end : (p : Piece) (b : Bool) (o : Option Whole) (count : ℕ) → IsWithin o count →
+    IsWithin (cond b (Some (record { pieces = 1; message = p.body })) (with_piece p o)) (1 + count)
 by_end p true o count h = Within _ (1 + count) (omega arith)
 by_end p false o count h = one_more p o count h
 
@@ -36,10 +37,12 @@ delivered_within message xs n e = told_within message (next_message xs) (in_orde
 
 -- ---- what is delivered
 
-some_of : (message : List ℕ) (o : Option Whole) (f : WireFlow) (n : ℕ) → pieces_of message o ≡ Some n → delivers_whole o message f ≡ Some (record f { kept = record f.kept { pieces = drop n f.kept.pieces } })
+some_of : (message : List ℕ) (o : Option Whole) (f : WireFlow) (n : ℕ) → pieces_of message o ≡ Some n →
+    delivers_whole o message f ≡ Some (record f { kept = record f.kept { pieces = drop n f.kept.pieces } })
 some_of message None f n e = absurd (cc)
 some_of message (Some w) f n e = by_same (bytes_eq message w.message) e where
-  by_same : (b : Bool) → pieces_if b w.pieces ≡ Some n → delivered_as b w f ≡ Some (record f { kept = record f.kept { pieces = drop n f.kept.pieces } })
+  by_same : (b : Bool) → pieces_if b w.pieces ≡ Some n →
+      delivered_as b w f ≡ Some (record f { kept = record f.kept { pieces = drop n f.kept.pieces } })
   by_same true same = let is : w.pieces ≡ n = cc in ap (λ (k : ℕ). Some (record f { kept = record f.kept { pieces = drop k f.kept.pieces } })) is
   by_same false same = absurd (cc)
 
@@ -50,7 +53,8 @@ none_of message (Some w) f e = by_same (bytes_eq message w.message) e where
   by_same true same = absurd (cc)
   by_same false same = refl
 
-pub delivers_some : (message : List ℕ) (f : WireFlow) (n : ℕ) → delivered_pieces message f.kept.pieces ≡ Some n → delivers message f ≡ Some (record f { kept = record f.kept { pieces = drop n f.kept.pieces } })
+pub delivers_some : (message : List ℕ) (f : WireFlow) (n : ℕ) → delivered_pieces message f.kept.pieces ≡ Some n →
+    delivers message f ≡ Some (record f { kept = record f.kept { pieces = drop n f.kept.pieces } })
 delivers_some message f n e = some_of message (next_message f.kept.pieces) f n e
 
 pub delivers_none : (message : List ℕ) (f : WireFlow) → delivered_pieces message f.kept.pieces ≡ None → delivers message f ≡ None

@@ -1,9 +1,9 @@
 -- A segment that came twice changes nothing.
 use Rattle.std.proofs.Common.{◌≡◌, ℕ, ◌+◌, ◌-◌, ◌<◌, false, ap}
 use Rattle.dna_packet.specs.Nsp.{SegmentValue}
-use Rattle.dna_model.specs.Flow.{distance}
-use Rattle.dna_model.specs.Pieces.{in_order}
-use Rattle.dna_model.specs.WireFlow.{LinkVariables, WireFlow}
+use Rattle.dna_links.specs.Flow.{distance}
+use Rattle.dna_links.specs.Pieces.{in_order}
+use Rattle.dna_links.specs.WireFlow.{LinkVariables, WireFlow}
 use Rattle.link_segments.specs.Received.{is_missing_at}
 use Rattle.link_segments.proofs.Holding.{held_there as kept_there}
 use Rattle.nsp_link.specs.Flow.{with_held}

@@ -1,19 +1,20 @@
 -- Links that are found by the list of those that live, and by the last holder of each own address.
-use Rattle.std.proofs.Common.{◌≡◌, ℕ, zero, suc, ◌+◌, ◌<◌, Bool, true, false, ◌&&◌, not, cond, Option, Some, None, List, [], ◌∷◌, ◌++◌, length, drop, get_or, set, map, refl, sym, subst, ap, ◌∙◌, arith, ltb, eqb}
+use Rattle.std.proofs.Common.{◌≡◌, ℕ, zero, suc, ◌+◌, ◌<◌, Bool, true, false, ◌&&◌, not, cond, Option, Some, None, List, [], ◌∷◌, ◌++◌, length, drop}
+use Rattle.std.proofs.Common.{get_or, set, map, refl, sym, subst, ap, ◌∙◌, arith, ltb, eqb}
 use Rattle.std.specs.Prelude.{slice_get, position, remove}
 use Rattle.std.specs.List.{position_or_len}
 use Rattle.std.specs.Option.{option_map, IfSome}
 use Rattle.std.proofs.lemmas.Bool.{ltb-true, ltb-false, lt-ltb, le-ltb, eqb-true, eqb-false, eq-eqb, ne_eqb}
 use Rattle.std.proofs.lemmas.Option.{slice_get_within}
 use Rattle.std.proofs.lemmas.List.{drop_more, map-append}
-use Rattle.dna_model.specs.declared.port.Phase.{Phase}
-use Rattle.dna_model.specs.declared.port.Phase.TheVariants.{Calling, Called, Confirming, Running, Disconnecting, Ended}
-use Rattle.dna_model.specs.declared.port.Port.{Port}
-use Rattle.dna_model.specs.declared.port.LinkTest.{LinkTest}
-use Rattle.dna_model.specs.declared.port.LinkTest.TheVariants.{HasAddress, LiveAt, TheLink, LiveTo, OpenedAt, CallingAt, CalledBy, BegunBy, ActedOn}
-use Rattle.dna_model.specs.LinkTests.{is_live, is_at, is_calling, is_called, is_connected, passes}
-use Rattle.dna_model.specs.Links.{LinkOf, LinksOf, number_of}
-use Rattle.nsp_link.specs.Index.{live_numbers, own_of, own_at, IsIndexed, first_of, passes_in, passes_at, is_of_live, without}
+use Rattle.dna_links.specs.declared.port.Phase.{Phase}
+use Rattle.dna_links.specs.declared.port.Phase.TheVariants.{Calling, Called, Confirming, Running, Disconnecting, Ended}
+use Rattle.dna_links.specs.declared.port.Port.{Port}
+use Rattle.dna_links.specs.declared.port.LinkTest.{LinkTest}
+use Rattle.dna_links.specs.declared.port.LinkTest.TheVariants.{HasAddress, LiveAt, TheLink, LiveTo, OpenedAt, CallingAt, CalledBy, BegunBy, ActedOn}
+use Rattle.dna_links.specs.LookUps.{is_live, is_at, is_calling, is_called, is_connected, passes}
+use Rattle.dna_links.specs.Links.{LinkOf, LinksOf, number_of}
+use Rattle.nsp_link.specs.inner.Index.{live_numbers, own_of, own_at, IsIndexed, first_of, passes_in, passes_at, is_of_live, without}
 
 first_true : (a b : Bool) → (a && b) ≡ true → a ≡ true
 first_true true b e = refl
@@ -32,12 +33,14 @@ module _ {X : Type 0} (p : X → Bool) where
 
   position_there : (x : X) (xs : List X) → p x ≡ false → position p (x ∷ xs) ≡ option_map suc (position p xs)
   position_there x xs e =
-      ap (λ (b : Bool). cond (ltb (cond (not b) (1 + position_or_len p xs) 0) (suc (length xs))) (Some (cond (not b) (1 + position_or_len p xs) 0)) None) e
+      ap (λ (b : Bool). cond (ltb (cond (not b) (1 + position_or_len p xs) 0) (suc (length xs))) (Some (cond (not b) (1 + position_or_len p xs) 0))
+      None) e
       ∙ there_by (ltb (position_or_len p xs) (length xs)) (position_or_len p xs) (length xs) refl
 
   position_here : (x : X) (xs : List X) → p x ≡ true → position p (x ∷ xs) ≡ Some 0
   position_here x xs e =
-      ap (λ (b : Bool). cond (ltb (cond (not b) (1 + position_or_len p xs) 0) (suc (length xs))) (Some (cond (not b) (1 + position_or_len p xs) 0)) None) e
+      ap (λ (b : Bool). cond (ltb (cond (not b) (1 + position_or_len p xs) 0) (suc (length xs))) (Some (cond (not b) (1 + position_or_len p xs) 0))
+      None) e
       ∙ ap (λ (b : Bool). cond b (Some 0) None) (lt-ltb 0 (suc (length xs)) (omega arith))
 
   cond_later : (b : Bool) (n : ℕ) (o : Option ℕ) → cond b (Some (suc n)) (option_map suc o) ≡ option_map suc (cond b (Some n) o)
@@ -46,7 +49,8 @@ module _ {X : Type 0} (p : X → Bool) where
 
   first_later : (x : X) (xs : List X) (ns : List ℕ) → first_of p (x ∷ xs) (map suc ns) ≡ option_map suc (first_of p xs ns)
   first_later x xs [] = refl
-  first_later x xs (n ∷ ns) = ap (λ (o : Option ℕ). cond (passes_at p xs n) (Some (suc n)) o) (first_later x xs ns) ∙ cond_later (passes_at p xs n) n (first_of p xs ns)
+  first_later x xs (n ∷ ns) = ap (λ (o : Option ℕ). cond (passes_at p xs n) (Some (suc n)) o) (first_later x xs ns) ∙
+      cond_later (passes_at p xs n) n (first_of p xs ns)
 
   module _ (xs : List X) (live : List ℕ) (i d : ℕ) (h : i < length live) where
     pub find_hit : passes_at p xs (get_or live i d) ≡ true → first_of p xs (drop i live) ≡ Some (get_or live i d)
@@ -82,8 +86,10 @@ module _ {X : Type 0} (p : X → Bool) where
 -- ---- among those that live
 
 module _ {D : Type 0} (p : LinkOf D → Bool) (lives : (l : LinkOf D) → p l ≡ true → is_live l.port.phase ≡ true) where
-  among : (l : LinkOf D) (ls : List (LinkOf D)) (a b : Bool) → is_live l.port.phase ≡ a → p l ≡ b → position p ls ≡ first_of p ls (live_numbers ls) → position p (l ∷ ls) ≡ first_of p (l ∷ ls) (cond a (0 ∷ map suc (live_numbers ls)) (map suc (live_numbers ls)))
-  among l ls true true live pass later = position_here p l ls pass ∙ sym (ap (λ (b : Bool). cond b (Some 0) (first_of p (l ∷ ls) (map suc (live_numbers ls)))) pass)
+  among : (l : LinkOf D) (ls : List (LinkOf D)) (a b : Bool) → is_live l.port.phase ≡ a → p l ≡ b → position p ls ≡ first_of p ls (live_numbers ls) →
+      position p (l ∷ ls) ≡ first_of p (l ∷ ls) (cond a (0 ∷ map suc (live_numbers ls)) (map suc (live_numbers ls)))
+  among l ls true true live pass later =
+      position_here p l ls pass ∙ sym (ap (λ (b : Bool). cond b (Some 0) (first_of p (l ∷ ls) (map suc (live_numbers ls)))) pass)
   among l ls true false live pass later =
       position_there p l ls pass ∙ ap (option_map suc) later ∙ sym (first_later p l ls (live_numbers ls))
       ∙ sym (ap (λ (b : Bool). cond b (Some 0) (first_of p (l ∷ ls) (map suc (live_numbers ls)))) pass)
@@ -132,7 +138,8 @@ passes_lives (CalledBy far) port of e = called_lives port.phase (first_true (is_
 passes_lives (BegunBy far) port of e = first_true (is_live port.phase) _ e
 passes_lives (ActedOn own far) port of e = connected_lives port.phase (first_true (is_connected port.phase) _ e)
 
-pub live_found : {D : Type 0} (test : LinkTest) (links : List (LinkOf D)) (live : List ℕ) → is_of_live test ≡ true → live ≡ live_numbers links → position (λ (l : LinkOf D). passes test l.port) links ≡ first_of (λ (l : LinkOf D). passes test l.port) links live
+pub live_found : {D : Type 0} (test : LinkTest) (links : List (LinkOf D)) (live : List ℕ) → is_of_live test ≡ true → live ≡ live_numbers links →
+    position (λ (l : LinkOf D). passes test l.port) links ≡ first_of (λ (l : LinkOf D). passes test l.port) links live
 live_found {D} test links live of is =
     among_live (λ (l : LinkOf D). passes test l.port) (λ l e. passes_lives test l.port of e) links
     ∙ ap (first_of (λ (l : LinkOf D). passes test l.port) links) (sym is)
@@ -161,13 +168,15 @@ module _ {D : Type 0} (links : List (LinkOf D)) (numbers : List ℕ) (holder : �
       absurd (cc)
 
   pub address_found : (own : ℕ) → position (λ (l : LinkOf D). is_at l.port.own own) links ≡ holder own
-  address_found own = held_by own (position (λ (l : LinkOf D). is_at l.port.own own) links) (found (λ (l : LinkOf D). is_at l.port.own own) links) (holder own) refl
+  address_found own = held_by own (position (λ (l : LinkOf D). is_at l.port.own own) links) (found (λ (l : LinkOf D). is_at l.port.own own) links)
+      (holder own) refl
 
 eqb_suc : (r : Bool) (a b : ℕ) → eqb a b ≡ r → eqb (suc a) (suc b) ≡ r
 eqb_suc true a b e = eq-eqb (suc a) (suc b) (ap suc (eqb-true a b e))
 eqb_suc false a b e = ne_eqb (suc a) (suc b) (λ same. eqb-false a b e (omega arith))
 
-later_by : (b : Bool) (k : ℕ) (rest without_rest : List ℕ) → cond b (map suc rest) (suc k ∷ map suc without_rest) ≡ map suc (cond b rest (k ∷ without_rest))
+later_by : (b : Bool) (k : ℕ) (rest without_rest : List ℕ) → cond b (map suc rest) (suc k ∷ map suc without_rest) ≡ map suc
+    (cond b rest (k ∷ without_rest))
 later_by true k rest without_rest = refl
 later_by false k rest without_rest = refl
 
@@ -192,7 +201,8 @@ removed_later : (x : ℕ) (xs : List ℕ) (o : Option ℕ) → removed (option_m
 removed_later x xs None = refl
 removed_later x xs (Some place) = refl
 
-removed_by : (x : ℕ) (xs : List ℕ) (n : ℕ) (b : Bool) → eqb x n ≡ b → without n xs ≡ removed (position (λ k. eqb k n) xs) xs → cond b xs (x ∷ without n xs) ≡ removed (position (λ k. eqb k n) (x ∷ xs)) (x ∷ xs)
+removed_by : (x : ℕ) (xs : List ℕ) (n : ℕ) (b : Bool) → eqb x n ≡ b → without n xs ≡ removed (position (λ k. eqb k n) xs) xs →
+    cond b xs (x ∷ without n xs) ≡ removed (position (λ k. eqb k n) (x ∷ xs)) (x ∷ xs)
 removed_by x xs n true e later = sym (ap (λ (o : Option ℕ). removed o (x ∷ xs)) (position_here (λ k. eqb k n) x xs e))
 removed_by x xs n false e later =
     ap (λ (rest : List ℕ). x ∷ rest) later
@@ -214,22 +224,26 @@ pub ruleset taking_away = (taken_away, not_among)
 -- ---- a link that changes
 
 module _ {D : Type 0} where
-  pub live_set : (links : List (LinkOf D)) (n : ℕ) (l m : LinkOf D) → slice_get links n ≡ Some l → is_live m.port.phase ≡ is_live l.port.phase → live_numbers (set links n m) ≡ live_numbers links
+  pub live_set : (links : List (LinkOf D)) (n : ℕ) (l m : LinkOf D) → slice_get links n ≡ Some l → is_live m.port.phase ≡ is_live l.port.phase →
+      live_numbers (set links n m) ≡ live_numbers links
   live_set [] n l m e same = absurd (cc)
   live_set (x ∷ links) zero l m e same =
       let here : x ≡ l = cc in
-      ap (λ (b : Bool). cond b (0 ∷ map suc (live_numbers links)) (map suc (live_numbers links))) (same ∙ ap (λ (y : LinkOf D). is_live y.port.phase) (sym here))
+      ap (λ (b : Bool). cond b (0 ∷ map suc (live_numbers links)) (map suc (live_numbers links)))
+      (same ∙ ap (λ (y : LinkOf D). is_live y.port.phase) (sym here))
   live_set (x ∷ links) (suc n) l m e same =
       ap (λ (ns : List ℕ). cond (is_live x.port.phase) (0 ∷ map suc ns) (map suc ns)) (live_set links n l m e same)
 
-  own_set : (links : List (LinkOf D)) (n k : ℕ) (l m : LinkOf D) → slice_get links n ≡ Some l → m.port.own ≡ l.port.own → own_at (set links n m) k ≡ own_at links k
+  own_set : (links : List (LinkOf D)) (n k : ℕ) (l m : LinkOf D) → slice_get links n ≡ Some l → m.port.own ≡ l.port.own →
+      own_at (set links n m) k ≡ own_at links k
   own_set [] n k l m e same = absurd (cc)
   own_set (x ∷ links) zero zero l m e same = let here : x ≡ l = cc in same ∙ ap (λ (y : LinkOf D). y.port.own) (sym here)
   own_set (x ∷ links) zero (suc k) l m e same = refl
   own_set (x ∷ links) (suc n) zero l m e same = refl
   own_set (x ∷ links) (suc n) (suc k) l m e same = own_set links n k l m e same
 
-  same_owns : (links others : List (LinkOf D)) (numbers others_live : List ℕ) (holder : ℕ → Option ℕ) → IsIndexed links numbers holder → others_live ≡ live_numbers others → ((k : ℕ) → own_at others k ≡ own_at links k) → IsIndexed others others_live holder
+  same_owns : (links others : List (LinkOf D)) (numbers others_live : List ℕ) (holder : ℕ → Option ℕ) → IsIndexed links numbers holder →
+      others_live ≡ live_numbers others → ((k : ℕ) → own_at others k ≡ own_at links k) → IsIndexed others others_live holder
   same_owns links others numbers others_live holder index live owns = record {
     live = live;
     has = λ number own e. index.has number own (sym (owns number) ∙ e);
@@ -237,13 +251,17 @@ module _ {D : Type 0} where
   }
 
   -- one that has the same address, and lives as before
-  pub indexed_change : (links : List (LinkOf D)) (numbers : List ℕ) (holder : ℕ → Option ℕ) (n : ℕ) (l m : LinkOf D) → IsIndexed links numbers holder → slice_get links n ≡ Some l → is_live m.port.phase ≡ is_live l.port.phase → m.port.own ≡ l.port.own → IsIndexed (set links n m) numbers holder
+  pub indexed_change : (links : List (LinkOf D)) (numbers : List ℕ) (holder : ℕ → Option ℕ) (n : ℕ) (l m : LinkOf D) →
+      IsIndexed links numbers holder → slice_get links n ≡ Some l → is_live m.port.phase ≡ is_live l.port.phase → m.port.own ≡ l.port.own →
+      IsIndexed (set links n m) numbers holder
   indexed_change links numbers holder n l m index there live own =
-      same_owns links (set links n m) numbers numbers holder index (index.live ∙ sym (live_set links n l m there live)) (λ k. own_set links n k l m there own)
+      same_owns links (set links n m) numbers numbers holder index (index.live ∙ sym (live_set links n l m there live))
+      (λ k. own_set links n k l m there own)
 
   -- ---- one that ends
 
-  live_end : (links : List (LinkOf D)) (n : ℕ) (m : LinkOf D) → n < length links → is_live m.port.phase ≡ false → live_numbers (set links n m) ≡ without n (live_numbers links)
+  live_end : (links : List (LinkOf D)) (n : ℕ) (m : LinkOf D) → n < length links → is_live m.port.phase ≡ false →
+      live_numbers (set links n m) ≡ without n (live_numbers links)
   live_end [] n m h dead = absurd (omega arith)
   live_end (x ∷ links) zero m h dead =
       ap (λ (b : Bool). cond b (0 ∷ map suc (live_numbers links)) (map suc (live_numbers links))) dead
@@ -252,14 +270,20 @@ module _ {D : Type 0} where
         by_live true = sym (ap (λ (b : Bool). cond b (map suc (live_numbers links)) (0 ∷ without 0 (map suc (live_numbers links)))) (eq-eqb 0 0 refl))
         by_live false = sym (without_zero (live_numbers links))
   live_end (x ∷ links) (suc n) m h dead = step (live_end links n m (omega arith) dead) where
-    by_live : (b : Bool) → cond b (0 ∷ map suc (without n (live_numbers links))) (map suc (without n (live_numbers links))) ≡ without (suc n) (cond b (0 ∷ map suc (live_numbers links)) (map suc (live_numbers links)))
-    by_live true = ap (λ (rest : List ℕ). 0 ∷ rest) (sym (without_later (live_numbers links) n)) ∙ sym (ap (λ (b : Bool). cond b (map suc (live_numbers links)) (0 ∷ without (suc n) (map suc (live_numbers links)))) (ne_eqb 0 (suc n) (λ e. absurd (omega arith))))
+    by_live : (b : Bool) → cond b (0 ∷ map suc (without n (live_numbers links))) (map suc (without n (live_numbers links))) ≡ without (suc n)
+        (cond b (0 ∷ map suc (live_numbers links)) (map suc (live_numbers links)))
+    by_live true = ap (λ (rest : List ℕ). 0 ∷ rest) (sym (without_later (live_numbers links) n)) ∙
+        sym (ap (λ (b : Bool). cond b (map suc (live_numbers links)) (0 ∷ without (suc n) (map suc (live_numbers links))))
+        (ne_eqb 0 (suc n) (λ e. absurd (omega arith))))
     by_live false = sym (without_later (live_numbers links) n)
 
-    step : live_numbers (set links n m) ≡ without n (live_numbers links) → cond (is_live x.port.phase) (0 ∷ map suc (live_numbers (set links n m))) (map suc (live_numbers (set links n m))) ≡ without (suc n) (cond (is_live x.port.phase) (0 ∷ map suc (live_numbers links)) (map suc (live_numbers links)))
+    step : live_numbers (set links n m) ≡ without n (live_numbers links) → cond (is_live x.port.phase) (0 ∷ map suc (live_numbers (set links n m)))
+        (map suc (live_numbers (set links n m))) ≡ without (suc n)
+        (cond (is_live x.port.phase) (0 ∷ map suc (live_numbers links)) (map suc (live_numbers links)))
     step e = ap (λ (ns : List ℕ). cond (is_live x.port.phase) (0 ∷ map suc ns) (map suc ns)) e ∙ by_live (is_live x.port.phase)
 
-  pub indexed_end : (links : List (LinkOf D)) (numbers : List ℕ) (holder : ℕ → Option ℕ) (n : ℕ) (l m : LinkOf D) → IsIndexed links numbers holder → slice_get links n ≡ Some l → is_live m.port.phase ≡ false → m.port.own ≡ l.port.own → IsIndexed (set links n m) (without n numbers) holder
+  pub indexed_end : (links : List (LinkOf D)) (numbers : List ℕ) (holder : ℕ → Option ℕ) (n : ℕ) (l m : LinkOf D) → IsIndexed links numbers holder →
+      slice_get links n ≡ Some l → is_live m.port.phase ≡ false → m.port.own ≡ l.port.own → IsIndexed (set links n m) (without n numbers) holder
   indexed_end links numbers holder n l m index there dead own =
       same_owns links (set links n m) numbers (without n numbers) holder index
       (ap (without n) index.live ∙ sym (live_end links n m (slice_get_within links n l there) dead))
@@ -267,13 +291,16 @@ module _ {D : Type 0} where
 
   -- ---- one that begins
 
-  pub live_push : (links : List (LinkOf D)) (m : LinkOf D) → is_live m.port.phase ≡ true → live_numbers (links ++ m ∷ []) ≡ live_numbers links ++ length links ∷ []
+  pub live_push : (links : List (LinkOf D)) (m : LinkOf D) → is_live m.port.phase ≡ true → live_numbers (links ++ m ∷ []) ≡ live_numbers links ++
+      length links ∷ []
   live_push [] m lives = ap (λ (b : Bool). cond b (0 ∷ []) []) lives
   live_push (x ∷ links) m lives =
       ap (λ (ns : List ℕ). cond (is_live x.port.phase) (0 ∷ map suc ns) (map suc ns)) (live_push links m lives)
       ∙ ap (λ (ns : List ℕ). cond (is_live x.port.phase) (0 ∷ ns) ns) (map-append suc (live_numbers links) (length links ∷ []))
       ∙ by_live (is_live x.port.phase) where
-        by_live : (b : Bool) → cond b (0 ∷ (map suc (live_numbers links) ++ suc (length links) ∷ [])) (map suc (live_numbers links) ++ suc (length links) ∷ []) ≡ cond b (0 ∷ map suc (live_numbers links)) (map suc (live_numbers links)) ++ suc (length links) ∷ []
+        by_live : (b : Bool) → cond b (0 ∷ (map suc (live_numbers links) ++ suc (length links) ∷ []))
+            (map suc (live_numbers links) ++ suc (length links) ∷ []) ≡ cond b (0 ∷ map suc (live_numbers links)) (map suc (live_numbers links)) ++
+            suc (length links) ∷ []
         by_live true = refl
         by_live false = refl
 
@@ -283,7 +310,8 @@ module _ {D : Type 0} where
   own_push (x ∷ links) m zero none = refl
   own_push (x ∷ links) m (suc k) none = own_push links m k none
 
-  pub indexed_begin : (links : List (LinkOf D)) (numbers : List ℕ) (holder : ℕ → Option ℕ) (m : LinkOf D) → IsIndexed links numbers holder → is_live m.port.phase ≡ true → m.port.own ≡ None → IsIndexed (links ++ m ∷ []) (numbers ++ length links ∷ []) holder
+  pub indexed_begin : (links : List (LinkOf D)) (numbers : List ℕ) (holder : ℕ → Option ℕ) (m : LinkOf D) → IsIndexed links numbers holder →
+      is_live m.port.phase ≡ true → m.port.own ≡ None → IsIndexed (links ++ m ∷ []) (numbers ++ length links ∷ []) holder
   indexed_begin links numbers holder m index lives none =
       same_owns links (links ++ m ∷ []) numbers (numbers ++ length links ∷ []) holder index
       (ap (λ (ns : List ℕ). ns ++ length links ∷ []) index.live ∙ sym (live_push links m lives))
@@ -293,7 +321,8 @@ pub ruleset searches = (find_hit, find_miss, live_found, address_found)
 
 -- ---- what a look-up finds
 
-found_within : {D : Type 0} (test : LinkTest) (links : List (LinkOf D)) (r : Option ℕ) (n : ℕ) → IsFound (λ (l : LinkOf D). passes test l.port) links r → r ≡ Some n → n < length links
+found_within : {D : Type 0} (test : LinkTest) (links : List (LinkOf D)) (r : Option ℕ) (n : ℕ) → IsFound (λ (l : LinkOf D). passes test l.port) links
+    r → r ≡ Some n → n < length links
 found_within {D} test links None n h e = absurd (cc)
 found_within {D} test links (Some m) n (At _ _ there) e = let same : m ≡ n = cc in within (slice_get links m) refl there same where
   within : (o : Option (LinkOf D)) → slice_get links m ≡ o → passes_in (λ (l : LinkOf D). passes test l.port) o ≡ true → m ≡ n → n < length links
@@ -303,22 +332,26 @@ found_within {D} test links (Some m) n (At _ _ there) e = let same : m ≡ n = c
 pub number_within : {D : Type 0} (test : LinkTest) (s : LinksOf D) (n : ℕ) → number_of test s ≡ Some n → n < length s.links
 number_within test s n e = found_within test s.links (number_of test s) n (found (λ l. passes test l.port) s.links) e
 
-found_passes : {D : Type 0} (test : LinkTest) (links : List (LinkOf D)) (r : Option ℕ) (n : ℕ) (l : LinkOf D) → IsFound (λ (l : LinkOf D). passes test l.port) links r → r ≡ Some n → slice_get links n ≡ Some l → passes test l.port ≡ true
+found_passes : {D : Type 0} (test : LinkTest) (links : List (LinkOf D)) (r : Option ℕ) (n : ℕ) (l : LinkOf D) →
+    IsFound (λ (l : LinkOf D). passes test l.port) links r → r ≡ Some n → slice_get links n ≡ Some l → passes test l.port ≡ true
 found_passes {D} test links None n l h e is = absurd (cc)
 found_passes {D} test links (Some m) n l (At _ _ there) e is =
     let same : m ≡ n = cc in
     sym (ap (λ (o : Option (LinkOf D)). passes_in (λ (k : LinkOf D). passes test k.port) o) (ap (slice_get links) same ∙ is)) ∙ there
 
 -- the link that a look-up found passes its test
-pub link_passes : {D : Type 0} (test : LinkTest) (s : LinksOf D) (n : ℕ) (l : LinkOf D) → number_of test s ≡ Some n → slice_get s.links n ≡ Some l → passes test l.port ≡ true
+pub link_passes : {D : Type 0} (test : LinkTest) (s : LinksOf D) (n : ℕ) (l : LinkOf D) → number_of test s ≡ Some n → slice_get s.links n ≡ Some l →
+    passes test l.port ≡ true
 link_passes test s n l e is = found_passes test s.links (number_of test s) n l (found (λ k. passes test k.port) s.links) e is
 
 -- and lives
-pub link_lives : {D : Type 0} (test : LinkTest) (s : LinksOf D) (n : ℕ) (l : LinkOf D) → is_of_live test ≡ true → number_of test s ≡ Some n → slice_get s.links n ≡ Some l → is_live l.port.phase ≡ true
+pub link_lives : {D : Type 0} (test : LinkTest) (s : LinksOf D) (n : ℕ) (l : LinkOf D) → is_of_live test ≡ true → number_of test s ≡ Some n →
+    slice_get s.links n ≡ Some l → is_live l.port.phase ≡ true
 link_lives test s n l of e is = passes_lives test l.port of (link_passes test s n l e is)
 
 -- one that is found by its call is in Called
-pub called_found : {D : Type 0} (far : ℕ) (s : LinksOf D) (n : ℕ) (l : LinkOf D) → number_of (CalledBy far) s ≡ Some n → slice_get s.links n ≡ Some l → is_called l.port.phase ≡ true
+pub called_found : {D : Type 0} (far : ℕ) (s : LinksOf D) (n : ℕ) (l : LinkOf D) → number_of (CalledBy far) s ≡ Some n →
+    slice_get s.links n ≡ Some l → is_called l.port.phase ≡ true
 called_found far s n l e is = first_true (is_called l.port.phase) (is_at l.port.far far) (link_passes (CalledBy far) s n l e is)
 
 pub ruleset found_links = (number_within, link_passes, link_lives, called_found)
@@ -336,22 +369,32 @@ dead_by : (a b : Bool) → (a && b) ≡ false → b ≡ true → a ≡ false
 dead_by true b e is = sym is ∙ e
 dead_by false b e is = refl
 
-not_live_at : {D : Type 0} (own : ℕ) (o : Option (LinkOf D)) (l : LinkOf D) → passes_in (λ (k : LinkOf D). passes (LiveAt own) k.port) o ≡ false → o ≡ Some l → own_of o ≡ Some own → is_live l.port.phase ≡ false
+not_live_at : {D : Type 0} (own : ℕ) (o : Option (LinkOf D)) (l : LinkOf D) → passes_in (λ (k : LinkOf D). passes (LiveAt own) k.port) o ≡ false →
+    o ≡ Some l → own_of o ≡ Some own → is_live l.port.phase ≡ false
 not_live_at own None l fails is owns = absurd (cc)
 not_live_at own (Some k) l fails is owns =
     let same : k ≡ l = cc in
-    sym (ap (λ (x : LinkOf _). is_live x.port.phase) same) ∙ dead_by (is_live k.port.phase) (is_at k.port.own own) fails (ap (λ (known : Option ℕ). is_at known own) owns ∙ eq-eqb own own refl)
+    sym (ap (λ (x : LinkOf _). is_live x.port.phase) same) ∙ dead_by (is_live k.port.phase) (is_at k.port.own own) fails
+    (ap (λ (known : Option ℕ). is_at known own) owns ∙ eq-eqb own own refl)
 
-dead_found : {D : Type 0} (own : ℕ) (links : List (LinkOf D)) (numbers : List ℕ) (holder : ℕ → Option ℕ) → IsIndexed links numbers holder → (r : Option ℕ) → IsFound (λ (k : LinkOf D). passes (LiveAt own) k.port) links r → r ≡ None → (n : ℕ) (l : LinkOf D) → holder own ≡ Some n → slice_get links n ≡ Some l → is_live l.port.phase ≡ false
+dead_found : {D : Type 0} (own : ℕ) (links : List (LinkOf D)) (numbers : List ℕ) (holder : ℕ → Option ℕ) → IsIndexed links numbers holder →
+    (r : Option ℕ) → IsFound (λ (k : LinkOf D). passes (LiveAt own) k.port) links r → r ≡ None → (n : ℕ) (l : LinkOf D) → holder own ≡ Some n →
+    slice_get links n ≡ Some l → is_live l.port.phase ≡ false
 dead_found own links numbers holder index (Some m) h e n l held there = absurd (cc)
-dead_found own links numbers holder index None (Nowhere _ none) e n l held there = not_live_at own (slice_get links n) l (none n) there (index.holds own n held)
+dead_found own links numbers holder index None (Nowhere _ none) e n l held there =
+    not_live_at own (slice_get links n) l (none n) there (index.holds own n held)
 
-pub dead_holder : {D : Type 0} (own : ℕ) (links : List (LinkOf D)) (numbers : List ℕ) (holder : ℕ → Option ℕ) → IsIndexed links numbers holder → position (λ (k : LinkOf D). passes (LiveAt own) k.port) links ≡ None → (n : ℕ) (l : LinkOf D) → holder own ≡ Some n → slice_get links n ≡ Some l → is_live l.port.phase ≡ false
-dead_holder {D} own links numbers holder index none n l held there = dead_found own links numbers holder index (position (λ (k : LinkOf D). passes (LiveAt own) k.port) links) (found (λ (k : LinkOf D). passes (LiveAt own) k.port) links) none n l held there
+pub dead_holder : {D : Type 0} (own : ℕ) (links : List (LinkOf D)) (numbers : List ℕ) (holder : ℕ → Option ℕ) → IsIndexed links numbers holder →
+    position (λ (k : LinkOf D). passes (LiveAt own) k.port) links ≡ None → (n : ℕ) (l : LinkOf D) → holder own ≡ Some n → slice_get links n ≡ Some l →
+    is_live l.port.phase ≡ false
+dead_holder {D} own links numbers holder index none n l held there =
+    dead_found own links numbers holder index (position (λ (k : LinkOf D). passes (LiveAt own) k.port) links)
+    (found (λ (k : LinkOf D). passes (LiveAt own) k.port) links) none n l held there
 
 -- ---- the same index
 
-pub indexed_same : {D : Type 0} (xs ys : List (LinkOf D)) (ns ms : List ℕ) (h g : ℕ → Option ℕ) → IsIndexed xs ns h → ys ≡ xs → ms ≡ ns → ((q : ℕ) → g q ≡ h q) → IsIndexed ys ms g
+pub indexed_same : {D : Type 0} (xs ys : List (LinkOf D)) (ns ms : List ℕ) (h g : ℕ → Option ℕ) → IsIndexed xs ns h → ys ≡ xs → ms ≡ ns →
+    ((q : ℕ) → g q ≡ h q) → IsIndexed ys ms g
 indexed_same xs ys ns ms h g index links numbers holders = record {
   live = numbers ∙ index.live ∙ ap live_numbers (sym links);
   has = λ number own e. holders own ∙ index.has number own (sym (ap (λ (zs : List (LinkOf _)). own_at zs number) links) ∙ e);

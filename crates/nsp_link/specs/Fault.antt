@@ -1,6 +1,6 @@
 -- Which refusal a fault is.
 use Rattle.std.specs.Prelude.{◌≡◌, Bool, true, IsOk, Result, Err}
-use Rattle.dna_model.specs.declared.link_refusal.LinkRefusal.{LinkRefusal}
+use Rattle.dna_station.specs.declared.link_refusal.LinkRefusal.{LinkRefusal}
 use Rattle.nsp_link.specs.declared.fault.LinkFault.{LinkFault}
 use Rattle.nsp_link.specs.declared.fault.LinkFault.TheVariants.{Refused, OutOfMemory}
 

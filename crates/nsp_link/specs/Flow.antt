@@ -1,14 +1,15 @@
 -- The steps of one link's segments in parts, as the code takes them.
 use Rattle.std.specs.Prelude.{ℕ, ◌+◌, ◌-◌, Bool, ◌&&◌, ◌||◌, nat_lt, nat_le}
 use Rattle.dna_packet.specs.Nsp.{SegmentValue}
-use Rattle.dna_model.specs.Flow.{REACH, distance}
-use Rattle.dna_model.specs.Pieces.{piece_of, in_order}
-use Rattle.dna_model.specs.WireFlow.{LinkVariables, WireFlow, highest_given, is_repeat, segment_taken}
+use Rattle.dna_links.specs.Flow.{REACH, distance}
+use Rattle.dna_links.specs.Pieces.{piece_of, in_order}
+use Rattle.dna_links.specs.WireFlow.{LinkVariables, WireFlow, highest_given, is_repeat, segment_taken}
 use Rattle.link_segments.specs.Received.{is_missing_at}
 
 -- a segment that is not new is one of the last 2,047 given, and, while that one is not acknowledged, carries the same
 abbrev pub is_true_repeat_at : ℕ → SegmentValue → WireFlow → Bool
-is_true_repeat_at below s f = (nat_lt below REACH && (f.gave_many || nat_lt below (highest_given f.kept))) && is_repeat below (piece_of s) f.kept.outstanding
+is_true_repeat_at below s f = (nat_lt below REACH && (f.gave_many || nat_lt below (highest_given f.kept))) &&
+    is_repeat below (piece_of s) f.kept.outstanding
 
 abbrev pub is_true_repeat : SegmentValue → WireFlow → Bool
 is_true_repeat s f = is_true_repeat_at (distance s.number (highest_given f.kept)) s f

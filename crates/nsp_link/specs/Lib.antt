@@ -1,6 +1,5 @@
--- What a contract sees of the types of this crate; the rules stand in `dna_model`
+-- What a contract sees of the types of this crate; the rules stand in `dna_links`
 pub mod Fault
 pub mod Flow
-pub mod Link
-pub mod Index
 pub mod Phases
+pub mod inner

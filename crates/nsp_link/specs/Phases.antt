@@ -1,14 +1,14 @@
 -- The phase that a message asks for.
 use Rattle.std.specs.Prelude.{ℕ, Bool, true, false}
 use Rattle.dna_packet.specs.Nsp.{SegmentValue, NspValue, DataSegment, ConnectInitiate}
-use Rattle.dna_model.specs.declared.port.Phase.{Phase}
-use Rattle.dna_model.specs.declared.port.Phase.TheVariants.{Calling, Confirming, Running, Disconnecting}
-use Rattle.dna_model.specs.LinkTests.{is_calling, is_confirming, is_running, is_disconnecting}
-use Rattle.dna_model.specs.declared.port.LinkTest.TheVariants.{TheLink, LiveTo, ActedOn}
-use Rattle.dna_model.specs.Links.{with_link}
-use Rattle.dna_model.specs.LinkUser.{LinkEventValue, Open, Accept, Reject, In}
-use Rattle.dna_model.specs.WireFlow.{is_new}
-use Rattle.dna_model.specs.WireLinks.{WireLinks}
+use Rattle.dna_links.specs.declared.port.Phase.{Phase}
+use Rattle.dna_links.specs.declared.port.Phase.TheVariants.{Calling, Confirming, Running, Disconnecting}
+use Rattle.dna_links.specs.LookUps.{is_calling, is_confirming, is_running, is_disconnecting}
+use Rattle.dna_links.specs.declared.port.LinkTest.TheVariants.{TheLink, LiveTo, ActedOn}
+use Rattle.dna_links.specs.Links.{with_link}
+use Rattle.dna_links.specs.User.{LinkEventValue, Open, Accept, Reject, In}
+use Rattle.dna_links.specs.WireFlow.{is_new}
+use Rattle.dna_links.specs.WireLinks.{WireLinks}
 use Rattle.nsp_link.specs.Flow.{is_held}
 
 -- messages ask for Calling, Confirming, RUN or DI

@@ -1,6 +1,6 @@
 //! Why the links of a node made no step.
 
-use dna_model::LinkRefusal;
+use dna_station::LinkRefusal;
 
 /// Why the links of a node made no step. They are as they were.
 #[derive(Clone, Copy, Debug, PartialEq, Eq)]

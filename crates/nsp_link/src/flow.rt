@@ -5,11 +5,11 @@ ghost use Rattle.std.specs.Prelude.{if◌then◌else◌};
 ghost use Rattle.std.specs.List.{AllByRecursion};
 ghost use Rattle.dna_packet.specs.AckWord.{IsAckWord};
 ghost use Rattle.dna_packet.specs.Nsp.{segment_view};
-ghost use Rattle.dna_model.specs.Pieces.{piece_of};
-ghost use Rattle.dna_model.specs.Flow.{wire, distance};
-ghost use Rattle.dna_model.specs.WireFlow.{empty, hands_in, delivers, sends_acks, sends_segment, sends_new, sends_again, is_repeat};
-ghost use Rattle.dna_model.specs.WireFlow.{takes_segment, takes_acks, ends, sending};
-ghost use Rattle.dna_model.specs.WireFlow as spec;
+ghost use Rattle.dna_links.specs.Pieces.{piece_of};
+ghost use Rattle.dna_links.specs.Flow.{wire, distance};
+ghost use Rattle.dna_links.specs.WireFlow.{empty, hands_in, delivers, sends_acks, sends_segment, sends_new, sends_again, is_repeat};
+ghost use Rattle.dna_links.specs.WireFlow.{takes_segment, takes_acks, ends, sending};
+ghost use Rattle.dna_links.specs.WireFlow as spec;
 ghost use Rattle.nsp_link.specs.Fault.{IsFault};
 
 mod receiving;
@@ -38,7 +38,7 @@ pub struct Flow<W: Window<Piece, 4096> + Drop> {
 }
 
 impl<W: Window<Piece, 4096> + Drop> Model for Flow<W> {
-    ghost use Rattle.dna_model.specs.WireFlow.{WireFlow};
+    ghost use Rattle.dna_links.specs.WireFlow.{WireFlow};
 
     ghost Value = { WireFlow };
 

@@ -10,7 +10,8 @@ mod link;
 mod links;
 mod phase;
 
-pub use dna_model::{LinkEvent, LinkRefusal, LinkTag};
+pub use dna_links::{LinkEvent, LinkTag};
+pub use dna_station::LinkRefusal;
 pub use fault::LinkFault;
 pub use link_segments::Piece;
 pub use links::Links;

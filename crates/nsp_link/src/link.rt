@@ -4,21 +4,21 @@ ghost use Rattle.std.specs.Prelude.{◌≡◌, ◌<◌, ◌&&◌, Ok, Err, None,
 ghost use Rattle.std.specs.List.{AllByRecursion};
 ghost use Rattle.dna_packet.specs.AckWord.{IsAckWord};
 ghost use Rattle.dna_packet.specs.Nsp.{segment_view};
-ghost use Rattle.dna_model.specs.LinkTests.{is_live, is_called};
-ghost use Rattle.dna_model.specs.Links.{in_phase, with_flow};
-ghost use Rattle.dna_model.specs.Links as links;
-ghost use Rattle.dna_model.specs.LinkUser as user;
-ghost use Rattle.dna_model.specs.LinkSending.{segment_of};
-ghost use Rattle.dna_model.specs.LinkArriving.{of_partner, running};
-ghost use Rattle.dna_model.specs.LinkArriving as arriving;
-ghost use Rattle.dna_model.specs.WireFlow.{wire_flows, hands_in, delivers, sends_acks, sending, takes_segment, takes_acks};
-ghost use Rattle.dna_model.specs.WireFlow as spec;
+ghost use Rattle.dna_links.specs.LookUps.{is_live, is_called};
+ghost use Rattle.dna_links.specs.Links.{in_phase, with_flow};
+ghost use Rattle.dna_links.specs.Links as links;
+ghost use Rattle.dna_links.specs.User as user;
+ghost use Rattle.dna_links.specs.Sending.{segment_of};
+ghost use Rattle.dna_links.specs.Arriving.{of_partner, running};
+ghost use Rattle.dna_links.specs.Arriving as arriving;
+ghost use Rattle.dna_links.specs.WireFlow.{wire_flows, hands_in, delivers, sends_acks, sending, takes_segment, takes_acks};
+ghost use Rattle.dna_links.specs.WireFlow as spec;
 ghost use Rattle.nsp_link.specs.Fault.{IsFault};
 ghost use Rattle.nsp_link.specs.Flow.{is_held};
 
 use crate::flow::Flow;
 use crate::{LinkFault, LinkRefusal, LinkTag, Piece};
-use dna_model::{Phase, Port};
+use dna_links::{Phase, Port};
 use dna_packet::{AckWord, Segment};
 use std::alloc::{AllocError, Global};
 use std::marker::Model;
@@ -38,10 +38,10 @@ pub struct Link<W: Window<Piece, 4096> + Drop> {
 
 impl<W: Window<Piece, 4096> + Drop> Model for Link<W> {
     ghost use Rattle.std.specs.Prelude.{◌≡◌, true, None, IsSome};
-    ghost use Rattle.dna_model.specs.Links.{LinkOf};
-    ghost use Rattle.dna_model.specs.LinkTests.{is_live, is_called};
-    ghost use Rattle.dna_model.specs.WireFlow.{WireFlow};
-    ghost use Rattle.nsp_link.specs.Link.{flow_in};
+    ghost use Rattle.dna_links.specs.Links.{LinkOf};
+    ghost use Rattle.dna_links.specs.LookUps.{is_live, is_called};
+    ghost use Rattle.dna_links.specs.WireFlow.{WireFlow};
+    ghost use Rattle.nsp_link.specs.inner.Link.{flow_in};
 
     ghost Value = { LinkOf WireFlow };
 

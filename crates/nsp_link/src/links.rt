@@ -1,13 +1,13 @@
 //! The links of a node, and how they are found.
 
 ghost use Rattle.std.specs.Prelude.{◌≡◌, ◌<◌, true, None, Some, length, slice_get, position, option_copied, OnOk, OnErr, IfOk, IfErr, IfSome};
-ghost use Rattle.dna_model.specs.LinkTests as tests;
-ghost use Rattle.dna_model.specs.Links.{number_of};
-ghost use Rattle.dna_model.specs.WireLinks.{new_wire_links};
+ghost use Rattle.dna_links.specs.LookUps as tests;
+ghost use Rattle.dna_links.specs.Links.{number_of};
+ghost use Rattle.dna_links.specs.WireLinks.{new_wire_links};
 ghost use Rattle.std.specs.Ordering.{nat_cmp};
 ghost use Rattle.std.specs.BTreeMap.{get};
-ghost use Rattle.nsp_link.specs.Index.{is_of_live};
-ghost use Rattle.nsp_link.specs.Index as index;
+ghost use Rattle.nsp_link.specs.inner.Index.{is_of_live};
+ghost use Rattle.nsp_link.specs.inner.Index as index;
 
 mod arriving;
 mod begin;
@@ -17,7 +17,7 @@ mod user;
 
 use crate::link::Link;
 use crate::{LinkFault, LinkRefusal, Piece};
-use dna_model::LinkTest;
+use dna_links::LinkTest;
 use link_segments::passes;
 use std::alloc::Global;
 use std::collections::BTreeMap;
@@ -50,8 +50,8 @@ pub struct Links<W: Window<Piece, 4096> + Drop> {
 impl<W: Window<Piece, 4096> + Drop> Model for Links<W> {
     ghost use Rattle.std.specs.Ordering.{nat_cmp};
     ghost use Rattle.std.specs.BTreeMap.{get};
-    ghost use Rattle.dna_model.specs.WireLinks.{WireLinks};
-    ghost use Rattle.nsp_link.specs.Index.{IsIndexed};
+    ghost use Rattle.dna_links.specs.WireLinks.{WireLinks};
+    ghost use Rattle.nsp_link.specs.inner.Index.{IsIndexed};
 
     ghost Value = { WireLinks };
 

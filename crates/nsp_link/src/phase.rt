@@ -3,7 +3,7 @@
 ghost use Rattle.std.specs.Prelude.{◌≡◌};
 ghost use Rattle.nsp_link.specs.Phases as phases;
 
-use dna_model::Phase;
+use dna_links::Phase;
 
 /// Whether a link is in the phase that a message asks for: Calling, Confirming, RUN or DI.
 pub fn is_in(wanted: Phase, phase: Phase) -> bool

@@ -1,5 +1,6 @@
 -- What became of a record at one end of the judge is what becomes of it at the half of the run that the end stands for.
-use Rattle.std.proofs.Common.{◌≡◌, ℕ, ◌+◌, ◌≤◌, Bool, List, [], ◌∷◌, ◌++◌, drop, Some, None, Result, Ok, Err, refl, sym, ap, ◌∙◌, arith, length-append}
+use Rattle.std.proofs.Common.{◌≡◌, ℕ, ◌+◌, ◌≤◌, Bool, List, [], ◌∷◌, ◌++◌, drop, Some, None, Result, Ok, Err, refl, sym, ap, ◌∙◌, arith}
+use Rattle.std.proofs.Common.{length-append}
 use Rattle.std.specs.List.{slice_get}
 use Rattle.std.proofs.lemmas.List.{drop-append-le}
 use Rattle.two_nodes.specs.Nodes.{Outcome, Made, Waits, Refused, Answer, answered, concluded, stepped, stepped_sending, advance}
@@ -9,19 +10,19 @@ use Rattle.capture.specs.declared.record.Record.{Record}
 use Rattle.capture.specs.declared.record.Record.TheVariants.{Sent, Received, Noise, User}
 use Rattle.capture.specs.declared.event.Event.{Event}
 use Rattle.ddcmp_msg.specs.Reading.{reading}
-use Rattle.dna_model.specs.declared.head.Head.{Head}
-use Rattle.dna_model.specs.declared.refusal.StepRefusal.{StepRefusal}
-use Rattle.dna_model.specs.WireStation.{load}
-use Rattle.dna_model.specs.WireLayers.{WireLayers, LayersTag, WireLayersNode, WireLayersUnit}
-use Rattle.dna_model.specs.Machine.{does}
+use Rattle.dna_station.specs.declared.head.Head.{Head}
+use Rattle.dna_station.specs.declared.refusal.StepRefusal.{StepRefusal}
+use Rattle.dna_station.specs.WireStation.{load}
+use Rattle.dna_node.specs.WireLayers.{WireLayers, LayersTag, WireLayersNode, WireLayersUnit}
+use Rattle.dna_station.specs.Machine.{does}
 use Rattle.pair_judge.specs.declared.line.Line.{Line}
 use Rattle.pair_judge.specs.declared.end.End.{End}
-use Rattle.pair_judge.specs.Lines.{held, Shows}
-use Rattle.pair_judge.specs.Receipts.{IsReceived, came, node_at, node_of, layers_move}
-use Rattle.pair_judge.specs.Steps.{IsSent, IsNotSent}
-use Rattle.pair_judge.specs.Making.{IsMade, StandsFor, move}
+use Rattle.pair_judge.specs.inner.Lines.{held, Shows}
+use Rattle.pair_judge.specs.inner.Receipts.{IsReceived, came, node_at, node_of, layers_move}
+use Rattle.pair_judge.specs.inner.Steps.{IsSent, IsNotSent}
+use Rattle.pair_judge.specs.inner.Making.{IsMade, StandsFor, move}
 use Rattle.pair_judge.specs.Summary.{counted}
-use Rattle.pair_judge.specs.Wire.{JudgeHalf, judge_hears, judge_machine, judge_receives, judge_sent_step, judge_step}
+use Rattle.pair_judge.specs.inner.Wire.{JudgeHalf, judge_hears, judge_machine, judge_receives, judge_sent_step, judge_step}
 
 -- the state of the half
 pub state_is : (own : End) (incoming : Line) (mine : JudgeHalf) → StandsFor own incoming mine → mine.state ≡ node_of own.head own.layers incoming
@@ -31,10 +32,12 @@ state_is own incoming mine stands =
     ∙ ap (node_at own.head own.layers) stands.front
 
 -- the line after one more unit was sent
-pub pushed : (before after : Line) (sent : List WireLayersUnit) (unit : WireLayersUnit) → Shows before sent → after.gone ≡ before.gone → held after ≡ held before ++ unit ∷ [] → Shows after (sent ++ unit ∷ [])
+pub pushed : (before after : Line) (sent : List WireLayersUnit) (unit : WireLayersUnit) → Shows before sent → after.gone ≡ before.gone →
+    held after ≡ held before ++ unit ∷ [] → Shows after (sent ++ unit ∷ [])
 pushed before after sent unit shows gone units = record {
   within = omega (arith, length-append sent (unit ∷ []), shows.within);
-  rest = units ∙ ap (λ xs. xs ++ unit ∷ []) shows.rest ∙ sym (ap (λ n. drop n (sent ++ unit ∷ [])) gone ∙ drop-append-le before.gone sent (unit ∷ []) shows.within);
+  rest = units ∙ ap (λ xs. xs ++ unit ∷ []) shows.rest ∙
+      sym (ap (λ n. drop n (sent ++ unit ∷ [])) gone ∙ drop-append-le before.gone sent (unit ∷ []) shows.within);
 }
 
 -- a line that is the same shows the same
@@ -46,7 +49,10 @@ same_line before after sent same shows = record {
 
 -- ---- a sending
 
-pub sending_made : (old new : End) (incoming : Line) (bytes : List ℕ) (mine theirs : JudgeHalf) → StandsFor old incoming mine → Shows incoming theirs.sent → IsSent old.layers new.layers old.line new.line bytes → new.line.gone ≡ old.line.gone → new.head ≡ old.head → new.counts ≡ counted old.counts (Sent bytes) → load new.layers.station ≤ load old.layers.station → IsMade (move old new incoming incoming) (Sent bytes) mine theirs
+pub sending_made : (old new : End) (incoming : Line) (bytes : List ℕ) (mine theirs : JudgeHalf) → StandsFor old incoming mine →
+    Shows incoming theirs.sent → IsSent old.layers new.layers old.line new.line bytes → new.line.gone ≡ old.line.gone → new.head ≡ old.head →
+    new.counts ≡ counted old.counts (Sent bytes) → load new.layers.station ≤ load old.layers.station →
+    IsMade (move old new incoming incoming) (Sent bytes) mine theirs
 sending_made old new incoming bytes mine theirs stands shows sent gone head counts loaded = record {
   next = stepped_sending mine (node_of old.head new.layers incoming) sent.unit;
   step_is =
@@ -65,21 +71,26 @@ sending_made old new incoming bytes mine theirs stands shows sent gone head coun
   load = omega (arith, loaded);
 }
 
-pub sending_refused : (old : End) (incoming : Line) (bytes : List ℕ) (mine theirs : JudgeHalf) (refusal : StepRefusal) → StandsFor old incoming mine → IsNotSent old.layers bytes refusal → advance judge_step mine theirs (Sent bytes) ≡ Refused refusal
+pub sending_refused : (old : End) (incoming : Line) (bytes : List ℕ) (mine theirs : JudgeHalf) (refusal : StepRefusal) → StandsFor old incoming mine →
+    IsNotSent old.layers bytes refusal → advance judge_step mine theirs (Sent bytes) ≡ Refused refusal
 sending_refused old incoming bytes mine theirs refusal stands refuses =
     ap (λ (n : WireLayersNode). answered mine theirs (judge_sent_step n bytes (reading bytes))) (state_is old incoming mine stands)
     ∙ ap (answered mine theirs) (refuses old.head incoming.gone)
 
 -- ---- a record that only its layers go by: an event of the user, or noise
 
-module _ (r : Record) (goes_by : WireLayers → Result WireLayers StepRefusal) (step_is : (n : WireLayersNode) → judge_step n r ≡ does {K = LayersTag} n (goes_by n.station)) where
-  went : (old : End) (incoming : Line) (mine theirs : JudgeHalf) (o : Result WireLayers StepRefusal) → StandsFor old incoming mine → goes_by old.layers ≡ o → advance judge_step mine theirs r ≡ answered mine theirs (does {K = LayersTag} (node_of old.head old.layers incoming) o)
+module _ (r : Record) (goes_by : WireLayers → Result WireLayers StepRefusal)
+    (step_is : (n : WireLayersNode) → judge_step n r ≡ does {K = LayersTag} n (goes_by n.station)) where
+  went : (old : End) (incoming : Line) (mine theirs : JudgeHalf) (o : Result WireLayers StepRefusal) → StandsFor old incoming mine →
+      goes_by old.layers ≡ o → advance judge_step mine theirs r ≡ answered mine theirs (does {K = LayersTag} (node_of old.head old.layers incoming) o)
   went old incoming mine theirs o stands goes =
       ap (λ (n : WireLayersNode). answered mine theirs (judge_step n r)) (state_is old incoming mine stands)
       ∙ ap (answered mine theirs) (step_is (node_of old.head old.layers incoming))
       ∙ ap (λ (x : Result WireLayers StepRefusal). answered mine theirs (does {K = LayersTag} (node_of old.head old.layers incoming) x)) goes
 
-  went_made : (old new : End) (incoming : Line) (mine theirs : JudgeHalf) → StandsFor old incoming mine → Shows incoming theirs.sent → goes_by old.layers ≡ Ok new.layers → new.line ≡ old.line → new.head ≡ old.head → new.counts ≡ counted old.counts r → load new.layers.station ≤ load old.layers.station + 1 → IsMade (move old new incoming incoming) r mine theirs
+  went_made : (old new : End) (incoming : Line) (mine theirs : JudgeHalf) → StandsFor old incoming mine → Shows incoming theirs.sent →
+      goes_by old.layers ≡ Ok new.layers → new.line ≡ old.line → new.head ≡ old.head → new.counts ≡ counted old.counts r →
+      load new.layers.station ≤ load old.layers.station + 1 → IsMade (move old new incoming incoming) r mine theirs
   went_made old new incoming mine theirs stands shows goes line head counts loaded = record {
     next = stepped mine (node_of old.head new.layers incoming);
     step_is = went old incoming mine theirs (Ok new.layers) stands goes;
@@ -91,34 +102,49 @@ module _ (r : Record) (goes_by : WireLayers → Result WireLayers StepRefusal) (
     load = loaded;
   }
 
-  went_refused : (old : End) (incoming : Line) (mine theirs : JudgeHalf) (refusal : StepRefusal) → StandsFor old incoming mine → goes_by old.layers ≡ Err refusal → advance judge_step mine theirs r ≡ Refused refusal
+  went_refused : (old : End) (incoming : Line) (mine theirs : JudgeHalf) (refusal : StepRefusal) → StandsFor old incoming mine →
+      goes_by old.layers ≡ Err refusal → advance judge_step mine theirs r ≡ Refused refusal
   went_refused old incoming mine theirs refusal stands refuses = went old incoming mine theirs (Err refusal) stands refuses
 
-pub event_made : (old new : End) (incoming : Line) (event : Event) (mine theirs : JudgeHalf) → StandsFor old incoming mine → Shows incoming theirs.sent → judge_machine.user old.layers event ≡ Ok new.layers → new.line ≡ old.line → new.head ≡ old.head → new.counts ≡ counted old.counts (User event) → load new.layers.station ≤ load old.layers.station + 1 → IsMade (move old new incoming incoming) (User event) mine theirs
+pub event_made : (old new : End) (incoming : Line) (event : Event) (mine theirs : JudgeHalf) → StandsFor old incoming mine →
+    Shows incoming theirs.sent → judge_machine.user old.layers event ≡ Ok new.layers → new.line ≡ old.line → new.head ≡ old.head →
+    new.counts ≡ counted old.counts (User event) → load new.layers.station ≤ load old.layers.station + 1 →
+    IsMade (move old new incoming incoming) (User event) mine theirs
 event_made old new incoming event = went_made (User event) (λ (s : WireLayers). judge_machine.user s event) (λ n. refl) old new incoming
 
-pub event_refused : (old : End) (incoming : Line) (event : Event) (mine theirs : JudgeHalf) (refusal : StepRefusal) → StandsFor old incoming mine → judge_machine.user old.layers event ≡ Err refusal → advance judge_step mine theirs (User event) ≡ Refused refusal
+pub event_refused : (old : End) (incoming : Line) (event : Event) (mine theirs : JudgeHalf) (refusal : StepRefusal) → StandsFor old incoming mine →
+    judge_machine.user old.layers event ≡ Err refusal → advance judge_step mine theirs (User event) ≡ Refused refusal
 event_refused old incoming event = went_refused (User event) (λ (s : WireLayers). judge_machine.user s event) (λ n. refl) old incoming
 
-pub noise_made : (old new : End) (incoming : Line) (bytes : List ℕ) (mine theirs : JudgeHalf) → StandsFor old incoming mine → Shows incoming theirs.sent → judge_hears old.layers (reading bytes) ≡ Ok new.layers → new.line ≡ old.line → new.head ≡ old.head → new.counts ≡ counted old.counts (Noise bytes) → load new.layers.station ≤ load old.layers.station + 1 → IsMade (move old new incoming incoming) (Noise bytes) mine theirs
+pub noise_made : (old new : End) (incoming : Line) (bytes : List ℕ) (mine theirs : JudgeHalf) → StandsFor old incoming mine →
+    Shows incoming theirs.sent → judge_hears old.layers (reading bytes) ≡ Ok new.layers → new.line ≡ old.line → new.head ≡ old.head →
+    new.counts ≡ counted old.counts (Noise bytes) → load new.layers.station ≤ load old.layers.station + 1 →
+    IsMade (move old new incoming incoming) (Noise bytes) mine theirs
 noise_made old new incoming bytes = went_made (Noise bytes) (λ (s : WireLayers). judge_hears s (reading bytes)) (λ n. refl) old new incoming
 
-pub noise_refused : (old : End) (incoming : Line) (bytes : List ℕ) (mine theirs : JudgeHalf) (refusal : StepRefusal) → StandsFor old incoming mine → judge_hears old.layers (reading bytes) ≡ Err refusal → advance judge_step mine theirs (Noise bytes) ≡ Refused refusal
+pub noise_refused : (old : End) (incoming : Line) (bytes : List ℕ) (mine theirs : JudgeHalf) (refusal : StepRefusal) → StandsFor old incoming mine →
+    judge_hears old.layers (reading bytes) ≡ Err refusal → advance judge_step mine theirs (Noise bytes) ≡ Refused refusal
 noise_refused old incoming bytes = went_refused (Noise bytes) (λ (s : WireLayers). judge_hears s (reading bytes)) (λ n. refl) old incoming
 
 -- ---- a receipt
 
 -- a receipt of a unit that was sent
-reads_unit : (mine theirs : JudgeHalf) (n : WireLayersNode) (hint : ℕ) (kept : Bool) (bytes : List ℕ) (unit : WireLayersUnit) (r : Result WireLayersNode StepRefusal) → mine.state ≡ n → slice_get theirs.sent hint ≡ Some unit → judge_receives n hint kept bytes unit ≡ r → advance judge_step mine theirs (Received hint kept bytes) ≡ concluded mine r
+reads_unit : (mine theirs : JudgeHalf) (n : WireLayersNode) (hint : ℕ) (kept : Bool) (bytes : List ℕ) (unit : WireLayersUnit)
+    (r : Result WireLayersNode StepRefusal) → mine.state ≡ n → slice_get theirs.sent hint ≡ Some unit → judge_receives n hint kept bytes unit ≡ r →
+    advance judge_step mine theirs (Received hint kept bytes) ≡ concluded mine r
 reads_unit mine theirs n hint kept bytes unit r state was_sent receives_is =
     ap (any.read mine (judge_receives mine.state hint kept bytes)) was_sent
     ∙ ap (λ (s : WireLayersNode). concluded mine (judge_receives s hint kept bytes unit)) state
     ∙ ap (concluded mine) receives_is
 
-pub receipt_made : (old new : End) (before after : Line) (hint : ℕ) (kept : Bool) (bytes : List ℕ) (mine theirs : JudgeHalf) → StandsFor old before mine → IsReceived (layers_move old.layers new.layers before after) (came hint kept bytes) theirs.sent → new.line ≡ old.line → new.head ≡ old.head → new.counts ≡ counted old.counts (Received hint kept bytes) → load new.layers.station ≤ load old.layers.station + 1 → IsMade (move old new before after) (Received hint kept bytes) mine theirs
+pub receipt_made : (old new : End) (before after : Line) (hint : ℕ) (kept : Bool) (bytes : List ℕ) (mine theirs : JudgeHalf) →
+    StandsFor old before mine → IsReceived (layers_move old.layers new.layers before after) (came hint kept bytes) theirs.sent → new.line ≡ old.line →
+    new.head ≡ old.head → new.counts ≡ counted old.counts (Received hint kept bytes) → load new.layers.station ≤ load old.layers.station + 1 →
+    IsMade (move old new before after) (Received hint kept bytes) mine theirs
 receipt_made old new before after hint kept bytes mine theirs stands received line head counts loaded = record {
   next = stepped mine (node_of old.head new.layers after);
-  step_is = reads_unit mine theirs (node_of old.head old.layers before) hint kept bytes received.unit (Ok (node_of old.head new.layers after)) (state_is old before mine stands) received.was_sent (received.step old.head);
+  step_is = reads_unit mine theirs (node_of old.head old.layers before) hint kept bytes received.unit (Ok (node_of old.head new.layers after))
+      (state_is old before mine stands) received.was_sent (received.step old.head);
   stands = record { head = sym head; layers = refl; front = refl; sent = same_line old.line new.line mine.sent line stands.sent };
   incoming = received.shows;
   same_head = head;
@@ -127,9 +153,14 @@ receipt_made old new before after hint kept bytes mine theirs stands received li
   load = loaded;
 }
 
-pub receipt_refused : (old : End) (before : Line) (hint : ℕ) (kept : Bool) (bytes : List ℕ) (mine theirs : JudgeHalf) (refusal : StepRefusal) → StandsFor old before mine → (unit : WireLayersUnit) × (slice_get theirs.sent hint ≡ Some unit) × ((head : Head) → judge_receives (node_of head old.layers before) hint kept bytes unit ≡ Err refusal) → advance judge_step mine theirs (Received hint kept bytes) ≡ Refused refusal
+pub receipt_refused : (old : End) (before : Line) (hint : ℕ) (kept : Bool) (bytes : List ℕ) (mine theirs : JudgeHalf) (refusal : StepRefusal) →
+    StandsFor old before mine → (unit : WireLayersUnit) × (slice_get theirs.sent hint ≡ Some unit) ×
+    ((head : Head) → judge_receives (node_of head old.layers before) hint kept bytes unit ≡ Err refusal) →
+    advance judge_step mine theirs (Received hint kept bytes) ≡ Refused refusal
 receipt_refused old before hint kept bytes mine theirs refusal stands fails =
-    reads_unit mine theirs (node_of old.head old.layers before) hint kept bytes fails.0 (Err refusal) (state_is old before mine stands) fails.1 (fails.2 old.head)
+    reads_unit mine theirs (node_of old.head old.layers before) hint kept bytes fails.0 (Err refusal) (state_is old before mine stands) fails.1
+    (fails.2 old.head)
 
-pub receipt_waits : (hint : ℕ) (kept : Bool) (bytes : List ℕ) (mine theirs : JudgeHalf) → slice_get theirs.sent hint ≡ None → advance judge_step mine theirs (Received hint kept bytes) ≡ Waits
+pub receipt_waits : (hint : ℕ) (kept : Bool) (bytes : List ℕ) (mine theirs : JudgeHalf) → slice_get theirs.sent hint ≡ None →
+    advance judge_step mine theirs (Received hint kept bytes) ≡ Waits
 receipt_waits hint kept bytes mine theirs not_sent = ap (any.read mine (judge_receives mine.state hint kept bytes)) not_sent

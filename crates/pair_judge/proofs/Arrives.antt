@@ -1,23 +1,23 @@
 -- What both layers make of an arrival, by what the station made of it.
 use Rattle.std.proofs.Common.{◌≡◌, Bool, true, false, ◌&&◌, cond, Option, Some, None, List, ℕ, Result, Ok, Err, refl, sym, ap, ◌∙◌}
 use Rattle.std.specs.Prelude.{OnOk, IfErr}
-use Rattle.dna_model.specs.declared.tag.Tag.{Tag}
-use Rattle.dna_model.specs.declared.link_tag.LinkTag.{LinkTag}
-use Rattle.dna_model.specs.declared.refusal.StationRefusal.{StationRefusal}
-use Rattle.dna_model.specs.declared.refusal.StepRefusal.{StepRefusal}
-use Rattle.dna_model.specs.Book.{ArrivalValue, Sound, HeaderBad, DataBad, body_of, takes_by}
-use Rattle.dna_model.specs.Content.{content}
-use Rattle.dna_model.specs.Machine.{unless_refused}
-use Rattle.dna_model.specs.Rules.{judged}
-use Rattle.dna_model.specs.WireStation.{WireStation}
-use Rattle.dna_model.specs.WireBook.{wire_book, wire_arrival_refusal, wire_after_arrival, wire_taken}
-use Rattle.dna_model.specs.WireLayers.{WireLayers, tag_or_none, wire_keeps_packet, wire_meets_on, to_wire_station}
+use Rattle.dna_station.specs.declared.tag.Tag.{Tag}
+use Rattle.dna_links.specs.declared.tag.LinkTag.{LinkTag}
+use Rattle.dna_station.specs.declared.refusal.StationRefusal.{StationRefusal}
+use Rattle.dna_station.specs.declared.refusal.StepRefusal.{StepRefusal}
+use Rattle.dna_station.specs.Book.{ArrivalValue, Sound, HeaderBad, DataBad, body_of, takes_by}
+use Rattle.dna_node.specs.Content.{content}
+use Rattle.dna_station.specs.Machine.{unless_refused}
+use Rattle.dna_node.specs.Rules.{judged}
+use Rattle.dna_station.specs.WireStation.{WireStation}
+use Rattle.dna_station.specs.WireBook.{wire_book, wire_arrival_refusal, wire_after_arrival, wire_taken}
+use Rattle.dna_node.specs.WireLayers.{WireLayers, tag_or_none, wire_keeps_packet, wire_meets_on, to_wire_station}
 use Rattle.pair_judge.specs.declared.step_fault.StepFault.{StepFault}
 use Rattle.pair_judge.specs.declared.step_fault.StepFault.TheVariants.{Refused, OutOfMemory}
-use Rattle.pair_judge.specs.Memory.{IfNoMemory, MayKeep}
-use Rattle.pair_judge.specs.Receipts.{is_damage}
-use Rattle.pair_judge.specs.Steps.{IfRefused, with_link}
-use Rattle.pair_judge.specs.Wire.{judge_machine}
+use Rattle.pair_judge.specs.inner.Memory.{IfNoMemory, MayKeep}
+use Rattle.pair_judge.specs.inner.Receipts.{is_damage}
+use Rattle.pair_judge.specs.inner.Steps.{IfRefused, with_link}
+use Rattle.pair_judge.specs.inner.Wire.{judge_machine}
 
 -- a packet is taken only where it is kept
 taken_kept : (t k : Bool) (body packet : List ℕ) → cond (t && k) (Some body) None ≡ Some packet → (k ≡ true) × (body ≡ packet)
@@ -27,21 +27,30 @@ taken_kept false true body packet e = absurd (cc)
 taken_kept false false body packet e = absurd (cc)
 
 -- what the station made of it, where it did not refuse
-met_by_station : (s : WireLayers) (arrival : ArrivalValue Tag) (link : Option LinkTag) (kept : Bool) → to_wire_station (with_link link arrival) ≡ arrival
+met_by_station : (s : WireLayers) (arrival : ArrivalValue Tag) (link : Option LinkTag) (kept : Bool) →
+    to_wire_station (with_link link arrival) ≡ arrival
 met_by_station s (Sound m tag) link kept = refl
 met_by_station s HeaderBad link kept = refl
 met_by_station s DataBad link kept = refl
 
 module _ (s : WireLayers) (link : Option LinkTag) (kept : Bool) where
   -- both layers go on from what the station made of it
-  on_station : (arrival : ArrivalValue Tag) → wire_arrival_refusal judged s.station arrival kept ≡ None → judge_machine.arrives s (with_link link arrival) kept ≡ wire_meets_on judged s (with_link link arrival) kept (Ok (wire_after_arrival s.station arrival kept))
+  on_station : (arrival : ArrivalValue Tag) → wire_arrival_refusal judged.periods s.station arrival kept ≡ None →
+      judge_machine.arrives s (with_link link arrival) kept ≡ wire_meets_on judged s (with_link link arrival) kept
+      (Ok (wire_after_arrival s.station arrival kept))
   on_station arrival free =
-      ap (λ (a : ArrivalValue Tag). wire_meets_on judged s (with_link link arrival) kept (unless_refused (wire_arrival_refusal judged s.station a kept) (wire_after_arrival s.station a kept))) (met_by_station s arrival link kept)
-      ∙ ap (λ (o : Option StationRefusal). wire_meets_on judged s (with_link link arrival) kept (unless_refused o (wire_after_arrival s.station arrival kept))) free
+      ap (λ (a : ArrivalValue Tag). wire_meets_on judged s (with_link link arrival) kept
+      (unless_refused (wire_arrival_refusal judged.periods s.station a kept) (wire_after_arrival s.station a kept)))
+      (met_by_station s arrival link kept)
+      ∙ ap (λ (o : Option StationRefusal). wire_meets_on judged s (with_link link arrival) kept
+      (unless_refused o (wire_after_arrival s.station arrival kept))) free
 
   -- a packet was taken: the links meet it
-  pub arrives_kept : (arrival : ArrivalValue Tag) (packet : List ℕ) (after : WireStation LinkTag) (tag : LinkTag) (r : Result WireLayers StepRefusal) → wire_arrival_refusal judged s.station arrival kept ≡ None → wire_taken s.station arrival kept ≡ Some packet
-      → after ≡ wire_after_arrival s.station arrival kept → tag ≡ tag_or_none link → wire_keeps_packet judged (record s { station = after }) tag (content packet) ≡ r → judge_machine.arrives s (with_link link arrival) kept ≡ r
+  pub arrives_kept : (arrival : ArrivalValue Tag) (packet : List ℕ) (after : WireStation LinkTag) (tag : LinkTag)
+      (r : Result WireLayers StepRefusal) → wire_arrival_refusal judged.periods s.station arrival kept ≡ None →
+      wire_taken s.station arrival kept ≡ Some packet
+      → after ≡ wire_after_arrival s.station arrival kept → tag ≡ tag_or_none link → wire_keeps_packet judged (record s { station = after }) tag
+      (content packet) ≡ r → judge_machine.arrives s (with_link link arrival) kept ≡ r
   arrives_kept (Sound m of_station) packet after tag r free taken after_is tag_is keeps =
       let both = taken_kept (takes_by wire_book s.station m of_station) kept (body_of m) packet taken in
       let next = record s { station = wire_after_arrival s.station (Sound m of_station) kept } in
@@ -55,7 +64,8 @@ module _ (s : WireLayers) (link : Option LinkTag) (kept : Bool) where
   arrives_kept DataBad packet after tag r free taken after_is tag_is keeps = absurd (cc)
 
 -- what is taken shows no damage, and was kept
-pub taken_may_keep : (s : WireLayers) (arrival : ArrivalValue Tag) (kept : Bool) (packet : List ℕ) → wire_taken s.station arrival kept ≡ Some packet → MayKeep kept (is_damage arrival)
+pub taken_may_keep : (s : WireLayers) (arrival : ArrivalValue Tag) (kept : Bool) (packet : List ℕ) → wire_taken s.station arrival kept ≡ Some packet →
+    MayKeep kept (is_damage arrival)
 taken_may_keep s (Sound m tag) kept packet taken = ((taken_kept (takes_by wire_book s.station m tag) kept (body_of m) packet taken).0, refl)
 taken_may_keep s HeaderBad kept packet taken = absurd (cc)
 taken_may_keep s DataBad kept packet taken = absurd (cc)
@@ -71,10 +81,12 @@ pub on_ok : {X Z : Type 0} {P Q : Type 0} (r : Result X Z) → (P → Q) → OnO
 on_ok (Ok x) follows holds = follows holds
 on_ok (Err fault) follows holds = tt
 
-if_refused : {P Q : StepRefusal → Type 0} (fault : StepFault) → ((refusal : StepRefusal) → P refusal → Q refusal) → IfRefused P fault → IfRefused Q fault
+if_refused : {P Q : StepRefusal → Type 0} (fault : StepFault) → ((refusal : StepRefusal) → P refusal → Q refusal) → IfRefused P fault →
+    IfRefused Q fault
 if_refused (Refused refusal) follows holds = follows refusal holds
 if_refused OutOfMemory follows holds = tt
 
-pub on_refusal : {X : Type 0} {P Q : StepRefusal → Type 0} (r : Result X StepFault) → ((refusal : StepRefusal) → P refusal → Q refusal) → IfErr r (IfRefused P) → IfErr r (IfRefused Q)
+pub on_refusal : {X : Type 0} {P Q : StepRefusal → Type 0} (r : Result X StepFault) → ((refusal : StepRefusal) → P refusal → Q refusal) →
+    IfErr r (IfRefused P) → IfErr r (IfRefused Q)
 on_refusal (Ok x) follows holds = tt
 on_refusal (Err fault) follows holds = if_refused fault follows holds

@@ -1,31 +1,36 @@
 -- What a node makes of a receipt, by the bytes that came beside the unit.
 use Rattle.std.proofs.Common.{◌≡◌, ℕ, ◌+◌, ◌<◌, ◌≤◌, Bool, List, Option, Some, Ok, Err, sym, ap, ◌∙◌, cond}
 use Rattle.std.proofs.lemmas.Bool.{lt-ltb, le-ltb}
-use Rattle.dna_model.specs.declared.refusal.StepRefusal.{StepRefusal}
-use Rattle.dna_model.specs.declared.refusal.StepRefusal.TheVariants.{HintOrder}
-use Rattle.dna_model.specs.Book.{ArrivalValue}
-use Rattle.dna_model.specs.Line.{coming}
-use Rattle.dna_model.specs.Machine.{met, comes}
-use Rattle.dna_model.specs.WireLayers.{LayersTag, WireLayers, WireLayersNode, WireLayersUnit}
-use Rattle.pair_judge.specs.Wire.{judge_machine, judge_receives}
+use Rattle.dna_station.specs.declared.refusal.StepRefusal.{StepRefusal}
+use Rattle.dna_station.specs.declared.refusal.StepRefusal.TheVariants.{HintOrder}
+use Rattle.dna_station.specs.Book.{ArrivalValue}
+use Rattle.dna_station.specs.Line.{coming}
+use Rattle.dna_station.specs.Machine.{met, comes}
+use Rattle.dna_node.specs.WireLayers.{LayersTag, WireLayers, WireLayersNode, WireLayersUnit}
+use Rattle.pair_judge.specs.inner.Wire.{judge_machine, judge_receives}
 
 -- ---- what a node makes of it
 
 -- the hint lies below the front
-pub receives_back : (n : WireLayersNode) (hint : ℕ) (kept : Bool) (bytes : List ℕ) (unit : WireLayersUnit) → hint < n.front → judge_receives n hint kept bytes unit ≡ Err HintOrder
+pub receives_back : (n : WireLayersNode) (hint : ℕ) (kept : Bool) (bytes : List ℕ) (unit : WireLayersUnit) → hint < n.front →
+    judge_receives n hint kept bytes unit ≡ Err HintOrder
 receives_back n hint kept bytes unit below =
     ap (λ b. cond b (Err HintOrder) (comes judge_machine n (hint + 1) kept (coming unit bytes))) (lt-ltb hint n.front below)
 
 -- at or above the front it goes by what comes
-pub receives_at : (n : WireLayersNode) (hint : ℕ) (kept : Bool) (bytes : List ℕ) (unit : WireLayersUnit) (came : Option (ArrivalValue LayersTag)) → n.front ≤ hint → came ≡ coming unit bytes → judge_receives n hint kept bytes unit ≡ comes judge_machine n (hint + 1) kept came
+pub receives_at : (n : WireLayersNode) (hint : ℕ) (kept : Bool) (bytes : List ℕ) (unit : WireLayersUnit) (came : Option (ArrivalValue LayersTag)) →
+    n.front ≤ hint → came ≡ coming unit bytes → judge_receives n hint kept bytes unit ≡ comes judge_machine n (hint + 1) kept came
 receives_at n hint kept bytes unit came at_least is =
     ap (λ b. cond b (Err HintOrder) (comes judge_machine n (hint + 1) kept (coming unit bytes))) (le-ltb hint n.front at_least)
     ∙ ap (comes judge_machine n (hint + 1) kept) (sym is)
 
 -- both layers go by it
-pub comes_met : (n : WireLayersNode) (hint : ℕ) (kept : Bool) (arrival : ArrivalValue LayersTag) (after : WireLayers) → judge_machine.arrives n.station arrival kept ≡ Ok after → comes judge_machine n (hint + 1) kept (Some arrival) ≡ Ok (record n { station = after; front = hint + 1 })
+pub comes_met : (n : WireLayersNode) (hint : ℕ) (kept : Bool) (arrival : ArrivalValue LayersTag) (after : WireLayers) →
+    judge_machine.arrives n.station arrival kept ≡ Ok after → comes judge_machine n (hint + 1) kept (Some arrival) ≡ Ok
+    (record n { station = after; front = hint + 1 })
 comes_met n hint kept arrival after goes = ap (met n (hint + 1)) goes
 
 -- one of them refuses
-pub comes_refused : (n : WireLayersNode) (hint : ℕ) (kept : Bool) (arrival : ArrivalValue LayersTag) (refusal : StepRefusal) → judge_machine.arrives n.station arrival kept ≡ Err refusal → comes judge_machine n (hint + 1) kept (Some arrival) ≡ Err refusal
+pub comes_refused : (n : WireLayersNode) (hint : ℕ) (kept : Bool) (arrival : ArrivalValue LayersTag) (refusal : StepRefusal) →
+    judge_machine.arrives n.station arrival kept ≡ Err refusal → comes judge_machine n (hint + 1) kept (Some arrival) ≡ Err refusal
 comes_refused n hint kept arrival refusal refuses = ap (met n (hint + 1)) refuses

@@ -7,13 +7,13 @@ use Rattle.capture.specs.declared.fault.CaptureFault.TheVariants.{Departs, Read,
 use Rattle.capture.specs.declared.record.Record.{Record}
 use Rattle.capture.specs.declared.fault.Departure.{Departure}
 use Rattle.capture.specs.SoFar.{DepartsBehind}
-use Rattle.dna_model.specs.declared.head.Head.{Head}
-use Rattle.dna_model.specs.LayersPair.{IsLayersRun}
+use Rattle.dna_station.specs.declared.head.Head.{Head}
+use Rattle.dna_node.specs.LayersPair.{IsLayersRun}
 use Rattle.pair_judge.specs.declared.course.Ahead.{Ahead}
 use Rattle.pair_judge.specs.declared.course.Ahead.TheVariants.{Unread}
 use Rattle.pair_judge.specs.Heads.{head_of}
 use Rattle.pair_judge.specs.Finding.{of_side}
-use Rattle.pair_judge.specs.Course.{IsFaultOf, IsRead, Track, read_of, waiting}
+use Rattle.pair_judge.specs.inner.Course.{IsFaultOf, IsRead, Track, read_of, waiting}
 use Rattle.pair_judge.specs.Faulty.{IsFaultyText, IsJudgeFault, side_fault_of}
 
 -- ---- records
@@ -22,13 +22,16 @@ all_made : (bytes : List ℕ) (ahead : Ahead) (made : List Record) → ahead ≡
 all_made bytes ahead made is = sym (ap (λ (x : Ahead). made ++ waiting bytes x) is ∙ append-nil made)
 
 -- the run so far, with the heads that were read
-run_of_heads : (a b : Track) → IsRead a → IsRead b → IsLayersRun a.course.end.head b.course.end.head a.made b.made → IsLayersRun (head_of (read_of a)) (head_of (read_of b)) a.made b.made
+run_of_heads : (a b : Track) → IsRead a → IsRead b → IsLayersRun a.course.end.head b.course.end.head a.made b.made →
+    IsLayersRun (head_of (read_of a)) (head_of (read_of b)) a.made b.made
 run_of_heads a b read_a read_b run =
-    subst (λ (h : Head). IsLayersRun (head_of (read_of a)) h a.made b.made) read_b.head (subst (λ (h : Head). IsLayersRun h b.course.end.head a.made b.made) read_a.head run)
+    subst (λ (h : Head). IsLayersRun (head_of (read_of a)) h a.made b.made) read_b.head
+    (subst (λ (h : Head). IsLayersRun h b.course.end.head a.made b.made) read_a.head run)
 
 module _ (a b : Track) (read_a : IsRead a) (read_b : IsRead b) (run : IsLayersRun a.course.end.head b.course.end.head a.made b.made) where
   -- the line behind all records of this side departs
-  departed : (side : Side) (kind : Departure) (line : ℕ) → DepartsBehind (of_side side (read_of a) (read_of b)) kind line → of_side side a.made b.made ≡ (of_side side (read_of a) (read_of b)).records → IsFaultyText a.text b.text side kind line
+  departed : (side : Side) (kind : Departure) (line : ℕ) → DepartsBehind (of_side side (read_of a) (read_of b)) kind line →
+      of_side side a.made b.made ≡ (of_side side (read_of a) (read_of b)).records → IsFaultyText a.text b.text side kind line
   departed side kind line departs all_before = inr (record {
     read_a = read_of a;
     read_b = read_of b;

@@ -5,28 +5,29 @@ use Rattle.capture.specs.Entries.{record_with}
 use Rattle.capture.specs.SoFar.{TheEnd, GoesOn, GoesOnBy}
 use Rattle.wire_base.specs.declared.side.Side.TheVariants.{A, B}
 use Rattle.wire_base.specs.declared.side.Side.{Side}
-use Rattle.dna_model.specs.declared.head.Head.{Head}
-use Rattle.dna_model.specs.declared.refusal.StepRefusal.{StepRefusal}
-use Rattle.dna_model.specs.declared.finding.Cause.{Cause}
-use Rattle.dna_model.specs.declared.finding.Cause.TheVariants.{Step, NoSuchUnit, NoOrder}
-use Rattle.dna_model.specs.declared.finding.Finding.{Finding}
-use Rattle.dna_model.specs.declared.finding.Finding.TheVariants.{Accepted, Refused}
+use Rattle.dna_station.specs.declared.head.Head.{Head}
+use Rattle.dna_station.specs.declared.refusal.StepRefusal.{StepRefusal}
+use Rattle.dna_node.specs.declared.finding.Cause.{Cause}
+use Rattle.dna_node.specs.declared.finding.Cause.TheVariants.{Step, NoSuchUnit, NoOrder}
+use Rattle.dna_node.specs.declared.finding.Finding.{Finding}
+use Rattle.dna_node.specs.declared.finding.Finding.TheVariants.{Accepted, Refused}
 use Rattle.pair_judge.specs.Finding.{IsFinding}
 use Rattle.pair_judge.specs.declared.course.Ahead.{Ahead}
 use Rattle.pair_judge.specs.declared.course.Ahead.TheVariants.{Unread, Waits, Ended}
-use Rattle.pair_judge.specs.Course.{IsRead, Track, WaitsAt, behind, having_made, read_of, waiting, IsWaiting}
+use Rattle.pair_judge.specs.inner.Course.{IsRead, Track, WaitsAt, behind, having_made, read_of, waiting, IsWaiting}
 use Rattle.pair_judge.specs.declared.course.Course.{Course}
 use Rattle.pair_judge.specs.declared.line.Line.{Line}
-use Rattle.dna_model.specs.Layers.{LayersNode}
-use Rattle.dna_model.specs.WireLayers.{WireLayers}
+use Rattle.dna_node.specs.Layers.{LayersNode}
+use Rattle.dna_node.specs.WireLayers.{WireLayers}
 use Rattle.pair_judge.specs.declared.end.End.{End}
 use Rattle.pair_judge.specs.declared.summary.SideSummary.{SideSummary}
-use Rattle.pair_judge.specs.Reached.{HasReached, HasRun, IsFound, IsStopped}
+use Rattle.pair_judge.specs.inner.Reached.{HasReached, HasRun, IsFound, IsStopped}
 use Rattle.pair_judge.specs.Summary.{counts_of, summary_at, summary_of, summary_with}
 
 -- ---- what goes on behind what was read
 
-goes_behind : (ahead : Ahead) (come : Option (List ℕ)) (read all : List Record) → GoesOnBy (behind ahead come) read all → (rest : List Record) × (all ≡ read ++ rest)
+goes_behind : (ahead : Ahead) (come : Option (List ℕ)) (read all : List Record) → GoesOnBy (behind ahead come) read all → (rest : List Record) ×
+    (all ≡ read ++ rest)
 goes_behind Unread come read all goes = goes
 goes_behind (Waits entry) come read all goes = goes
 goes_behind Ended come read all goes = ([], goes ∙ sym (append-nil read))
@@ -39,14 +40,20 @@ module _ (t : Track) (made : List Record) (all : List Record) where
 
   pub goes_read : (r : Record) → GoesOn (read_of (having_made t (made ++ r ∷ []))) all → (rest : List Record) × (all ≡ made ++ r ∷ rest)
   goes_read r goes =
-      let b = goes_behind t.course.ahead t.come ((made ++ r ∷ []) ++ waiting t.course.capture.bytes t.course.ahead) all goes in
-      (waiting t.course.capture.bytes t.course.ahead ++ b.0, b.1 ∙ append_assoc (made ++ r ∷ []) (waiting t.course.capture.bytes t.course.ahead) b.0 ∙ append_assoc made (r ∷ []) (waiting t.course.capture.bytes t.course.ahead ++ b.0))
+      let b = goes_behind t.course.ahead t.come ((made ++ r ∷ []) ++ waiting t.course.capture.bytes t.course.ahead) all goes in (
+        waiting t.course.capture.bytes t.course.ahead ++ b.0,
+        b.1 ∙ append_assoc (made ++ r ∷ []) (waiting t.course.capture.bytes t.course.ahead) b.0 ∙
+            append_assoc made (r ∷ []) (waiting t.course.capture.bytes t.course.ahead ++ b.0),
+      )
 
-  pub goes_waits : (r : Record) → IsWaiting t.course.capture.bytes t.course.ahead r → GoesOn (read_of (having_made t made)) all → (rest : List Record) × (all ≡ made ++ r ∷ rest)
+  pub goes_waits : (r : Record) → IsWaiting t.course.capture.bytes t.course.ahead r → GoesOn (read_of (having_made t made)) all →
+      (rest : List Record) × (all ≡ made ++ r ∷ rest)
   goes_waits r w goes =
       let bytes = t.course.capture.bytes in
-      let by_entry : GoesOnBy (behind (Waits w.entry) t.come) (made ++ record_with w.entry bytes ∷ []) all = subst (λ (x : Ahead). GoesOnBy (behind x t.come) (made ++ waiting bytes x) all) w.ahead_is goes in
-      let at_waits : GoesOnBy (behind (Waits w.entry) t.come) (made ++ r ∷ []) all = subst (λ (x : Record). GoesOnBy (behind (Waits w.entry) t.come) (made ++ x ∷ []) all) w.is by_entry in
+      let by_entry : GoesOnBy (behind (Waits w.entry) t.come) (made ++ record_with w.entry bytes ∷ []) all =
+      subst (λ (x : Ahead). GoesOnBy (behind x t.come) (made ++ waiting bytes x) all) w.ahead_is goes in
+      let at_waits : GoesOnBy (behind (Waits w.entry) t.come) (made ++ r ∷ []) all =
+      subst (λ (x : Record). GoesOnBy (behind (Waits w.entry) t.come) (made ++ x ∷ []) all) w.is by_entry in
       (at_waits.0, at_waits.1 ∙ append_assoc made (r ∷ []) at_waits.0)
 
   pub goes_ended : t.course.ahead ≡ Ended → GoesOn (read_of (having_made t made)) all → all ≡ made
@@ -58,7 +65,8 @@ at_the_end : (ahead : Ahead) (come : Option (List ℕ)) → ahead ≡ Ended → 
 at_the_end ahead come is = ap (λ (x : Ahead). behind x come) is
 
 -- the same of the same heads
-pub at_heads : (head_a head_b head_a' head_b' : Head) (xs ys : List Record) (finding : Finding) → head_a' ≡ head_a → head_b' ≡ head_b → IsFinding head_a head_b xs ys finding → IsFinding head_a' head_b' xs ys finding
+pub at_heads : (head_a head_b head_a' head_b' : Head) (xs ys : List Record) (finding : Finding) → head_a' ≡ head_a → head_b' ≡ head_b →
+    IsFinding head_a head_b xs ys finding → IsFinding head_a' head_b' xs ys finding
 at_heads head_a head_b head_a' head_b' xs ys finding same_a same_b v =
     subst (λ (h : Head). IsFinding h head_b' xs ys finding) (sym same_a) (subst (λ (h : Head). IsFinding head_a h xs ys finding) (sym same_b) v)
 
@@ -66,13 +74,17 @@ at_heads head_a head_b head_a' head_b' xs ys finding same_a same_b v =
 
 -- the two sides, and the heads and records of the run so far
 module _ (a b : Track) (head_a head_b : Head) (same_a : a.course.end.head ≡ head_a) (same_b : b.course.end.head ≡ head_b) (place : ℕ) where
-  finding_at : (all_a all_b xs ys : List Record) (finding : Finding) → all_a ≡ xs → all_b ≡ ys → IsFinding head_a head_b xs ys finding → IsFinding a.course.end.head b.course.end.head all_a all_b finding
+  finding_at : (all_a all_b xs ys : List Record) (finding : Finding) → all_a ≡ xs → all_b ≡ ys → IsFinding head_a head_b xs ys finding →
+      IsFinding a.course.end.head b.course.end.head all_a all_b finding
   finding_at all_a all_b xs ys finding ea eb v =
       at_heads head_a head_b a.course.end.head b.course.end.head all_a all_b finding same_a same_b
-      (subst (λ (of_a : List Record). IsFinding head_a head_b of_a all_b finding) (sym ea) (subst (λ (of_b : List Record). IsFinding head_a head_b xs of_b finding) (sym eb) v))
+      (subst (λ (of_a : List Record). IsFinding head_a head_b of_a all_b finding) (sym ea)
+      (subst (λ (of_b : List Record). IsFinding head_a head_b xs of_b finding) (sym eb) v))
 
   -- a's next record is refused
-  pub a_fails : (refusal : StepRefusal) (r : Record) → IsRead (having_made a (a.made ++ r ∷ [])) → IsRead b → ((rest_a rest_b : List Record) → IsFinding head_a head_b (a.made ++ r ∷ rest_a) (b.made ++ rest_b) (Refused A place (Step refusal))) → IsFound a b (Refused A place (Step refusal))
+  pub a_fails : (refusal : StepRefusal) (r : Record) → IsRead (having_made a (a.made ++ r ∷ [])) → IsRead b →
+      ((rest_a rest_b : List Record) → IsFinding head_a head_b (a.made ++ r ∷ rest_a) (b.made ++ rest_b) (Refused A place (Step refusal))) →
+      IsFound a b (Refused A place (Step refusal))
   a_fails refusal r read_a read_b law = record {
     made_a = a.made ++ r ∷ [];
     made_b = b.made;
@@ -87,8 +99,10 @@ module _ (a b : Track) (head_a head_b : Head) (same_a : a.course.end.head ≡ he
   }
 
   -- b's next record is refused, and a waits
-  pub b_fails_behind : (refusal : StepRefusal) (p r : Record) → IsRead a → IsRead (having_made b (b.made ++ r ∷ [])) → IsWaiting a.course.capture.bytes a.course.ahead p
-      → ((rest_a rest_b : List Record) → IsFinding head_a head_b (a.made ++ p ∷ rest_a) (b.made ++ r ∷ rest_b) (Refused B place (Step refusal))) → IsFound a b (Refused B place (Step refusal))
+  pub b_fails_behind : (refusal : StepRefusal) (p r : Record) → IsRead a → IsRead (having_made b (b.made ++ r ∷ [])) →
+      IsWaiting a.course.capture.bytes a.course.ahead p
+      → ((rest_a rest_b : List Record) → IsFinding head_a head_b (a.made ++ p ∷ rest_a) (b.made ++ r ∷ rest_b) (Refused B place (Step refusal))) →
+      IsFound a b (Refused B place (Step refusal))
   b_fails_behind refusal p r read_a read_b ahead_a law = record {
     made_a = a.made;
     made_b = b.made ++ r ∷ [];
@@ -104,7 +118,8 @@ module _ (a b : Track) (head_a head_b : Head) (same_a : a.course.end.head ≡ he
 
   -- or a has ended
   pub b_fails_last : (refusal : StepRefusal) (r : Record) → IsRead a → IsRead (having_made b (b.made ++ r ∷ [])) → a.course.ahead ≡ Ended
-      → ((rest_b : List Record) → IsFinding head_a head_b a.made (b.made ++ r ∷ rest_b) (Refused B place (Step refusal))) → IsFound a b (Refused B place (Step refusal))
+      → ((rest_b : List Record) → IsFinding head_a head_b a.made (b.made ++ r ∷ rest_b) (Refused B place (Step refusal))) →
+      IsFound a b (Refused B place (Step refusal))
   b_fails_last refusal r read_a read_b ended law = record {
     made_a = a.made;
     made_b = b.made ++ r ∷ [];
@@ -118,17 +133,23 @@ module _ (a b : Track) (head_a head_b : Head) (same_a : a.course.end.head ≡ he
   }
 
   -- whichever it is, where a's course was this one before its line was released
-  pub b_fails : (refusal : StepRefusal) (r : Record) (waits : Bool) (own : Course) (incoming : Line) → own.capture ≡ a.course.capture → own.ahead ≡ a.course.ahead → IsStopped waits own incoming
+  pub b_fails : (refusal : StepRefusal) (r : Record) (waits : Bool) (own : Course) (incoming : Line) → own.capture ≡ a.course.capture →
+      own.ahead ≡ a.course.ahead → IsStopped waits own incoming
       → IsRead a → IsRead (having_made b (b.made ++ r ∷ []))
-      → ((p : Record) (rest_a rest_b : List Record) → WaitsAt own.end incoming p → IsFinding head_a head_b (a.made ++ p ∷ rest_a) (b.made ++ r ∷ rest_b) (Refused B place (Step refusal)))
+      → ((p : Record) (rest_a rest_b : List Record) → WaitsAt own.end incoming p → IsFinding head_a head_b (a.made ++ p ∷ rest_a)
+      (b.made ++ r ∷ rest_b) (Refused B place (Step refusal)))
       → ((rest_b : List Record) → IsFinding head_a head_b a.made (b.made ++ r ∷ rest_b) (Refused B place (Step refusal)))
       → IsFound a b (Refused B place (Step refusal))
   b_fails refusal r true own incoming capture ahead held read_a read_b behind last =
-      b_fails_behind refusal held.next r read_a read_b (rw (sym capture, sym ahead) held.ahead) (λ rest_a rest_b. behind held.next rest_a rest_b held.waits)
+      b_fails_behind refusal held.next r read_a read_b (rw (sym capture, sym ahead) held.ahead)
+      (λ rest_a rest_b. behind held.next rest_a rest_b held.waits)
   b_fails refusal r false own incoming capture ahead ended read_a read_b behind last = b_fails_last refusal r read_a read_b (sym ahead ∙ ended) last
 
   -- both wait
-  pub both_wait : (r s : Record) → IsRead a → IsRead b → IsWaiting a.course.capture.bytes a.course.ahead r → IsWaiting b.course.capture.bytes b.course.ahead s → ((rest_a rest_b : List Record) → IsFinding head_a head_b (a.made ++ r ∷ rest_a) (b.made ++ s ∷ rest_b) (Refused A place NoOrder)) → IsFound a b (Refused A place NoOrder)
+  pub both_wait : (r s : Record) → IsRead a → IsRead b → IsWaiting a.course.capture.bytes a.course.ahead r →
+      IsWaiting b.course.capture.bytes b.course.ahead s →
+      ((rest_a rest_b : List Record) → IsFinding head_a head_b (a.made ++ r ∷ rest_a) (b.made ++ s ∷ rest_b) (Refused A place NoOrder)) →
+      IsFound a b (Refused A place NoOrder)
   both_wait r s read_a read_b ahead_a ahead_b law = record {
     made_a = a.made;
     made_b = b.made;
@@ -143,7 +164,9 @@ module _ (a b : Track) (head_a head_b : Head) (same_a : a.course.end.head ≡ he
   }
 
   -- a waits and b has ended
-  pub a_waits : (r : Record) → IsRead a → IsRead b → IsWaiting a.course.capture.bytes a.course.ahead r → b.course.ahead ≡ Ended → ((rest_a : List Record) → IsFinding head_a head_b (a.made ++ r ∷ rest_a) b.made (Refused A place NoSuchUnit)) → IsFound a b (Refused A place NoSuchUnit)
+  pub a_waits : (r : Record) → IsRead a → IsRead b → IsWaiting a.course.capture.bytes a.course.ahead r → b.course.ahead ≡ Ended →
+      ((rest_a : List Record) → IsFinding head_a head_b (a.made ++ r ∷ rest_a) b.made (Refused A place NoSuchUnit)) →
+      IsFound a b (Refused A place NoSuchUnit)
   a_waits r read_a read_b ahead_a ahead_b law = record {
     made_a = a.made;
     made_b = b.made;
@@ -157,7 +180,9 @@ module _ (a b : Track) (head_a head_b : Head) (same_a : a.course.end.head ≡ he
   }
 
   -- b waits and a has ended
-  pub b_waits : (r : Record) → IsRead a → IsRead b → a.course.ahead ≡ Ended → IsWaiting b.course.capture.bytes b.course.ahead r → ((rest_b : List Record) → IsFinding head_a head_b a.made (b.made ++ r ∷ rest_b) (Refused B place NoSuchUnit)) → IsFound a b (Refused B place NoSuchUnit)
+  pub b_waits : (r : Record) → IsRead a → IsRead b → a.course.ahead ≡ Ended → IsWaiting b.course.capture.bytes b.course.ahead r →
+      ((rest_b : List Record) → IsFinding head_a head_b a.made (b.made ++ r ∷ rest_b) (Refused B place NoSuchUnit)) →
+      IsFound a b (Refused B place NoSuchUnit)
   b_waits r read_a read_b ahead_a ahead_b law = record {
     made_a = a.made;
     made_b = b.made;
@@ -171,8 +196,10 @@ module _ (a b : Track) (head_a head_b : Head) (same_a : a.course.end.head ≡ he
   }
 
 -- both have ended
-module _ (a b : Track) (reached : HasReached a.course.end b.course.end a.made b.made) (law : HasRun a.course.end.head b.course.end.head reached.world a.made b.made) where
-  counted_at : (end : End) (n : LayersNode) (links : ℕ) (made : List Record) → end.counts ≡ counts_of made → length end.layers.links.links ≡ links → links ≡ length n.station.links.links → summary_at end ≡ summary_of n made
+module _ (a b : Track) (reached : HasReached a.course.end b.course.end a.made b.made)
+    (law : HasRun a.course.end.head b.course.end.head reached.world a.made b.made) where
+  counted_at : (end : End) (n : LayersNode) (links : ℕ) (made : List Record) → end.counts ≡ counts_of made → length end.layers.links.links ≡ links →
+      links ≡ length n.station.links.links → summary_at end ≡ summary_of n made
   counted_at end n links made counts there here =
       ap (λ (s : SideSummary). record s { links = length end.layers.links.links }) counts ∙ ap (λ (k : ℕ). summary_with k made) (there ∙ here)
 
@@ -186,16 +213,21 @@ module _ (a b : Track) (reached : HasReached a.course.end b.course.end a.made b.
     read_a = read_a;
     read_b = read_b;
     is_finding = λ all_a all_b goes_a goes_b.
-        subst (λ (of_a : List Record). IsFinding a.course.end.head b.course.end.head of_a all_b Accepted) (sym (goes_ended a a.made all_a ahead_a goes_a))
-        (subst (λ (of_b : List Record). IsFinding a.course.end.head b.course.end.head a.made of_b Accepted) (sym (goes_ended b b.made all_b ahead_b goes_b)) (record { verdict = law.run; first = tt }));
+        subst (λ (of_a : List Record). IsFinding a.course.end.head b.course.end.head of_a all_b Accepted)
+        (sym (goes_ended a a.made all_a ahead_a goes_a))
+        (subst (λ (of_b : List Record). IsFinding a.course.end.head b.course.end.head a.made of_b Accepted)
+        (sym (goes_ended b b.made all_b ahead_b goes_b)) (record { verdict = law.run; first = tt }));
     ends = (at_the_end a.course.ahead a.come ahead_a, at_the_end b.course.ahead b.come ahead_b);
     counts = λ e. record {
       run = law.run;
-      counts_a = counted_at a.course.end law.run.0.a.state (length reached.world.a.state.station.links.links) a.made reached.counts_a (links_of _ _ reached.stands_a.layers) law.links_a;
-      counts_b = counted_at b.course.end law.run.0.b.state (length reached.world.b.state.station.links.links) b.made reached.counts_b (links_of _ _ reached.stands_b.layers) law.links_b;
+      counts_a = counted_at a.course.end law.run.0.a.state (length reached.world.a.state.station.links.links) a.made reached.counts_a
+          (links_of _ _ reached.stands_a.layers) law.links_a;
+      counts_b = counted_at b.course.end law.run.0.b.state (length reached.world.b.state.station.links.links) b.made reached.counts_b
+          (links_of _ _ reached.stands_b.layers) law.links_b;
     };
   }
 
 -- the place that is named is this one
-pub at_place : (a b : Track) (side : Side) (cause : Cause) (named place : ℕ) → named ≡ place → IsFound a b (Refused side place cause) → IsFound a b (Refused side named cause)
+pub at_place : (a b : Track) (side : Side) (cause : Cause) (named place : ℕ) → named ≡ place → IsFound a b (Refused side place cause) →
+    IsFound a b (Refused side named cause)
 at_place a b side cause named place is found = subst (λ (n : ℕ). IsFound a b (Refused side n cause)) (sym is) found

@@ -57,11 +57,13 @@ module _ {S R U Z : Type 0} (nodes : Nodes S R U Z) where
       omega arith
 
   -- what a record of a beginning names is below what bounds the beginning
-  pub named_below : (zs : List R) (count n i : ℕ) (r : R) (k : ℕ) → n < i → NamesBelow nodes count (take i zs) → slice_get zs n ≡ Some r → nodes.named r ≡ Some k → k < count
+  pub named_below : (zs : List R) (count n i : ℕ) (r : R) (k : ℕ) → n < i → NamesBelow nodes count (take i zs) → slice_get zs n ≡ Some r →
+      nodes.named r ≡ Some k → k < count
   named_below [] count n i r k l names here name = absurd (cc)
   named_below (z ∷ zs) count n zero r k l names here name = absurd (omega arith)
   named_below (z ∷ zs) count zero (suc i) r k l names here name = below_head nodes count z (take i zs) names k (cc)
-  named_below (z ∷ zs) count (suc n) (suc i) r k l names here name = named_below zs count n i r k (omega arith) (below_tail nodes count z (take i zs) names) here name
+  named_below (z ∷ zs) count (suc n) (suc i) r k l names here name =
+      named_below zs count n i r k (omega arith) (below_tail nodes count z (take i zs) names) here name
 
 -- ---- how far side a gets
 
@@ -74,7 +76,8 @@ module _ {S R U Z : Type 0} (nodes : Nodes S R U Z) (tells : BothTell nodes) (fi
   closed_at i j run = closed nodes tells first_a first_b run.1
 
   -- no further than a record that offends
-  pub not_past_offender : (n : ℕ) (z : Z) → Offends nodes (start_world first_a first_b) xs ys n z → (i j : ℕ) → i ≤ length xs → j ≤ length ys → Reaches i j → i ≤ n
+  pub not_past_offender : (n : ℕ) (z : Z) → Offends nodes (start_world first_a first_b) xs ys n z → (i j : ℕ) → i ≤ length xs → j ≤ length ys →
+      Reaches i j → i ≤ n
   not_past_offender n z o i j within_a within_b run = elim (cases_lt n i) [
     | inr not_further ↦ omega arith
     | inl further ↦
@@ -88,8 +91,10 @@ module _ {S R U Z : Type 0} (nodes : Nodes S R U Z) (tells : BothTell nodes) (fi
         }) in
         let own = more_behind xs n i o.offender further o.place in
         let other = more_taken ys o.of_other j least.1 in
-        absurd (no_run_of_refused nodes (start_world first_a first_b) o.world (take n xs) (take o.of_other ys) own.0 other.0 o.offender z o.run o.refused
-        (subst (λ (l : List R). IsRun nodes (start_world first_a first_b) (take n xs ++ o.offender ∷ own.0) l) other.1 (subst (λ (l : List R). IsRun nodes (start_world first_a first_b) l (take j ys)) own.1 run)))
+        absurd (no_run_of_refused nodes (start_world first_a first_b) o.world (take n xs) (take o.of_other ys) own.0 other.0 o.offender z o.run
+        o.refused
+        (subst (λ (l : List R). IsRun nodes (start_world first_a first_b) (take n xs ++ o.offender ∷ own.0) l) other.1
+        (subst (λ (l : List R). IsRun nodes (start_world first_a first_b) l (take j ys)) own.1 run)))
   ]
 
   -- what a record names that is made is sent

@@ -12,16 +12,16 @@ use Rattle.two_nodes.proofs.Order.{one_end}
 use Rattle.wire_base.specs.declared.side.Side.{Side}
 use Rattle.wire_base.specs.declared.side.Side.TheVariants.{A, B}
 use Rattle.capture.specs.declared.record.Record.{Record}
-use Rattle.dna_model.specs.declared.head.Head.{Head}
-use Rattle.dna_model.specs.declared.finding.Cause.{Cause}
-use Rattle.dna_model.specs.declared.finding.Cause.TheVariants.{Step, NoSuchUnit, NoOrder}
-use Rattle.dna_model.specs.declared.finding.Finding.{Finding}
-use Rattle.dna_model.specs.declared.finding.Finding.TheVariants as findings
-use Rattle.dna_model.specs.declared.refusal.StepRefusal.{StepRefusal}
-use Rattle.dna_model.specs.Layers.{LayersNode, LayersUnit, new_layers_node}
-use Rattle.dna_model.specs.LayersPair.{IsLayersRun, layers_pair, layers_start}
-use Rattle.dna_model.specs.Tells.{layers_tell}
-use Rattle.dna_model.specs.Verdict.{IsVerdict, IsWrong, IsWrongOfB}
+use Rattle.dna_station.specs.declared.head.Head.{Head}
+use Rattle.dna_node.specs.declared.finding.Cause.{Cause}
+use Rattle.dna_node.specs.declared.finding.Cause.TheVariants.{Step, NoSuchUnit, NoOrder}
+use Rattle.dna_node.specs.declared.finding.Finding.{Finding}
+use Rattle.dna_node.specs.declared.finding.Finding.TheVariants as findings
+use Rattle.dna_station.specs.declared.refusal.StepRefusal.{StepRefusal}
+use Rattle.dna_node.specs.Layers.{LayersNode, LayersUnit, new_layers_node}
+use Rattle.dna_node.specs.LayersPair.{IsLayersRun, layers_pair, layers_start}
+use Rattle.dna_node.specs.inner.Tells.{layers_tell}
+use Rattle.dna_node.specs.Verdict.{IsVerdict, IsWrong, IsWrongOfB}
 use Rattle.pair_judge.specs.Finding.{IsFinding, IsFirst}
 use Rattle.pair_judge.proofs.Halting.{Reaches, more_sent, all_sent, not_past_missing, not_past_offender, not_past_stuck, named_is_sent}
 
@@ -46,7 +46,8 @@ module _ (head_own head_other : Head) (own other : List Record) where
 
   -- all records of the other side
   pub gets_all : (n : ℕ) → IsRun layers_pair (layers_start head_own head_other) (take n own) other → Gets n (length other)
-  gets_all n run = subst (λ (l : List Record). IsRun layers_pair (layers_start head_own head_other) (take n own) l) (sym (take_all (length other) other (le_refl (length other)))) run
+  gets_all n run = subst (λ (l : List Record). IsRun layers_pair (layers_start head_own head_other) (take n own) l)
+      (sym (take_all (length other) other (le_refl (length other)))) run
 
   pub offending_past : (n : ℕ) (refusal : StepRefusal) → Offending n refusal → (i j : ℕ) → i ≤ length own → j ≤ length other → Gets i j → i ≤ n
   offending_past = not_past_offender layers_pair layers_tell (new_layers_node head_own) (new_layers_node head_other) own other
@@ -99,7 +100,8 @@ module _ (head_own head_other : Head) (own other : List Record) where
       omega arith
 
   -- a record that offends names no unit that is missing
-  offends_unmissed : (n count : ℕ) (refusal : StepRefusal) → (o : Offending n refusal) → NamesBeyond layers_pair (slice_get own n) count → sent_by layers_pair (take o.of_other other) ≤ count → ⊥
+  offends_unmissed : (n count : ℕ) (refusal : StepRefusal) → (o : Offending n refusal) → NamesBeyond layers_pair (slice_get own n) count →
+      sent_by layers_pair (take o.of_other other) ≤ count → ⊥
   offends_unmissed n count refusal o m few =
       let sent = o.past.holds.named_unit m.waiting m.unit m.is_here m.names in
       let beyond = m.beyond in
@@ -110,9 +112,12 @@ module _ (head_own head_other : Head) (own other : List Record) where
       let up = (o.past.least n p.of_other p.past.holds).1 in
       let down = (p.past.least n o.of_other o.past.holds).1 in
       let same : p.of_other ≡ o.of_other = omega arith in
-      let world : o.world ≡ p.world = one_end layers_pair o.run (subst (λ (k : ℕ). Run layers_pair (layers_start head_own head_other) (take n own) (take k other) p.world) same p.run) in
+      let world : o.world ≡ p.world =
+      one_end layers_pair o.run (subst (λ (k : ℕ). Run layers_pair (layers_start head_own head_other) (take n own) (take k other) p.world)
+      same p.run) in
       let offender : o.offender ≡ p.offender = cc (o.place, p.place) in
-      by_outcome refusal other_refusal (sym o.refused ∙ ap₂ (λ (w : World LayersNode LayersUnit) (r : Record). advance layers_pair.node_a w.a w.b r) world offender ∙ p.refused)
+      by_outcome refusal other_refusal
+      (sym o.refused ∙ ap₂ (λ (w : World LayersNode LayersUnit) (r : Record). advance layers_pair.node_a w.a w.b r) world offender ∙ p.refused)
     where
       by_outcome : (z z' : StepRefusal) → ◌≡◌ {A = Outcome LayersNode LayersUnit StepRefusal} (Refused z) (Refused z') → z ≡ z'
       by_outcome z z' e = cc
@@ -133,7 +138,8 @@ module _ (head_own head_other : Head) (own other : List Record) where
   offends_or_lacks n refusal o l =
       offends_unmissed head_own head_other own other n (sent_by layers_pair other) refusal o l.missing (all_sent layers_pair other o.of_other)
 
-  offends_or_sticks : (n j : ℕ) (refusal : StepRefusal) → Offending head_own head_other own other n refusal → Stuck head_own head_other own other n j → ⊥
+  offends_or_sticks : (n j : ℕ) (refusal : StepRefusal) → Offending head_own head_other own other n refusal →
+      Stuck head_own head_other own other n j → ⊥
   offends_or_sticks n j refusal o s =
       offends_unmissed head_own head_other own other n (sent_by layers_pair (take j other)) refusal o s.missing_a
       (more_sent layers_pair other o.of_other j (stuck_other_past n j s n o.of_other (o.world, o.run)))
@@ -144,7 +150,8 @@ module _ (head_own head_other : Head) (own other : List Record) where
       let all = stuck_other_past n j s m (length other) (gets_all head_own head_other own other m l.run) in
       omega arith
 
-  same_cause : (n : ℕ) (cause other_cause : Cause) → Wrong head_own head_other own other n cause → Wrong head_own head_other own other n other_cause → cause ≡ other_cause
+  same_cause : (n : ℕ) (cause other_cause : Cause) → Wrong head_own head_other own other n cause → Wrong head_own head_other own other n other_cause →
+      cause ≡ other_cause
   same_cause n (Step refusal) (Step other_refusal) w v = ap Step (same_refusal head_own head_other own other n refusal other_refusal w v)
   same_cause n (Step refusal) NoSuchUnit w v = absurd (offends_or_lacks n refusal w v)
   same_cause n (Step refusal) NoOrder w v = absurd (offends_or_sticks n v.0 refusal w v.1)
@@ -169,32 +176,39 @@ module _ (head_a head_b : Head) (of_a of_b : List Record) where
       let h = halts head_b head_a of_b of_a m cause w in
       let here = h.here in
       let within = slice_get_within of_a n l.missing.waiting l.missing.is_here in
-      let all = h.no_further (length of_b) n (le_refl (length of_b)) (omega arith) (other_gets head_a head_b of_a of_b n (length of_b) (gets_all head_a head_b of_a of_b n l.run)) in
+      let all = h.no_further (length of_b) n (le_refl (length of_b)) (omega arith)
+      (other_gets head_a head_b of_a of_b n (length of_b) (gets_all head_a head_b of_a of_b n l.run)) in
       omega arith
 
   -- nobody can go on, and one of b is to blame
   sticks_of_a : (n j m : ℕ) (cause : Cause) → Stuck head_a head_b of_a of_b n j → IsWrongOfB (layers_start head_b head_a) of_b of_a m cause → ⊥
   sticks_of_a n j m (Step refusal) s w =
       let same = same_place head_b head_a of_b of_a m j (Step refusal) NoOrder w (n, other_stuck head_a head_b of_a of_b n j s) in
-      offends_or_sticks head_b head_a of_b of_a j n refusal (subst (λ (k : ℕ). Offending head_b head_a of_b of_a k refusal) same w) (other_stuck head_a head_b of_a of_b n j s)
+      offends_or_sticks head_b head_a of_b of_a j n refusal (subst (λ (k : ℕ). Offending head_b head_a of_b of_a k refusal) same w)
+      (other_stuck head_a head_b of_a of_b n j s)
   sticks_of_a n j m NoSuchUnit s w = lacks_or_sticks head_b head_a of_b of_a j n m w (other_stuck head_a head_b of_a of_b n j s)
   sticks_of_a n j m NoOrder s w = absurd w
 
   -- a record of each side is wrong only where both offend
-  not_both : (n m place : ℕ) (cause other_cause : Cause) → Wrong head_a head_b of_a of_b n cause → IsWrongOfB (layers_start head_b head_a) of_b of_a m other_cause → IsFirst head_a head_b of_a of_b (findings.Refused B place other_cause) → ⊥
+  not_both : (n m place : ℕ) (cause other_cause : Cause) → Wrong head_a head_b of_a of_b n cause → IsWrongOfB (layers_start head_b head_a) of_b of_a m
+      other_cause → IsFirst head_a head_b of_a of_b (findings.Refused B place other_cause) → ⊥
   not_both n m place (Step refusal) other_cause w v first = first n refusal w
   not_both n m place NoSuchUnit other_cause w v first = lacks_of_a n m other_cause w (of_b_wrong m other_cause v)
   not_both n m place NoOrder other_cause w v first = sticks_of_a n w.0 m other_cause w.1 v
 
-  refused_same : (side : Side) (n m : ℕ) (cause other_cause : Cause) → n ≡ m → cause ≡ other_cause → findings.Refused side n cause ≡ findings.Refused side m other_cause
+  refused_same : (side : Side) (n m : ℕ) (cause other_cause : Cause) → n ≡ m → cause ≡ other_cause → findings.Refused side n cause ≡ findings.Refused
+      side m other_cause
   refused_same side n m cause other_cause place is = ap₂ (λ (k : ℕ) (c : Cause). findings.Refused side k c) place is
 
   -- by the causes at one place
-  of_one_side : (side : Side) (head_own head_other : Head) (own other : List Record) (n m : ℕ) (cause other_cause : Cause) → Wrong head_own head_other own other n cause → Wrong head_own head_other own other m other_cause → findings.Refused side n cause ≡ findings.Refused side m other_cause
+  of_one_side : (side : Side) (head_own head_other : Head) (own other : List Record) (n m : ℕ) (cause other_cause : Cause) →
+      Wrong head_own head_other own other n cause → Wrong head_own head_other own other m other_cause →
+      findings.Refused side n cause ≡ findings.Refused side m other_cause
   of_one_side side head_own head_other own other n m cause other_cause w v =
       let same = same_place head_own head_other own other n m cause other_cause w v in
       refused_same side n m cause other_cause same
-      (same_cause head_own head_other own other n cause other_cause w (subst (λ (k : ℕ). Wrong head_own head_other own other k other_cause) (sym same) v))
+      (same_cause head_own head_other own other n cause other_cause w
+      (subst (λ (k : ℕ). Wrong head_own head_other own other k other_cause) (sym same) v))
 
   pub one_finding : (f g : Finding) → IsFinding head_a head_b of_a of_b f → IsFinding head_a head_b of_a of_b g → f ≡ g
   one_finding findings.Accepted findings.Accepted x y = refl
@@ -202,15 +216,20 @@ module _ (head_a head_b : Head) (of_a of_b : List Record) where
   one_finding findings.Accepted (findings.Refused B m cause) x y = absurd (y.verdict.0 x.verdict)
   one_finding (findings.Refused A n cause) findings.Accepted x y = absurd (x.verdict.0 y.verdict)
   one_finding (findings.Refused B n cause) findings.Accepted x y = absurd (x.verdict.0 y.verdict)
-  one_finding (findings.Refused A n cause) (findings.Refused A m other_cause) x y = of_one_side A head_a head_b of_a of_b n m cause other_cause x.verdict.1 y.verdict.1
-  one_finding (findings.Refused B n cause) (findings.Refused B m other_cause) x y = of_one_side B head_b head_a of_b of_a n m cause other_cause (of_b_wrong n cause x.verdict.1) (of_b_wrong m other_cause y.verdict.1)
-  one_finding (findings.Refused A n cause) (findings.Refused B m other_cause) x y = absurd (not_both n m m cause other_cause x.verdict.1 y.verdict.1 y.first)
-  one_finding (findings.Refused B n cause) (findings.Refused A m other_cause) x y = absurd (not_both m n n other_cause cause y.verdict.1 x.verdict.1 x.first)
+  one_finding (findings.Refused A n cause) (findings.Refused A m other_cause) x y =
+      of_one_side A head_a head_b of_a of_b n m cause other_cause x.verdict.1 y.verdict.1
+  one_finding (findings.Refused B n cause) (findings.Refused B m other_cause) x y =
+      of_one_side B head_b head_a of_b of_a n m cause other_cause (of_b_wrong n cause x.verdict.1) (of_b_wrong m other_cause y.verdict.1)
+  one_finding (findings.Refused A n cause) (findings.Refused B m other_cause) x y =
+      absurd (not_both n m m cause other_cause x.verdict.1 y.verdict.1 y.first)
+  one_finding (findings.Refused B n cause) (findings.Refused A m other_cause) x y =
+      absurd (not_both m n n other_cause cause y.verdict.1 x.verdict.1 x.first)
 
   -- ---- no record of a offends
 
   -- where all of a are made with these of b
-  pub first_of_ended : (done_b : List Record) (j : ℕ) → take j of_b ≡ done_b → j ≤ length of_b → IsLayersRun head_a head_b of_a done_b → (n : ℕ) (refusal : StepRefusal) → ¬ Offending head_a head_b of_a of_b n refusal
+  pub first_of_ended : (done_b : List Record) (j : ℕ) → take j of_b ≡ done_b → j ≤ length of_b → IsLayersRun head_a head_b of_a done_b →
+      (n : ℕ) (refusal : StepRefusal) → ¬ Offending head_a head_b of_a of_b n refusal
   first_of_ended done_b j is within run n refusal o =
       let here = slice_get_within of_a n o.offender o.place in
       let gets : Gets head_a head_b of_a of_b (length of_a) j = rw (take_all (length of_a) of_a (le_refl (length of_a)), is) run in
@@ -218,7 +237,8 @@ module _ (head_a head_b : Head) (of_a of_b : List Record) where
       omega arith
 
   -- where the next of a waits for a unit that these of b don't send, and the next of b offends
-  pub first_of_waiting : (done_b : List Record) (p j : ℕ) (of_b_refusal : StepRefusal) → take j of_b ≡ done_b → LacksUnit layers_pair (layers_start head_a head_b) of_a done_b p → Offending head_b head_a of_b of_a j of_b_refusal
+  pub first_of_waiting : (done_b : List Record) (p j : ℕ) (of_b_refusal : StepRefusal) → take j of_b ≡ done_b →
+      LacksUnit layers_pair (layers_start head_a head_b) of_a done_b p → Offending head_b head_a of_b of_a j of_b_refusal
       → (n : ℕ) (refusal : StepRefusal) → ¬ Offending head_a head_b of_a of_b n refusal
   first_of_waiting done_b p j of_b_refusal is lacks b n refusal o =
       let m = lacks.missing in
@@ -226,16 +246,19 @@ module _ (head_a head_b : Head) (of_a of_b : List Record) where
       let waits_here = slice_get_within of_a p m.waiting m.is_here in
       let there = slice_get_within of_b j b.offender b.place in
       let gets : Gets head_a head_b of_a of_b p j = rw is lacks.run in
-      let few : o.of_other ≤ j = offending_past head_b head_a of_b of_a j of_b_refusal b o.of_other n o.past.holds.within_b o.past.holds.within_a (other_gets head_a head_b of_a of_b n o.of_other (o.world, o.run)) in
+      let few : o.of_other ≤ j = offending_past head_b head_a of_b of_a j of_b_refusal b o.of_other n o.past.holds.within_b o.past.holds.within_a
+      (other_gets head_a head_b of_a of_b n o.of_other (o.world, o.run)) in
       let behind : p ≤ n = offending_past head_a head_b of_a of_b n refusal o p j (omega arith) (omega arith) gets in
       let sent = more_sent layers_pair of_b o.of_other j few in
       let missing : NamesBeyond layers_pair (slice_get of_a p) (sent_by layers_pair (take j of_b)) = rw is m in
       elim (cases_lt p n) [
         | inl further ↦
-            let named = named_is_sent layers_pair layers_tell (new_layers_node head_a) (new_layers_node head_b) of_a of_b p n o.of_other missing.unit missing.waiting further missing.is_here missing.names (o.world, o.run) in
+            let named = named_is_sent layers_pair layers_tell (new_layers_node head_a) (new_layers_node head_b) of_a of_b p n o.of_other missing.unit
+            missing.waiting further missing.is_here missing.names (o.world, o.run) in
             let beyond = missing.beyond in
             omega arith
         | inr not_further ↦
             let same : p ≡ n = omega arith in
-            offends_unmissed head_a head_b of_a of_b n (sent_by layers_pair (take j of_b)) refusal o (subst (λ (k : ℕ). NamesBeyond layers_pair (slice_get of_a k) (sent_by layers_pair (take j of_b))) same missing) sent
+            offends_unmissed head_a head_b of_a of_b n (sent_by layers_pair (take j of_b)) refusal o
+            (subst (λ (k : ℕ). NamesBeyond layers_pair (slice_get of_a k) (sent_by layers_pair (take j of_b))) same missing) sent
       ]

@@ -5,7 +5,7 @@ use Rattle.std.specs.Int.{IsBitSet}
 use Rattle.std.proofs.lemmas.Nat.{and_mask, bit_set_by_shift}
 use Rattle.dna_packet.specs.Packet.{PacketValue, Data, Control, IsReturned}
 use Rattle.dna_packet.specs.ReadingNsp.{nsp_at}
-use Rattle.dna_model.specs.Content.{content_of, is_returned, message_in}
+use Rattle.dna_node.specs.Content.{content_of, is_returned, message_in}
 
 pub never : false ≡ true → ⊥
 never e = absurd (cc)
@@ -30,5 +30,6 @@ carries_nothing (Data rtflg dst src forward nsp) back = ap (λ (b : Bool). cond 
 carries_nothing (Control bytes) back = absurd back
 
 -- on its way there: its message
-pub carries_message : (rtflg dst src forward : ℕ) (nsp : List ℕ) → (IsReturned (Data rtflg dst src forward nsp) → ⊥) → content_of (Ok (Data rtflg dst src forward nsp)) ≡ message_in dst src (nsp_at nsp)
+pub carries_message : (rtflg dst src forward : ℕ) (nsp : List ℕ) → (IsReturned (Data rtflg dst src forward nsp) → ⊥) →
+    content_of (Ok (Data rtflg dst src forward nsp)) ≡ message_in dst src (nsp_at nsp)
 carries_message rtflg dst src forward nsp there = ap (λ (b : Bool). cond b (Ok None) (message_in dst src (nsp_at nsp))) (not_returned rtflg there)

@@ -1,18 +1,21 @@
 -- Units of a line whose tags are kept by runs.
-use Rattle.std.proofs.Common.{◌≡◌, ℕ, zero, suc, ◌+◌, ◌<◌, ◌≤◌, cond, ltb, List, [], ◌∷◌, ◌++◌, length, drop, Some, refl, ap, ap₂, ◌∙◌, arith, lt-ltb, le-ltb}
+use Rattle.std.proofs.Common.{◌≡◌, ℕ, zero, suc, ◌+◌, ◌<◌, ◌≤◌, cond, ltb, List, [], ◌∷◌, ◌++◌, length, drop, Some, refl, ap, ap₂, ◌∙◌, arith, lt-ltb}
+use Rattle.std.proofs.Common.{le-ltb}
 use Rattle.std.specs.List.{slice_get}
 use Rattle.std.specs.Option.{option_map}
-use Rattle.dna_model.specs.declared.tag.Tag.{Tag}
+use Rattle.dna_station.specs.declared.tag.Tag.{Tag}
 use Rattle.pair_judge.specs.declared.tags.TagRun.{TagRun}
-use Rattle.pair_judge.specs.Held.{HeldValue, sent_as}
-use Rattle.pair_judge.specs.Runs.{behind, tag_at, units_from}
+use Rattle.pair_judge.specs.inner.Held.{HeldValue, sent_as}
+use Rattle.pair_judge.specs.inner.Runs.{behind, tag_at, units_from}
 
 -- a run behind all others is asked last
-joined : (runs : List TagRun) (run : TagRun) (newest : Tag) (number : ℕ) → tag_at (runs ++ run ∷ []) newest number ≡ tag_at runs (cond (ltb number run.end) run.tag newest) number
+joined : (runs : List TagRun) (run : TagRun) (newest : Tag) (number : ℕ) → tag_at (runs ++ run ∷ []) newest number ≡ tag_at runs
+    (cond (ltb number run.end) run.tag newest) number
 joined [] run newest number = refl
 joined (r ∷ runs) run newest number = ap (cond (ltb number r.end) r.tag) (joined runs run newest number)
 
-pub before_end : (runs : List TagRun) (run : TagRun) (newest : Tag) (number : ℕ) → number < run.end → tag_at (runs ++ run ∷ []) newest number ≡ tag_at runs run.tag number
+pub before_end : (runs : List TagRun) (run : TagRun) (newest : Tag) (number : ℕ) → number < run.end → tag_at (runs ++ run ∷ []) newest number ≡ tag_at
+    runs run.tag number
 before_end runs run newest number below =
     joined runs run newest number ∙ ap (λ b. tag_at runs (cond b run.tag newest) number) (lt-ltb number run.end below)
 
@@ -27,7 +30,8 @@ behind-append [] run number runs_end run_ends = omega arith
 behind-append (r ∷ runs) run number runs_end run_ends = omega (arith, behind-append runs run number (omega arith) run_ends)
 
 -- one more unit
-pub units_from-append : (tag : ℕ → Tag) (n : ℕ) (xs : List HeldValue) (x : HeldValue) → units_from tag n (xs ++ x ∷ []) ≡ units_from tag n xs ++ sent_as x (tag (n + length xs)) ∷ []
+pub units_from-append : (tag : ℕ → Tag) (n : ℕ) (xs : List HeldValue) (x : HeldValue) → units_from tag n (xs ++ x ∷ []) ≡ units_from tag n xs ++
+    sent_as x (tag (n + length xs)) ∷ []
 units_from-append tag n [] x =
     let e : n ≡ n + 0 = omega arith in ap (λ k. sent_as x (tag k) ∷ []) e
 units_from-append tag n (y ∷ xs) x =
@@ -35,12 +39,15 @@ units_from-append tag n (y ∷ xs) x =
     ap (λ units. sent_as y (tag n) ∷ units) (units_from-append tag (n + 1) xs x ∙ ap (λ k. units_from tag (n + 1) xs ++ sent_as x (tag k) ∷ []) e)
 
 -- the tags of the units alone count
-pub units_from-same : (t u : ℕ → Tag) (n : ℕ) (xs : List HeldValue) → ((k : ℕ) → n ≤ k → k < n + length xs → t k ≡ u k) → units_from t n xs ≡ units_from u n xs
+pub units_from-same : (t u : ℕ → Tag) (n : ℕ) (xs : List HeldValue) → ((k : ℕ) → n ≤ k → k < n + length xs → t k ≡ u k) →
+    units_from t n xs ≡ units_from u n xs
 units_from-same t u n [] agree = refl
 units_from-same t u n (x ∷ xs) agree =
-    ap₂ (λ tag units. sent_as x tag ∷ units) (agree n (omega arith) (omega arith)) (units_from-same t u (n + 1) xs (λ k at_least below. agree k (omega arith) (omega arith)))
+    ap₂ (λ tag units. sent_as x tag ∷ units) (agree n (omega arith) (omega arith))
+    (units_from-same t u (n + 1) xs (λ k at_least below. agree k (omega arith) (omega arith)))
 
-pub slice_get-units_from : (tag : ℕ → Tag) (n : ℕ) (xs : List HeldValue) (i : ℕ) → slice_get (units_from tag n xs) i ≡ option_map (λ x. sent_as x (tag (n + i))) (slice_get xs i)
+pub slice_get-units_from : (tag : ℕ → Tag) (n : ℕ) (xs : List HeldValue) (i : ℕ) → slice_get (units_from tag n xs) i ≡ option_map
+    (λ x. sent_as x (tag (n + i))) (slice_get xs i)
 slice_get-units_from tag n [] i = refl
 slice_get-units_from tag n (x ∷ xs) zero =
     let e : n ≡ n + 0 = omega arith in ap (λ k. Some (sent_as x (tag k))) e

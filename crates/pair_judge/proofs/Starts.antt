@@ -1,8 +1,8 @@
 -- Two sides whose heads have been read, and what holds of the two between turns.
 use Rattle.std.proofs.Common.{◌≡◌, ℕ, ◌+◌, ◌≤◌, List, [], ◌++◌, length, drop, Option, refl, sym, ap₂, subst, ◌∙◌, arith, append-nil}
 use Rattle.capture.specs.SoFar.{TheEnd}
-use Rattle.dna_model.specs.declared.finding.Finding.{Finding}
-use Rattle.dna_model.specs.declared.finding.Finding.TheVariants.{Accepted}
+use Rattle.dna_node.specs.declared.finding.Finding.{Finding}
+use Rattle.dna_node.specs.declared.finding.Finding.TheVariants.{Accepted}
 use Rattle.pair_judge.specs.declared.course.Ahead.{Ahead}
 use Rattle.pair_judge.specs.declared.course.Ahead.TheVariants.{Unread, Waits, Ended}
 use Rattle.pair_judge.specs.declared.judging.Found.{Found}
@@ -11,19 +11,19 @@ use Rattle.pair_judge.specs.Finding.{EndsWhere, IsCounted, IsFoundIn}
 use Rattle.pair_judge.specs.Summary.{summary_at}
 use Rattle.pair_judge.proofs.Found.{at_heads}
 use Rattle.two_nodes.specs.Nodes.{Done}
-use Rattle.dna_model.specs.declared.head.Head.{Head}
-use Rattle.dna_model.specs.WireStation.{load}
-use Rattle.dna_model.specs.WireLayers.{WireLayers, WireLayersUnit, new_wire_layers_node, wire_layers_start}
+use Rattle.dna_station.specs.declared.head.Head.{Head}
+use Rattle.dna_station.specs.WireStation.{load}
+use Rattle.dna_node.specs.WireLayers.{WireLayers, WireLayersUnit, new_wire_layers_node, wire_layers_start}
 use Rattle.pair_judge.specs.declared.summary.Summary.{Summary}
 use Rattle.pair_judge.specs.Heads.{head_of}
 use Rattle.capture.specs.declared.record.Record.{Record}
 use Rattle.pair_judge.specs.declared.course.Course.{Course}
 use Rattle.pair_judge.specs.declared.line.Line.{Line}
-use Rattle.pair_judge.specs.Course.{MayRead, Track, along, behind, having_made, read_of, waiting}
-use Rattle.pair_judge.specs.Lines.{held, Shows}
-use Rattle.pair_judge.specs.Making.{StandsFor}
-use Rattle.pair_judge.specs.Reached.{IsFound, IsUnderWay}
-use Rattle.pair_judge.specs.Opened.{OpensAt}
+use Rattle.pair_judge.specs.inner.Course.{MayRead, Track, along, behind, having_made, read_of, waiting}
+use Rattle.pair_judge.specs.inner.Lines.{held, Shows}
+use Rattle.pair_judge.specs.inner.Making.{StandsFor}
+use Rattle.pair_judge.specs.inner.Reached.{IsFound, IsUnderWay}
+use Rattle.pair_judge.specs.inner.Opened.{OpensAt}
 
 -- as many records are made as turns were taken
 pub record HasTaken (a b : Track) (turns : ℕ) : Type 0 where
@@ -40,7 +40,8 @@ nothing_sent line gone units = record {
   rest = units ∙ sym (subst (λ (n : ℕ). drop {A = WireLayersUnit} n [] ≡ []) (sym gone) refl);
 }
 
-stands : (text_own text_other : Option (List ℕ)) (own other : Course) (come_own come_other : Option (List ℕ)) → OpensAt text_own own come_own → OpensAt text_other other come_other → StandsFor own.end other.end.line (record { state = new_wire_layers_node own.end.head; sent = [] })
+stands : (text_own text_other : Option (List ℕ)) (own other : Course) (come_own come_other : Option (List ℕ)) → OpensAt text_own own come_own →
+    OpensAt text_other other come_other → StandsFor own.end other.end.line (record { state = new_wire_layers_node own.end.head; sent = [] })
 stands text_own text_other own other come_own come_other o p = record {
   head = refl;
   layers = sym o.layers;
@@ -51,7 +52,8 @@ stands text_own text_other own other come_own come_other o p = record {
 no_load : (course : Course) → course.end.layers ≡ (new_wire_layers_node course.end.head).station → load course.end.layers.station ≤ 0
 no_load course is = subst (λ (l : WireLayers). load l.station ≤ 0) (sym is) (omega arith)
 
-pub started : (text_a text_b : Option (List ℕ)) (a b : Course) (come_a come_b : Option (List ℕ)) → OpensAt text_a a come_a → OpensAt text_b b come_b → HasTaken (along text_a a come_a []) (along text_b b come_b []) 0
+pub started : (text_a text_b : Option (List ℕ)) (a b : Course) (come_a come_b : Option (List ℕ)) → OpensAt text_a a come_a → OpensAt text_b b come_b →
+    HasTaken (along text_a a come_a []) (along text_b b come_b []) 0
 started text_a text_b a b come_a come_b o p = record {
   made_a = [];
   made_b = [];
@@ -77,7 +79,9 @@ started text_a text_b a b come_a come_b o p = record {
 -- ---- at the end
 
 -- the same of the same heads, records and counts
-counted_so : {head_a head_b head_a' head_b' : Head} {of_a of_b of_a' of_b' : List Record} {summary summary' : Summary} → head_a ≡ head_a' → head_b ≡ head_b' → of_a ≡ of_a' → of_b ≡ of_b' → summary ≡ summary' → IsCounted head_a head_b of_a of_b summary → IsCounted head_a' head_b' of_a' of_b' summary'
+counted_so : {head_a head_b head_a' head_b' : Head} {of_a of_b of_a' of_b' : List Record} {summary summary' : Summary} → head_a ≡ head_a' →
+    head_b ≡ head_b' → of_a ≡ of_a' → of_b ≡ of_b' → summary ≡ summary' → IsCounted head_a head_b of_a of_b summary →
+    IsCounted head_a' head_b' of_a' of_b' summary'
 counted_so {head_a} {head_b} {head_a'} {head_b'} {of_a} {of_b} {of_a'} {of_b'} {summary} same_a same_b all_a all_b is counts =
     subst (λ (s : Summary). IsCounted head_a' head_b' of_a' of_b' s) is
     (subst (λ (ys : List Record). IsCounted head_a' head_b' of_a' ys summary) all_b
@@ -86,13 +90,15 @@ counted_so {head_a} {head_b} {head_a'} {head_b'} {of_a} {of_b} {of_a'} {of_b'} {
     (subst (λ (h : Head). IsCounted h head_b of_a of_b summary) same_a counts))))
 
 -- a finding of the turn is one of the two texts
-pub found_in : (a b : Track) (found : Found) → IsFound a b found.finding → found.summary.a ≡ summary_at a.course.end → found.summary.b ≡ summary_at b.course.end → IsFoundIn a.text b.text found
+pub found_in : (a b : Track) (found : Found) → IsFound a b found.finding → found.summary.a ≡ summary_at a.course.end →
+    found.summary.b ≡ summary_at b.course.end → IsFoundIn a.text b.text found
 found_in a b found f counts_a counts_b = record {
   read_a = read_of (having_made a f.made_a);
   read_b = read_of (having_made b f.made_b);
   from_a = f.read_a.so_far;
   from_b = f.read_b.so_far;
-  finding = λ all_a all_b goes_a goes_b. at_heads a.course.end.head b.course.end.head _ _ all_a all_b found.finding (sym f.read_a.head) (sym f.read_b.head) (f.is_finding all_a all_b goes_a goes_b);
+  finding = λ all_a all_b goes_a goes_b. at_heads a.course.end.head b.course.end.head _ _ all_a all_b found.finding (sym f.read_a.head)
+      (sym f.read_b.head) (f.is_finding all_a all_b goes_a goes_b);
   ends = f.ends;
   counts = λ is. counted is f.ends (f.counts is);
 }
@@ -105,8 +111,11 @@ found_in a b found f counts_a counts_b = record {
         by_ahead (Waits entry) e = absurd (cc)
         by_ahead Ended e = sym (append-nil made)
 
-    counted : found.finding ≡ Accepted → EndsWhere found.finding (read_of a).behind (read_of b).behind → IsCounted a.course.end.head b.course.end.head f.made_a f.made_b (record { a = summary_at a.course.end; b = summary_at b.course.end })
-        → IsCounted (head_of (read_of (having_made a f.made_a))) (head_of (read_of (having_made b f.made_b))) (f.made_a ++ waiting a.course.capture.bytes a.course.ahead) (f.made_b ++ waiting b.course.capture.bytes b.course.ahead) found.summary
+    counted : found.finding ≡ Accepted → EndsWhere found.finding (read_of a).behind (read_of b).behind → IsCounted a.course.end.head b.course.end.head
+        f.made_a f.made_b (record { a = summary_at a.course.end; b = summary_at b.course.end })
+        → IsCounted (head_of (read_of (having_made a f.made_a))) (head_of (read_of (having_made b f.made_b)))
+        (f.made_a ++ waiting a.course.capture.bytes a.course.ahead) (f.made_b ++ waiting b.course.capture.bytes b.course.ahead) found.summary
     counted is ends counts =
         let both = subst (λ (finding : Finding). EndsWhere finding (read_of a).behind (read_of b).behind) is ends in
-        counted_so f.read_a.head f.read_b.head (nothing_waits a f.made_a both.0) (nothing_waits b f.made_b both.1) (sym (ap₂ (λ (x y : SideSummary). record { a = x; b = y }) counts_a counts_b)) counts
+        counted_so f.read_a.head f.read_b.head (nothing_waits a f.made_a both.0) (nothing_waits b f.made_b both.1)
+        (sym (ap₂ (λ (x y : SideSummary). record { a = x; b = y }) counts_a counts_b)) counts

@@ -1,22 +1,23 @@
 -- What one record does to the world that both sides of the judge stand for.
-use Rattle.std.proofs.Common.{◌≡◌, ℕ, ◌+◌, ◌≤◌, Bool, true, false, cond, List, [], ◌∷◌, ◌++◌, length, Option, refl, sym, ap, subst, ◌∙◌, arith, length-append, count_by}
+use Rattle.std.proofs.Common.{◌≡◌, ℕ, ◌+◌, ◌≤◌, Bool, true, false, cond, List, [], ◌∷◌, ◌++◌, length, Option, refl, sym, ap, subst, ◌∙◌, arith}
+use Rattle.std.proofs.Common.{length-append, count_by}
 use Rattle.std.proofs.lemmas.List.Sums.{sum_by_push}
 use Rattle.two_nodes.specs.Nodes.{Run}
 use Rattle.capture.specs.declared.record.Record.{Record}
-use Rattle.dna_model.specs.declared.head.Head.{Head}
-use Rattle.dna_model.specs.Machine.{is_sent}
+use Rattle.dna_station.specs.declared.head.Head.{Head}
+use Rattle.dna_station.specs.Machine.{is_sent}
 use Rattle.pair_judge.specs.declared.line.Line.{Line}
 use Rattle.pair_judge.specs.declared.end.End.{End}
 use Rattle.pair_judge.specs.declared.summary.SideSummary.{SideSummary}
-use Rattle.dna_model.specs.WireStation.{load}
-use Rattle.dna_model.specs.WireLayers.{WireLayers, wire_layers_pair, wire_layers_start}
+use Rattle.dna_station.specs.WireStation.{load}
+use Rattle.dna_node.specs.WireLayers.{WireLayers, wire_layers_pair, wire_layers_start}
 use Rattle.pair_judge.specs.Counting.{is_received, is_damaged, is_kept, is_start, is_delivery, more_if}
 use Rattle.pair_judge.specs.Summary.{counts_of, counted}
-use Rattle.pair_judge.specs.Making.{IsMade, StandsFor, move}
+use Rattle.pair_judge.specs.inner.Making.{IsMade, StandsFor, move}
 use Rattle.pair_judge.specs.declared.course.Course.{Course}
-use Rattle.pair_judge.specs.Course.{IsRead, along}
-use Rattle.pair_judge.specs.Reached.{HasReached}
-use Rattle.pair_judge.specs.Wire.{JudgeWorld, JudgeHalf}
+use Rattle.pair_judge.specs.inner.Course.{IsRead, along}
+use Rattle.pair_judge.specs.inner.Reached.{HasReached}
+use Rattle.pair_judge.specs.inner.Wire.{JudgeWorld, JudgeHalf}
 
 -- ---- counts
 
@@ -48,12 +49,15 @@ pub record IsSame (old new : End) (after : Line) : Type 0 where
   pub line : new.line ≡ after
 
 -- a run from the start with the heads of these ends
-started_so : (a b a' b' : End) {made_a made_b : List Record} {w : JudgeWorld} → a'.head ≡ a.head → b'.head ≡ b.head → Run wire_layers_pair (wire_layers_start a.head b.head) made_a made_b w → Run wire_layers_pair (wire_layers_start a'.head b'.head) made_a made_b w
+started_so : (a b a' b' : End) {made_a made_b : List Record} {w : JudgeWorld} → a'.head ≡ a.head → b'.head ≡ b.head →
+    Run wire_layers_pair (wire_layers_start a.head b.head) made_a made_b w → Run wire_layers_pair (wire_layers_start a'.head b'.head) made_a made_b w
 started_so a b a' b' {made_a} {made_b} {w} same_a same_b run =
-    subst (λ (h : Head). Run wire_layers_pair (wire_layers_start h b'.head) made_a made_b w) (sym same_a) (subst (λ (h : Head). Run wire_layers_pair (wire_layers_start a.head h) made_a made_b w) (sym same_b) run)
+    subst (λ (h : Head). Run wire_layers_pair (wire_layers_start h b'.head) made_a made_b w) (sym same_a)
+    (subst (λ (h : Head). Run wire_layers_pair (wire_layers_start a.head h) made_a made_b w) (sym same_b) run)
 
 -- the other side stands for the same half
-pub stands_on : (own own' other other' : End) (after : Line) (r : Record) (mine theirs : JudgeHalf) → StandsFor other own.line theirs → IsMade (move own own' other.line after) r mine theirs → IsSame other other' after → StandsFor other' own'.line theirs
+pub stands_on : (own own' other other' : End) (after : Line) (r : Record) (mine theirs : JudgeHalf) → StandsFor other own.line theirs →
+    IsMade (move own own' other.line after) r mine theirs → IsSame other other' after → StandsFor other' own'.line theirs
 stands_on own own' other other' after r mine theirs stands made same = record {
   head = stands.head ∙ sym same.head;
   layers = stands.layers ∙ sym same.layers;
@@ -61,7 +65,9 @@ stands_on own own' other other' after r mine theirs stands made same = record {
   sent = rw same.line made.incoming;
 }
 
-pub reached_by_a : (a a' b b' : End) (after : Line) (made_a made_b : List Record) (r : Record) → (h : HasReached a b made_a made_b) → (m : IsMade (move a a' b.line after) r h.world.a h.world.b) → IsSame b b' after → Run wire_layers_pair (wire_layers_start a.head b.head) (made_a ++ r ∷ []) made_b (record { a = m.next; b = h.world.b }) → HasReached a' b' (made_a ++ r ∷ []) made_b
+pub reached_by_a : (a a' b b' : End) (after : Line) (made_a made_b : List Record) (r : Record) → (h : HasReached a b made_a made_b) →
+    (m : IsMade (move a a' b.line after) r h.world.a h.world.b) → IsSame b b' after → Run wire_layers_pair (wire_layers_start a.head b.head)
+    (made_a ++ r ∷ []) made_b (record { a = m.next; b = h.world.b }) → HasReached a' b' (made_a ++ r ∷ []) made_b
 reached_by_a a a' b b' after made_a made_b r h m same run = record {
   world = record { a = m.next; b = h.world.b };
   run = started_so a b a' b' m.same_head same.head run;
@@ -73,7 +79,9 @@ reached_by_a a a' b b' after made_a made_b r h m same run = record {
   load_b = subst (λ (l : WireLayers). load l.station ≤ length made_b) (sym same.layers) h.load_b;
 }
 
-pub reached_by_b : (a a' b b' : End) (after : Line) (made_a made_b : List Record) (r : Record) → (h : HasReached a b made_a made_b) → (m : IsMade (move b b' a.line after) r h.world.b h.world.a) → IsSame a a' after → Run wire_layers_pair (wire_layers_start a.head b.head) made_a (made_b ++ r ∷ []) (record { a = h.world.a; b = m.next }) → HasReached a' b' made_a (made_b ++ r ∷ [])
+pub reached_by_b : (a a' b b' : End) (after : Line) (made_a made_b : List Record) (r : Record) → (h : HasReached a b made_a made_b) →
+    (m : IsMade (move b b' a.line after) r h.world.b h.world.a) → IsSame a a' after → Run wire_layers_pair (wire_layers_start a.head b.head) made_a
+    (made_b ++ r ∷ []) (record { a = h.world.a; b = m.next }) → HasReached a' b' made_a (made_b ++ r ∷ [])
 reached_by_b a a' b b' after made_a made_b r h m same run = record {
   world = record { a = h.world.a; b = m.next };
   run = started_so a b a' b' same.head m.same_head run;
@@ -90,12 +98,25 @@ pub next_place : (s : SideSummary) (made : List Record) → s ≡ counts_of made
 next_place s made e = ap (λ (x : SideSummary). x.records) e
 
 -- nothing was made
-pub reached_still : (a a' b b' : End) (made_a made_b : List Record) → HasReached a b made_a made_b → IsSame a a' a.line → IsSame b b' b.line → HasReached a' b' made_a made_b
+pub reached_still : (a a' b b' : End) (made_a made_b : List Record) → HasReached a b made_a made_b → IsSame a a' a.line → IsSame b b' b.line →
+    HasReached a' b' made_a made_b
 reached_still a a' b b' made_a made_b h same_a same_b = record {
   world = h.world;
   run = started_so a b a' b' same_a.head same_b.head h.run;
-  stands_a = record { head = h.stands_a.head ∙ sym same_a.head; layers = h.stands_a.layers ∙ sym same_a.layers; front = h.stands_a.front ∙ ap (λ (l : Line). l.gone) (sym same_b.line); sent = rw same_a.line h.stands_a.sent };
-  stands_b = record { head = h.stands_b.head ∙ sym same_b.head; layers = h.stands_b.layers ∙ sym same_b.layers; front = h.stands_b.front ∙ ap (λ (l : Line). l.gone) (sym same_a.line); sent = rw same_b.line h.stands_b.sent };
+  stands_a = record {
+    head = h.stands_a.head ∙ sym same_a.head;
+    layers = h.stands_a.layers ∙ sym same_a.layers;
+    front =
+        h.stands_a.front ∙ ap (λ (l : Line). l.gone) (sym same_b.line);
+    sent = rw same_a.line h.stands_a.sent;
+  };
+  stands_b = record {
+    head = h.stands_b.head ∙ sym same_b.head;
+    layers = h.stands_b.layers ∙ sym same_b.layers;
+    front =
+        h.stands_b.front ∙ ap (λ (l : Line). l.gone) (sym same_a.line);
+    sent = rw same_b.line h.stands_b.sent;
+  };
   counts_a = same_a.counts ∙ h.counts_a;
   counts_b = same_b.counts ∙ h.counts_b;
   load_a = subst (λ (l : WireLayers). load l.station ≤ length made_a) (sym same_a.layers) h.load_a;
@@ -112,7 +133,8 @@ same_end old new same = record {
 }
 
 -- of a side of which nothing moved but its line the same was read
-pub same_read : (text : Option (List ℕ)) (old new : Course) (come : Option (List ℕ)) (made : List Record) → new.capture ≡ old.capture → new.ahead ≡ old.ahead → new.end.head ≡ old.end.head → IsRead (along text old come made) → IsRead (along text new come made)
+pub same_read : (text : Option (List ℕ)) (old new : Course) (come : Option (List ℕ)) (made : List Record) → new.capture ≡ old.capture →
+    new.ahead ≡ old.ahead → new.end.head ≡ old.end.head → IsRead (along text old come made) → IsRead (along text new come made)
 same_read text old new come made capture ahead head h = record {
   so_far = rw (capture, ahead) h.so_far;
   count = rw (capture, ahead) h.count;

@@ -1,9 +1,9 @@
 -- The user's events of a capture, by the layer that they are for.
 use Rattle.capture.specs.declared.event.Event.{Event}
 use Rattle.capture.specs.declared.event.Event.TheVariants as events
-use Rattle.dna_model.specs.declared.state.StationEvent.{StationEvent}
-use Rattle.dna_model.specs.declared.state.StationEvent.TheVariants.{Start, Halt}
-use Rattle.dna_model.specs.LinkUser.{LinkEventValue, Open, Accept, Reject, In, Up, Close}
+use Rattle.dna_station.specs.declared.state.StationEvent.{StationEvent}
+use Rattle.dna_station.specs.declared.state.StationEvent.TheVariants.{Start, Halt}
+use Rattle.dna_links.specs.User.{LinkEventValue, Open, Accept, Reject, In, Up, Close}
 
 abbrev pub event_of_station : StationEvent → Event
 event_of_station Start = events.Start

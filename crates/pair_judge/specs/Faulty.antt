@@ -7,7 +7,7 @@ use Rattle.capture.specs.declared.fault.CaptureFault.TheVariants as capture
 use Rattle.capture.specs.declared.fault.Departure.{Departure}
 use Rattle.capture.specs.declared.record.Record.{Record}
 use Rattle.capture.specs.SoFar.{ReadSoFar, IsReadSoFar, DepartsBehind, HeadDepartsAt}
-use Rattle.dna_model.specs.LayersPair.{IsLayersRun}
+use Rattle.dna_node.specs.LayersPair.{IsLayersRun}
 use Rattle.pair_judge.specs.declared.fault.JudgeFault.{JudgeFault}
 use Rattle.pair_judge.specs.declared.fault.JudgeFault.TheVariants.{Capture, OutOfMemory}
 use Rattle.pair_judge.specs.declared.fault.TextFault.{TextFault}

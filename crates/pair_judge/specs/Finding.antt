@@ -4,19 +4,19 @@ use Rattle.wire_base.specs.declared.side.Side.{Side}
 use Rattle.wire_base.specs.declared.side.Side.TheVariants.{A, B}
 use Rattle.capture.specs.declared.record.Record.{Record}
 use Rattle.capture.specs.SoFar.{Behind, TheEnd, ReadSoFar, IsReadSoFar, GoesOn}
-use Rattle.dna_model.specs.declared.finding.Cause.{Cause}
-use Rattle.dna_model.specs.declared.finding.Cause.TheVariants.{Step, NoSuchUnit, NoOrder}
-use Rattle.dna_model.specs.declared.finding.Finding.{Finding}
-use Rattle.dna_model.specs.declared.finding.Finding.TheVariants.{Accepted, Refused}
-use Rattle.dna_model.specs.Verdict.{IsVerdict}
+use Rattle.dna_node.specs.declared.finding.Cause.{Cause}
+use Rattle.dna_node.specs.declared.finding.Cause.TheVariants.{Step, NoSuchUnit, NoOrder}
+use Rattle.dna_node.specs.declared.finding.Finding.{Finding}
+use Rattle.dna_node.specs.declared.finding.Finding.TheVariants.{Accepted, Refused}
+use Rattle.dna_node.specs.Verdict.{IsVerdict}
 use Rattle.two_nodes.specs.Past.{Offends}
-use Rattle.dna_model.specs.declared.refusal.StepRefusal.{StepRefusal}
+use Rattle.dna_station.specs.declared.refusal.StepRefusal.{StepRefusal}
 use Rattle.pair_judge.specs.declared.judging.Found.{Found}
 use Rattle.pair_judge.specs.Heads.{head_of}
-use Rattle.dna_model.specs.LayersPair.{IsLayersRun, layers_pair, layers_start}
+use Rattle.dna_node.specs.LayersPair.{IsLayersRun, layers_pair, layers_start}
 use Rattle.pair_judge.specs.declared.summary.Summary.{Summary}
 use Rattle.pair_judge.specs.Summary.{summary_of}
-use Rattle.dna_model.specs.declared.head.Head.{Head}
+use Rattle.dna_station.specs.declared.head.Head.{Head}
 
 -- what a side has
 abbrev pub of_side : {X : Type 0} → Side → X → X → X
@@ -38,7 +38,8 @@ EndsWhere (Refused B place cause) behind_a behind_b = EndsFor cause behind_a
 abbrev pub IsFirst : (head_a head_b : Head) → (of_a of_b : List Record) → Finding → Type 0
 IsFirst head_a head_b of_a of_b Accepted = Unit {0}
 IsFirst head_a head_b of_a of_b (Refused A place cause) = Unit {0}
-IsFirst head_a head_b of_a of_b (Refused B place cause) = (n : ℕ) (refusal : StepRefusal) → ¬ Offends layers_pair (layers_start head_a head_b) of_a of_b n refusal
+IsFirst head_a head_b of_a of_b (Refused B place cause) = (n : ℕ) (refusal : StepRefusal) → ¬ Offends layers_pair (layers_start head_a head_b) of_a
+    of_b n refusal
 
 -- The finding of two captures. There is just one: two verdicts differ only where a record of each side offends
 pub record IsFinding (head_a head_b : Head) (of_a of_b : List Record) (finding : Finding) : Type 0 where

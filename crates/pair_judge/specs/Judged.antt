@@ -2,12 +2,12 @@
 use Rattle.std.specs.Prelude.{◌≡◌, ℕ, List, Option, Result, Ok, Err, IfSome}
 use Rattle.capture.specs.declared.record.Record.{Record}
 use Rattle.capture.specs.Range.{IsText}
-use Rattle.dna_model.specs.declared.head.Head.{Head}
-use Rattle.dna_model.specs.Offered.{Delivers}
-use Rattle.dna_model.specs.Layers.{LayersNode}
-use Rattle.dna_model.specs.LayersPair.{IsLayersRun, link_events}
-use Rattle.dna_model.specs.LinkDelivery.{DeliversLinks}
-use Rattle.dna_model.specs.LinkCaptures.{AreUpFrom}
+use Rattle.dna_station.specs.declared.head.Head.{Head}
+use Rattle.dna_station.specs.Offered.{Delivers}
+use Rattle.dna_node.specs.Layers.{LayersNode}
+use Rattle.dna_node.specs.LayersPair.{IsLayersRun, link_events}
+use Rattle.dna_links.specs.Delivery.{DeliversLinks}
+use Rattle.dna_links.specs.Captures.{AreUpFrom}
 use Rattle.pair_judge.specs.declared.summary.Summary.{Summary}
 use Rattle.pair_judge.specs.declared.verdict.Verdict.{Verdict}
 use Rattle.pair_judge.specs.declared.verdict.Verdict.TheVariants.{Accepted, Refused}

@@ -1,15 +1,18 @@
 -- The numbers and names of the reasons, and which reason a cause has.
 use Rattle.std.specs.Prelude.{ℕ, List, codes}
-use Rattle.dna_model.specs.declared.link_refusal.LinkRefusal.{LinkRefusal}
-use Rattle.dna_model.specs.declared.link_refusal.LinkRefusal.TheVariants as links
-use Rattle.dna_model.specs.declared.refusal.StationRefusal.{StationRefusal}
-use Rattle.dna_model.specs.declared.refusal.StationRefusal.TheVariants as station
-use Rattle.dna_model.specs.declared.refusal.StepRefusal.{StepRefusal}
-use Rattle.dna_model.specs.declared.refusal.StepRefusal.TheVariants as steps
-use Rattle.dna_model.specs.declared.finding.Cause.{Cause}
-use Rattle.dna_model.specs.declared.finding.Cause.TheVariants as causes
+use Rattle.dna_station.specs.declared.link_refusal.LinkRefusal.{LinkRefusal}
+use Rattle.dna_station.specs.declared.link_refusal.LinkRefusal.TheVariants as links
+use Rattle.dna_station.specs.declared.refusal.StationRefusal.{StationRefusal}
+use Rattle.dna_station.specs.declared.refusal.StationRefusal.TheVariants as station
+use Rattle.dna_station.specs.declared.refusal.StepRefusal.{StepRefusal}
+use Rattle.dna_station.specs.declared.refusal.StepRefusal.TheVariants as steps
+use Rattle.dna_node.specs.declared.finding.Cause.{Cause}
+use Rattle.dna_node.specs.declared.finding.Cause.TheVariants as causes
 use Rattle.pair_judge.specs.declared.reason.Reason.{Reason}
-use Rattle.pair_judge.specs.declared.reason.Reason.TheVariants.{NotAMessage, HintOrder, NoSuchUnit, NoOrder, Undetected, WrongState, WrongNumber, WrongResponse, WindowFull, Changed, NoCause, WrongKeep, CrossedPeriod, WrongUserEvent, BadPacket, WrongNode, BadNsp, NoLink, LinkState, WrongSegment, WrongAck, SegmentTooLong, LinkWindowFull, WrongDelivery, CrossedLink, AddressInUse, NotNoise}
+use Rattle.pair_judge.specs.declared.reason.Reason.TheVariants.{NotAMessage, HintOrder, NoSuchUnit, NoOrder, Undetected, WrongState, WrongNumber}
+use Rattle.pair_judge.specs.declared.reason.Reason.TheVariants.{WrongResponse, WindowFull, Changed, NoCause, WrongKeep, CrossedPeriod, WrongUserEvent}
+use Rattle.pair_judge.specs.declared.reason.Reason.TheVariants.{BadPacket, WrongNode, BadNsp, NoLink, LinkState, WrongSegment, WrongAck}
+use Rattle.pair_judge.specs.declared.reason.Reason.TheVariants.{SegmentTooLong, LinkWindowFull, WrongDelivery, CrossedLink, AddressInUse, NotNoise}
 
 -- The table of the reasons: the number and the name that are printed
 abbrev pub reason_entry : Reason → ℕ × List ℕ

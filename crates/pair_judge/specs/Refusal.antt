@@ -6,13 +6,13 @@ use Rattle.two_nodes.specs.Past.{Offends}
 use Rattle.capture.specs.declared.record.Record.{Record}
 use Rattle.capture.specs.Range.{IsText}
 use Rattle.capture.specs.SoFar.{ReadSoFar, IsReadSoFar}
-use Rattle.dna_model.specs.declared.finding.Cause.{Cause}
-use Rattle.dna_model.specs.declared.finding.Cause.TheVariants.{Step}
-use Rattle.dna_model.specs.declared.finding.Finding.TheVariants.{Refused}
-use Rattle.dna_model.specs.declared.head.Head.{Head}
-use Rattle.dna_model.specs.declared.refusal.StepRefusal.{StepRefusal}
-use Rattle.dna_model.specs.LayersPair.{layers_pair, layers_start, IsLayersRun}
-use Rattle.dna_model.specs.Verdict.{IsVerdict}
+use Rattle.dna_node.specs.declared.finding.Cause.{Cause}
+use Rattle.dna_node.specs.declared.finding.Cause.TheVariants.{Step}
+use Rattle.dna_node.specs.declared.finding.Finding.TheVariants.{Refused}
+use Rattle.dna_station.specs.declared.head.Head.{Head}
+use Rattle.dna_station.specs.declared.refusal.StepRefusal.{StepRefusal}
+use Rattle.dna_node.specs.LayersPair.{layers_pair, layers_start, IsLayersRun}
+use Rattle.dna_node.specs.Verdict.{IsVerdict}
 use Rattle.pair_judge.specs.declared.reason.Reason.{Reason}
 use Rattle.pair_judge.specs.declared.reason.Reason.TheVariants.{NoSuchUnit, NoOrder}
 use Rattle.pair_judge.specs.Finding.{EndsFor, IsFindingBehind, IsFirst, of_side}

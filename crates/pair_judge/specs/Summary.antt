@@ -1,9 +1,9 @@
 -- What the summary of one side counts, over the records of its capture and the links of its node.
 use Rattle.std.specs.Prelude.{ℕ, ◌+◌, ◌<◌, ◌^◌, List, length, count_by}
 use Rattle.capture.specs.declared.record.Record.{Record}
-use Rattle.dna_model.specs.Machine.{is_sent}
-use Rattle.dna_model.specs.Layers.{LayersNode}
-use Rattle.dna_model.specs.WireStation.{load}
+use Rattle.dna_station.specs.Machine.{is_sent}
+use Rattle.dna_node.specs.Layers.{LayersNode}
+use Rattle.dna_station.specs.WireStation.{load}
 use Rattle.pair_judge.specs.Counting.{is_received, is_damaged, is_kept, is_start, is_delivery, more_if}
 use Rattle.pair_judge.specs.declared.summary.SideSummary.{SideSummary}
 use Rattle.pair_judge.specs.declared.end.End.{End}

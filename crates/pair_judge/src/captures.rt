@@ -4,16 +4,16 @@ ghost use Rattle.std.specs.Prelude.{◌≡◌, ◌∷◌, ◌++◌, List, length
 ghost use Rattle.two_nodes.specs.Nodes.{Run, advance};
 ghost use Rattle.two_nodes.specs.Nodes as any;
 ghost use Rattle.capture.specs.declared.record.Record.{Record};
-ghost use Rattle.dna_model.specs.declared.head.Head.{Head};
-ghost use Rattle.dna_model.specs.declared.finding.Cause.TheVariants as causes;
-ghost use Rattle.dna_model.specs.declared.finding.Finding.TheVariants as findings;
-ghost use Rattle.dna_model.specs.declared.refusal.StepRefusal.{StepRefusal};
+ghost use Rattle.dna_station.specs.declared.head.Head.{Head};
+ghost use Rattle.dna_node.specs.declared.finding.Cause.TheVariants as causes;
+ghost use Rattle.dna_node.specs.declared.finding.Finding.TheVariants as findings;
+ghost use Rattle.dna_station.specs.declared.refusal.StepRefusal.{StepRefusal};
 ghost use Rattle.pair_judge.specs.Finding.{IsFinding};
-ghost use Rattle.dna_model.specs.WireLayers.{wire_layers_pair, wire_layers_start};
-ghost use Rattle.pair_judge.specs.Reached.{HasRun};
-ghost use Rattle.pair_judge.specs.Wire.{JudgeWorld};
+ghost use Rattle.dna_node.specs.WireLayers.{wire_layers_pair, wire_layers_start};
+ghost use Rattle.pair_judge.specs.inner.Reached.{HasRun};
+ghost use Rattle.pair_judge.specs.inner.Wire.{JudgeWorld};
 
-use dna_model::{TrueLayersNodes, wire_layers_see_right};
+use dna_node::{TrueLayersNodes, wire_layers_see_right};
 use two_nodes::{both_waiting, one_waiting, refused_record};
 use wire_base::Side;
 
@@ -25,7 +25,8 @@ pub fn endings()
         → Run wire_layers_pair (wire_layers_start head_a head_b) done_a done_b w
         → advance wire_layers_pair.node_a w.a w.b r ≡ any.Refused refusal
         → IsFinding head_a head_b (done_a ++ r ∷ rest_a) (done_b ++ rest_b) (findings.Refused Side.A (length done_a) (causes.Step refusal)) }
-    ensures b_refused_behind { (head_a head_b : Head) (w : JudgeWorld) (done_a rest_a done_b rest_b : List Record) (p r : Record) (refusal : StepRefusal)
+    ensures b_refused_behind { (head_a head_b : Head) (w : JudgeWorld) (done_a rest_a done_b rest_b : List Record) (p r : Record)
+        (refusal : StepRefusal)
         → Run wire_layers_pair (wire_layers_start head_a head_b) done_a done_b w
         → advance wire_layers_pair.node_a w.a w.b p ≡ any.Waits
         → advance wire_layers_pair.node_b w.b w.a r ≡ any.Refused refusal

@@ -10,16 +10,16 @@ ghost use Rattle.capture.specs.Lines.{to_come};
 ghost use Rattle.capture.specs.declared.fault.CaptureFault.TheVariants as CaptureFault;
 ghost use Rattle.wire_base.specs.Tally.{tally_faults, tally_lent};
 ghost use Rattle.pair_judge.specs.Summary.{HasRoom};
-ghost use Rattle.pair_judge.specs.Course.{AdvanceIs, IsFaultOf, IsRead, IsReadyFor, MayRead, NextIs, along};
-ghost use Rattle.pair_judge.specs.Making.{move};
-ghost use Rattle.pair_judge.specs.Memory.{MayTakeMemory};
-ghost use Rattle.pair_judge.specs.Reached.{IsHeldUp};
+ghost use Rattle.pair_judge.specs.inner.Course.{AdvanceIs, IsFaultOf, IsRead, IsReadyFor, MayRead, NextIs, along};
+ghost use Rattle.pair_judge.specs.inner.Making.{move};
+ghost use Rattle.pair_judge.specs.inner.Memory.{MayTakeMemory};
+ghost use Rattle.pair_judge.specs.inner.Reached.{IsHeldUp};
 
 use crate::end::End;
 use crate::line::Line;
 use crate::making::{Made, make};
 use capture::{CaptureFault, CaptureReader, Entry, text_read_on};
-use dna_model::StepRefusal;
+use dna_station::StepRefusal;
 use std::alloc::AllocError;
 use std::io::Read;
 use wire_base::Tally;
@@ -59,7 +59,8 @@ pub enum Advance {
 impl Course {
     /// Makes the next record, which is read first where none waits. The line leads to this side from the other one.
     ///
-    /// `Departs`, `Read`: the next record can't be read. `OutOfMemory`: there is no room for the message of its event, for the unit, the packet or the
+    /// `Departs`, `Read`: the next record can't be read. `OutOfMemory`: there is no room for the message of its event, for the unit,
+    /// the packet or the
     /// piece that it sends, or for the link or the piece that it keeps. The course has no use after any of them.
     #[inline(always)]
     pub fn advance<R: Read>(

@@ -5,7 +5,7 @@ ghost use Rattle.std.specs.Prelude.{◌≡◌};
 use crate::layers::Layers;
 use crate::line::Line;
 use crate::summary::SideSummary;
-use dna_model::Head;
+use dna_station::Head;
 
 /// One side: the head of its capture, its station with its links on top, the units that it sent and the other may still receive, and its
 /// counts so far.

@@ -1,9 +1,9 @@
 //! The tag of a packet as a line keeps it.
 
 ghost use Rattle.std.specs.Prelude.{◌≡◌};
-ghost use Rattle.pair_judge.specs.Held as held;
+ghost use Rattle.pair_judge.specs.inner.Held as held;
 
-use dna_model::LinkTag;
+use dna_links::LinkTag;
 use std::marker::Model;
 
 /// The tag of a unit's packet, if it has one, in 24 bytes: an `Option<LinkTag>` has 40. A contract sees it as that.
@@ -18,8 +18,8 @@ pub struct HeldLink {
 
 impl Model for HeldLink {
     ghost use Rattle.std.specs.Prelude.{Option, Some, None, if◌then◌else◌};
-    ghost use Rattle.dna_model.specs.declared.link_tag.LinkTag.{LinkTag};
-    ghost use Rattle.pair_judge.specs.Held.{if_there};
+    ghost use Rattle.dna_links.specs.declared.tag.LinkTag.{LinkTag};
+    ghost use Rattle.pair_judge.specs.inner.Held.{if_there};
 
     ghost Value = { Option LinkTag };
 

@@ -5,7 +5,7 @@ ghost use Rattle.ddcmp_msg.specs.Reading.{reading};
 
 use crate::held_link::HeldLink;
 use capture::Bytes;
-use dna_model::LinkTag;
+use dna_links::LinkTag;
 use std::marker::Model;
 
 /// The bytes of a unit that was sent, which are a sound message, and the tag of its packet.
@@ -17,8 +17,8 @@ pub struct HeldUnit {
 
 impl Model for HeldUnit {
     ghost use Rattle.ddcmp_msg.specs.Reading.{reading};
-    ghost use Rattle.pair_judge.specs.Held.{HeldValue, held_value};
-    ghost use Rattle.pair_judge.specs.Unit.{IsSoundReading};
+    ghost use Rattle.pair_judge.specs.inner.Held.{HeldValue, held_value};
+    ghost use Rattle.pair_judge.specs.inner.Unit.{IsSoundReading};
 
     ghost Value = { HeldValue };
 
@@ -28,8 +28,8 @@ impl Model for HeldUnit {
 }
 
 impl HeldUnit {
-    ghost use Rattle.pair_judge.specs.Held.{held_value};
-    ghost use Rattle.pair_judge.specs.Unit.{IsSoundReading};
+    ghost use Rattle.pair_judge.specs.inner.Held.{held_value};
+    ghost use Rattle.pair_judge.specs.inner.Unit.{IsSoundReading};
 
     /// A unit with these bytes, in the memory that they have, and with this tag of its packet. Takes no memory.
     #[inline(always)]

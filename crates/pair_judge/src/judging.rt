@@ -6,11 +6,11 @@ ghost use Rattle.wire_base.specs.Tally.{tally_faults, tally_lent};
 ghost use Rattle.wire_base.specs.declared.side.Side.{Side};
 ghost use Rattle.capture.specs.Faulty.{CountsReads};
 ghost use Rattle.capture.specs.Lines.{to_come};
-ghost use Rattle.pair_judge.specs.Answer.{verdict_of};
+ghost use Rattle.pair_judge.specs.inner.Answer.{verdict_of};
 ghost use Rattle.pair_judge.specs.Faulty.{IsJudgeFault, is_failed_read_of};
 ghost use Rattle.pair_judge.specs.Finding.{IsFoundIn, of_side};
 ghost use Rattle.pair_judge.specs.Judged.{IfTold, IsAcceptance, IsExact, IsFaultyWhere, IsRefusalWhere};
-ghost use Rattle.pair_judge.specs.Opened.{OpensAt};
+ghost use Rattle.pair_judge.specs.inner.Opened.{OpensAt};
 
 use crate::course::{Ahead, Course};
 use crate::end::End;
@@ -22,9 +22,8 @@ use crate::summary::{SideSummary, Summary};
 use crate::turn::{side_fault, turn};
 use crate::verdict::Verdict;
 use capture::{CaptureReader, MAX_RECORDS, text_read_on, whole_text};
-use dna_model::{
-    Finding, Head, captures_deliver_in_order, layers_deliver_in_order, layers_run_as_stations,
-};
+use dna_node::{Finding, layers_deliver_in_order, layers_run_as_stations};
+use dna_station::{Head, captures_deliver_in_order};
 use std::alloc::Global;
 use std::io::Read;
 use wire_base::{Side, Tally};
@@ -59,7 +58,8 @@ pub struct Found {
 ///
 /// `Capture`: the line of that side departs from the format as named, and all records before it, with those of the other side that
 /// were made, are a run; or a read of that side failed. `OutOfMemory`: a growth was refused. At every answer but a failed read of a
-/// side the count of its reader's failed calls stands as it stood. After any answer the readers have given what was read ahead, and nothing is said of the rest.
+/// side the count of its reader's failed calls stands as it stood. After any answer the readers have given what was read ahead,
+/// and nothing is said of the rest.
 ///
 /// The contract says nothing of when `OutOfMemory` is answered, nor of the order of reading.
 pub fn judge<R: Read, S: Read>(

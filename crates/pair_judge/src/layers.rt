@@ -1,15 +1,16 @@
 //! Both layers of one side.
 
 ghost use Rattle.std.specs.Prelude.{◌≡◌, length, IfOk};
-ghost use Rattle.dna_model.specs.WireStation.{new_wire_station};
-ghost use Rattle.dna_model.specs.WireLinks.{new_wire_links};
+ghost use Rattle.dna_station.specs.WireStation.{new_wire_station};
+ghost use Rattle.dna_links.specs.WireLinks.{new_wire_links};
 
 mod arriving;
 mod sending;
 mod user;
 
 use ddcmp_station::HeldPacket;
-use dna_model::{Head, LinkTag};
+use dna_links::LinkTag;
+use dna_station::Head;
 use nsp_link::Piece;
 use std::alloc::{AllocError, Global};
 use std::marker::Model;
@@ -38,7 +39,7 @@ pub struct Layers {
 }
 
 impl Model for Layers {
-    ghost use Rattle.dna_model.specs.WireLayers.{WireLayers};
+    ghost use Rattle.dna_node.specs.WireLayers.{WireLayers};
 
     ghost Value = { WireLayers };
 

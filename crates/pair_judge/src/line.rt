@@ -1,7 +1,7 @@
 //! One direction of the line, as far as it still matters.
 
 ghost use Rattle.std.specs.Prelude.{◌≡◌, ℕ, ◌+◌, ◌-◌, ◌^◌, ◌<◌, ◌≤◌, [], ◌∷◌, ◌++◌, length, drop, slice_get, nat_lt, IfOk, OnOk, OnErr};
-ghost use Rattle.pair_judge.specs.Runs.{behind};
+ghost use Rattle.pair_judge.specs.inner.Runs.{behind};
 
 use crate::held_unit::HeldUnit;
 use crate::line_unit::LineUnit;
@@ -28,8 +28,8 @@ pub struct Line {
 
 impl Line {
     ghost use Rattle.ddcmp_msg.specs.Reading.{reading};
-    ghost use Rattle.pair_judge.specs.Lines.{held};
-    ghost use Rattle.pair_judge.specs.Unit.{unit_of, tags_of, IsSoundReading};
+    ghost use Rattle.pair_judge.specs.inner.Lines.{held};
+    ghost use Rattle.pair_judge.specs.inner.Unit.{unit_of, tags_of, IsSoundReading};
 
     /// Nothing was sent yet. `AllocError` where there is no memory for the list of spare ones.
     pub fn new(alloc: Global) -> Result<Line, AllocError>

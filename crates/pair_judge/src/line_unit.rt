@@ -5,7 +5,7 @@ ghost use Rattle.ddcmp_msg.specs.Reading.{reading};
 
 use crate::held_link::HeldLink;
 use crate::held_unit::HeldUnit;
-use dna_model::Tag;
+use dna_station::Tag;
 use std::marker::Model;
 
 /// A unit that was sent, as a line lends it: its bytes, which are a sound message, and its tags. A contract sees it as the unit of the
@@ -17,8 +17,8 @@ pub struct LineUnit<'a> {
 }
 
 impl<'a> Model for LineUnit<'a> {
-    ghost use Rattle.dna_model.specs.WireLayers.{WireLayersUnit};
-    ghost use Rattle.pair_judge.specs.Held.{sent_as};
+    ghost use Rattle.dna_node.specs.WireLayers.{WireLayersUnit};
+    ghost use Rattle.pair_judge.specs.inner.Held.{sent_as};
 
     ghost Value = { WireLayersUnit };
 
@@ -26,8 +26,8 @@ impl<'a> Model for LineUnit<'a> {
 }
 
 impl<'a> LineUnit<'a> {
-    ghost use Rattle.pair_judge.specs.Held.{sent_as};
-    ghost use Rattle.pair_judge.specs.Unit.{unit_of, IsSoundReading};
+    ghost use Rattle.pair_judge.specs.inner.Held.{sent_as};
+    ghost use Rattle.pair_judge.specs.inner.Unit.{unit_of, IsSoundReading};
 
     /// This unit, sent with this tag of its station.
     #[inline(always)]

@@ -2,15 +2,15 @@
 
 ghost use Rattle.std.specs.Prelude.{◌≡◌, ◌+◌, ◌^◌, ◌<◌, ◌≤◌, Ok, Err, OnOk, IfErr};
 ghost use Rattle.ddcmp_msg.specs.Reading.{reading};
-ghost use Rattle.dna_model.specs.WireStation.{load};
-ghost use Rattle.pair_judge.specs.Wire.{judge_hears};
+ghost use Rattle.dna_station.specs.WireStation.{load};
+ghost use Rattle.pair_judge.specs.inner.Wire.{judge_hears};
 
 use crate::held_link::HeldLink;
 use crate::layers::Layers;
 use crate::step_fault::StepFault;
 use ddcmp_msg::{Reading, read_unit};
 use ddcmp_station::Arrival;
-use dna_model::StepRefusal;
+use dna_station::StepRefusal;
 
 /// These bytes came to the node and nobody sent them: the station meets them as a unit that shows damage. They name no unit, so the
 /// line stays as it is.

@@ -1,11 +1,11 @@
 //! What a packet carries for the links.
 
 ghost use Rattle.std.specs.Prelude.{◌≡◌, IfOk, IfErr, Err};
-ghost use Rattle.dna_model.specs.Content as spec;
-ghost use Rattle.pair_judge.specs.Packets.{content_in};
+ghost use Rattle.dna_node.specs.Content as spec;
+ghost use Rattle.pair_judge.specs.inner.Packets.{content_in};
 
-use dna_model::StepRefusal;
 use dna_packet::{Packet, read_packet};
+use dna_station::StepRefusal;
 
 /// The bytes of an NSP message with the node addresses of its packet, of which they are a slice. They are read where the message is
 /// used: it is larger than they are, and is moved nowhere.

@@ -3,7 +3,8 @@
 ghost use Rattle.std.specs.Prelude.{◌≡◌};
 ghost use Rattle.pair_judge.specs.Reason as spec;
 
-use dna_model::{Cause, LinkRefusal, StationRefusal, StepRefusal};
+use dna_node::Cause;
+use dna_station::{LinkRefusal, StationRefusal, StepRefusal};
 use std::fmt;
 
 /// Why a record can't be made, with the number and the name that are printed.

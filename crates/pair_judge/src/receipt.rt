@@ -2,16 +2,16 @@
 
 ghost use Rattle.std.specs.Prelude.{◌≡◌, ◌+◌, ◌^◌, ◌<◌, ◌≤◌, List, IfOk, IfErr, IfSome, Ok};
 ghost use Rattle.std.specs.Option.{option_map};
-ghost use Rattle.dna_model.specs.WireLayers.{WireLayersUnit};
-ghost use Rattle.dna_model.specs.WireStation.{load};
-ghost use Rattle.dna_model.specs.Line as line;
+ghost use Rattle.dna_node.specs.WireLayers.{WireLayersUnit};
+ghost use Rattle.dna_station.specs.WireStation.{load};
+ghost use Rattle.dna_station.specs.Line as line;
 ghost use Rattle.ddcmp_station.specs.Arrival.{arrival_view};
 ghost use Rattle.ddcmp_msg.specs.Reading.{reading};
 ghost use Rattle.pair_judge.specs.Counting.{shows_damage};
-ghost use Rattle.pair_judge.specs.Lines.{Shows};
-ghost use Rattle.pair_judge.specs.Memory.{MayKeep};
-ghost use Rattle.pair_judge.specs.Steps.{with_link};
-ghost use Rattle.pair_judge.specs.Receipts.{ReceiptIs, came, is_damage, layers_move};
+ghost use Rattle.pair_judge.specs.inner.Lines.{Shows};
+ghost use Rattle.pair_judge.specs.inner.Memory.{MayKeep};
+ghost use Rattle.pair_judge.specs.inner.Steps.{with_link};
+ghost use Rattle.pair_judge.specs.inner.Receipts.{ReceiptIs, came, is_damage, layers_move};
 
 use crate::layers::Layers;
 use crate::line::Line;
@@ -19,7 +19,7 @@ use crate::line_unit::LineUnit;
 use crate::step_fault::StepFault;
 use ddcmp_msg::{Reading, read_sound, read_unit};
 use ddcmp_station::Arrival;
-use dna_model::StepRefusal;
+use dna_station::StepRefusal;
 use std::alloc::AllocError;
 
 /// What became of a receipt.

@@ -3,27 +3,28 @@
 ghost use Rattle.std.specs.Prelude.{◌≡◌, ℕ, ◌≤◌, [], ◌∷◌, ◌++◌, OnOk, IfOk, IfErr};
 ghost use Rattle.two_nodes.specs.Nodes.Answer.{Sends, Refuses};
 ghost use Rattle.ddcmp_msg.specs.Reading.{reading};
-ghost use Rattle.dna_model.specs.declared.head.Head.{Head};
-ghost use Rattle.dna_model.specs.WireStation.{load};
-ghost use Rattle.pair_judge.specs.Memory.{IfNoMemory, MaySend};
-ghost use Rattle.pair_judge.specs.Receipts.{node_at};
-ghost use Rattle.pair_judge.specs.Steps.{IfRefused, IsNotSent, IsSent};
-ghost use Rattle.pair_judge.specs.Unit.{unit_of, tags_of, IsSoundReading};
-ghost use Rattle.pair_judge.specs.Wire.{judge_sent_step};
+ghost use Rattle.dna_station.specs.declared.head.Head.{Head};
+ghost use Rattle.dna_station.specs.WireStation.{load};
+ghost use Rattle.pair_judge.specs.inner.Memory.{IfNoMemory, MaySend};
+ghost use Rattle.pair_judge.specs.inner.Receipts.{node_at};
+ghost use Rattle.pair_judge.specs.inner.Steps.{IfRefused, IsNotSent, IsSent};
+ghost use Rattle.pair_judge.specs.inner.Unit.{unit_of, tags_of, IsSoundReading};
+ghost use Rattle.pair_judge.specs.inner.Wire.{judge_sent_step};
 
 use crate::layers::Layers;
 use crate::line::Line;
 use crate::step_fault::StepFault;
 use crate::unit_tag::UnitTag;
 use ddcmp_msg::{Reading, read_unit};
-use dna_model::StepRefusal;
+use dna_station::StepRefusal;
 use std::alloc::Global;
 
 /// The node sends these bytes on its line. They are held with their tags until they can't come any more.
 ///
 /// `Refused`, in this order: they are no sound message; the station may not send it now; the packet that it first sends can't be read, or
 /// the message in that; the links may not send it. `OutOfMemory`: there is no room on the line, for a new packet in the station, or for a
-/// piece in the links; the station may send the message then. After any of them the station may have gone on without its unit, so that no record can follow.
+/// piece in the links; the station may send the message then. After any of them the station may have gone on without its unit,
+/// so that no record can follow.
 #[inline(always)]
 pub fn send(
     alloc: Global,

@@ -1,6 +1,6 @@
 //! Why a side made no step.
 
-use dna_model::StepRefusal;
+use dna_station::StepRefusal;
 
 /// Why a side made no step.
 #[derive(Clone, Copy, Debug, PartialEq, Eq)]

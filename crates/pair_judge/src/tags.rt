@@ -2,7 +2,7 @@
 
 ghost use Rattle.std.specs.Prelude.{◌≡◌, ℕ, ◌≤◌, ◌<◌, [], ◌↔◌, IsTrue, OnOk, OnErr};
 
-use dna_model::Tag;
+use dna_station::Tag;
 use std::alloc::{AllocError, Global};
 use std::collections::VecDeque;
 
@@ -26,7 +26,7 @@ pub struct Tags {
 }
 
 impl Tags {
-    ghost use Rattle.pair_judge.specs.Runs.{behind, tag_at, tag_of};
+    ghost use Rattle.pair_judge.specs.inner.Runs.{behind, tag_at, tag_of};
 
     /// No unit was sent yet. Takes no memory.
     pub fn new(alloc: Global) -> Tags

@@ -7,16 +7,16 @@ ghost use Rattle.capture.specs.declared.fault.CaptureFault.TheVariants as Captur
 ghost use Rattle.capture.specs.declared.record.Record.{Record};
 ghost use Rattle.capture.specs.Faulty.{CountsReads};
 ghost use Rattle.capture.specs.Lines.{to_come};
-ghost use Rattle.pair_judge.specs.Course.{MayRead, along};
+ghost use Rattle.pair_judge.specs.inner.Course.{MayRead, along};
 ghost use Rattle.pair_judge.specs.Faulty.{IsJudgeFault, is_failed_read_of, side_fault_of};
 ghost use Rattle.pair_judge.specs.Summary.{HasRoom};
-ghost use Rattle.pair_judge.specs.Reached.{IsStopped, IsUnderWay, TurnIs, turned};
+ghost use Rattle.pair_judge.specs.inner.Reached.{IsStopped, IsUnderWay, TurnIs, turned};
 
 use crate::captures::endings;
 use crate::course::{Advance, Course};
 use crate::fault::{JudgeFault, TextFault};
 use capture::CaptureFault;
-use dna_model::{Cause, Finding, WireLayersNodes};
+use dna_node::{Cause, Finding, WireLayersNodes};
 use std::io::Read;
 use two_nodes::reading_on;
 use wire_base::{Side, Tally};

@@ -3,8 +3,8 @@ use Rattle.std.proofs.Common.{◌≡◌, ℕ, zero, suc, ◌<◌, ◌≤◌, Boo
 use Rattle.std.specs.Prelude.{bit_xor, drop, length, slice_index, slice_set, take}
 use Rattle.std.proofs.lemmas.Bool.{and_parts}
 use Rattle.std.proofs.lemmas.Nat.{xor_of_8}
-use Rattle.dna_model.specs.HasLine.{are_bytes}
-use Rattle.dna_model.specs.Receipt.{damaged}
+use Rattle.dna_play.specs.HasLine.{are_bytes}
+use Rattle.dna_play.specs.Receipt.{damaged}
 
 -- ---- parts
 

@@ -18,10 +18,10 @@ use Rattle.dna_packet.specs.ReadingPacket.{packet_at}
 use Rattle.dna_packet.specs.ReadingNsp.{nsp_at}
 use Rattle.dna_packet.proofs.PacketLemmas.{packet_takes}
 use Rattle.dna_packet.proofs.NspTakes.{nsp_takes}
-use Rattle.dna_model.specs.HasLine.{are_bytes}
-use Rattle.dna_model.specs.Book.{body_of}
-use Rattle.dna_model.specs.Content.{is_returned, message_in, content_of}
-use Rattle.dna_model.specs.Receipt.{carried_in, carried}
+use Rattle.dna_play.specs.HasLine.{are_bytes}
+use Rattle.dna_station.specs.Book.{body_of}
+use Rattle.dna_node.specs.Content.{is_returned, message_in, content_of}
+use Rattle.dna_play.specs.Receipt.{carried_in, carried}
 use Rattle.pair_player.proofs.ByteLists.{bytes_told, first_part, second_part}
 
 -- ---- a unit

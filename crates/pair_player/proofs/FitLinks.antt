@@ -1,27 +1,31 @@
 -- The links that an end keeps stay in their ranges: own addresses, and the bytes of what was handed in, sent and received. What comes adds at
 -- most one piece to those that wait.
-use Rattle.std.proofs.Common.{◌≡◌, ℕ, zero, suc, ◌+◌, ◌≤◌, Bool, true, false, cond, ◌&&◌, nat_le, Option, Some, None, List, [], ◌∷◌, ◌++◌, refl, sym, ap, subst, ◌∙◌, arith, eqb-true}
+use Rattle.std.proofs.Common.{◌≡◌, ℕ, zero, suc, ◌+◌, ◌≤◌, Bool, true, false, cond, ◌&&◌, nat_le, Option, Some, None, List, [], ◌∷◌, ◌++◌, refl, sym}
+use Rattle.std.proofs.Common.{ap, subst, ◌∙◌, arith, eqb-true}
 use Rattle.std.specs.Prelude.{length, slice_get, slice_set}
 use Rattle.std.specs.List.{AllByRecursion, remove}
 use Rattle.std.specs.Option.{IfSome}
 use Rattle.std.proofs.lemmas.Bool.{and_parts}
 use Rattle.capture.specs.Range.{IsLink}
 use Rattle.dna_packet.specs.declared.ack_word.AckWord.{AckWord}
-use Rattle.dna_packet.specs.Nsp.{NspValue, SegmentValue, DataSegment, LinkService, DataAck, OtherDataAck, ConnectAck, NoOperation, ConnectInitiate, ConnectConfirm, DisconnectInitiate, DisconnectConfirm}
-use Rattle.dna_model.specs.declared.port.Phase.{Phase}
-use Rattle.dna_model.specs.declared.port.Phase.TheVariants.{Called, Confirming}
-use Rattle.dna_model.specs.declared.port.LinkTest.{LinkTest}
-use Rattle.dna_model.specs.declared.port.LinkTest.TheVariants.{ActedOn, CallingAt, LiveTo, TheLink}
-use Rattle.dna_model.specs.HasLine.{are_bytes}
-use Rattle.dna_model.specs.Flow.{REACH, distance, is_of_data}
-use Rattle.dna_model.specs.LinkTests.{has_both, is_at, is_connected, is_running, passes}
-use Rattle.dna_model.specs.Pieces.{Piece, piece_of}
-use Rattle.dna_model.specs.WireFlow.{LinkVariables, acknowledged_by, acknowledged_by_all, acknowledged_to, held, segment_taken, with_pieces}
-use Rattle.dna_model.specs.NextSent.{LinkEnd}
-use Rattle.dna_model.specs.Compose.{SEGSIZE}
-use Rattle.dna_model.specs.Kept.{KeptLinks}
-use Rattle.dna_model.specs.KeptLinks.{Delivering, acted_on, acts, arrives, at_place, begun, called, called_again, changed, confirm_came, confirmed, confirmed_again, confirming, delivering_at, delivering_none, ended, ends_link, message_came, no_more, on_end, place_of, took_acks, took_segment, with_end, without_whole}
-use Rattle.dna_model.specs.KeptPlay.{arrived, up_address}
+use Rattle.dna_packet.specs.Nsp.{NspValue, SegmentValue, DataSegment, LinkService, DataAck, OtherDataAck, ConnectAck, NoOperation, ConnectInitiate}
+use Rattle.dna_packet.specs.Nsp.{ConnectConfirm, DisconnectInitiate, DisconnectConfirm}
+use Rattle.dna_links.specs.declared.port.Phase.{Phase}
+use Rattle.dna_links.specs.declared.port.Phase.TheVariants.{Called, Confirming}
+use Rattle.dna_links.specs.declared.port.LinkTest.{LinkTest}
+use Rattle.dna_links.specs.declared.port.LinkTest.TheVariants.{ActedOn, CallingAt, LiveTo, TheLink}
+use Rattle.dna_play.specs.HasLine.{are_bytes}
+use Rattle.dna_links.specs.Flow.{REACH, distance, is_of_data}
+use Rattle.dna_links.specs.LookUps.{has_both, is_at, is_connected, is_running, passes}
+use Rattle.dna_links.specs.Pieces.{Piece, piece_of}
+use Rattle.dna_links.specs.WireFlow.{LinkVariables, acknowledged_by, acknowledged_by_all, acknowledged_to, held, segment_taken, with_pieces}
+use Rattle.dna_play.specs.NextSent.{LinkEnd}
+use Rattle.dna_links.specs.Pieces.{SEGSIZE}
+use Rattle.dna_play.specs.Kept.{KeptLinks}
+use Rattle.dna_play.specs.KeptLinks.{Delivering, acted_on, acts, arrives, at_place, begun, called, called_again, changed, confirm_came, confirmed}
+use Rattle.dna_play.specs.KeptLinks.{confirmed_again, confirming, delivering_at, delivering_none, ended, ends_link, message_came, no_more, on_end}
+use Rattle.dna_play.specs.KeptLinks.{place_of, took_acks, took_segment, with_end, without_whole}
+use Rattle.dna_play.specs.KeptPlay.{arrived, up_address}
 use Rattle.pair_player.proofs.ByteLists.{HasBytes}
 use Rattle.pair_player.proofs.EachElement.{left_all, more_all, position_passes, there, with_all, without_all}
 use Rattle.pair_player.proofs.Carried.{SegmentBytes}

@@ -7,17 +7,19 @@ use Rattle.ddcmp_msg.specs.Message.{Data}
 use Rattle.dna_packet.specs.Fields.{word}
 use Rattle.dna_packet.specs.AckWord.{ack_word}
 use Rattle.dna_packet.specs.Nsp.{NspValue, connect_fields, nsp_bytes, segment_flag, segnum}
-use Rattle.dna_model.specs.declared.head.Head.{Head}
-use Rattle.dna_model.specs.HasLine.{are_bytes}
-use Rattle.dna_model.specs.Pieces.{Piece, Unsent, left_of}
-use Rattle.dna_model.specs.WireStation.{HeldPacket}
-use Rattle.dna_model.specs.LinkOwed.{Turn, ConnectAckTurn, InitiateTurn, ConfirmTurn, DisconnectTurn, DataAckTurn, SegmentTurn}
-use Rattle.dna_model.specs.NextSent.{LinkEnd, LinkChoice, Confirms, OfLink, Choice, SendStrt, SendStack, SendNak, SendRep, SendAgain, SendNew, SendAck}
-use Rattle.dna_model.specs.Compose.{SERVICES, INFO, SEGSIZE, USER_DATA, ack_of, address, link_message, message_at, message_of, new_data, next_piece, next_piece_of, no_flags, packet_again, packet_with, piece_to_send, piece_with, segment_with, turn_message}
-use Rattle.dna_model.specs.Kept.{KeptLinks}
-use Rattle.dna_model.specs.KeptLinks.{after_sent, gave, gave_by, sent_at, turn_sent}
-use Rattle.dna_model.specs.KeptPlay.{links_sent}
-use Rattle.dna_model.proofs.UnitLines.{IsOfBytes, PacketFits, joined_bytes, packet_fits}
+use Rattle.dna_station.specs.declared.head.Head.{Head}
+use Rattle.dna_play.specs.HasLine.{are_bytes}
+use Rattle.dna_links.specs.Pieces.{Piece, Unsent, left_of}
+use Rattle.dna_station.specs.WireStation.{HeldPacket}
+use Rattle.dna_play.specs.LinkOwed.{Turn, ConnectAckTurn, InitiateTurn, ConfirmTurn, DisconnectTurn, DataAckTurn, SegmentTurn}
+use Rattle.dna_play.specs.NextSent.{LinkEnd, LinkChoice, Confirms, OfLink, Choice, SendStrt, SendStack, SendNak, SendRep, SendAgain, SendNew, SendAck}
+use Rattle.dna_play.specs.Compose.{SERVICES, INFO, USER_DATA, ack_of, address, link_message, message_at, message_of, new_data, no_flags, packet_again}
+use Rattle.dna_play.specs.Compose.{packet_with, piece_to_send, segment_with, turn_message}
+use Rattle.dna_links.specs.Pieces.{SEGSIZE, next_piece, next_piece_of, piece_with}
+use Rattle.dna_play.specs.Kept.{KeptLinks}
+use Rattle.dna_play.specs.KeptLinks.{after_sent, gave, gave_by, sent_at, turn_sent}
+use Rattle.dna_play.specs.KeptPlay.{links_sent}
+use Rattle.dna_play.proofs.Ends.UnitLines.{IsOfBytes, PacketFits, joined_bytes, packet_fits}
 use Rattle.pair_player.proofs.ByteLists.{HasBytes, front, left, taken}
 use Rattle.pair_player.proofs.PiecesWaiting.{AreMessages}
 use Rattle.pair_player.proofs.EachElement.{more_all, there}

@@ -6,11 +6,12 @@ use Rattle.wire_base.specs.declared.side.Side.{Side}
 use Rattle.wire_base.specs.declared.side.Side.TheVariants.{A, B}
 use Rattle.capture.specs.declared.limit.TheConstants.{MAX_RECORDS}
 use Rattle.capture.specs.Range.{IsRecord}
-use Rattle.dna_model.specs.Script.{StepValue, ScriptStep, Script}
-use Rattle.dna_model.specs.ScriptText.{IsScript, IsStep, most_bytes, step_bytes}
-use Rattle.dna_model.specs.Stepped.{Stop}
-use Rattle.dna_model.specs.KeptPlay.{KeptStepped, kept_plays}
-use Rattle.dna_model.specs.KeptPlayed.{KeptMade, KeptPair, KeptPlayed, KeptStopped, if_made, is_of_line, kept_not_begun, kept_play, kept_plays_all, kept_plays_at, kept_plays_step, kept_with_a, kept_with_b, left_by, with_records}
+use Rattle.dna_play.specs.Script.{StepValue, ScriptStep, Script}
+use Rattle.dna_play.specs.ScriptText.{IsScript, IsStep, most_bytes, step_bytes}
+use Rattle.dna_play.specs.Stepped.{Stop}
+use Rattle.dna_play.specs.KeptPlay.{KeptStepped, kept_plays}
+use Rattle.dna_play.specs.KeptPlayed.{KeptMade, KeptPair, KeptPlayed, KeptStopped, if_made, is_of_line, kept_not_begun, kept_play, kept_plays_all}
+use Rattle.dna_play.specs.KeptPlayed.{kept_plays_at, kept_plays_step, kept_with_a, kept_with_b, left_by, with_records}
 use Rattle.pair_player.proofs.ByteLists.{HasBytes, bytes_tested}
 use Rattle.pair_player.proofs.EachElement.{left_all, more_all}
 use Rattle.pair_player.proofs.FitLinks.{waiting}

@@ -8,12 +8,12 @@ use Rattle.capture.specs.declared.event.Event.TheVariants as events
 use Rattle.capture.specs.declared.record.Record.TheVariants.{Sent, Received, User}
 use Rattle.capture.specs.declared.record.Record.TheVariants as recorded
 use Rattle.capture.specs.Range.{EventNumbersFit, IsRecord, event_bytes}
-use Rattle.dna_model.specs.HasLine.{are_bytes}
-use Rattle.dna_model.specs.NextSent.{LinkEnd}
-use Rattle.dna_model.specs.Stepped.{Stop}
-use Rattle.dna_model.specs.Kept.{KeptEnd}
-use Rattle.dna_model.specs.KeptLinks.{handed}
-use Rattle.dna_model.specs.KeptPlay.{KeptStepped, all_short, ups}
+use Rattle.dna_play.specs.HasLine.{are_bytes}
+use Rattle.dna_play.specs.NextSent.{LinkEnd}
+use Rattle.dna_play.specs.Stepped.{Stop}
+use Rattle.dna_play.specs.Kept.{KeptEnd}
+use Rattle.dna_play.specs.KeptLinks.{handed}
+use Rattle.dna_play.specs.KeptPlay.{KeptStepped, all_short, ups}
 use Rattle.pair_player.proofs.ByteLists.{HasBytes, bytes_told}
 use Rattle.pair_player.proofs.EachElement.{more_all}
 use Rattle.pair_player.proofs.FitLinks.{AllFit, IsOfLink, LinkFits, waiting}

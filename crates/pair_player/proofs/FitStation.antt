@@ -4,14 +4,14 @@ use Rattle.std.specs.Prelude.{fold, length}
 use Rattle.std.specs.List.{AllByRecursion}
 use Rattle.ddcmp_msg.specs.Message.{MessageValue, Data, Ack, Nak}
 use Rattle.ddcmp_msg.specs.Reading.{ReadingValue, Sound, HeaderBad, DataBad, Malformed}
-use Rattle.dna_model.specs.declared.state.StationEvent.{StationEvent}
-use Rattle.dna_model.specs.declared.state.StationEvent.TheVariants.{Start, Halt}
-use Rattle.dna_model.specs.Table.{change_of, Effect, GoTo, TakePartner, Respond, SetBack, TakePacket, AnswerRep, row}
-use Rattle.dna_model.specs.Book.{body_of, num_of, resp_of}
-use Rattle.dna_model.specs.WireStation.{HeldPacket, StationVariables, with_new}
-use Rattle.dna_model.specs.WireBook.{acknowledges, variables_after, wire_acknowledged_by, wire_is_new, wire_is_next, with_next}
-use Rattle.dna_model.specs.KeptStation.{came, variables_by, variables_sent}
-use Rattle.dna_model.proofs.UnitLines.{IsOfBytes, PacketFits}
+use Rattle.dna_station.specs.declared.state.StationEvent.{StationEvent}
+use Rattle.dna_station.specs.declared.state.StationEvent.TheVariants.{Start, Halt}
+use Rattle.dna_station.specs.Table.{change_of, Effect, GoTo, TakePartner, Respond, SetBack, TakePacket, AnswerRep, row}
+use Rattle.dna_station.specs.Book.{body_of, num_of, resp_of}
+use Rattle.dna_station.specs.WireStation.{HeldPacket, StationVariables, with_new}
+use Rattle.dna_station.specs.WireBook.{acknowledges, variables_after, wire_acknowledged_by, wire_is_new, wire_is_next, with_next}
+use Rattle.dna_play.specs.KeptStation.{came, variables_by, variables_sent}
+use Rattle.dna_play.proofs.Ends.UnitLines.{IsOfBytes, PacketFits}
 use Rattle.pair_player.proofs.EachElement.{left_all, more_all}
 
 abbrev pub Variables : Type 0

@@ -1,6 +1,7 @@
 -- What a step makes of an end that is in its ranges: an end that is, records that have lines, and units that do. Its records, with the pieces that
 -- wait behind it, are at most two more than those that waited.
-use Rattle.std.proofs.Common.{◌≡◌, ℕ, ◌+◌, Bool, true, false, cond, ◌&&◌, nat_lt, nat_le, Option, Some, None, List, [], ◌∷◌, length, Result, Ok, Err, refl, subst, arith, ltb-true, leb-true}
+use Rattle.std.proofs.Common.{◌≡◌, ℕ, ◌+◌, Bool, true, false, cond, ◌&&◌, nat_lt, nat_le, Option, Some, None, List, [], ◌∷◌, length, Result, Ok, Err}
+use Rattle.std.proofs.Common.{refl, subst, arith, ltb-true, leb-true}
 use Rattle.std.specs.Prelude.{slice_get}
 use Rattle.std.specs.List.{AllByRecursion}
 use Rattle.std.specs.Option.{IfSome}
@@ -14,33 +15,36 @@ use Rattle.capture.specs.declared.event.Event.TheVariants as events
 use Rattle.capture.specs.declared.record.Record.{Record}
 use Rattle.capture.specs.declared.record.Record.TheVariants.{Received, User}
 use Rattle.capture.specs.Range.{IsLink, IsRecord}
-use Rattle.dna_model.specs.declared.refusal.StationRefusal.{StationRefusal}
-use Rattle.dna_model.specs.declared.state.StationEvent.TheVariants as station_events
-use Rattle.dna_model.specs.declared.port.LinkTest.TheVariants.{CalledBy, LiveAt}
-use Rattle.dna_model.specs.declared.port.Phase.TheVariants.{Confirming, Disconnecting}
-use Rattle.dna_model.specs.Table.{user_refusal}
-use Rattle.dna_model.specs.HasLine.{are_bytes}
-use Rattle.dna_model.specs.LinkTests.{is_connected, takes_messages}
-use Rattle.dna_model.specs.Script.{StepValue, Start, Halt, Timer, Send, Deliver, Refuse, Lose, Damage, Noise, Open, Accept, Reject, In, Close, Retry}
-use Rattle.dna_model.specs.ScriptText.{NumbersFit, most_bytes, step_bytes}
-use Rattle.dna_model.specs.Owed.{Debt, OwesStrt, timer_debt}
-use Rattle.dna_model.specs.LinkOwed.{LinkOwed, ConfirmTurn, DisconnectTurn, retried}
-use Rattle.dna_model.specs.NextSent.{Choice, LinkEnd, choice, link_choice}
-use Rattle.dna_model.specs.Compose.{message_of}
-use Rattle.dna_model.specs.Receipt.{carried, damaged, is_damage}
-use Rattle.dna_model.specs.Stepped.{Stop, BadStep, Full}
-use Rattle.dna_model.specs.Kept.{KeptEnd, KeptLinks, KeptStation}
-use Rattle.dna_model.specs.KeptLinks.{Delivering, answered, begun, changed, closed, handed, opened}
-use Rattle.dna_model.specs.KeptStation as stations
-use Rattle.dna_model.specs.KeptPlay.{KeptStepped, all_short, answers, arrived, came_as, comes, comes_damaged, closes, hands_in, heard, hears, hears_as, if_so, kept_plays, loses, made, opens, receives, retrying, sends_choice, sends_message, silent, timed, unless_refused, up_address, ups, with_links, with_next, with_station}
-use Rattle.dna_model.proofs.UnitLines.{IsOfBytes, unit_line}
+use Rattle.dna_station.specs.declared.refusal.StationRefusal.{StationRefusal}
+use Rattle.dna_station.specs.declared.state.StationEvent.TheVariants as station_events
+use Rattle.dna_links.specs.declared.port.LinkTest.TheVariants.{CalledBy, LiveAt}
+use Rattle.dna_links.specs.declared.port.Phase.TheVariants.{Confirming, Disconnecting}
+use Rattle.dna_station.specs.Table.{user_refusal}
+use Rattle.dna_play.specs.HasLine.{are_bytes}
+use Rattle.dna_links.specs.LookUps.{is_connected, takes_messages}
+use Rattle.dna_play.specs.Script.{StepValue, Start, Halt, Timer, Send, Deliver, Refuse, Lose, Damage, Noise, Open, Accept, Reject, In, Close, Retry}
+use Rattle.dna_play.specs.ScriptText.{NumbersFit, most_bytes, step_bytes}
+use Rattle.dna_play.specs.Owed.{Debt, OwesStrt, timer_debt}
+use Rattle.dna_play.specs.LinkOwed.{LinkOwed, ConfirmTurn, DisconnectTurn, retried}
+use Rattle.dna_play.specs.NextSent.{Choice, LinkEnd, choice, link_choice}
+use Rattle.dna_play.specs.Compose.{message_of}
+use Rattle.dna_play.specs.Receipt.{carried, damaged, is_damage}
+use Rattle.dna_play.specs.Stepped.{Stop, BadStep, Full}
+use Rattle.dna_play.specs.Kept.{KeptEnd, KeptLinks, KeptStation}
+use Rattle.dna_play.specs.KeptLinks.{Delivering, answered, begun, changed, closed, handed, opened}
+use Rattle.dna_play.specs.KeptStation as stations
+use Rattle.dna_play.specs.KeptPlay.{KeptStepped, all_short, answers, arrived, came_as, comes, comes_damaged, closes, hands_in, heard, hears, hears_as}
+use Rattle.dna_play.specs.KeptPlay.{if_so, kept_plays, loses, made, opens, receives, retrying, sends_choice, sends_message, silent, timed}
+use Rattle.dna_play.specs.KeptPlay.{unless_refused, up_address, ups, with_links, with_next, with_station}
+use Rattle.dna_play.proofs.Ends.UnitLines.{IsOfBytes, unit_line}
 use Rattle.pair_player.proofs.ByteLists.{HasBytes, damaged_bytes, set_length}
 use Rattle.pair_player.proofs.Carried.{SegmentBytes, carried_bytes}
 use Rattle.pair_player.proofs.EachElement.{there}
 use Rattle.pair_player.proofs.FitLinks.{Gets, Leaves, LinkFits, begins, changes, gets, looked, stays, waiting}
 use Rattle.pair_player.proofs.FitStation.{StationFits, after_reading, after_sent, after_user}
 use Rattle.pair_player.proofs.FitMessages.{choice_sent, message_fits}
-use Rattle.pair_player.proofs.FitRecords.{EndFits, ResultFits, UnitFits, unit_record, sent_record, noise_record, user_record, no_bytes, handed_link, ups_lined, ups_count}
+use Rattle.pair_player.proofs.FitRecords.{EndFits, ResultFits, UnitFits, unit_record, sent_record, noise_record, user_record, no_bytes, handed_link}
+use Rattle.pair_player.proofs.FitRecords.{ups_lined, ups_count}
 
 -- ---- one end
 

@@ -7,8 +7,8 @@ use Rattle.capture.specs.Range.{IsNode}
 use Rattle.capture.specs.Reading.{after, cut_at, address_at}
 use Rattle.capture.proofs.PartLaws.{after_takes, cut_takes, cut_again}
 use Rattle.capture.proofs.AddressLaws.{and_then, address_takes, address_again, address_lacks}
-use Rattle.dna_model.specs.ScriptText.{script_head}
-use Rattle.pair_player.specs.Reading.{head_at}
+use Rattle.dna_play.specs.ScriptText.{script_head}
+use Rattle.pair_player.specs.inner.Reading.{head_at}
 
 -- a head that was read
 pub record IsHeadOf (text : List ℕ) (node_a node_b : ℕ) : Type 0 where
@@ -16,7 +16,8 @@ pub record IsHeadOf (text : List ℕ) (node_a node_b : ℕ) : Type 0 where
   pub a_fits : IsNode node_a
   pub b_fits : IsNode node_b
 
-from_parts : (text rest x y : List ℕ) (p q : ℕ) → text ≡ codes "ddplay 1 " ++ rest → rest ≡ x ++ 32 ∷ y → (x ≡ address_text p) × IsNode p → (y ≡ address_text q) × IsNode q → IsHeadOf text p q
+from_parts : (text rest x y : List ℕ) (p q : ℕ) → text ≡ codes "ddplay 1 " ++ rest → rest ≡ x ++ 32 ∷ y → (x ≡ address_text p) × IsNode p →
+    (y ≡ address_text q) × IsNode q → IsHeadOf text p q
 from_parts text rest x y p q e cut f s = record {
   spelled = e ∙ ap (λ (t : List ℕ). codes "ddplay 1 " ++ t) (cut ∙ rw (f.0, s.0) refl);
   a_fits = f.1;
@@ -30,7 +31,8 @@ head_takes text node_a node_b e =
     let parts = and_then (cut_at 32 rest.0) _ (node_a, node_b) rest.2 in
     let a = and_then (address_at parts.0.0) _ (node_a, node_b) parts.2 in
     let b = and_then (address_at parts.0.1) _ (node_a, node_b) a.2 in
-    let whole = from_parts text rest.0 parts.0.0 parts.0.1 a.0 b.0 (after_takes (codes "ddplay 1 ") text rest.0 rest.1) (cut_takes 32 rest.0 parts.0 parts.1) (address_takes parts.0.0 a.0 a.1) (address_takes parts.0.1 b.0 b.1) in
+    let whole = from_parts text rest.0 parts.0.0 parts.0.1 a.0 b.0 (after_takes (codes "ddplay 1 ") text rest.0 rest.1)
+    (cut_takes 32 rest.0 parts.0 parts.1) (address_takes parts.0.0 a.0 a.1) (address_takes parts.0.1 b.0 b.1) in
     same_head a.0 b.0 whole (same_Some _ _ b.2)
   where
     same_head : (p q : ℕ) → IsHeadOf text p q → ◌≡◌ {A = ℕ × ℕ} (p, q) (node_a, node_b) → IsHeadOf text node_a node_b
@@ -41,4 +43,9 @@ head_takes text node_a node_b e =
 
 pub head_again : (node_a node_b : ℕ) → IsNode node_a → IsNode node_b → head_at (script_head node_a node_b) ≡ Some (node_a, node_b)
 unfolding head_at
-head_again node_a node_b p q = rw (cut_again 32 (address_text node_a) (address_text node_b) (address_lacks 32 node_a (lit< tt) p), address_again node_a p, address_again node_b q) refl
+head_again node_a node_b p q =
+    rw (
+      cut_again 32 (address_text node_a) (address_text node_b) (address_lacks 32 node_a (lit< tt) p),
+      address_again node_a p,
+      address_again node_b q,
+    ) refl

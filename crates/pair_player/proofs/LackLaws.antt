@@ -15,8 +15,9 @@ use Rattle.capture.proofs.NumberLaws.{decimal_lacks}
 use Rattle.capture.proofs.AddressLaws.{address_lacks}
 use Rattle.capture.proofs.BytesLaws.{bytes_lack}
 use Rattle.capture.proofs.LackLaws.{lacks, spaced_lacks, link_lacks, link_short, bytes_short, spaced_short, address_short}
-use Rattle.dna_model.specs.Script.{StepValue, ScriptStep, Start, Halt, Timer, Send, Deliver, Refuse, Lose, Damage, Noise, Open, Accept, Reject, In, Close, Retry}
-use Rattle.dna_model.specs.ScriptText.{step_text, line_text, script_head, NumbersFit, step_bytes, most_bytes, HasSpelling, IsStep}
+use Rattle.dna_play.specs.Script.{StepValue, ScriptStep, Start, Halt, Timer, Send, Deliver, Refuse, Lose, Damage, Noise, Open, Accept, Reject, In}
+use Rattle.dna_play.specs.Script.{Close, Retry}
+use Rattle.dna_play.specs.ScriptText.{step_text, line_text, script_head, NumbersFit, step_bytes, most_bytes, HasSpelling, IsStep}
 
 -- ---- no LF
 
@@ -31,12 +32,15 @@ step_lacks Send h fits = lacks 10 (codes "send") refl
 step_lacks Deliver h fits = lacks 10 (codes "deliver") refl
 step_lacks Refuse h fits = lacks 10 (codes "refuse") refl
 step_lacks Lose h fits = lacks 10 (codes "lose") refl
-step_lacks (Damage place value) h fits = HasNo-append 10 (codes "damage ") (spaced (decimal place) (decimal value)) (lacks 10 (codes "damage ") refl) (spaced_lacks (decimal place) (decimal value) (number_lacks place h.0) (number_lacks value h.1))
-step_lacks (Noise bytes) h fits = HasNo-append 10 (codes "noise ") (bytes_text bytes) (lacks 10 (codes "noise ") refl) (bytes_lack 10 bytes (lit< tt) fits)
+step_lacks (Damage place value) h fits = HasNo-append 10 (codes "damage ") (spaced (decimal place) (decimal value)) (lacks 10 (codes "damage ") refl)
+    (spaced_lacks (decimal place) (decimal value) (number_lacks place h.0) (number_lacks value h.1))
+step_lacks (Noise bytes) h fits =
+    HasNo-append 10 (codes "noise ") (bytes_text bytes) (lacks 10 (codes "noise ") refl) (bytes_lack 10 bytes (lit< tt) fits)
 step_lacks Open h fits = lacks 10 (codes "open") refl
 step_lacks (Accept partner) h fits = HasNo-append 10 (codes "accept ") (decimal partner) (lacks 10 (codes "accept ") refl) (link_lacks partner h)
 step_lacks (Reject partner) h fits = HasNo-append 10 (codes "reject ") (decimal partner) (lacks 10 (codes "reject ") refl) (link_lacks partner h)
-step_lacks (In link message) h fits = HasNo-append 10 (codes "in ") (spaced (decimal link) (bytes_text message)) (lacks 10 (codes "in ") refl) (spaced_lacks (decimal link) (bytes_text message) (link_lacks link h) (bytes_lack 10 message (lit< tt) fits))
+step_lacks (In link message) h fits = HasNo-append 10 (codes "in ") (spaced (decimal link) (bytes_text message)) (lacks 10 (codes "in ") refl)
+    (spaced_lacks (decimal link) (bytes_text message) (link_lacks link h) (bytes_lack 10 message (lit< tt) fits))
 step_lacks (Close link) h fits = HasNo-append 10 (codes "close ") (decimal link) (lacks 10 (codes "close ") refl) (link_lacks link h)
 step_lacks (Retry link) h fits = HasNo-append 10 (codes "retry ") (decimal link) (lacks 10 (codes "retry ") refl) (link_lacks link h)
 
@@ -65,12 +69,15 @@ step_short Send h short = omega arith
 step_short Deliver h short = omega arith
 step_short Refuse h short = omega arith
 step_short Lose h short = omega arith
-step_short (Damage place value) h short = let n = spaced_short (decimal place) (decimal value) 18 18 (number_short place h.0) (number_short value h.1) in omega arith
+step_short (Damage place value) h short =
+    let n = spaced_short (decimal place) (decimal value) 18 18 (number_short place h.0) (number_short value h.1) in omega arith
 step_short (Noise bytes) h short = let n = bytes_short MAX_UNIT bytes (omega arith) short in omega arith
 step_short Open h short = omega arith
 step_short (Accept partner) h short = let n = link_short partner h in omega arith
 step_short (Reject partner) h short = let n = link_short partner h in omega arith
-step_short (In link message) h short = let n = spaced_short (decimal link) (bytes_text message) 5 131070 (link_short link h) (bytes_short MAX_MESSAGE message (omega arith) short) in omega arith
+step_short (In link message) h short =
+    let n = spaced_short (decimal link) (bytes_text message) 5 131070 (link_short link h) (bytes_short MAX_MESSAGE message (omega arith) short) in
+    omega arith
 step_short (Close link) h short = let n = link_short link h in omega arith
 step_short (Retry link) h short = let n = link_short link h in omega arith
 
@@ -79,7 +86,9 @@ letter_short A = omega arith
 letter_short B = omega arith
 
 pub line_short : (line : ScriptStep) → IsStep line → length (line_text line) ≤ MAX_LINE
-line_short line h = spaced_short (side_letter line.side) (step_text line.step) 1 131079 (letter_short line.side) (step_short line.step h.spelling.numbers h.short)
+line_short line h = spaced_short (side_letter line.side) (step_text line.step) 1 131079 (letter_short line.side)
+    (step_short line.step h.spelling.numbers h.short)
 
 pub head_short : (node_a node_b : ℕ) → IsNode node_a → IsNode node_b → length (script_head node_a node_b) ≤ MAX_LINE
-head_short node_a node_b p q = let n = spaced_short (address_text node_a) (address_text node_b) 7 7 (address_short node_a p) (address_short node_b q) in omega arith
+head_short node_a node_b p q =
+    let n = spaced_short (address_text node_a) (address_text node_b) 7 7 (address_short node_a p) (address_short node_b q) in omega arith

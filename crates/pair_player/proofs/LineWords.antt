@@ -1,5 +1,6 @@
 -- The line of a step: what is read is its one spelling, and its spelling is read.
-use Rattle.std.proofs.Common.{◌≡◌, ℕ, ◌<◌, Bool, true, false, cond, leb, List, ◌++◌, length, Option, Some, None, Result, Ok, Err, refl, sym, ap, subst, ◌∙◌, arith}
+use Rattle.std.proofs.Common.{◌≡◌, ℕ, ◌<◌, Bool, true, false, cond, leb, List, ◌++◌, length, Option, Some, None, Result, Ok, Err, refl, sym, ap}
+use Rattle.std.proofs.Common.{subst, ◌∙◌, arith}
 use Rattle.std.specs.Prelude.{codes, IfSome}
 use Rattle.wire_base.specs.declared.side.Side.{Side}
 use Rattle.wire_base.specs.declared.side.Side.TheVariants.{A, B}
@@ -11,9 +12,9 @@ use Rattle.capture.specs.Reading.{after, or_else}
 use Rattle.capture.proofs.PartLaws.{after_takes}
 use Rattle.capture.proofs.BytesLaws.{limited, limited_then}
 use Rattle.capture.proofs.Shown.{Shows, shows_map, shows_must}
-use Rattle.dna_model.specs.Script.{StepValue, ScriptStep}
-use Rattle.dna_model.specs.ScriptText.{step_text, line_text, step_bytes, most_bytes, HasSpelling, IsStep, WordsDepart}
-use Rattle.pair_player.specs.Reading.{side_at, step_at, line_at}
+use Rattle.dna_play.specs.Script.{StepValue, ScriptStep}
+use Rattle.dna_play.specs.ScriptText.{step_text, line_text, step_bytes, most_bytes, HasSpelling, IsStep, WordsDepart}
+use Rattle.pair_player.specs.inner.Reading.{side_at, step_at, line_at}
 use Rattle.pair_player.proofs.StepLaws.{IsStepOf, IsLongStepOf, step_shows, step_again}
 
 abbrev pub at_side : Side → StepValue → ScriptStep
@@ -44,7 +45,8 @@ a_shows text (Some rest) other h rest_shows = h rest refl
 
 side_shows : (text : List ℕ) → IsSided text (side_at text)
 unfolding side_at
-side_shows text = a_shows text (after (codes "a ") text) _ (after_takes (codes "a ") text) (b_shows text (after (codes "b ") text) (after_takes (codes "b ") text))
+side_shows text = a_shows text (after (codes "a ") text) _ (after_takes (codes "a ") text)
+    (b_shows text (after (codes "b ") text) (after_takes (codes "b ") text))
 
 side_takes : (text : List ℕ) (parts : Side × List ℕ) → side_at text ≡ Some parts → text ≡ spaced (side_letter parts.0) parts.1
 side_takes text parts e = subst (IsSided text) e (side_shows text)
@@ -65,9 +67,11 @@ line_shows text =
     (λ step h. (front ∙ ap (spaced (side_letter parts.0)) h.0, record { spelling = record { numbers = h.1; bytes = h.2 }; short = h.3 }))
     (λ step h. (front ∙ ap (spaced (side_letter parts.0)) h.0, record { numbers = h.1; bytes = h.2 }, h.3)))
 
-pub line_again : (side : Side) (step : StepValue) → HasSpelling (at_side side step) → line_at (line_text (at_side side step)) ≡ limited (most_bytes step) (step_bytes step) (at_side side step)
+pub line_again : (side : Side) (step : StepValue) → HasSpelling (at_side side step) → line_at (line_text (at_side side step)) ≡ limited
+    (most_bytes step) (step_bytes step) (at_side side step)
 unfolding line_at
-line_again side step h = rw (side_again side (step_text step), step_again step h.numbers h.bytes) (limited_then (most_bytes step) (step_bytes step) step (at_side side))
+line_again side step h =
+    rw (side_again side (step_text step), step_again step h.numbers h.bytes) (limited_then (most_bytes step) (step_bytes step) step (at_side side))
 
 -- ---- what a reading says of its line
 
@@ -83,7 +87,9 @@ limited_apart most bytes line e = by_test (leb (length bytes) most) e
     by_test false h = cc
 
 pub words_depart : (kind : Departure) (text : List ℕ) → line_at text ≡ Err kind → WordsDepart kind text
-words_depart Syntax text e = λ line h spelled. limited_apart (most_bytes line.step) (step_bytes line.step) line (sym (line_again line.side line.step h) ∙ ap line_at (sym spelled) ∙ e)
+words_depart Syntax text e =
+    λ line h spelled. limited_apart (most_bytes line.step) (step_bytes line.step) line
+    (sym (line_again line.side line.step h) ∙ ap line_at (sym spelled) ∙ e)
 words_depart TooLong text e =
     let shown = subst (Shows (IsLineOf text) (IsLongLineOf text)) e (line_shows text) in
     long_from shown.0 shown.1

@@ -1,13 +1,13 @@
 -- What a step makes of the next unit on the line.
 use Rattle.std.proofs.Common.{◌≡◌, ℕ, Bool, true, false, cond, Option, Some, None, List, [], ◌∷◌, Result, Ok, Err, refl, ap}
 use Rattle.std.specs.Prelude.{IsSome}
-use Rattle.dna_model.specs.Stepped.{Stop, BadStep}
-use Rattle.dna_model.specs.Kept.{KeptEnd}
-use Rattle.dna_model.specs.KeptPlay.{KeptStepped, comes, comes_damaged, sends, sends_choice, with_next}
-use Rattle.dna_model.specs.Receipt.{damaged, is_damage}
-use Rattle.dna_model.specs.NextSent.{Choice, choice, link_choice}
+use Rattle.dna_play.specs.Stepped.{Stop, BadStep}
+use Rattle.dna_play.specs.Kept.{KeptEnd}
+use Rattle.dna_play.specs.KeptPlay.{KeptStepped, comes, comes_damaged, sends, sends_choice, with_next}
+use Rattle.dna_play.specs.Receipt.{damaged, is_damage}
+use Rattle.dna_play.specs.NextSent.{Choice, choice, link_choice}
 use Rattle.player_end.specs.Stepping.{HasUnit, with_lines}
-use Rattle.pair_player.specs.Line.{first_of}
+use Rattle.pair_player.specs.inner.Line.{first_of}
 
 module _ (next : List ℕ → Result KeptStepped Stop) where
   pub next_unit : (coming : List (List ℕ)) (unit : List ℕ) → Some unit ≡ first_of coming → with_next coming next ≡ next unit

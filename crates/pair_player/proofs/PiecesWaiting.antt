@@ -2,10 +2,10 @@
 use Rattle.std.proofs.Common.{◌≡◌, ℕ, zero, suc, ◌+◌, ◌≤◌, Bool, true, false, cond, Option, Some, None, List, [], ◌∷◌, ◌++◌, refl, subst, arith}
 use Rattle.std.specs.Prelude.{drop, length}
 use Rattle.std.specs.List.{AllByRecursion}
-use Rattle.dna_model.specs.HasLine.{are_bytes}
-use Rattle.dna_model.specs.Pieces.{Piece, hold, in_whole_messages, one_more}
-use Rattle.dna_model.specs.Receipt.{complete}
-use Rattle.dna_model.proofs.UnitLines.{joined_bytes}
+use Rattle.dna_play.specs.HasLine.{are_bytes}
+use Rattle.dna_links.specs.Pieces.{Piece, hold, in_whole_messages, one_more}
+use Rattle.dna_play.specs.Receipt.{complete}
+use Rattle.dna_play.proofs.Ends.UnitLines.{joined_bytes}
 
 -- ---- bytes
 

@@ -1,5 +1,6 @@
 -- What was played of a script, from one step to the next.
-use Rattle.std.proofs.Common.{◌≡◌, ℕ, ◌+◌, ◌<◌, true, false, inl, inr, List, [], ◌∷◌, ◌++◌, length, Option, Some, None, Result, Ok, Err, refl, sym, ap, subst, ◌∙◌, arith, length-append, append-nil, append_assoc}
+use Rattle.std.proofs.Common.{◌≡◌, ℕ, ◌+◌, ◌<◌, true, false, inl, inr, List, [], ◌∷◌, ◌++◌, length, Option, Some, None, Result, Ok, Err, refl, sym}
+use Rattle.std.proofs.Common.{ap, subst, ◌∙◌, arith, length-append, append-nil, append_assoc}
 use Rattle.std.specs.Option.{IfSome, IsSomeAnd}
 use Rattle.std.specs.Io.KnownBytes.{Consumes, IsAtEnd}
 use Rattle.wire_base.specs.declared.side.Side.{Side}
@@ -11,10 +12,11 @@ use Rattle.capture.specs.declared.record.Record.{Record}
 use Rattle.capture.specs.Lines.{IsCut, IsCutBehind, to_come}
 use Rattle.capture.specs.Paged.{HandsOver}
 use Rattle.capture.specs.Text.{capture_text, head_line, record_lines, record_line}
-use Rattle.dna_model.specs.Script.{ScriptStep}
-use Rattle.dna_model.specs.ScriptText.{IsStep, StepDeparts, script_line, MAX_STEPS}
-use Rattle.dna_model.specs.KeptPlayed.{KeptMade, KeptPair, KeptPlayed, KeptStopped, if_made, kept_not_begun, kept_plays_all, kept_plays_step, with_records}
-use Rattle.dna_model.specs.Stepped.{Stop, BadStep, Full}
+use Rattle.dna_play.specs.Script.{ScriptStep}
+use Rattle.dna_play.specs.ScriptText.{IsStep, StepDeparts, script_line, MAX_STEPS}
+use Rattle.dna_play.specs.KeptPlayed.{KeptMade, KeptPair, KeptPlayed, KeptStopped, if_made, kept_not_begun, kept_plays_all, kept_plays_step}
+use Rattle.dna_play.specs.KeptPlayed.{with_records}
+use Rattle.dna_play.specs.Stepped.{Stop, BadStep, Full}
 use Rattle.pair_player.specs.declared.fault.PlayFault.{PlayFault}
 use Rattle.pair_player.specs.declared.fault.PlayFault.TheVariants as faults
 use Rattle.pair_player.specs.declared.fault.ScriptFault.{ScriptFault}
@@ -22,13 +24,14 @@ use Rattle.pair_player.specs.declared.fault.ScriptFault.TheVariants as of_script
 use Rattle.player_end.specs.declared.fault.StepFault.{StepFault}
 use Rattle.player_end.specs.declared.fault.StepFault.TheVariants as stops
 use Rattle.pair_player.specs.declared.played.Played.{Played}
-use Rattle.pair_player.specs.Beginning.{IsBegun, fault_of, fault_at}
-use Rattle.pair_player.specs.Playing.{DepartsBehind, EndsBehind, HasPlayed, HasWritten, Held, Plays, PlaysWholeLines, Reached, RefusedBehind, StopsBehind, held, text_a, text_b}
+use Rattle.pair_player.specs.inner.Beginning.{IsBegun, fault_of, fault_at}
+use Rattle.pair_player.specs.Playing.{DepartsBehind, EndsBehind, HasPlayed, HasWritten, Held, Plays, PlaysWholeLines, Reached, RefusedBehind}
+use Rattle.pair_player.specs.Playing.{StopsBehind, held, text_a, text_b}
 use Rattle.pair_player.specs.Reader.{Advances, FaultShows, ScriptState, WhereReadFails}
 use Rattle.pair_player.specs.SoFar.{no_steps, with_step}
 use Rattle.player_end.specs.Stepping.{StopMeans}
-use Rattle.pair_player.specs.Making.{PutsLines, Standing, Steps, StopsStep, standing}
-use Rattle.pair_player.specs.Waiting.{EndsAll, FailsAt, Outlet, outlet}
+use Rattle.pair_player.specs.inner.Making.{PutsLines, Standing, Steps, StopsStep, standing}
+use Rattle.pair_player.specs.inner.Waiting.{EndsAll, FailsAt, Outlet, outlet}
 use Rattle.pair_player.proofs.OverLaws.{nothing_over, more_over, on_over, all_over, some_over, beginning_over}
 use Rattle.pair_player.proofs.SoFarLaws.{opened, one_more}
 use Rattle.pair_player.proofs.TakeLaws.{cut_behind}
@@ -37,13 +40,17 @@ use Rattle.pair_player.proofs.TakeLaws.{cut_behind}
 
 lines-append : (rs more : List Record) → record_lines Number (rs ++ more) ≡ record_lines Number rs ++ record_lines Number more
 lines-append [] more = refl
-lines-append (r ∷ rs) more = ap (λ (x : List ℕ). record_line Number r ++ x) (lines-append rs more) ∙ sym (append_assoc (record_line Number r) (record_lines Number rs) (record_lines Number more))
+lines-append (r ∷ rs) more = ap (λ (x : List ℕ). record_line Number r ++ x) (lines-append rs more) ∙
+    sym (append_assoc (record_line Number r) (record_lines Number rs) (record_lines Number more))
 
-pub text-more : (own peer : ℕ) (rs more : List Record) → capture_text One own peer (rs ++ more) ≡ capture_text One own peer rs ++ record_lines Number more
-text-more own peer rs more = ap (λ (x : List ℕ). head_line One own peer ++ x) (lines-append rs more) ∙ sym (append_assoc (head_line One own peer) (record_lines Number rs) (record_lines Number more))
+pub text-more : (own peer : ℕ) (rs more : List Record) → capture_text One own peer (rs ++ more) ≡ capture_text One own peer rs ++
+    record_lines Number more
+text-more own peer rs more = ap (λ (x : List ℕ). head_line One own peer ++ x) (lines-append rs more) ∙
+    sym (append_assoc (head_line One own peer) (record_lines Number rs) (record_lines Number more))
 
 -- the step that was read
-read_step : (read : Option ScriptStep) (step : ScriptStep) (after come : Option (List ℕ)) → read ≡ Some step → IsSomeAnd read (λ step. IsStep step × Consumes come after (script_line step))
+read_step : (read : Option ScriptStep) (step : ScriptStep) (after come : Option (List ℕ)) → read ≡ Some step →
+    IsSomeAnd read (λ step. IsStep step × Consumes come after (script_line step))
     → IsStep step × Consumes come after (script_line step)
 read_step read step after come e h = subst (λ (x : Option ScriptStep). IsSomeAnd x (λ step. IsStep step × Consumes come after (script_line step))) e h
 
@@ -78,7 +85,8 @@ abbrev no_step : ScriptState → Option (List ℕ) → Reached
 no_step lines left = let script = no_steps lines.node_a lines.node_b in record { script = script; played = kept_not_begun script; come = left }
 
 -- the heads wait
-pub under_way : (text left : Option (List ℕ)) (old : Held) (lines : ScriptState) (at : Standing) → IsBegun text left lines at → IsUnderWay text old (place lines (to_come lines.unread left) at old 0)
+pub under_way : (text left : Option (List ℕ)) (old : Held) (lines : ScriptState) (at : Standing) → IsBegun text left lines at →
+    IsUnderWay text old (place lines (to_come lines.unread left) at old 0)
 under_way text left old lines at begun = let opens = begun.0 in record {
   reached = no_step lines (to_come lines.unread left);
   played = record { read = opened text left lines opens; made = refl };
@@ -87,8 +95,10 @@ under_way text left old lines at begun = let opens = begun.0 in record {
   count = refl;
   counted = opens.2;
   reading = opens.3;
-  over_a = subst (λ (x : List ℕ). HandsOver x at.a old.a old.a) (begun.2 ∙ sym (append-nil (head_line One lines.node_a lines.node_b))) (nothing_over at.a old.a);
-  over_b = subst (λ (x : List ℕ). HandsOver x at.b old.b old.b) (begun.3 ∙ sym (append-nil (head_line One lines.node_b lines.node_a))) (nothing_over at.b old.b);
+  over_a = subst (λ (x : List ℕ). HandsOver x at.a old.a old.a) (begun.2 ∙ sym (append-nil (head_line One lines.node_a lines.node_b)))
+      (nothing_over at.a old.a);
+  over_b = subst (λ (x : List ℕ). HandsOver x at.b old.b old.b) (begun.3 ∙ sym (append-nil (head_line One lines.node_b lines.node_a)))
+      (nothing_over at.b old.b);
 }
 
 -- ---- one step more
@@ -98,13 +108,17 @@ same_Ok x y e = cc
 
 -- where the first step is made, what more steps behind the others make is what they make behind it
 first-made : (n : ℕ) (so_far played after : KeptPlayed) (first : ScriptStep) (steps more : List ScriptStep) (now : Result KeptMade Stop)
-    → ((made : KeptMade) → kept_plays_all (n + 1) (with_records so_far first.side made) steps ≡ Ok played → kept_plays_all (n + 1) (with_records so_far first.side made) more ≡ Ok after)
-    → if_made now (λ made. kept_plays_all (n + 1) (with_records so_far first.side made) steps) (λ stop. record { steps = n; stop = stop; so_far = so_far }) ≡ Ok played
-    → if_made now (λ made. kept_plays_all (n + 1) (with_records so_far first.side made) more) (λ stop. record { steps = n; stop = stop; so_far = so_far }) ≡ Ok after
+    → ((made : KeptMade) → kept_plays_all (n + 1) (with_records so_far first.side made) steps ≡ Ok played →
+    kept_plays_all (n + 1) (with_records so_far first.side made) more ≡ Ok after)
+    → if_made now (λ made. kept_plays_all (n + 1) (with_records so_far first.side made) steps)
+    (λ stop. record { steps = n; stop = stop; so_far = so_far }) ≡ Ok played
+    → if_made now (λ made. kept_plays_all (n + 1) (with_records so_far first.side made) more)
+    (λ stop. record { steps = n; stop = stop; so_far = so_far }) ≡ Ok after
 first-made n so_far played after first steps more (Ok made) on e = on made e
 first-made n so_far played after first steps more (Err stop) on e = absurd cc
 
-steps-push : (n : ℕ) (so_far played : KeptPlayed) (steps : List ScriptStep) (step : ScriptStep) (made : KeptMade) → kept_plays_all n so_far steps ≡ Ok played → kept_plays_step played.pair step ≡ Ok made
+steps-push : (n : ℕ) (so_far played : KeptPlayed) (steps : List ScriptStep) (step : ScriptStep) (made : KeptMade) →
+    kept_plays_all n so_far steps ≡ Ok played → kept_plays_step played.pair step ≡ Ok made
     → kept_plays_all n so_far (steps ++ step ∷ []) ≡ Ok (with_records played step.side made)
 steps-push n so_far played [] step made e f = rw (same_Ok so_far played e, f) refl
 steps-push n so_far played (first ∷ steps) step made e f =
@@ -117,13 +131,17 @@ pair_with so_far B made = refl
 
 module _ (text : Option (List ℕ)) (old : Held) (p : Place) (h : IsUnderWay text old p) where
   abbrev reached_on : ScriptStep → KeptMade → Option (List ℕ) → Reached
-  reached_on step made after = record { script = with_step h.reached.script step; played = with_records h.reached.played step.side made; come = after }
+  reached_on step made after =
+      record { script = with_step h.reached.script step; played = with_records h.reached.played step.side made; come = after }
 
-  played_on : (step : ScriptStep) (made : KeptMade) (after : Option (List ℕ)) → IsStep step → length h.reached.script.steps < MAX_STEPS → Consumes p.come after (script_line step)
+  played_on : (step : ScriptStep) (made : KeptMade) (after : Option (List ℕ)) → IsStep step → length h.reached.script.steps < MAX_STEPS →
+      Consumes p.come after (script_line step)
       → kept_plays_step p.pair step ≡ Ok made → HasPlayed text (reached_on step made after)
   played_on step made after fits few consumes e = record {
-    read = one_more text h.reached.come after h.reached.script step h.played.read few fits (subst (λ (x : Option (List ℕ)). Consumes x after (script_line step)) (sym h.come_is) consumes);
-    made = steps-push 0 (kept_not_begun h.reached.script) h.reached.played h.reached.script.steps step made h.played.made (ap (λ (x : KeptPair). kept_plays_step x step) h.pair_is ∙ e);
+    read = one_more text h.reached.come after h.reached.script step h.played.read few fits
+        (subst (λ (x : Option (List ℕ)). Consumes x after (script_line step)) (sym h.come_is) consumes);
+    made = steps-push 0 (kept_not_begun h.reached.script) h.reached.played h.reached.script.steps step made h.played.made
+        (ap (λ (x : KeptPair). kept_plays_step x step) h.pair_is ∙ e);
   }
 
   -- the lines of its records wait behind those of its side
@@ -131,19 +149,22 @@ module _ (text : Option (List ℕ)) (old : Held) (p : Place) (h : IsUnderWay tex
       → HandsOver (capture_text One h.reached.script.node_a h.reached.script.node_b (with_records h.reached.played side made).of_a) a old.a p.now.a
       × HandsOver (capture_text One h.reached.script.node_b h.reached.script.node_a (with_records h.reached.played side made).of_b) b old.b p.now.b
   put_on A made a b puts = (
-    more_over _ p.a old.a p.now.a h.over_a (record_lines Number made.records) _ a (text-more h.reached.script.node_a h.reached.script.node_b h.reached.played.of_a made.records) puts.0,
+    more_over _ p.a old.a p.now.a h.over_a (record_lines Number made.records) _ a
+        (text-more h.reached.script.node_a h.reached.script.node_b h.reached.played.of_a made.records) puts.0,
     subst (λ (x : List ℕ). HandsOver (text_b h.reached) x old.b p.now.b) (sym puts.1) h.over_b,
   )
   put_on B made a b puts = (
     subst (λ (x : List ℕ). HandsOver (text_a h.reached) x old.a p.now.a) (sym puts.0) h.over_a,
-    more_over _ p.b old.b p.now.b h.over_b (record_lines Number made.records) _ b (text-more h.reached.script.node_b h.reached.script.node_a h.reached.played.of_b made.records) puts.1,
+    more_over _ p.b old.b p.now.b h.over_b (record_lines Number made.records) _ b
+        (text-more h.reached.script.node_b h.reached.script.node_a h.reached.played.of_b made.records) puts.1,
   )
 
   few_steps : p.lines.steps < MAX_STEPS → length h.reached.script.steps < MAX_STEPS
   few_steps before = let count = h.count in let counted = h.counted in omega arith
 
   -- the step that was read is made
-  pub step_on : (step : ScriptStep) (lines : ScriptState) (after : Option (List ℕ)) (at : Standing) → lines.step ≡ Some step → Advances p.lines lines p.come after (Ok true)
+  pub step_on : (step : ScriptStep) (lines : ScriptState) (after : Option (List ℕ)) (at : Standing) → lines.step ≡ Some step →
+      Advances p.lines lines p.come after (Ok true)
       → Steps step (standing p.pair p.a p.b) at → IsUnderWay text old (place lines after at p.now (p.steps + 1))
   step_on step lines after at is advances steps =
       let count = h.count in
@@ -163,7 +184,8 @@ module _ (text : Option (List ℕ)) (old : Held) (p : Place) (h : IsUnderWay tex
       }
 
   -- some of the lines that waited were written
-  pub moved_on : (later : Held) (a b : List ℕ) → HandsOver p.a a p.now.a later.a → HandsOver p.b b p.now.b later.b → IsUnderWay text old (place p.lines p.come (standing p.pair a b) later p.steps)
+  pub moved_on : (later : Held) (a b : List ℕ) → HandsOver p.a a p.now.a later.a → HandsOver p.b b p.now.b later.b →
+      IsUnderWay text old (place p.lines p.come (standing p.pair a b) later p.steps)
   moved_on later a b over_a over_b = record {
     reached = h.reached;
     played = h.played;
@@ -178,11 +200,13 @@ module _ (text : Option (List ℕ)) (old : Held) (p : Place) (h : IsUnderWay tex
 
   -- ---- where a write fails, or the rest is written
 
-  pub fails : (side : Side) (n m : ℕ) (new : Outlet × Outlet) → FailsAt side (outlet p.a p.now.a n, outlet p.b p.now.b m) new → Plays text old (held new.0.held new.1.held) (Err (faults.Write side))
+  pub fails : (side : Side) (n m : ℕ) (new : Outlet × Outlet) → FailsAt side (outlet p.a p.now.a n, outlet p.b p.now.b m) new →
+      Plays text old (held new.0.held new.1.held) (Err (faults.Write side))
   fails A n m new f = (h.reached, h.played, (beginning_over _ _ _ _ h.over_a new.0.held f.0.some, some_over _ _ _ _ h.over_b new.1.held f.1.some))
   fails B n m new f = (h.reached, h.played, (some_over _ _ _ _ h.over_a new.0.held f.0.some, beginning_over _ _ _ _ h.over_b new.1.held f.1.some))
 
-  written : (later : Held) (a b : List ℕ) → HandsOver p.a a p.now.a later.a → HandsOver p.b b p.now.b later.b → a ≡ [] → b ≡ [] → HasWritten old later h.reached
+  written : (later : Held) (a b : List ℕ) → HandsOver p.a a p.now.a later.a → HandsOver p.b b p.now.b later.b → a ≡ [] → b ≡ [] →
+      HasWritten old later h.reached
   written later a b over_a over_b none_a none_b = record {
     a = all_over _ _ _ _ (on_over _ _ _ _ h.over_a a later.a over_a) none_a;
     b = all_over _ _ _ _ (on_over _ _ _ _ h.over_b b later.b over_b) none_b;
@@ -200,7 +224,8 @@ Meant r (Err faults.Read) = Unit {0}
 Meant r (Err (faults.Write side)) = ⊥
 Meant r (Err faults.OutOfMemory) = RefusedBehind r
 
-plays_meant : (text : Option (List ℕ)) (old new : Held) (r : Reached) (answer : Result Played PlayFault) → HasPlayed text r → HasWritten old new r → Meant r answer → Plays text old new answer
+plays_meant : (text : Option (List ℕ)) (old new : Held) (r : Reached) (answer : Result Played PlayFault) → HasPlayed text r → HasWritten old new r →
+    Meant r answer → Plays text old new answer
 plays_meant text old new r (Ok answer) h k m = (r, h, k, m)
 plays_meant text old new r (Err (faults.Departs kind line)) h k m = inr (r, h, k, m)
 plays_meant text old new r (Err (faults.BadStep line)) h k m = (r, h, k, m)
@@ -210,15 +235,19 @@ plays_meant text old new r (Err (faults.Write side)) h k m = absurd m
 plays_meant text old new r (Err faults.OutOfMemory) h k m = inr (r, h, k, m)
 
 module _ (text : Option (List ℕ)) (old : Held) (p : Place) (h : IsUnderWay text old p) where
-  pub ended : (meant answer : Result Played PlayFault) (n m : ℕ) (new : Outlet × Outlet) → Meant h.reached meant → EndsAll meant (outlet p.a p.now.a n, outlet p.b p.now.b m) new answer
+  pub ended : (meant answer : Result Played PlayFault) (n m : ℕ) (new : Outlet × Outlet) → Meant h.reached meant →
+      EndsAll meant (outlet p.a p.now.a n, outlet p.b p.now.b m) new answer
       → Plays text old (held new.0.held new.1.held) answer
   ended meant answer n m new is (inl all) =
       subst (Plays text old (held new.0.held new.1.held)) (sym all.4)
-      (plays_meant text old (held new.0.held new.1.held) h.reached meant h.played (written text old p h (held new.0.held new.1.held) new.0.text new.1.text all.0.over all.1.over all.2 all.3) is)
-  ended meant answer n m new is (inr some) = subst (Plays text old (held new.0.held new.1.held)) (sym some.2) (fails text old p h some.0 n m new some.1)
+      (plays_meant text old (held new.0.held new.1.held) h.reached meant h.played
+      (written text old p h (held new.0.held new.1.held) new.0.text new.1.text all.0.over all.1.over all.2 all.3) is)
+  ended meant answer n m new is (inr some) =
+      subst (Plays text old (held new.0.held new.1.held)) (sym some.2) (fails text old p h some.0 n m new some.1)
 
   -- the script has ended
-  pub at_end : (lines : ScriptState) (after : Option (List ℕ)) → Advances p.lines lines p.come after (Ok false) → Meant h.reached (Ok (record { steps = p.steps }))
+  pub at_end : (lines : ScriptState) (after : Option (List ℕ)) → Advances p.lines lines p.come after (Ok false) →
+      Meant h.reached (Ok (record { steps = p.steps }))
   at_end lines after advances = record { end = subst IsAtEnd (sym h.come_is) advances.0; steps_are = sym h.count }
 
   -- its next line is not known
@@ -241,7 +270,8 @@ module _ (text : Option (List ℕ)) (old : Held) (p : Place) (h : IsUnderWay tex
       by_fault of_script.Failed shows memory = absurd shows
 
   -- its next step isn't made
-  at_stop : (step : ScriptStep) (lines : ScriptState) (after : Option (List ℕ)) (fault : StepFault) → lines.step ≡ Some step → Advances p.lines lines p.come after (Ok true)
+  at_stop : (step : ScriptStep) (lines : ScriptState) (after : Option (List ℕ)) (fault : StepFault) → lines.step ≡ Some step →
+      Advances p.lines lines p.come after (Ok true)
       → StopMeans (kept_plays_step p.pair step) fault → Meant h.reached (Err (fault_at (p.steps + 2) fault))
   at_stop step lines after fault is advances means = by_fault fault means
     where
@@ -272,8 +302,10 @@ module _ (text : Option (List ℕ)) (old : Held) (p : Place) (h : IsUnderWay tex
           }
 
   -- the same where the lines that wait are seen behind it
-  pub stopped : (step : ScriptStep) (lines : ScriptState) (after : Option (List ℕ)) (at : Standing) (fault : StepFault) (answer : Result Played PlayFault) (n m : ℕ) (new : Outlet × Outlet) → lines.step ≡ Some step
-      → Advances p.lines lines p.come after (Ok true) → StopsStep step (standing p.pair p.a p.b) at fault → EndsAll (Err (fault_at (p.steps + 2) fault)) (outlet at.a p.now.a n, outlet at.b p.now.b m) new answer
+  pub stopped : (step : ScriptStep) (lines : ScriptState) (after : Option (List ℕ)) (at : Standing) (fault : StepFault)
+      (answer : Result Played PlayFault) (n m : ℕ) (new : Outlet × Outlet) → lines.step ≡ Some step
+      → Advances p.lines lines p.come after (Ok true) → StopsStep step (standing p.pair p.a p.b) at fault →
+      EndsAll (Err (fault_at (p.steps + 2) fault)) (outlet at.a p.now.a n, outlet at.b p.now.b m) new answer
       → Plays text old (held new.0.held new.1.held) answer
   stopped step lines after at fault answer n m new is advances stops ends =
       ended (Err (fault_at (p.steps + 2) fault)) answer n m new (at_stop step lines after fault is advances stops.means)
@@ -283,25 +315,31 @@ module _ (text : Option (List ℕ)) (old : Held) (p : Place) (h : IsUnderWay tex
 -- ---- where a read failed
 
 -- the writers have what was meant, or one failed
-pub lines_on : (text left : Option (List ℕ)) (old new : Held) (meant answer : Result Played PlayFault) (was now : Outlet × Outlet) → PlaysWholeLines text left old new meant → EndsAll meant was now answer
+pub lines_on : (text left : Option (List ℕ)) (old new : Held) (meant answer : Result Played PlayFault) (was now : Outlet × Outlet) →
+    PlaysWholeLines text left old new meant → EndsAll meant was now answer
     → PlaysWholeLines text left old new answer
 lines_on text left old new meant answer was now is (inl all) = subst (PlaysWholeLines text left old new) (sym all.4) is
 lines_on text left old new meant answer was now is (inr some) = subst (PlaysWholeLines text left old new) (sym some.2) tt
 
 -- no step's fault is a failed read
-pub lines_stopped : (text left : Option (List ℕ)) (old new : Held) (line : ℕ) (fault : StepFault) → PlaysWholeLines text left old new (Err (fault_at line fault))
+pub lines_stopped : (text left : Option (List ℕ)) (old new : Held) (line : ℕ) (fault : StepFault) →
+    PlaysWholeLines text left old new (Err (fault_at line fault))
 lines_stopped text left old new line stops.BadStep = tt
 lines_stopped text left old new line stops.Full = tt
 lines_stopped text left old new line stops.OutOfMemory = tt
 
 module _ (text left : Option (List ℕ)) (old : Held) (p : Place) (h : IsUnderWay text old p) where
   -- its next line is not known
-  pub lines_at_fault : (lines : ScriptState) (fault : ScriptFault) (answer : Result Played PlayFault) (n m : ℕ) (new : Outlet × Outlet) → Advances p.lines lines p.come (to_come lines.unread left) (Err fault)
-      → EndsAll (Err (fault_of fault)) (outlet p.a p.now.a n, outlet p.b p.now.b m) new answer → PlaysWholeLines text left old (held new.0.held new.1.held) answer
+  pub lines_at_fault : (lines : ScriptState) (fault : ScriptFault) (answer : Result Played PlayFault) (n m : ℕ) (new : Outlet × Outlet) →
+      Advances p.lines lines p.come (to_come lines.unread left) (Err fault)
+      → EndsAll (Err (fault_of fault)) (outlet p.a p.now.a n, outlet p.b p.now.b m) new answer →
+      PlaysWholeLines text left old (held new.0.held new.1.held) answer
   lines_at_fault lines fault answer n m new advances (inr some) = subst (PlaysWholeLines text left old (held new.0.held new.1.held)) (sym some.2) tt
-  lines_at_fault lines fault answer n m new advances (inl all) = subst (PlaysWholeLines text left old (held new.0.held new.1.held)) (sym all.4) (by_fault fault advances.0 advances.4)
+  lines_at_fault lines fault answer n m new advances (inl all) =
+      subst (PlaysWholeLines text left old (held new.0.held new.1.held)) (sym all.4) (by_fault fault advances.0 advances.4)
     where
-      by_fault : (fault : ScriptFault) → FaultShows (StepDeparts p.lines.steps) (p.lines.steps + 2) p.come fault → WhereReadFails (IsCut lines.unread p.come (to_come lines.unread left)) fault
+      by_fault : (fault : ScriptFault) → FaultShows (StepDeparts p.lines.steps) (p.lines.steps + 2) p.come fault →
+          WhereReadFails (IsCut lines.unread p.come (to_come lines.unread left)) fault
           → PlaysWholeLines text left old (held new.0.held new.1.held) (Err (fault_of fault))
       by_fault (of_script.Departs kind line) shows cut = tt
       by_fault of_script.Read shows cut = inr (
@@ -314,6 +352,7 @@ module _ (text left : Option (List ℕ)) (old : Held) (p : Place) (h : IsUnderWa
       by_fault of_script.Failed shows cut = absurd shows
 
 -- a step that was read is some step
-pub some_step : (read : Option ScriptStep) (come after : Option (List ℕ)) → IsSomeAnd read (λ step. IsStep step × Consumes come after (script_line step)) → (step : ScriptStep) × (read ≡ Some step)
+pub some_step : (read : Option ScriptStep) (come after : Option (List ℕ)) →
+    IsSomeAnd read (λ step. IsStep step × Consumes come after (script_line step)) → (step : ScriptStep) × (read ≡ Some step)
 some_step None come after h = absurd h
 some_step (Some step) come after h = (step, refl)

@@ -8,15 +8,15 @@ use Rattle.capture.specs.declared.limit.TheConstants.{MAX_RECORDS}
 use Rattle.capture.specs.declared.record.Record.{Record}
 use Rattle.capture.specs.Range.{IsNode, IsRecord, IsText}
 use Rattle.capture.specs.Text.{capture_text}
-use Rattle.dna_model.specs.LayersPair.{IsLayersRun}
-use Rattle.dna_model.specs.Script.{ScriptStep, Script}
-use Rattle.dna_model.specs.ScriptText.{IsScriptText}
-use Rattle.dna_model.specs.Played.{Played, Stopped, head_a, head_b, play}
-use Rattle.dna_model.specs.PlayRun.{StartsOnce, starts_of}
-use Rattle.dna_model.specs.KeptPlayed.{KeptPlayed}
-use Rattle.dna_model.specs.KeptRun.{kept_of, kept_played}
-use Rattle.dna_model.proofs.KeptLaw.{whole_kept}
-use Rattle.dna_model.proofs.PlayedChecked.{whole_is_run}
+use Rattle.dna_node.specs.LayersPair.{IsLayersRun}
+use Rattle.dna_play.specs.Script.{ScriptStep, Script}
+use Rattle.dna_play.specs.ScriptText.{IsScriptText}
+use Rattle.dna_play.specs.Played.{Played, Stopped, head_a, head_b, play}
+use Rattle.dna_play.specs.PlayRun.{StartsOnce, starts_of}
+use Rattle.dna_play.specs.KeptPlayed.{KeptPlayed}
+use Rattle.dna_play.specs.KeptRun.{kept_of, kept_played}
+use Rattle.dna_play.proofs.Stored.Law.{whole_kept}
+use Rattle.dna_play.proofs.Played.Checked.{whole_is_run}
 use Rattle.pair_player.specs.declared.fault.PlayFault.{PlayFault}
 use Rattle.pair_player.specs.declared.played.Played as answers
 use Rattle.pair_player.specs.Playing.{AnswersWhole, HasPlayed, Held, Plays, Reached, reached}

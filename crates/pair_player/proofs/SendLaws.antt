@@ -1,18 +1,20 @@
 -- An end has something to send exactly where it may, however it chooses.
-use Rattle.std.proofs.Common.{◌≡◌, ℕ, ◌+◌, Bool, true, false, ◌&&◌, ◌||◌, not, cond, nat_lt, Option, Some, None, List, [], ◌∷◌, length, refl, sym, ap, ap₂, ◌∙◌, ◌↔◌}
+use Rattle.std.proofs.Common.{◌≡◌, ℕ, ◌+◌, Bool, true, false, ◌&&◌, ◌||◌, not, cond, nat_lt, Option, Some, None, List, [], ◌∷◌, length, refl, sym, ap}
+use Rattle.std.proofs.Common.{ap₂, ◌∙◌, ◌↔◌}
 use Rattle.std.specs.Prelude.{is_some, IsSome}
 use Rattle.ddcmp_msg.specs.declared.nak_reason.NakReason.TheVariants.{HeaderCheck, DataCheck, RepResponse, NoBuffer}
-use Rattle.dna_model.specs.declared.state.State.{State}
-use Rattle.dna_model.specs.declared.state.State.TheVariants.{Halted, Istrt, Astrt, Running}
-use Rattle.dna_model.specs.Table.{WINDOW}
-use Rattle.dna_model.specs.WireStation.{StationVariables}
-use Rattle.dna_model.specs.WireBook.{wire_is_new}
-use Rattle.dna_model.specs.Owed.{Owed}
-use Rattle.dna_model.specs.LinkOwed.{EndConfirm, Turn, ConnectAckTurn, InitiateTurn, ConfirmTurn, DisconnectTurn, DataAckTurn, SegmentTurn}
-use Rattle.dna_model.specs.Kept.{KeptEnd}
-use Rattle.dna_model.specs.Player.{End, link_ends_of, variables_of}
-use Rattle.dna_model.specs.StepRule.{HasUnit}
-use Rattle.dna_model.specs.NextSent.{Choice, LinkChoice, LinkEnd, SendAck, SendAgain, SendNak, SendRep, SendStack, SendStrt, choice, choice_in, data_choice, first_turn, has_segment, link_choice, lowest_nak, new_packet, or_else, turn_of, turn_or_next, when}
+use Rattle.dna_station.specs.declared.state.State.{State}
+use Rattle.dna_station.specs.declared.state.State.TheVariants.{Halted, Istrt, Astrt, Running}
+use Rattle.dna_station.specs.Table.{WINDOW}
+use Rattle.dna_station.specs.WireStation.{StationVariables}
+use Rattle.dna_station.specs.WireBook.{wire_is_new}
+use Rattle.dna_play.specs.Owed.{Owed}
+use Rattle.dna_play.specs.LinkOwed.{EndConfirm, Turn, ConnectAckTurn, InitiateTurn, ConfirmTurn, DisconnectTurn, DataAckTurn, SegmentTurn}
+use Rattle.dna_play.specs.Kept.{KeptEnd}
+use Rattle.dna_play.specs.Player.{End, link_ends_of, variables_of}
+use Rattle.dna_play.specs.StepRule.{HasUnit}
+use Rattle.dna_play.specs.NextSent.{Choice, LinkChoice, LinkEnd, SendAck, SendAgain, SendNak, SendRep, SendStack, SendStrt, choice, choice_in}
+use Rattle.dna_play.specs.NextSent.{data_choice, first_turn, has_segment, link_choice, lowest_nak, new_packet, or_else, turn_of, turn_or_next, when}
 use Rattle.pair_player.specs.Sending.{has_data, link_has, links_have, may_send, owes_nak, some_link_has}
 
 -- ---- one thing before another

@@ -1,11 +1,11 @@
 -- What a step makes of one end, put beside the other end.
 use Rattle.std.proofs.Common.{◌≡◌, ℕ, List, [], ◌++◌, Result, Ok, Err, refl, ap, ◌∙◌}
 use Rattle.std.proofs.lemmas.List.{append-nil}
-use Rattle.dna_model.specs.Script.{StepValue}
-use Rattle.dna_model.specs.Stepped.{Stop}
-use Rattle.dna_model.specs.Kept.{KeptEnd}
-use Rattle.dna_model.specs.KeptPlay.{KeptStepped, silent}
-use Rattle.dna_model.specs.KeptPlayed.{KeptPair, left_by, kept_with_a, kept_with_b}
+use Rattle.dna_play.specs.Script.{StepValue}
+use Rattle.dna_play.specs.Stepped.{Stop}
+use Rattle.dna_play.specs.Kept.{KeptEnd}
+use Rattle.dna_play.specs.KeptPlay.{KeptStepped, silent}
+use Rattle.dna_play.specs.KeptPlayed.{KeptPair, left_by, kept_with_a, kept_with_b}
 use Rattle.player_end.specs.Stepping.{with_lines}
 use Rattle.pair_player.specs.Stepping.{sends, sides, with_text}
 

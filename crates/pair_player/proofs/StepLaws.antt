@@ -14,9 +14,9 @@ use Rattle.capture.proofs.NumberLaws.{number_takes, number_again, decimal_lacks}
 use Rattle.capture.proofs.BytesLaws.{IsBytesOf, IsLongOf, bytes_shows, bytes_again, limited, limited_then}
 use Rattle.capture.proofs.EventLaws.{link_takes, link_again, IsMessageOf, IsLongMessageOf, message_shows, message_again, no_bytes}
 use Rattle.capture.proofs.Shown.{Shows, shows_map, shows_must, shows_or_else}
-use Rattle.dna_model.specs.Script.{StepValue, Start, Halt, Timer, Send, Deliver, Refuse, Lose, Damage, Noise, Open, Accept, Reject, In, Close, Retry}
-use Rattle.dna_model.specs.ScriptText.{step_text, NumbersFit, step_bytes, most_bytes}
-use Rattle.pair_player.specs.Reading.{plain_at, damage_at, link_step_at, step_at}
+use Rattle.dna_play.specs.Script.{StepValue, Start, Halt, Timer, Send, Deliver, Refuse, Lose, Damage, Noise, Open, Accept, Reject, In, Close, Retry}
+use Rattle.dna_play.specs.ScriptText.{step_text, NumbersFit, step_bytes, most_bytes}
+use Rattle.pair_player.specs.inner.Reading.{plain_at, damage_at, link_step_at, step_at}
 
 -- a step that was read, and one that was read but for the length of its message
 abbrev pub IsStepOf : List ℕ → StepValue → Type 0
@@ -37,10 +37,12 @@ plain_shows text =
     cond_both (bytes_eq text (codes "halt")) _ _ (Tells text) (λ t. ((bytes_eq-Decides text (codes "halt")).0 t, tt, no_bytes, omega arith)) (λ _.
     cond_both (bytes_eq text (codes "timer")) _ _ (Tells text) (λ t. ((bytes_eq-Decides text (codes "timer")).0 t, tt, no_bytes, omega arith)) (λ _.
     cond_both (bytes_eq text (codes "send")) _ _ (Tells text) (λ t. ((bytes_eq-Decides text (codes "send")).0 t, tt, no_bytes, omega arith)) (λ _.
-    cond_both (bytes_eq text (codes "deliver")) _ _ (Tells text) (λ t. ((bytes_eq-Decides text (codes "deliver")).0 t, tt, no_bytes, omega arith)) (λ _.
+    cond_both (bytes_eq text (codes "deliver")) _ _ (Tells text) (λ t. ((bytes_eq-Decides text (codes "deliver")).0 t, tt, no_bytes, omega arith))
+    (λ _.
     cond_both (bytes_eq text (codes "refuse")) _ _ (Tells text) (λ t. ((bytes_eq-Decides text (codes "refuse")).0 t, tt, no_bytes, omega arith)) (λ _.
     cond_both (bytes_eq text (codes "lose")) _ _ (Tells text) (λ t. ((bytes_eq-Decides text (codes "lose")).0 t, tt, no_bytes, omega arith)) (λ _.
-    cond_both (bytes_eq text (codes "open")) _ _ (Tells text) (λ t. ((bytes_eq-Decides text (codes "open")).0 t, tt, no_bytes, omega arith)) (λ _. tt))))))))
+    cond_both (bytes_eq text (codes "open")) _ _ (Tells text) (λ t. ((bytes_eq-Decides text (codes "open")).0 t, tt, no_bytes, omega arith))
+    (λ _. tt))))))))
 
 -- ---- the numbers of a changed byte
 
@@ -63,7 +65,11 @@ damage_shows text =
 damage_again : (place value : ℕ) → place ≤ MAX_HINT → value ≤ MAX_HINT → damage_at (spaced (decimal place) (decimal value)) ≡ Ok (place, value)
 unfolding damage_at
 damage_again place value p q =
-    rw (cut_again 32 (decimal place) (decimal value) (decimal_lacks 32 place (lit< tt) (omega arith)), number_again MAX_HINT place (lit< tt) p, number_again MAX_HINT value (lit< tt) q) refl
+    rw (
+      cut_again 32 (decimal place) (decimal value) (decimal_lacks 32 place (lit< tt) (omega arith)),
+      number_again MAX_HINT place (lit< tt) p,
+      number_again MAX_HINT value (lit< tt) q,
+    ) refl
 
 -- ---- a step of a link
 
@@ -72,16 +78,20 @@ unfolding link_step_at
 link_step_shows text =
     shows_or_else (IsStepOf text) (IsLongStepOf text) (after (codes "accept ") text) _ _
     (λ rest e. shows_must (IsStepOf text) (IsLongStepOf text) (positive_at MAX_LINK rest) _ (λ partner f.
-    let p = link_takes rest partner f in (after_takes (codes "accept ") text rest e ∙ ap (λ (t : List ℕ). codes "accept " ++ t) p.0, p.1, no_bytes, omega arith)))
+    let p = link_takes rest partner f in
+    (after_takes (codes "accept ") text rest e ∙ ap (λ (t : List ℕ). codes "accept " ++ t) p.0, p.1, no_bytes, omega arith)))
     (shows_or_else (IsStepOf text) (IsLongStepOf text) (after (codes "reject ") text) _ _
     (λ rest e. shows_must (IsStepOf text) (IsLongStepOf text) (positive_at MAX_LINK rest) _ (λ partner f.
-    let p = link_takes rest partner f in (after_takes (codes "reject ") text rest e ∙ ap (λ (t : List ℕ). codes "reject " ++ t) p.0, p.1, no_bytes, omega arith)))
+    let p = link_takes rest partner f in
+    (after_takes (codes "reject ") text rest e ∙ ap (λ (t : List ℕ). codes "reject " ++ t) p.0, p.1, no_bytes, omega arith)))
     (shows_or_else (IsStepOf text) (IsLongStepOf text) (after (codes "close ") text) _ _
     (λ rest e. shows_must (IsStepOf text) (IsLongStepOf text) (positive_at MAX_LINK rest) _ (λ link f.
-    let p = link_takes rest link f in (after_takes (codes "close ") text rest e ∙ ap (λ (t : List ℕ). codes "close " ++ t) p.0, p.1, no_bytes, omega arith)))
+    let p = link_takes rest link f in
+    (after_takes (codes "close ") text rest e ∙ ap (λ (t : List ℕ). codes "close " ++ t) p.0, p.1, no_bytes, omega arith)))
     (shows_or_else (IsStepOf text) (IsLongStepOf text) (after (codes "retry ") text) _ _
     (λ rest e. shows_must (IsStepOf text) (IsLongStepOf text) (positive_at MAX_LINK rest) _ (λ link f.
-    let p = link_takes rest link f in (after_takes (codes "retry ") text rest e ∙ ap (λ (t : List ℕ). codes "retry " ++ t) p.0, p.1, no_bytes, omega arith)))
+    let p = link_takes rest link f in
+    (after_takes (codes "retry ") text rest e ∙ ap (λ (t : List ℕ). codes "retry " ++ t) p.0, p.1, no_bytes, omega arith)))
     tt)))
 
 -- ---- steps
@@ -94,19 +104,23 @@ unfolding step_at
 step_shows text =
     shows_or_else (IsStepOf text) (IsLongStepOf text) (plain_at text) _ _ (plain_found text)
     (shows_or_else (IsStepOf text) (IsLongStepOf text) (after (codes "in ") text) _ _
-    (λ rest e. shows_map (IsMessageOf rest) (IsLongMessageOf rest) (IsStepOf text) (IsLongStepOf text) (λ m. In m.0 m.1) (message_at rest) (message_shows rest)
+    (λ rest e. shows_map (IsMessageOf rest) (IsLongMessageOf rest) (IsStepOf text) (IsLongStepOf text) (λ m. In m.0 m.1) (message_at rest)
+    (message_shows rest)
     (λ m h. (after_takes (codes "in ") text rest e ∙ ap (λ (t : List ℕ). codes "in " ++ t) h.0, h.1, h.2, h.3))
     (λ m h. (after_takes (codes "in ") text rest e ∙ ap (λ (t : List ℕ). codes "in " ++ t) h.0, h.1, h.2, h.3)))
     (shows_or_else (IsStepOf text) (IsLongStepOf text) (after (codes "noise ") text) _ _
-    (λ rest e. shows_map (IsBytesOf MAX_UNIT rest) (IsLongOf MAX_UNIT rest) (IsStepOf text) (IsLongStepOf text) (λ bytes. Noise bytes) (bytes_at MAX_UNIT rest) (bytes_shows MAX_UNIT rest)
+    (λ rest e. shows_map (IsBytesOf MAX_UNIT rest) (IsLongOf MAX_UNIT rest) (IsStepOf text) (IsLongStepOf text) (λ bytes. Noise bytes)
+    (bytes_at MAX_UNIT rest) (bytes_shows MAX_UNIT rest)
     (λ bytes h. (after_takes (codes "noise ") text rest e ∙ ap (λ (t : List ℕ). codes "noise " ++ t) h.0, tt, h.1, h.2))
     (λ bytes h. (after_takes (codes "noise ") text rest e ∙ ap (λ (t : List ℕ). codes "noise " ++ t) h.0, tt, h.1, h.2)))
     (shows_or_else (IsStepOf text) (IsLongStepOf text) (after (codes "damage ") text) _ _
     (λ rest e. shows_map (AreNumbersOf rest) Never (IsStepOf text) (IsLongStepOf text) (λ m. Damage m.0 m.1) (damage_at rest) (damage_shows rest)
-    (λ m h. (after_takes (codes "damage ") text rest e ∙ ap (λ (t : List ℕ). codes "damage " ++ t) h.0, (h.1, h.2), no_bytes, omega arith)) (λ m h. absurd h))
+    (λ m h. (after_takes (codes "damage ") text rest e ∙ ap (λ (t : List ℕ). codes "damage " ++ t) h.0, (h.1, h.2), no_bytes, omega arith))
+    (λ m h. absurd h))
     (link_step_shows text))))
 
-pub step_again : (step : StepValue) → NumbersFit step → IsBytes (step_bytes step) → step_at (step_text step) ≡ limited (most_bytes step) (step_bytes step) step
+pub step_again : (step : StepValue) → NumbersFit step → IsBytes (step_bytes step) → step_at (step_text step) ≡ limited (most_bytes step)
+    (step_bytes step) step
 unfolding step_at plain_at link_step_at
 step_again Start h fits = refl
 step_again Halt h fits = refl

@@ -1,14 +1,14 @@
 -- A step that can't be made, behind steps that start each side at most once, goes by its rule on true numbers.
 use Rattle.std.proofs.Common.{◌≡◌, ℕ, List, Option, Result, Err, ap, subst, ◌∙◌}
-use Rattle.dna_model.specs.ScriptText.{IsScript}
-use Rattle.dna_model.specs.Stepped.{Stop}
-use Rattle.dna_model.specs.Played.{Played, plays_step}
-use Rattle.dna_model.specs.PlayRun.{StartsOnce}
-use Rattle.dna_model.specs.StepRule.{StepsByRule}
-use Rattle.dna_model.specs.KeptPlayed.{KeptPlayed, kept_plays_step}
-use Rattle.dna_model.specs.KeptRun.{kept_pair}
-use Rattle.dna_model.proofs.KeptNext.{stops_too}
-use Rattle.dna_model.proofs.PlayedRuled.{next_goes_by_rule}
+use Rattle.dna_play.specs.ScriptText.{IsScript}
+use Rattle.dna_play.specs.Stepped.{Stop}
+use Rattle.dna_play.specs.Played.{Played, plays_step}
+use Rattle.dna_play.specs.PlayRun.{StartsOnce}
+use Rattle.dna_play.specs.StepRule.{StepsByRule}
+use Rattle.dna_play.specs.KeptPlayed.{KeptPlayed, kept_plays_step}
+use Rattle.dna_play.specs.KeptRun.{kept_pair}
+use Rattle.dna_play.proofs.Stored.Next.{stops_too}
+use Rattle.dna_play.proofs.Played.Ruled.{next_goes_by_rule}
 use Rattle.pair_player.specs.Playing.{HasPlayed, Reached, StopsBehind}
 use Rattle.pair_player.specs.Runs.{StopsByRule}
 use Rattle.pair_player.specs.SoFar.{with_step}
@@ -24,7 +24,8 @@ by_its_rule text r stop line h once s =
     let fits : IsScript (with_step r.script s.step) = (one_more text r.come s.later r.script s.step h.read s.few s.fits s.spelled).fits in
     let same : kept_plays_step (kept_pair so_far) s.step ≡ Err stop =
     ap (λ (p : KeptPlayed). kept_plays_step p.pair s.step) found.1.keeps ∙ s.stops in
-    let stops : plays_step so_far s.step ≡ Err stop = stops_too r.script read.node_a read.node_b read.few so_far found.1.makes once s.step stop s.fits same in
+    let stops : plays_step so_far s.step ≡ Err stop = stops_too r.script read.node_a read.node_b read.few so_far found.1.makes once s.step stop s.fits
+    same in
     record {
       so_far = so_far;
       of_truth = found.1;

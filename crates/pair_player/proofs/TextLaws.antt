@@ -1,5 +1,6 @@
 -- A text of a script is read in one way alone.
-use Rattle.std.proofs.Common.{◌≡◌, ℕ, ◌<◌, true, List, [], ◌∷◌, ◌++◌, length, Option, Some, Result, Ok, Err, refl, sym, ap, subst, ◌∙◌, inl, inr, arith, append_assoc}
+use Rattle.std.proofs.Common.{◌≡◌, ℕ, ◌<◌, true, List, [], ◌∷◌, ◌++◌, length, Option, Some, Result, Ok, Err, refl, sym, ap, subst, ◌∙◌, inl, inr}
+use Rattle.std.proofs.Common.{arith, append_assoc}
 use Rattle.std.specs.List.{flat_map, AllByRecursion}
 use Rattle.std.proofs.lemmas.Bool.{le-leb, lt-leb}
 use Rattle.std.proofs.lemmas.Option.{same_Some}
@@ -9,9 +10,10 @@ use Rattle.capture.specs.Text.{ended}
 use Rattle.capture.specs.Range.{IsNode}
 use Rattle.capture.specs.Departing.{first_line, has_lf, LineDeparts}
 use Rattle.capture.proofs.TextLaws.{ended_first, same_ended, line_some, line_once, whole_or_not}
-use Rattle.dna_model.specs.Script.{ScriptStep}
-use Rattle.dna_model.specs.ScriptText.{line_text, script_head, script_line, step_bytes, most_bytes, IsStep, WordsDepart, StepDeparts, HeadWordsDepart, ScriptHeadDeparts, MAX_STEPS}
-use Rattle.pair_player.specs.Reading.{line_at, head_at}
+use Rattle.dna_play.specs.Script.{ScriptStep}
+use Rattle.dna_play.specs.ScriptText.{line_text, script_head, script_line, step_bytes, most_bytes, IsStep, WordsDepart, StepDeparts, HeadWordsDepart}
+use Rattle.dna_play.specs.ScriptText.{ScriptHeadDeparts, MAX_STEPS}
+use Rattle.pair_player.specs.inner.Reading.{line_at, head_at}
 use Rattle.pair_player.proofs.LineWords.{line_again}
 use Rattle.pair_player.proofs.HeadLaws.{head_again}
 use Rattle.pair_player.proofs.LackLaws.{line_lacks, line_short, head_lacks, head_short}
@@ -38,7 +40,8 @@ pub record IsSameHead (a b a' b' : ℕ) (x y : List ℕ) : Type 0 where
   pub node_b : b ≡ b'
   pub rest : x ≡ y
 
-pub one_head : (a b a' b' : ℕ) (x y : List ℕ) → IsNode a → IsNode b → IsNode a' → IsNode b' → ended (script_head a b) ++ x ≡ ended (script_head a' b') ++ y → IsSameHead a b a' b' x y
+pub one_head : (a b a' b' : ℕ) (x y : List ℕ) → IsNode a → IsNode b → IsNode a' → IsNode b' → ended (script_head a b) ++
+    x ≡ ended (script_head a' b') ++ y → IsSameHead a b a' b' x y
 one_head a b a' b' x y p q p' q' e =
     let same = same_ended (script_head a b) (script_head a' b') x y (head_lacks a b p q) (head_lacks a' b' p' q') e in
     let both : ◌≡◌ {A = Option (ℕ × ℕ)} (Some (a, b)) (Some (a', b')) = sym (head_again a b p q) ∙ ap head_at same.0 ∙ head_again a' b' p' q' in
@@ -48,12 +51,15 @@ one_head a b a' b' x y p q p' q' e =
 -- ---- lists of steps
 
 -- a list of steps whose lines begin with these begins with these
-pub begun_lines : (ps rs : List ScriptStep) (rest : List ℕ) → AllByRecursion IsStep ps → AllByRecursion IsStep rs → flat_map script_line rs ≡ flat_map script_line ps ++ rest
+pub begun_lines : (ps rs : List ScriptStep) (rest : List ℕ) → AllByRecursion IsStep ps → AllByRecursion IsStep rs →
+    flat_map script_line rs ≡ flat_map script_line ps ++ rest
     → (more : List ScriptStep) × (rs ≡ ps ++ more) × (rest ≡ flat_map script_line more)
 begun_lines [] rs rest p q e = (rs, refl, sym e)
-begun_lines (r ∷ ps) [] rest p q e = absurd (line_some (line_text r) (flat_map script_line ps ++ rest) (sym (e ∙ append_assoc (script_line r) (flat_map script_line ps) rest)))
+begun_lines (r ∷ ps) [] rest p q e =
+    absurd (line_some (line_text r) (flat_map script_line ps ++ rest) (sym (e ∙ append_assoc (script_line r) (flat_map script_line ps) rest)))
 begun_lines (r ∷ ps) (s ∷ rs) rest p q e =
-    let one = one_line s r (flat_map script_line rs) (flat_map script_line ps ++ rest) q.0 p.0 (e ∙ append_assoc (script_line r) (flat_map script_line ps) rest) in
+    let one = one_line s r (flat_map script_line rs) (flat_map script_line ps ++ rest) q.0 p.0
+    (e ∙ append_assoc (script_line r) (flat_map script_line ps) rest) in
     let ih = begun_lines ps rs rest p.1 q.1 one.1 in
     let head : s ≡ r = one.0 in
     let tail : rs ≡ ps ++ ih.0 = ih.1 in
@@ -69,11 +75,13 @@ words_fit : (kind : Departure) (line : ScriptStep) → IsStep line → WordsDepa
 words_fit Syntax line h d = d line h.spelling refl
 words_fit TooMany line h d = d
 words_fit TooLong line h d =
-    let long : line_at (line_text d.0) ≡ Err TooLong = line_again d.0.side d.0.step d.1 ∙ rw (lt-leb (length (step_bytes d.0.step)) (most_bytes d.0.step) (omega (arith, d.2))) refl in
+    let long : line_at (line_text d.0) ≡ Err TooLong =
+    line_again d.0.side d.0.step d.1 ∙ rw (lt-leb (length (step_bytes d.0.step)) (most_bytes d.0.step) (omega (arith, d.2))) refl in
     let both : ◌≡◌ {A = Result ScriptStep Departure} (Ok line) (Err TooLong) = sym (line_read line h) ∙ ap line_at d.3 ∙ long in
     cc
 
-pub no_departure : (kind : Departure) (line : ScriptStep) (rest : List ℕ) (steps : ℕ) → IsStep line → steps < MAX_STEPS → StepDeparts steps kind (script_line line ++ rest) → ⊥
+pub no_departure : (kind : Departure) (line : ScriptStep) (rest : List ℕ) (steps : ℕ) → IsStep line → steps < MAX_STEPS →
+    StepDeparts steps kind (script_line line ++ rest) → ⊥
 no_departure kind line rest steps h few (inl d) = by_kind kind d
   where
     first : (first_line (script_line line ++ rest) ≡ line_text line) × (has_lf (script_line line ++ rest) ≡ true)
@@ -94,7 +102,8 @@ no_end_departure steps TooMany (inl d) = d.1 refl
 no_end_departure steps kind (inr d) = let ended_line = d.1.ended in cc
 
 -- where a head comes first, nothing departs
-pub no_head_departure : (kind : Departure) (node_a node_b : ℕ) (rest : List ℕ) → IsNode node_a → IsNode node_b → ScriptHeadDeparts kind (ended (script_head node_a node_b) ++ rest) → ⊥
+pub no_head_departure : (kind : Departure) (node_a node_b : ℕ) (rest : List ℕ) → IsNode node_a → IsNode node_b →
+    ScriptHeadDeparts kind (ended (script_head node_a node_b) ++ rest) → ⊥
 no_head_departure TooMany node_a node_b rest p q d = d
 no_head_departure TooLong node_a node_b rest p q d =
     let first = ended_first (script_head node_a node_b) rest (head_lacks node_a node_b p q) in

@@ -2,10 +2,11 @@
 use Rattle.std.proofs.Common.{◌≡◌, ℕ, ◌+◌, inl, inr, List, [], ◌∷◌, ◌++◌, length, Option, Some, None, Result, Ok, Err, sym, ap, ◌∙◌}
 use Rattle.std.specs.Option.{IfSome}
 use Rattle.capture.specs.declared.fault.Departure.{Departure}
-use Rattle.dna_model.specs.KeptPlayed.{KeptMade, KeptPlayed, KeptStopped, if_made, kept_not_begun, kept_play, kept_plays_all, kept_plays_step, new_pair, with_records}
-use Rattle.dna_model.specs.Script.{ScriptStep, Script}
-use Rattle.dna_model.specs.ScriptText.{IsScriptText, StepDeparts}
-use Rattle.dna_model.specs.Stepped.{Stop, BadStep, Full}
+use Rattle.dna_play.specs.KeptPlayed.{KeptMade, KeptPlayed, KeptStopped, if_made, kept_not_begun, kept_play, kept_plays_all, kept_plays_step}
+use Rattle.dna_play.specs.KeptPlayed.{new_pair, with_records}
+use Rattle.dna_play.specs.Script.{ScriptStep, Script}
+use Rattle.dna_play.specs.ScriptText.{IsScriptText, StepDeparts}
+use Rattle.dna_play.specs.Stepped.{Stop, BadStep, Full}
 use Rattle.pair_player.specs.declared.fault.PlayFault.TheVariants as faults
 use Rattle.pair_player.specs.declared.fault.PlayFault.{PlayFault}
 use Rattle.pair_player.specs.declared.played.Played.{Played}
@@ -17,20 +18,26 @@ use Rattle.pair_player.proofs.SoFarLaws.{departs_nowhere, goes_on, head_stands, 
 -- ---- where a step stops, no more are made
 
 first-made : (n : ℕ) (so_far played after : KeptPlayed) (first : ScriptStep) (steps more : List ScriptStep) (now : Result KeptMade Stop)
-    → ((made : KeptMade) → kept_plays_all (n + 1) (with_records so_far first.side made) steps ≡ Ok played → kept_plays_all (n + 1) (with_records so_far first.side made) more ≡ Ok after → ⊥)
-    → if_made now (λ made. kept_plays_all (n + 1) (with_records so_far first.side made) steps) (λ stop. record { steps = n; stop = stop; so_far = so_far }) ≡ Ok played
-    → if_made now (λ made. kept_plays_all (n + 1) (with_records so_far first.side made) more) (λ stop. record { steps = n; stop = stop; so_far = so_far }) ≡ Ok after → ⊥
+    → ((made : KeptMade) → kept_plays_all (n + 1) (with_records so_far first.side made) steps ≡ Ok played →
+    kept_plays_all (n + 1) (with_records so_far first.side made) more ≡ Ok after → ⊥)
+    → if_made now (λ made. kept_plays_all (n + 1) (with_records so_far first.side made) steps)
+    (λ stop. record { steps = n; stop = stop; so_far = so_far }) ≡ Ok played
+    → if_made now (λ made. kept_plays_all (n + 1) (with_records so_far first.side made) more)
+    (λ stop. record { steps = n; stop = stop; so_far = so_far }) ≡ Ok after → ⊥
 first-made n so_far played after first steps more (Ok made) on e f = on made e f
 first-made n so_far played after first steps more (Err stop) on e f = absurd cc
 
-stops_there : (n : ℕ) (so_far after : KeptPlayed) (step : ScriptStep) (more : List ScriptStep) (stop : Stop) → kept_plays_step so_far.pair step ≡ Err stop → kept_plays_all n so_far (step ∷ more) ≡ Ok after → ⊥
+stops_there : (n : ℕ) (so_far after : KeptPlayed) (step : ScriptStep) (more : List ScriptStep) (stop : Stop) →
+    kept_plays_step so_far.pair step ≡ Err stop → kept_plays_all n so_far (step ∷ more) ≡ Ok after → ⊥
 stops_there n so_far after step more stop e f = by_step (kept_plays_step so_far.pair step) e f
   where
-    by_step : (now : Result KeptMade Stop) → now ≡ Err stop → if_made now (λ made. kept_plays_all (n + 1) (with_records so_far step.side made) more) (λ stop. record { steps = n; stop = stop; so_far = so_far }) ≡ Ok after → ⊥
+    by_step : (now : Result KeptMade Stop) → now ≡ Err stop → if_made now (λ made. kept_plays_all (n + 1) (with_records so_far step.side made) more)
+        (λ stop. record { steps = n; stop = stop; so_far = so_far }) ≡ Ok after → ⊥
     by_step (Ok made) p q = absurd cc
     by_step (Err why) p q = absurd cc
 
-stops_behind : (n : ℕ) (so_far played after : KeptPlayed) (steps : List ScriptStep) (step : ScriptStep) (more : List ScriptStep) (stop : Stop) → kept_plays_all n so_far steps ≡ Ok played
+stops_behind : (n : ℕ) (so_far played after : KeptPlayed) (steps : List ScriptStep) (step : ScriptStep) (more : List ScriptStep) (stop : Stop) →
+    kept_plays_all n so_far steps ≡ Ok played
     → kept_plays_step played.pair step ≡ Err stop → kept_plays_all n so_far ((steps ++ step ∷ []) ++ more) ≡ Ok after → ⊥
 stops_behind n so_far played after [] step more stop e f g =
     stops_there n so_far after step more stop (ap (λ (x : KeptPlayed). kept_plays_step x.pair step) (same_Ok so_far played e) ∙ f) g
@@ -43,14 +50,17 @@ abbrev play_of : (node_a node_b : ℕ) (steps : List ScriptStep) → Result Kept
 play_of node_a node_b steps = kept_plays_all 0 (record { pair = new_pair node_a node_b; of_a = []; of_b = [] }) steps
 
 same_play : (a a' b b' : ℕ) (steps steps' : List ScriptStep) → a ≡ a' → b ≡ b' → steps ≡ steps' → play_of a b steps ≡ play_of a' b' steps'
-same_play a a' b b' steps steps' e f g = ap (λ (x : ℕ). play_of x b steps) e ∙ ap (λ (x : ℕ). play_of a' x steps) f ∙ ap (λ (x : List ScriptStep). play_of a' b' x) g
+same_play a a' b b' steps steps' e f g = ap (λ (x : ℕ). play_of x b steps) e ∙ ap (λ (x : ℕ). play_of a' x steps) f ∙
+    ap (λ (x : List ScriptStep). play_of a' b' x) g
 
 -- ---- of a whole text
 
 module _ (bytes : List ℕ) (script : Script) (played : KeptPlayed) (is_text : IsScriptText script bytes) (made : kept_play script ≡ Ok played) where
-  nowhere : (kind : Departure) (line : ℕ) (r : Reached) (come : Option (List ℕ)) → IsReadSoFar (Some bytes) r.script come → IfSome come (StepDeparts (length r.script.steps) kind) → ⊥
+  nowhere : (kind : Departure) (line : ℕ) (r : Reached) (come : Option (List ℕ)) → IsReadSoFar (Some bytes) r.script come →
+      IfSome come (StepDeparts (length r.script.steps) kind) → ⊥
   nowhere kind line r None read departs = absurd read.begins
-  nowhere kind line r (Some rest) read departs = departs_nowhere bytes rest r.script script kind is_text (record { fits = read.fits; spelled = read.begins }) departs
+  nowhere kind line r (Some rest) read departs =
+      departs_nowhere bytes rest r.script script kind is_text (record { fits = read.fits; spelled = read.begins }) departs
 
   begun_of : (begun : Script) (come : Option (List ℕ)) → IsReadSoFar (Some bytes) begun come → IsBeginningOf begun script
   begun_of begun None read = absurd read.begins
@@ -60,15 +70,18 @@ module _ (bytes : List ℕ) (script : Script) (played : KeptPlayed) (is_text : I
   not_stopped stop line r h s =
       let begun = begun_of (with_step r.script s.step) s.later (one_more (Some bytes) r.come s.later r.script s.step h.read s.few s.fits s.spelled) in
       stops_behind 0 (kept_not_begun r.script) r.played played r.script.steps s.step begun.more stop h.made s.stops
-      (sym (same_play script.node_a r.script.node_a script.node_b r.script.node_b script.steps ((r.script.steps ++ s.step ∷ []) ++ begun.more) begun.node_a begun.node_b begun.steps) ∙ made)
+      (sym (same_play script.node_a r.script.node_a script.node_b r.script.node_b script.steps ((r.script.steps ++ s.step ∷ []) ++ begun.more)
+      begun.node_a begun.node_b begun.steps) ∙ made)
 
   same_reached : (r : Reached) → HasPlayed (Some bytes) r → r.script ≡ script → r.played ≡ played
   same_reached r h same = same_Ok r.played played (sym h.made ∙ ap kept_play same ∙ made)
 
-  same_written : (old new : Held) (r : Reached) → HasWritten old new r → r.script ≡ script → r.played ≡ played → HasWritten old new (record { script = script; played = played; come = Some [] })
+  same_written : (old new : Held) (r : Reached) → HasWritten old new r → r.script ≡ script → r.played ≡ played →
+      HasWritten old new (record { script = script; played = played; come = Some [] })
   same_written old new r h e f = record { a = rw (← e, ← f) h.a; b = rw (← e, ← f) h.b }
 
-  pub whole_played : (old new : Held) (answer : Result Played PlayFault) → Plays (Some bytes) old new answer → AnswersWhole (record { script = script; played = played; come = Some [] }) old new answer
+  pub whole_played : (old new : Held) (answer : Result Played PlayFault) → Plays (Some bytes) old new answer →
+      AnswersWhole (record { script = script; played = played; come = Some [] }) old new answer
   whole_played old new (Ok answer) h =
       let r : Reached = h.0 in
       let same : r.script ≡ script = one_script bytes r.script script (whole bytes r.come r.script h.1.read h.3.end) is_text in

@@ -8,10 +8,10 @@ use Rattle.capture.specs.declared.fault.Departure.{Departure}
 use Rattle.capture.specs.declared.format.Format.TheVariants.{One}
 use Rattle.capture.specs.Lines.{IsCutBehind}
 use Rattle.capture.specs.Text.{capture_text}
-use Rattle.dna_model.specs.Script.{ScriptStep, Script}
-use Rattle.dna_model.specs.ScriptText.{IsStep, ScriptHeadDeparts, StepDeparts, script_line, MAX_STEPS}
-use Rattle.dna_model.specs.Stepped.{Stop, BadStep, Full}
-use Rattle.dna_model.specs.KeptPlayed.{KeptPlayed, kept_plays_step, kept_play}
+use Rattle.dna_play.specs.Script.{ScriptStep, Script}
+use Rattle.dna_play.specs.ScriptText.{IsStep, ScriptHeadDeparts, StepDeparts, script_line, MAX_STEPS}
+use Rattle.dna_play.specs.Stepped.{Stop, BadStep, Full}
+use Rattle.dna_play.specs.KeptPlayed.{KeptPlayed, kept_plays_step, kept_play}
 use Rattle.pair_player.specs.declared.fault.PlayFault.{PlayFault}
 use Rattle.pair_player.specs.declared.fault.PlayFault.TheVariants as faults
 use Rattle.pair_player.specs.declared.played.Played.{Played}
@@ -114,7 +114,8 @@ PlaysSome text old new = TakesNothing old new ⊎ PlaysTo text old new (λ r. Un
 -- or nothing was written where no step was read; or, where a write failed, beginnings of what was played.
 abbrev pub Plays : Option (List ℕ) → Held → Held → Result Played PlayFault → Type 0
 Plays text old new (Ok answer) = PlaysTo text old new (EndsBehind answer.steps)
-Plays text old new (Err (faults.Departs kind line)) = (HeadDepartsAt text kind line × TakesNothing old new) ⊎ PlaysTo text old new (DepartsBehind kind line)
+Plays text old new (Err (faults.Departs kind line)) = (HeadDepartsAt text kind line × TakesNothing old new) ⊎
+    PlaysTo text old new (DepartsBehind kind line)
 Plays text old new (Err (faults.BadStep line)) = PlaysTo text old new (StopsBehind BadStep line)
 Plays text old new (Err (faults.Full line)) = PlaysTo text old new (StopsBehind Full line)
 Plays text old new (Err faults.Read) = PlaysSome text old new
@@ -124,7 +125,8 @@ Plays text old new (Err faults.OutOfMemory) = TakesNothing old new ⊎ PlaysTo t
 -- Where a read failed: each whole line that the reader had given until then was read, its step made, and its records written. `left` is what it
 -- has left. Behind the steps, or where no head was read, it had given a piece of a line.
 abbrev pub PlaysWholeLines : (text left : Option (List ℕ)) → Held → Held → Result Played PlayFault → Type 0
-PlaysWholeLines text left old new (Err faults.Read) = (TakesNothing old new × IsCutBehind text left) ⊎ PlaysTo text old new (λ r. IsCutBehind r.come left)
+PlaysWholeLines text left old new (Err faults.Read) =
+    (TakesNothing old new × IsCutBehind text left) ⊎ PlaysTo text old new (λ r. IsCutBehind r.come left)
 PlaysWholeLines text left old new answer = Unit {0}
 
 -- ---- of a script that is played whole

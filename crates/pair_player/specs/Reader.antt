@@ -7,8 +7,8 @@ use Rattle.capture.specs.declared.phase.Phase.TheVariants as phases
 use Rattle.capture.specs.Lines.{IsCut, IsCutBehind, LineState, to_come}
 use Rattle.capture.specs.Range.{IsNode}
 use Rattle.capture.specs.Text.{ended}
-use Rattle.dna_model.specs.Script.{ScriptStep}
-use Rattle.dna_model.specs.ScriptText.{IsStep, StepDeparts, ScriptHeadDeparts, script_head, script_line, MAX_STEPS}
+use Rattle.dna_play.specs.Script.{ScriptStep}
+use Rattle.dna_play.specs.ScriptText.{IsStep, StepDeparts, ScriptHeadDeparts, script_head, script_line, MAX_STEPS}
 use Rattle.pair_player.specs.declared.fault.ScriptFault.{ScriptFault}
 use Rattle.pair_player.specs.declared.fault.ScriptFault.TheVariants.{Departs, Read, OutOfMemory, Failed}
 
@@ -46,7 +46,8 @@ TakesStep old new before after (Ok (Some step)) =
     IsStep step × (old.taken ≤ MAX_STEPS) × (new.taken ≡ old.taken + 1) × Consumes before after (script_line step)
 TakesStep old new before after (Ok None) = IsAtEnd before × (new.taken ≡ old.taken)
 TakesStep old new before after (Err fault) =
-    FaultShows (StepDeparts (old.taken - 1)) (old.taken + 1) before fault × (new.taken ≡ old.taken) × WhereReadFails (IsCut new.unread before after) fault
+    FaultShows (StepDeparts (old.taken - 1)) (old.taken + 1) before fault × (new.taken ≡ old.taken) × WhereReadFails (IsCut new.unread before after)
+    fault
 
 -- What `advance` gives while more may come: a step, whose line was the first of what was to come; the end, where nothing was to
 -- come; or a fault of the line at hand.

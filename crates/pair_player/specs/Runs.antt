@@ -1,13 +1,13 @@
 -- What was played: its captures are a run of two nodes, and ends on true numbers make the same steps.
 use Rattle.std.specs.Prelude.{◌≡◌, ℕ, List, Option, Ok, Err}
 use Rattle.capture.specs.Range.{IsText}
-use Rattle.dna_model.specs.LayersPair.{IsLayersRun}
-use Rattle.dna_model.specs.Script.{ScriptStep}
-use Rattle.dna_model.specs.Stepped.{Stop}
-use Rattle.dna_model.specs.Played.{Played, head_a, head_b, play, plays_step}
-use Rattle.dna_model.specs.PlayRun.{StartsOnce}
-use Rattle.dna_model.specs.StepRule.{StepsByRule}
-use Rattle.dna_model.specs.KeptRun.{kept_played}
+use Rattle.dna_node.specs.LayersPair.{IsLayersRun}
+use Rattle.dna_play.specs.Script.{ScriptStep}
+use Rattle.dna_play.specs.Stepped.{Stop}
+use Rattle.dna_play.specs.Played.{Played, head_a, head_b, play, plays_step}
+use Rattle.dna_play.specs.PlayRun.{StartsOnce}
+use Rattle.dna_play.specs.StepRule.{StepsByRule}
+use Rattle.dna_play.specs.KeptRun.{kept_played}
 use Rattle.pair_player.specs.Playing.{HasPlayed, Reached, text_a, text_b}
 
 -- no step that is made starts a side that was started before

@@ -1,13 +1,13 @@
 -- When an end has something to send, apart from how it chooses what goes first.
 use Rattle.std.specs.Prelude.{Bool, true, false, ◌&&◌, ◌||◌, not, nat_lt, List, [], ◌∷◌, length}
-use Rattle.dna_model.specs.declared.state.State.{State}
-use Rattle.dna_model.specs.declared.state.State.TheVariants.{Halted, Istrt, Astrt, Running}
-use Rattle.dna_model.specs.Table.{WINDOW}
-use Rattle.dna_model.specs.WireStation.{StationVariables}
-use Rattle.dna_model.specs.WireBook.{wire_is_new}
-use Rattle.dna_model.specs.Owed.{Owed}
-use Rattle.dna_model.specs.LinkOwed.{EndConfirm}
-use Rattle.dna_model.specs.NextSent.{LinkEnd, has_segment}
+use Rattle.dna_station.specs.declared.state.State.{State}
+use Rattle.dna_station.specs.declared.state.State.TheVariants.{Halted, Istrt, Astrt, Running}
+use Rattle.dna_station.specs.Table.{WINDOW}
+use Rattle.dna_station.specs.WireStation.{StationVariables}
+use Rattle.dna_station.specs.WireBook.{wire_is_new}
+use Rattle.dna_play.specs.Owed.{Owed}
+use Rattle.dna_play.specs.LinkOwed.{EndConfirm}
+use Rattle.dna_play.specs.NextSent.{LinkEnd, has_segment}
 
 -- ---- the links: a DC, or a link that owes something or has a segment to send
 

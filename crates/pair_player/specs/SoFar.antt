@@ -1,8 +1,8 @@
 -- A text of a script as far as it was read.
 use Rattle.std.specs.Prelude.{◌≡◌, ℕ, List, [], ◌∷◌, ◌++◌, Option}
 use Rattle.std.specs.Io.KnownBytes.{Consumes}
-use Rattle.dna_model.specs.Script.{ScriptStep, Script}
-use Rattle.dna_model.specs.ScriptText.{IsScript, script_text}
+use Rattle.dna_play.specs.Script.{ScriptStep, Script}
+use Rattle.dna_play.specs.ScriptText.{IsScript, script_text}
 
 -- The text begins with this script, and goes on with what is to come, where the reader tells its bytes.
 pub record IsReadSoFar (text : Option (List ℕ)) (script : Script) (come : Option (List ℕ)) : Type 0 where

@@ -1,5 +1,6 @@
 -- What a step of the code says, without where its message lies in memory.
-use Rattle.dna_model.specs.Script.{StepValue, ScriptStep, Start, Halt, Timer, Send, Deliver, Refuse, Lose, Damage, Noise, Open, Accept, Reject, In, Close, Retry}
+use Rattle.dna_play.specs.Script.{StepValue, ScriptStep, Start, Halt, Timer, Send, Deliver, Refuse, Lose, Damage, Noise, Open, Accept, Reject, In}
+use Rattle.dna_play.specs.Script.{Close, Retry}
 use Rattle.pair_player.specs.declared.step.Step.{Step}
 use Rattle.pair_player.specs.declared.step.Step.TheVariants as steps
 use Rattle.pair_player.specs.declared.step.ScriptStep as lines

@@ -4,12 +4,12 @@ use Rattle.wire_base.specs.declared.side.Side.{Side}
 use Rattle.wire_base.specs.declared.side.Side.TheVariants.{A, B}
 use Rattle.capture.specs.declared.hint.HintForm.TheVariants.{Number}
 use Rattle.capture.specs.Text.{record_lines}
-use Rattle.dna_model.specs.Stepped.{Stop}
-use Rattle.dna_model.specs.Kept.{KeptEnd}
-use Rattle.dna_model.specs.KeptPlay.{KeptStepped, if_so, kept_plays, loses, silent, with_next}
-use Rattle.dna_model.specs.KeptPlayed.{KeptPair, KeptMade, left_by}
-use Rattle.dna_model.specs.Receipt.{is_damage}
-use Rattle.dna_model.specs.Script.{StepValue, ScriptStep, Timer, Send, Deliver, Refuse, Lose, Damage, Retry}
+use Rattle.dna_play.specs.Stepped.{Stop}
+use Rattle.dna_play.specs.Kept.{KeptEnd}
+use Rattle.dna_play.specs.KeptPlay.{KeptStepped, if_so, kept_plays, loses, silent, with_next}
+use Rattle.dna_play.specs.KeptPlayed.{KeptPair, KeptMade, left_by}
+use Rattle.dna_play.specs.Receipt.{is_damage}
+use Rattle.dna_play.specs.Script.{StepValue, ScriptStep, Timer, Send, Deliver, Refuse, Lose, Damage, Retry}
 use Rattle.player_end.specs.Stepping.{HasUnit}
 
 -- the end after a step, the units on the line from it, and a text with the lines of the step's records behind it
@@ -18,7 +18,8 @@ sends going text (Ok made) = Ok (made.end, going ++ made.sent, text ++ record_li
 sends going text (Err stop) = Err stop
 
 -- the end after this step, the units on the line to it and on the line from it, and the text
-abbrev pub sides : StepValue → (coming going : List (List ℕ)) → List ℕ → Result KeptStepped Stop → Result (KeptEnd × List (List ℕ) × List (List ℕ) × List ℕ) Stop
+abbrev pub sides : StepValue → (coming going : List (List ℕ)) → List ℕ → Result KeptStepped Stop →
+    Result (KeptEnd × List (List ℕ) × List (List ℕ) × List ℕ) Stop
 sides step coming going text (Ok made) = Ok (made.end, left_by step coming, going ++ made.sent, text ++ record_lines Number made.records)
 sides step coming going text (Err stop) = Err stop
 

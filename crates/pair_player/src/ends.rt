@@ -1,17 +1,17 @@
 //! Both ends, and the line between them.
 
 ghost use Rattle.std.specs.Prelude.{◌≡◌, [], true, false, Ok, Err, drop, OnOk, IfOk, IfErr};
-ghost use Rattle.dna_model.specs.Receipt.{damaged, is_damage};
-ghost use Rattle.dna_model.specs.KeptPlay.{kept_plays};
-ghost use Rattle.dna_model.specs.KeptPlay as kept;
-ghost use Rattle.dna_model.specs.KeptPlayed.{kept_plays_step, new_pair};
+ghost use Rattle.dna_play.specs.Receipt.{damaged, is_damage};
+ghost use Rattle.dna_play.specs.KeptPlay.{kept_plays};
+ghost use Rattle.dna_play.specs.KeptPlay as kept;
+ghost use Rattle.dna_play.specs.KeptPlayed.{kept_plays_step, new_pair};
 ghost use Rattle.pair_player.specs.Step.{view, view_of_line};
 ghost use Rattle.player_end.specs.Stepping.{HasUnit, StopMeans, with_lines};
 ghost use Rattle.pair_player.specs.Stepping.{Asks, AsksMemory, CanBeHurt, CanCome, sends, sides, with_text};
 
 use crate::line::Line;
 use crate::step::{ScriptStep, Step};
-use dna_model::Head;
+use dna_station::Head;
 use player_end::{End, GivenPiece, HeldPacket, StepFault};
 use std::alloc::{AllocError, Global};
 use std::marker::Model;
@@ -32,7 +32,7 @@ pub struct Ends {
 }
 
 impl Model for Ends {
-    ghost use Rattle.dna_model.specs.KeptPlayed.{KeptPair};
+    ghost use Rattle.dna_play.specs.KeptPlayed.{KeptPair};
 
     ghost Value = { KeptPair };
 
@@ -71,7 +71,7 @@ impl Ends {
     /// given; whether it is bad is asked first. `OutOfMemory`: memory was refused, for which a timer and a loss never ask, nor does a step
     /// that breaks its rule, but where a message that becomes whole is too long. After any of them neither the ends nor what stands behind
     /// the text is of any use.
-    #[tactic(auto, using(crate::proofs::Sides::both_sides), unfolding(dna_model::specs::KeptPlayed::kept_plays_step))]
+    #[tactic(auto, using(crate::proofs::Sides::both_sides), unfolding(dna_play::specs::KeptPlayed::kept_plays_step))]
     pub fn play_step(&mut self, step: ScriptStep<'_>, text: &mut Vec<u8>) -> Result<(), StepFault>
         ensures ok { OnOk result (with_text text.old.items (kept_plays_step self.old (view_of_line step.entry)) ≡ Ok (self.new, text.new.items)) }
         ensures stop { IfErr result (λ fault. StopMeans (kept_plays_step self.old (view_of_line step.entry)) fault) }
@@ -100,7 +100,7 @@ impl Ends {
 }
 
 // A step of an end, with the line to it and the line from it.
-#[tactic(auto, using(crate::proofs::Sides::sides_of), unfolding(dna_model::specs::KeptPlay::kept_plays))]
+#[tactic(auto, using(crate::proofs::Sides::sides_of), unfolding(dna_play::specs::KeptPlay::kept_plays))]
 fn step_of(
     alloc: Global,
     end: &mut RingEnd,

@@ -2,9 +2,9 @@
 
 ghost use Rattle.std.specs.Prelude.{◌≡◌, ◌≤◌};
 ghost use Rattle.capture.specs.declared.limit.TheConstants.{MAX_MESSAGE as MOST};
-ghost use Rattle.dna_model.specs.ScriptText.{most_bytes};
+ghost use Rattle.dna_play.specs.ScriptText.{most_bytes};
 ghost use Rattle.pair_player.specs.Step.{view, view_of_line};
-ghost use Rattle.pair_player.specs.Entries.{line_with, plain, step_with};
+ghost use Rattle.pair_player.specs.inner.Entries.{line_with, plain, step_with};
 
 use crate::step::{ScriptStep, Step};
 use capture::{MAX_MESSAGE, MAX_UNIT};

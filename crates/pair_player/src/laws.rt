@@ -4,9 +4,9 @@ ghost use Rattle.std.specs.Prelude.{◌≡◌, ℕ, ◌<◌, [], length, List, O
 ghost use Rattle.std.specs.Io.KnownBytes.{Consumes, IsAtEnd};
 ghost use Rattle.capture.specs.declared.fault.Departure.{Departure as Kind};
 ghost use Rattle.capture.specs.Lines.{to_come};
-ghost use Rattle.dna_model.specs.KeptPlayed.{KeptPlayed, kept_play};
-ghost use Rattle.dna_model.specs.Script.{Script, ScriptStep};
-ghost use Rattle.dna_model.specs.ScriptText.{BeginsWithScript, IsScriptText, IsStep, ScriptHeadDeparts, StepDeparts, script_line, MAX_STEPS as MOST};
+ghost use Rattle.dna_play.specs.KeptPlayed.{KeptPlayed, kept_play};
+ghost use Rattle.dna_play.specs.Script.{Script, ScriptStep};
+ghost use Rattle.dna_play.specs.ScriptText.{BeginsWithScript, IsScriptText, IsStep, ScriptHeadDeparts, StepDeparts, script_line, MAX_STEPS as MOST};
 ghost use Rattle.pair_player.specs.declared.fault.PlayFault.{PlayFault};
 ghost use Rattle.pair_player.specs.declared.played.Played.{Played};
 ghost use Rattle.pair_player.specs.Playing.{AnswersWhole, Held, Plays, reached};

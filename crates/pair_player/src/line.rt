@@ -2,7 +2,7 @@
 
 ghost use Rattle.std.specs.Prelude.{◌≡◌, ◌≤◌, ◌++◌, ◌∷◌, [], drop, length, OnErr, OnOk};
 ghost use Rattle.capture.specs.declared.limit.TheConstants.{MAX_MESSAGE};
-ghost use Rattle.pair_player.specs.Line.{first_of};
+ghost use Rattle.pair_player.specs.inner.Line.{first_of};
 
 use std::alloc::{AllocError, Global};
 use std::collections::VecDeque;

@@ -5,12 +5,12 @@ ghost use Rattle.wire_base.specs.Tally.{tally_faults, tally_lent};
 ghost use Rattle.wire_base.specs.declared.side.Side.TheVariants as of_side;
 ghost use Rattle.capture.specs.declared.phase.Phase.TheVariants as Phase;
 ghost use Rattle.capture.specs.Faulty.{CountsReads};
-ghost use Rattle.dna_model.specs.Script.{ScriptStep as StepOfScript};
-ghost use Rattle.dna_model.specs.ScriptText.{IsStep};
-ghost use Rattle.pair_player.specs.Beginning.{HeadFault, IsBegun, fault_at, fault_of, is_failed_read};
+ghost use Rattle.dna_play.specs.Script.{ScriptStep as StepOfScript};
+ghost use Rattle.dna_play.specs.ScriptText.{IsStep};
+ghost use Rattle.pair_player.specs.inner.Beginning.{HeadFault, IsBegun, fault_at, fault_of, is_failed_read};
 ghost use Rattle.pair_player.specs.Playing.{CountsReadsOf, CountsWritesOf, Plays, PlaysWholeLines, held};
-ghost use Rattle.pair_player.specs.Making.{StepsOrStops, standing};
-ghost use Rattle.pair_player.specs.Waiting.{EndsAll, outlet};
+ghost use Rattle.pair_player.specs.inner.Making.{StepsOrStops, standing};
+ghost use Rattle.pair_player.specs.inner.Waiting.{EndsAll, outlet};
 
 use crate::ends::Ends;
 use crate::fault::{PlayFault, ScriptFault};
@@ -69,11 +69,15 @@ fn play_steps<R: Read, A: Write, B: Write>(
     b: &mut Tally<B>,
 ) -> Result<Played, PlayFault>
     requires { (begun.now.lines.phase ≡ Phase.Reading) × (begun.now.lines.steps ≡ 0) }
-    ensures plays { (text : Option (List ℕ)) → IsBegun text (R.remaining (tally_lent script.old)) begun.old.lines (standing begun.old.ends begun.old.texts.a.items begun.old.texts.b.items)
-        → Plays text (held (A.contents (tally_lent a.old)) (B.contents (tally_lent b.old))) (held (A.contents (tally_lent a.new)) (B.contents (tally_lent b.new))) result }
-    ensures lines { (text : Option (List ℕ)) → IsBegun text (R.remaining (tally_lent script.old)) begun.old.lines (standing begun.old.ends begun.old.texts.a.items begun.old.texts.b.items)
+    ensures plays { (text : Option (List ℕ)) → IsBegun text (R.remaining (tally_lent script.old)) begun.old.lines
+        (standing begun.old.ends begun.old.texts.a.items begun.old.texts.b.items)
+        → Plays text (held (A.contents (tally_lent a.old)) (B.contents (tally_lent b.old)))
+        (held (A.contents (tally_lent a.new)) (B.contents (tally_lent b.new))) result }
+    ensures lines { (text : Option (List ℕ)) → IsBegun text (R.remaining (tally_lent script.old)) begun.old.lines
+        (standing begun.old.ends begun.old.texts.a.items begun.old.texts.b.items)
         → PlaysWholeLines text (R.remaining (tally_lent script.new))
-        (held (A.contents (tally_lent a.old)) (B.contents (tally_lent b.old))) (held (A.contents (tally_lent a.new)) (B.contents (tally_lent b.new))) result }
+        (held (A.contents (tally_lent a.old)) (B.contents (tally_lent b.old))) (held (A.contents (tally_lent a.new)) (B.contents (tally_lent b.new)))
+        result }
     ensures reads { CountsReadsOf result (tally_faults script.old) (tally_faults script.new) }
     ensures writes_a { CountsWritesOf of_side.A result (tally_faults a.old) (tally_faults a.new) }
     ensures writes_b { CountsWritesOf of_side.B result (tally_faults b.old) (tally_faults b.new) }
@@ -147,9 +151,15 @@ fn end<A: Write, B: Write>(
     b: &mut Tally<B>,
     answer: Result<Played, PlayFault>,
 ) -> Result<Played, PlayFault>
-    ensures { EndsAll answer
-        (outlet texts.old.a.items (A.contents (tally_lent a.old)) (tally_faults a.old), outlet texts.old.b.items (B.contents (tally_lent b.old)) (tally_faults b.old))
-        (outlet texts.new.a.items (A.contents (tally_lent a.new)) (tally_faults a.new), outlet texts.new.b.items (B.contents (tally_lent b.new)) (tally_faults b.new)) result }
+    ensures { EndsAll answer (
+      outlet texts.old.a.items (A.contents (tally_lent a.old)) (tally_faults a.old),
+      outlet texts.old.b.items (B.contents (tally_lent b.old))
+          (tally_faults b.old),
+    ) (
+      outlet texts.new.a.items (A.contents (tally_lent a.new)) (tally_faults a.new),
+      outlet texts.new.b.items (B.contents (tally_lent b.new))
+          (tally_faults b.new),
+    ) result }
 {
     match texts.write_out(a, b) {
         Ok(()) => answer,

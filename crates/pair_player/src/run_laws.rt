@@ -2,15 +2,15 @@
 //! starts each side at most once they are a run of two nodes, and what is answered is what ends on true numbers make of it.
 
 ghost use Rattle.std.specs.Prelude.{◌≡◌, ◌↔◌, ℕ, [], true, List, Option, Result, Some, Ok};
-ghost use Rattle.dna_model.specs.Kept.{KeptEnd};
-ghost use Rattle.dna_model.specs.KeptRun.{kept_played};
-ghost use Rattle.dna_model.specs.Played.{Played as TruePlayed, play as true_play};
-ghost use Rattle.dna_model.specs.Player.{End, link_ends_of, variables_of};
-ghost use Rattle.dna_model.specs.PlayRun.{StartsOnce};
-ghost use Rattle.dna_model.specs.Script.{Script};
-ghost use Rattle.dna_model.specs.ScriptText.{IsScriptText};
-ghost use Rattle.dna_model.specs.StepRule as rule;
-ghost use Rattle.dna_model.specs.Stepped.{Stop};
+ghost use Rattle.dna_play.specs.Kept.{KeptEnd};
+ghost use Rattle.dna_play.specs.KeptRun.{kept_played};
+ghost use Rattle.dna_play.specs.Played.{Played as TruePlayed, play as true_play};
+ghost use Rattle.dna_play.specs.Player.{End, link_ends_of, variables_of};
+ghost use Rattle.dna_play.specs.PlayRun.{StartsOnce};
+ghost use Rattle.dna_play.specs.Script.{Script};
+ghost use Rattle.dna_play.specs.ScriptText.{IsScriptText};
+ghost use Rattle.dna_play.specs.StepRule as rule;
+ghost use Rattle.dna_play.specs.Stepped.{Stop};
 ghost use Rattle.player_end.specs.Stepping.{HasUnit};
 ghost use Rattle.pair_player.specs.declared.fault.PlayFault.{PlayFault};
 ghost use Rattle.pair_player.specs.declared.played.Played.{Played};

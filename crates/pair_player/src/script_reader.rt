@@ -7,7 +7,7 @@ ghost use Rattle.capture.specs.declared.limit.TheConstants.{MAX_MESSAGE};
 ghost use Rattle.capture.specs.Faulty.{CountsReads};
 ghost use Rattle.capture.specs.Lines.{to_come};
 ghost use Rattle.pair_player.specs.declared.limit.TheConstants.{MAX_STEPS};
-ghost use Rattle.pair_player.specs.Entries.{stepped_in};
+ghost use Rattle.pair_player.specs.inner.Entries.{stepped_in};
 ghost use Rattle.pair_player.specs.Faulty.{is_failed_read};
 ghost use Rattle.pair_player.specs.Reader.{Advances, Opens, TakesStep};
 ghost use Rattle.pair_player.specs.Step.{view_of_line};
@@ -50,7 +50,7 @@ impl Model for ScriptReader {
 
     ghost Value = { ScriptState };
 
-    ghost use Rattle.pair_player.specs.Fields.{script_state, IsCounted};
+    ghost use Rattle.pair_player.specs.inner.Fields.{script_state, IsCounted};
 
     ghost view = { script_state };
 

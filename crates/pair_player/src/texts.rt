@@ -4,10 +4,10 @@ ghost use Rattle.std.specs.Prelude.{◌≡◌, ◌<◌, [], ◌++◌, length, If
 ghost use Rattle.wire_base.specs.Tally.{tally_faults, tally_lent};
 ghost use Rattle.capture.specs.declared.format.Format.TheVariants as Layout;
 ghost use Rattle.capture.specs.Text.{head_line};
-ghost use Rattle.pair_player.specs.Making.{PutsLines};
-ghost use Rattle.pair_player.specs.Waiting.{PassBoth, Passes, Fails, outlet};
+ghost use Rattle.pair_player.specs.inner.Making.{PutsLines};
+ghost use Rattle.pair_player.specs.inner.Waiting.{PassBoth, Passes, Fails, outlet};
 
-use capture::{Format, put_head};
+use capture::{Format, put_head_line};
 use std::alloc::{AllocError, Global};
 use std::io::Write;
 use wire_base::{Side, Tally, WriteFailed, write_whole};
@@ -43,11 +43,8 @@ impl Texts {
         ensures a { OnOk result (self.new.a.items ≡ self.old.a.items ++ head_line Layout.One node_a node_b) }
         ensures b { OnOk result (self.new.b.items ≡ self.old.b.items ++ head_line Layout.One node_b node_a) }
     {
-        put_head(&mut self.a, Format::One, node_a, node_b)?;
-        self.a.push(b'\n')?;
-        put_head(&mut self.b, Format::One, node_b, node_a)?;
-        self.b.push(b'\n')?;
-        Ok(())
+        put_head_line(&mut self.a, Format::One, node_a, node_b)?;
+        put_head_line(&mut self.b, Format::One, node_b, node_a)
     }
 
     /// Puts the lines of the step at hand behind those of its side. `AllocError` where there is no memory for them; then no line is put.
@@ -70,9 +67,15 @@ impl Texts {
     ) -> Result<(), Side>
         ensures empty_a { OnOk result (self.new.a.items ≡ []) }
         ensures empty_b { OnOk result (self.new.b.items ≡ []) }
-        ensures writes { PassBoth
-            (outlet self.old.a.items (A.contents (tally_lent a.old)) (tally_faults a.old), outlet self.old.b.items (B.contents (tally_lent b.old)) (tally_faults b.old))
-            (outlet self.new.a.items (A.contents (tally_lent a.new)) (tally_faults a.new), outlet self.new.b.items (B.contents (tally_lent b.new)) (tally_faults b.new)) result }
+        ensures writes { PassBoth (
+          outlet self.old.a.items (A.contents (tally_lent a.old)) (tally_faults a.old),
+          outlet self.old.b.items (B.contents (tally_lent b.old))
+              (tally_faults b.old),
+        ) (
+          outlet self.new.a.items (A.contents (tally_lent a.new)) (tally_faults a.new),
+          outlet self.new.b.items (B.contents (tally_lent b.new))
+              (tally_faults b.new),
+        ) result }
     {
         let Ok(()) = write_text(&mut self.a, a) else {
             return Err(Side::A);
@@ -91,9 +94,15 @@ impl Texts {
     ) -> Result<(), Side>
         ensures few_a { OnOk result (length self.new.a.items < 65536) }
         ensures few_b { OnOk result (length self.new.b.items < 65536) }
-        ensures writes { PassBoth
-            (outlet self.old.a.items (A.contents (tally_lent a.old)) (tally_faults a.old), outlet self.old.b.items (B.contents (tally_lent b.old)) (tally_faults b.old))
-            (outlet self.new.a.items (A.contents (tally_lent a.new)) (tally_faults a.new), outlet self.new.b.items (B.contents (tally_lent b.new)) (tally_faults b.new)) result }
+        ensures writes { PassBoth (
+          outlet self.old.a.items (A.contents (tally_lent a.old)) (tally_faults a.old),
+          outlet self.old.b.items (B.contents (tally_lent b.old))
+              (tally_faults b.old),
+        ) (
+          outlet self.new.a.items (A.contents (tally_lent a.new)) (tally_faults a.new),
+          outlet self.new.b.items (B.contents (tally_lent b.new))
+              (tally_faults b.new),
+        ) result }
     {
         let Ok(()) = write_if_full(&mut self.a, a) else {
             return Err(Side::A);

@@ -4,8 +4,8 @@ ghost use Rattle.std.specs.Prelude.{◌≡◌, ◌≤◌, length, IfOk};
 ghost use Rattle.std.specs.Option.{option_map};
 ghost use Rattle.capture.specs.Reading.{must};
 ghost use Rattle.capture.specs.declared.limit.TheConstants.{MAX_MESSAGE};
-ghost use Rattle.pair_player.specs.Entries.{parted, plain, told};
-ghost use Rattle.pair_player.specs.Reading.{damage_at, head_at, line_at, link_step_at, plain_at, side_at, step_at};
+ghost use Rattle.pair_player.specs.inner.Entries.{parted, plain, told};
+ghost use Rattle.pair_player.specs.inner.Reading.{damage_at, head_at, line_at, link_step_at, plain_at, side_at, step_at};
 
 use crate::entry::{LineEntry, StepEntry};
 use capture::{
@@ -14,7 +14,7 @@ use capture::{
 use wire_base::Side;
 
 // A step of one word.
-#[tactic(auto, unfolding(crate::specs::Reading::plain_at))]
+#[tactic(auto, unfolding(crate::specs::inner::Reading::plain_at))]
 fn plain_of(text: &[u8]) -> Option<StepEntry>
     ensures { option_map plain result ≡ plain_at text.now }
 {
@@ -45,7 +45,7 @@ fn plain_of(text: &[u8]) -> Option<StepEntry>
     None
 }
 
-#[tactic(auto, unfolding(crate::specs::Reading::damage_at))]
+#[tactic(auto, unfolding(crate::specs::inner::Reading::damage_at))]
 fn damage_of(text: &[u8]) -> Option<(u64, u64)>
     ensures { damage_at text.now ≡ must result }
 {
@@ -56,7 +56,7 @@ fn damage_of(text: &[u8]) -> Option<(u64, u64)>
 }
 
 // A step of a link that has no message.
-#[tactic(auto, unfolding(crate::specs::Reading::link_step_at))]
+#[tactic(auto, unfolding(crate::specs::inner::Reading::link_step_at))]
 fn link_step_of(text: &[u8]) -> Option<StepEntry>
     ensures { link_step_at text.now ≡ must (option_map plain result) }
 {
@@ -80,7 +80,7 @@ fn link_step_of(text: &[u8]) -> Option<StepEntry>
 }
 
 // What the line says behind the letter of its side, with the text of its BYTES, where it has any; `None` where it can be no step's.
-#[tactic(auto, unfolding(crate::specs::Reading::step_at))]
+#[tactic(auto, unfolding(crate::specs::inner::Reading::step_at))]
 fn entry_of(text: &[u8]) -> Option<(StepEntry, Option<&[u8]>)>
     ensures { step_at text.now ≡ told (option_map (λ parts. (parts.0, option_map (λ digits. digits.now) parts.1)) result) }
 {
@@ -103,7 +103,7 @@ fn entry_of(text: &[u8]) -> Option<(StepEntry, Option<&[u8]>)>
 }
 
 // The side of a step, and what stands behind its letter and a space.
-#[tactic(auto, unfolding(crate::specs::Reading::side_at))]
+#[tactic(auto, unfolding(crate::specs::inner::Reading::side_at))]
 fn side_of(line: &[u8]) -> Option<(Side, &[u8])>
     ensures { option_map (λ parts. (parts.0, parts.1.now)) result ≡ side_at line.now }
 {
@@ -120,7 +120,7 @@ fn side_of(line: &[u8]) -> Option<(Side, &[u8])>
 /// bytes it has. The line is given without its LF.
 ///
 /// `Syntax` where it spells no step; `TooLong` where it would but for too many bytes. Takes no memory.
-#[tactic(auto, unfolding(crate::specs::Reading::line_at))]
+#[tactic(auto, unfolding(crate::specs::inner::Reading::line_at))]
 pub fn line_into(line: &[u8], room: &mut [u8]) -> Result<(LineEntry, usize), Departure>
     requires { length room.old ≡ MAX_MESSAGE }
     ensures step { line_at line.now ≡ parted room.new result }
@@ -141,7 +141,7 @@ pub fn line_into(line: &[u8], room: &mut [u8]) -> Result<(LineEntry, usize), Dep
 }
 
 /// The addresses of node a and node b, as the head spells them; the line is given without its LF. Takes no memory.
-#[tactic(auto, unfolding(crate::specs::Reading::head_at))]
+#[tactic(auto, unfolding(crate::specs::inner::Reading::head_at))]
 pub fn head_of(line: &[u8]) -> Option<(u16, u16)>
     ensures { result ≡ head_at line.now }
 {

@@ -2,10 +2,10 @@
 use Rattle.std.proofs.Common.{◌≡◌, Result, Ok, Err, refl, subst}
 use Rattle.wire_base.specs.declared.side.Side.{Side}
 use Rattle.wire_base.specs.declared.side.Side.TheVariants.{B}
-use Rattle.dna_model.specs.Script.{StepValue, ScriptStep}
-use Rattle.dna_model.specs.Stepped.{Stop, BadStep, Full}
-use Rattle.dna_model.specs.Played.{Played, plays_step}
-use Rattle.dna_model.specs.StepRule.{Asks, IsFull, rule_at, StepsByRule}
+use Rattle.dna_play.specs.Script.{StepValue, ScriptStep}
+use Rattle.dna_play.specs.Stepped.{Stop, BadStep, Full}
+use Rattle.dna_play.specs.Played.{Played, plays_step}
+use Rattle.dna_play.specs.StepRule.{Asks, IsFull, rule_at, StepsByRule}
 
 pub made_of_b : (so_far : Played) (step : ScriptStep) (value : StepValue) → step.side ≡ B → step.step ≡ value → Asks so_far.b so_far.a.half value →
     ¬ (IsFull so_far.b value) →

@@ -1,10 +1,10 @@
-//! Tests of `pair_judge`, `player_end` and `pair_player` from outside: verdicts and what refusals say, one end of the player, the rows of scripts,
-//! and devices that fail. They stand in a crate of their own, which is proved in its tests alone, so that those three are proved once.
+//! Laws of `pair_judge`, `pair_player` and the definitions as a caller applies them, each to a case of its own. They stand in a crate of their
+//! own, which is proved in its tests alone.
 #![tactic(auto)]
 
 #[cfg(test)]
-mod one_end;
+mod refusals;
 #[cfg(test)]
-mod scripts;
+mod run_laws;
 #[cfg(test)]
-mod verdicts;
+mod step_laws;

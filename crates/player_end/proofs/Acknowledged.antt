@@ -1,18 +1,19 @@
 -- Acknowledgement words that come, one after the other.
-use Rattle.std.proofs.Common.{◌≡◌, ℕ, ◌+◌, ◌-◌, ◌%◌, ◌<◌, ◌≤◌, Bool, true, false, ◌&&◌, List, [], ◌∷◌, length, refl, ap, ◌∙◌, arith, length-drop, ap₂, sym}
+use Rattle.std.proofs.Common.{◌≡◌, ℕ, ◌+◌, ◌-◌, ◌%◌, ◌<◌, ◌≤◌, Bool, true, false, ◌&&◌, List, [], ◌∷◌, length, refl, ap, ◌∙◌, arith, length-drop, ap₂}
+use Rattle.std.proofs.Common.{sym}
 use Rattle.std.proofs.lemmas.Bool.{leb-true}
 use Rattle.std.specs.Prelude.{nat_le}
 use Rattle.wire_base.specs.Window.{WindowView}
-use Rattle.dna_model.specs.declared.port.Port.{Port}
-use Rattle.dna_model.specs.LinkOwed.{LinkOwed, lowered}
-use Rattle.dna_model.specs.NextSent.{LinkEnd}
+use Rattle.dna_links.specs.declared.port.Port.{Port}
+use Rattle.dna_play.specs.LinkOwed.{LinkOwed, lowered}
+use Rattle.dna_play.specs.NextSent.{LinkEnd}
 use Rattle.dna_packet.specs.declared.ack_word.AckWord.{AckWord}
-use Rattle.dna_model.specs.Flow.{is_of_data, distance}
-use Rattle.dna_model.specs.Pieces.{Piece}
-use Rattle.dna_model.specs.WireFlow.{LinkVariables, acknowledged_by_all}
+use Rattle.dna_links.specs.Flow.{is_of_data, distance}
+use Rattle.dna_links.specs.Pieces.{Piece}
+use Rattle.dna_links.specs.WireFlow.{LinkVariables, acknowledged_by_all}
 use Rattle.link_segments.specs.Outstanding.{acknowledged_to, acknowledged_word, acknowledged_words}
 use Rattle.link_segments.proofs.Acknowledged.{with_window, same_words}
-use Rattle.player_end.specs.Links.{acknowledged}
+use Rattle.player_end.specs.inner.Links.{acknowledged}
 
 -- ---- how many are acknowledged
 
@@ -21,7 +22,8 @@ record GoesUp (w v : WindowView Piece) : Type 0 where
   pub less : length v.items ≤ length w.items
   pub first : v.first ≡ (w.first + (length w.items - length v.items)) % 4096
 
-one_up : (b : Bool) (number : ℕ) (w : WindowView Piece) → w.first < 4096 → length w.items ≤ 2047 → (b ≡ true → distance w.first number ≤ length w.items) →
+one_up : (b : Bool) (number : ℕ) (w : WindowView Piece) → w.first < 4096 → length w.items ≤ 2047 →
+    (b ≡ true → distance w.first number ≤ length w.items) →
     GoesUp w (acknowledged_to b number w)
 one_up false number w f few near = record { less = omega arith; first = omega (arith, f) }
 one_up true number w f few near =
@@ -31,7 +33,8 @@ one_up true number w f few near =
 both_up : (w v u : WindowView Piece) → GoesUp w v → GoesUp v u → GoesUp w u
 both_up w v u h k = record { less = omega (arith, h.less, k.less); first = omega (arith, h.less, k.less, h.first, k.first) }
 
-near_by : (b : Bool) (number : ℕ) (w : WindowView Piece) → (b && nat_le (distance w.first number) (length w.items)) ≡ true → distance w.first number ≤ length w.items
+near_by : (b : Bool) (number : ℕ) (w : WindowView Piece) → (b && nat_le (distance w.first number) (length w.items)) ≡ true →
+    distance w.first number ≤ length w.items
 near_by true number w e = leb-true (distance w.first number) (length w.items) e
 near_by false number w e = absurd cc
 
@@ -42,7 +45,8 @@ words_up (word ∷ words) w f few =
     let one = one_up test word.number w f few (near_by (is_of_data word.qualifier) word.number w) in
     let small : (acknowledged_word w word).first < 4096 = omega (arith, one.first) in
     let fewer : length (acknowledged_word w word).items ≤ 2047 = omega (arith, one.less, few) in
-    both_up w (acknowledged_word w word) (acknowledged_words words (acknowledged_word w word)) one (words_up words (acknowledged_word w word) small fewer)
+    both_up w (acknowledged_word w word) (acknowledged_words words (acknowledged_word w word)) one
+    (words_up words (acknowledged_word w word) small fewer)
 
 pub words_count : (words : List AckWord) (w : WindowView Piece) → w.first < 4096 → length w.items ≤ 2047 →
     distance w.first (acknowledged_words words w).first + length (acknowledged_words words w).items ≡ length w.items
@@ -53,13 +57,15 @@ words_count words w f few = let up = words_up words w f few in omega (arith, f, 
 abbrev pub end_of : Port → LinkVariables → LinkOwed → LinkEnd
 end_of port variables owed = record { port = port; variables = variables; owed = owed }
 
-module _ (port : Port) (k : LinkVariables) (owed : LinkOwed) (words : List AckWord) (w v : WindowView Piece) (is : v ≡ acknowledged_words words w) where
-  variables_are : with_window v k ≡ acknowledged_by_all words (with_window w k)
-  variables_are = ap (λ (x : WindowView Piece). with_window x k) is ∙ sym (same_words words w k)
+module _ (port : Port) (k : LinkVariables) (owed : LinkOwed) (words : List AckWord) (w v : WindowView Piece) (is : v ≡ acknowledged_words words w)
+  where
+    variables_are : with_window v k ≡ acknowledged_by_all words (with_window w k)
+    variables_are = ap (λ (x : WindowView Piece). with_window x k) is ∙ sym (same_words words w k)
 
-  pub acks_taken : (count : ℕ) (after : LinkOwed) → count ≡ distance w.first v.first → after ≡ lowered count owed →
-      end_of port (with_window v k) after ≡ acknowledged words (end_of port (with_window w k) owed)
-  acks_taken count after counted lower =
-      ap₂ (end_of port) variables_are (lower ∙ ap (λ (n : ℕ). lowered n owed) (counted ∙ ap (λ (l : LinkVariables). distance w.first l.acknowledged) variables_are))
+    pub acks_taken : (count : ℕ) (after : LinkOwed) → count ≡ distance w.first v.first → after ≡ lowered count owed →
+        end_of port (with_window v k) after ≡ acknowledged words (end_of port (with_window w k) owed)
+    acks_taken count after counted lower =
+        ap₂ (end_of port) variables_are
+        (lower ∙ ap (λ (n : ℕ). lowered n owed) (counted ∙ ap (λ (l : LinkVariables). distance w.first l.acknowledged) variables_are))
 
 pub ruleset counted = (words_count)

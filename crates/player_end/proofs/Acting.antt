@@ -4,15 +4,15 @@ use Rattle.std.specs.Prelude.{nat_le}
 use Rattle.wire_base.specs.Window.{WindowView}
 use Rattle.dna_packet.specs.declared.ack_word.AckWord.{AckWord}
 use Rattle.dna_packet.specs.Nsp.{SegmentValue}
-use Rattle.dna_model.specs.declared.port.Phase.TheVariants.{Running}
-use Rattle.dna_model.specs.Flow.{REACH, distance}
-use Rattle.dna_model.specs.Pieces.{Piece, piece_of}
-use Rattle.dna_model.specs.WireFlow.{LinkVariables, acknowledged_by_all, with_pieces, segment_taken, held}
-use Rattle.dna_model.specs.LinkOwed.{LinkOwed, DataAckTurn, nothing, same_phase, unless_left, lowered}
-use Rattle.dna_model.specs.NextSent.{LinkEnd}
-use Rattle.dna_model.specs.KeptLinks.{in_phase, acted_on, took_acks, took_segment, owes}
+use Rattle.dna_links.specs.declared.port.Phase.TheVariants.{Running}
+use Rattle.dna_links.specs.Flow.{REACH, distance}
+use Rattle.dna_links.specs.Pieces.{Piece, piece_of}
+use Rattle.dna_links.specs.WireFlow.{LinkVariables, acknowledged_by_all, with_pieces, segment_taken, held}
+use Rattle.dna_play.specs.LinkOwed.{LinkOwed, DataAckTurn, nothing, same_phase, unless_left, lowered}
+use Rattle.dna_play.specs.NextSent.{LinkEnd}
+use Rattle.dna_play.specs.KeptLinks.{in_phase, acted_on, took_acks, took_segment, owes}
 use Rattle.link_segments.specs.Outstanding.{acknowledged_words}
-use Rattle.player_end.specs.Links.{acknowledged_as, acknowledged}
+use Rattle.player_end.specs.inner.Links.{acknowledged_as, acknowledged}
 use Rattle.link_segments.proofs.Acknowledged.{with_window, same_words}
 
 -- what is owed is lowered and dropped in either order
@@ -39,9 +39,11 @@ piece_beside true p above v k = refl
 piece_beside false p above v k = refl
 
 beside_window : (s : SegmentValue) (v : WindowView Piece) (k : LinkVariables) → segment_taken s (with_window v k) ≡ with_window v (segment_taken s k)
-beside_window s v k = piece_beside (nat_le 1 (distance k.received s.number) && nat_le (distance k.received s.number) REACH) (piece_of s) (distance k.received s.number) v k
+beside_window s v k = piece_beside (nat_le 1 (distance k.received s.number) && nat_le (distance k.received s.number) REACH) (piece_of s)
+    (distance k.received s.number) v k
 
-either_order : (s : SegmentValue) (words : List AckWord) (k : LinkVariables) → acknowledged_by_all words (segment_taken s k) ≡ segment_taken s (acknowledged_by_all words k)
+either_order : (s : SegmentValue) (words : List AckWord) (k : LinkVariables) → acknowledged_by_all words (segment_taken s k) ≡ segment_taken s
+    (acknowledged_by_all words k)
 either_order s words k =
     let w = window_of k in
     ap (acknowledged_by_all words) (beside_window s w k)
@@ -52,9 +54,11 @@ either_order s words k =
 same_acknowledged : (s : SegmentValue) (k : LinkVariables) → (segment_taken s k).acknowledged ≡ k.acknowledged
 same_acknowledged s k = ap (λ (l : LinkVariables). l.acknowledged) (beside_window s (window_of k) k)
 
-pub segment_and_acks : (s : SegmentValue) (l : LinkEnd) → owes DataAckTurn (took_acks s.acks (record l { variables = segment_taken s l.variables })) ≡ took_segment s l
+pub segment_and_acks : (s : SegmentValue) (l : LinkEnd) →
+    owes DataAckTurn (took_acks s.acks (record l { variables = segment_taken s l.variables })) ≡ took_segment s l
 segment_and_acks s l =
-    ap (λ (after : LinkVariables). owes DataAckTurn (acted_on after (record l { variables = segment_taken s l.variables }))) (either_order s s.acks l.variables)
+    ap (λ (after : LinkVariables). owes DataAckTurn (acted_on after (record l { variables = segment_taken s l.variables })))
+    (either_order s s.acks l.variables)
     ∙ ap (λ (n : ℕ). owes DataAckTurn (record (in_phase Running l) {
       variables = segment_taken s (acknowledged_by_all s.acks l.variables);
       owed = lowered (distance n (segment_taken s (acknowledged_by_all s.acks l.variables)).acknowledged) (in_phase Running l).owed;

@@ -1,13 +1,15 @@
 -- What sending the next packet once more leaves, by whether it is held.
-use Rattle.std.proofs.Common.{◌≡◌, ℕ, zero, suc, ◌+◌, ◌≤◌, ◌<◌, Bool, true, false, eqb, eqb-true, Option, Some, None, List, [], ◌∷◌, length, refl, sym, subst, ap, ◌∙◌, arith}
+use Rattle.std.proofs.Common.{◌≡◌, ℕ, zero, suc, ◌+◌, ◌≤◌, ◌<◌, Bool, true, false, eqb, eqb-true, Option, Some, None, List, [], ◌∷◌, length, refl}
+use Rattle.std.proofs.Common.{sym, subst, ap, ◌∙◌, arith}
 use Rattle.std.specs.Prelude.{slice_get}
 use Rattle.std.specs.Option.{IfSome}
 use Rattle.ddcmp_msg.specs.Message.{MessageValue}
-use Rattle.dna_model.specs.Table.{change_of}
-use Rattle.dna_model.specs.Book.{body_of}
-use Rattle.dna_model.specs.WireStation.{HeldPacket, StationVariables, with_new}
-use Rattle.dna_model.specs.Compose.{packet_again}
-use Rattle.dna_model.specs.KeptStation.{variables_sent}
+use Rattle.dna_station.specs.Table.{change_of}
+use Rattle.dna_station.specs.Book.{body_of}
+use Rattle.dna_station.specs.WireStation.{HeldPacket, StationVariables, with_new}
+use Rattle.dna_station.specs.WireBook.{wire_is_new}
+use Rattle.dna_play.specs.Compose.{packet_again}
+use Rattle.dna_play.specs.KeptStation.{variables_sent}
 
 abbrev Variables : Type 0
 Variables = StationVariables (Unit {0})
@@ -28,8 +30,10 @@ abbrev Leaves : Variables → Variables → Option (HeldPacket (Unit {0})) → T
 Leaves k after packet = IfSome (packet_again k packet) (λ (m : MessageValue). after ≡ variables_sent (change_of m) (body_of m) k)
 
 -- it is not held
-pub not_again : (k : Variables) → length k.held ≤ k.ahead → Leaves k k (slice_get k.held k.ahead)
-not_again k h = subst (λ (o : Option (HeldPacket (Unit {0}))). Leaves k k o) (sym (past k.held k.ahead h)) tt
+pub not_again : (k : Variables) → wire_is_new k ≡ true → Leaves k k (slice_get k.held k.ahead)
+not_again k e =
+    let h = eqb-true k.ahead (length k.held) e in
+    subst (λ (o : Option (HeldPacket (Unit {0}))). Leaves k k o) (sym (past k.held k.ahead (omega (arith, h)))) tt
 
 -- it is one of those held
 pub sent_again : (k after : Variables) → k.ahead < length k.held → after ≡ record k { ahead = k.ahead + 1 } →

@@ -4,12 +4,12 @@ use Rattle.std.specs.Prelude.{slice_get}
 use Rattle.std.proofs.lemmas.Bool.{ltb-true}
 use Rattle.capture.specs.declared.event.Event.{Event}
 use Rattle.capture.specs.declared.limit.TheConstants.{MAX_LINK}
-use Rattle.dna_model.specs.declared.port.LinkTest.TheVariants.{CalledBy}
-use Rattle.dna_model.specs.NextSent.{LinkEnd}
-use Rattle.dna_model.specs.Stepped.{Stop, BadStep, Full}
-use Rattle.dna_model.specs.Kept.{KeptEnd}
-use Rattle.dna_model.specs.KeptLinks.{changed, place_of}
-use Rattle.dna_model.specs.KeptPlay.{KeptStepped, answers, giving, made, with_links}
+use Rattle.dna_links.specs.declared.port.LinkTest.TheVariants.{CalledBy}
+use Rattle.dna_play.specs.NextSent.{LinkEnd}
+use Rattle.dna_play.specs.Stepped.{Stop, BadStep, Full}
+use Rattle.dna_play.specs.Kept.{KeptEnd}
+use Rattle.dna_play.specs.KeptLinks.{changed, place_of}
+use Rattle.dna_play.specs.KeptPlay.{KeptStepped, answers, giving, made, with_links}
 use Rattle.player_end.proofs.Searching.{with_found}
 
 -- no address is left

@@ -1,17 +1,20 @@
 -- The data of the first pieces, one behind the other.
 use Rattle.std.proofs.Common.{◌≡◌, ℕ, zero, suc, ◌+◌, Option, Some, None, List, [], ◌∷◌, ◌++◌, take, sym, ap, ◌∙◌, add-one, append_assoc}
 use Rattle.std.proofs.lemmas.List.{append-nil}
-use Rattle.dna_model.specs.Pieces.{Piece}
+use Rattle.dna_links.specs.Pieces.{Piece}
 use Rattle.link_segments.specs.Received.{piece_at}
-use Rattle.player_end.specs.Delivering.{body_in, bodies}
+use Rattle.player_end.specs.inner.Delivering.{body_in, bodies}
 
-one_more_on : (i : ℕ) (pieces : List (Option Piece)) (o : Option Piece) → piece_at i pieces ≡ o → bodies (take (suc i) pieces) ≡ bodies (take i pieces) ++ body_in o
+one_more_on : (i : ℕ) (pieces : List (Option Piece)) (o : Option Piece) → piece_at i pieces ≡ o →
+    bodies (take (suc i) pieces) ≡ bodies (take i pieces) ++ body_in o
 one_more_on zero [] o e = ap body_in e
 one_more_on (suc i) [] o e = ap body_in e
 one_more_on zero (p ∷ pieces) o e = append-nil (body_in p) ∙ ap body_in e
-one_more_on (suc i) (p ∷ pieces) o e = ap (λ (xs : List ℕ). body_in p ++ xs) (one_more_on i pieces o e) ∙ sym (append_assoc (body_in p) (bodies (take i pieces)) (body_in o))
+one_more_on (suc i) (p ∷ pieces) o e = ap (λ (xs : List ℕ). body_in p ++ xs) (one_more_on i pieces o e) ∙
+    sym (append_assoc (body_in p) (bodies (take i pieces)) (body_in o))
 
-at_next : (i : ℕ) (pieces : List (Option Piece)) (o : Option Piece) → piece_at i pieces ≡ o → bodies (take (i + 1) pieces) ≡ bodies (take i pieces) ++ body_in o
+at_next : (i : ℕ) (pieces : List (Option Piece)) (o : Option Piece) → piece_at i pieces ≡ o → bodies (take (i + 1) pieces) ≡ bodies (take i pieces) ++
+    body_in o
 at_next i pieces o e = ap (λ (n : ℕ). bodies (take n pieces)) (add-one i) ∙ one_more_on i pieces o e
 
 module _ (i : ℕ) (pieces : List (Option Piece)) where

@@ -1,5 +1,6 @@
 -- What comes, with what is delivered at once, as lines behind a text.
-use Rattle.std.proofs.Common.{◌≡◌, ℕ, ◌+◌, ◌≤◌, Bool, true, false, cond, Option, Some, None, List, [], ◌∷◌, ◌++◌, Result, Ok, Err, refl, sym, ap, ap₂, ◌∙◌, append_assoc, le-leb}
+use Rattle.std.proofs.Common.{◌≡◌, ℕ, ◌+◌, ◌≤◌, Bool, true, false, cond, Option, Some, None, List, [], ◌∷◌, ◌++◌, Result, Ok, Err, refl, sym, ap, ap₂}
+use Rattle.std.proofs.Common.{◌∙◌, append_assoc, le-leb}
 use Rattle.std.proofs.lemmas.List.{append-nil}
 use Rattle.capture.specs.declared.hint.HintForm.TheVariants.{Number}
 use Rattle.capture.specs.declared.limit.TheConstants.{MAX_HINT}
@@ -8,14 +9,14 @@ use Rattle.capture.specs.declared.record.Record.TheVariants.{Received}
 use Rattle.capture.specs.Text.{record_line, record_lines}
 use Rattle.ddcmp_msg.specs.Reading.{ReadingValue, reading}
 use Rattle.dna_packet.specs.Nsp.{NspValue}
-use Rattle.dna_model.specs.Stepped.{Stop, BadStep}
-use Rattle.dna_model.specs.Kept.{KeptStation, KeptLinks, KeptEnd}
-use Rattle.dna_model.specs.KeptStation.{after_arrival, keeps}
-use Rattle.dna_model.specs.KeptLinks.{Delivering, delivering_none}
-use Rattle.dna_model.specs.KeptPlay.{KeptStepped, all_short, arrived, ups, up_address, came_as, receives, comes}
-use Rattle.dna_model.specs.Receipt.{carried}
+use Rattle.dna_play.specs.Stepped.{Stop, BadStep}
+use Rattle.dna_play.specs.Kept.{KeptStation, KeptLinks, KeptEnd}
+use Rattle.dna_play.specs.KeptStation.{after_arrival, keeps}
+use Rattle.dna_play.specs.KeptLinks.{Delivering, delivering_none}
+use Rattle.dna_play.specs.KeptPlay.{KeptStepped, all_short, arrived, ups, up_address, came_as, receives, comes}
+use Rattle.dna_play.specs.Receipt.{carried}
 use Rattle.player_end.specs.Stepping.{with_lines}
-use Rattle.player_end.specs.Delivering.{arrives_as, delivers_at}
+use Rattle.player_end.specs.inner.Delivering.{arrives_as, delivers_at}
 
 -- nothing is delivered
 nothing_delivered : (own : ℕ) (text : List ℕ) (s : KeptLinks) → delivers_at own text (delivering_none s) ≡ Some (s, text)

@@ -1,19 +1,22 @@
 -- What is known of what an end has chosen to send.
-use Rattle.std.proofs.Common.{◌≡◌, ℕ, zero, suc, ◌+◌, ◌≤◌, ◌<◌, Bool, true, false, ◌&&◌, ◌||◌, cond, nat_lt, Option, Some, None, List, [], ◌∷◌, length, refl, sym, ap, ◌∙◌, arith}
+use Rattle.std.proofs.Common.{◌≡◌, ℕ, zero, suc, ◌+◌, ◌≤◌, ◌<◌, Bool, true, false, ◌&&◌, ◌||◌, cond, nat_lt, Option, Some, None, List, [], ◌∷◌}
+use Rattle.std.proofs.Common.{length, refl, sym, ap, ◌∙◌, arith}
 use Rattle.std.specs.Prelude.{slice_get}
 use Rattle.ddcmp_msg.specs.declared.nak_reason.NakReason.TheVariants.{HeaderCheck, DataCheck, RepResponse, NoBuffer}
-use Rattle.dna_model.specs.declared.state.State.{State}
-use Rattle.dna_model.specs.declared.state.State.TheVariants.{Halted, Istrt, Astrt, Running}
-use Rattle.dna_model.specs.Table.{WINDOW}
-use Rattle.dna_model.specs.WireStation.{StationVariables}
-use Rattle.dna_model.specs.WireBook.{wire_is_new}
-use Rattle.dna_model.specs.Owed.{Owed}
+use Rattle.dna_station.specs.declared.state.State.{State}
+use Rattle.dna_station.specs.declared.state.State.TheVariants.{Halted, Istrt, Astrt, Running}
+use Rattle.dna_station.specs.Table.{WINDOW}
+use Rattle.dna_station.specs.WireStation.{StationVariables}
+use Rattle.dna_station.specs.WireBook.{wire_is_new}
+use Rattle.dna_play.specs.Owed.{Owed}
 use Rattle.std.proofs.lemmas.Bool.{ltb-true}
-use Rattle.dna_model.specs.Pieces.{Piece}
-use Rattle.dna_model.specs.LinkTests.{is_running}
-use Rattle.dna_model.specs.LinkOwed.{EndConfirm, Turn, ConnectAckTurn, InitiateTurn, ConfirmTurn, DisconnectTurn, DataAckTurn, SegmentTurn}
-use Rattle.dna_model.specs.KeptLinks.{gave}
-use Rattle.dna_model.specs.NextSent.{LinkEnd, LinkChoice, OfLink, turn_of, turn_or_next, first_turn, link_choice, has_more, has_segment, Choice, SendStrt, SendStack, SendNak, SendRep, SendAgain, SendNew, SendAck, when, or_else, new_packet, choice_in, choice}
+use Rattle.dna_links.specs.Pieces.{Piece}
+use Rattle.dna_links.specs.LookUps.{is_running}
+use Rattle.dna_play.specs.LinkOwed.{EndConfirm, Turn, ConnectAckTurn, InitiateTurn, ConfirmTurn, DisconnectTurn, DataAckTurn, SegmentTurn}
+use Rattle.dna_play.specs.KeptLinks.{gave}
+use Rattle.dna_play.specs.NextSent.{LinkEnd, LinkChoice, OfLink, turn_of, turn_or_next, first_turn, link_choice, has_segment, Choice, SendStrt}
+use Rattle.dna_play.specs.NextSent.{SendStack, SendNak, SendRep, SendAgain, SendNew, SendAck, when, or_else, new_packet, choice_in, choice}
+use Rattle.dna_links.specs.Pieces.{has_more}
 
 -- ---- a link
 
@@ -24,8 +27,10 @@ same_link m n t u e = (cc, cc)
 abbrev Chosen : ℕ → List LinkEnd → ℕ → Turn → Type 0
 Chosen number links place turn = (i : ℕ) × (place ≡ number + i) × ((link : LinkEnd) → slice_get links i ≡ Some link → turn_of link ≡ Some turn)
 
-chosen_by : (number : ℕ) (l : LinkEnd) (links : List LinkEnd) (place : ℕ) (turn : Turn) → (first_turn (number + 1) links ≡ Some (OfLink place turn) → Chosen (number + 1) links place turn) →
-    (o : Option Turn) → turn_of l ≡ o → turn_or_next number o (first_turn (number + 1) links) ≡ Some (OfLink place turn) → Chosen number (l ∷ links) place turn
+chosen_by : (number : ℕ) (l : LinkEnd) (links : List LinkEnd) (place : ℕ) (turn : Turn) →
+    (first_turn (number + 1) links ≡ Some (OfLink place turn) → Chosen (number + 1) links place turn) →
+    (o : Option Turn) → turn_of l ≡ o → turn_or_next number o (first_turn (number + 1) links) ≡ Some (OfLink place turn) →
+    Chosen number (l ∷ links) place turn
 chosen_by number l links place turn later (Some t) is e =
     let same = same_link number place t turn e in
     (0, sym same.0 ∙ (omega arith), λ link at. (let here : l ≡ link = cc in ap turn_of (sym here) ∙ is ∙ ap Some same.1))
@@ -33,11 +38,13 @@ chosen_by number l links place turn later None is e =
     let next = later e in
     (suc next.0, next.1 ∙ (omega arith), λ link at. next.2 link at)
 
-first_chosen : (number : ℕ) (links : List LinkEnd) (place : ℕ) (turn : Turn) → first_turn number links ≡ Some (OfLink place turn) → Chosen number links place turn
+first_chosen : (number : ℕ) (links : List LinkEnd) (place : ℕ) (turn : Turn) → first_turn number links ≡ Some (OfLink place turn) →
+    Chosen number links place turn
 first_chosen number [] place turn e = absurd cc
 first_chosen number (l ∷ links) place turn e = chosen_by number l links place turn (first_chosen (number + 1) links place turn) (turn_of l) refl e
 
-pub chosen_turn : (confirms : List EndConfirm) (links : List LinkEnd) (place : ℕ) (turn : Turn) → link_choice confirms links ≡ Some (OfLink place turn) →
+pub chosen_turn : (confirms : List EndConfirm) (links : List LinkEnd) (place : ℕ) (turn : Turn) →
+    link_choice confirms links ≡ Some (OfLink place turn) →
     (link : LinkEnd) → slice_get links place ≡ Some link → turn_of link ≡ Some turn
 chosen_turn [] links place turn e link at =
     let chosen = first_chosen 0 links place turn e in
@@ -49,7 +56,9 @@ chosen_turn (confirm ∷ later) links place turn e link at = absurd cc
 
 -- the last of six kinds is chosen only where it may be
 last_kind : (a b c d e f : Bool) → ◌≡◌ {A = Option Turn}
-    (cond a (Some ConnectAckTurn) (cond b (Some InitiateTurn) (cond c (Some ConfirmTurn) (cond d (Some DisconnectTurn) (cond e (Some DataAckTurn) (cond f (Some SegmentTurn) None))))))
+    (cond a (Some ConnectAckTurn)
+    (cond b (Some InitiateTurn) (cond c (Some ConfirmTurn)
+    (cond d (Some DisconnectTurn) (cond e (Some DataAckTurn) (cond f (Some SegmentTurn) None))))))
     (Some SegmentTurn) → f ≡ true
 last_kind true b c d e f is = absurd cc
 last_kind false true c d e f is = absurd cc
@@ -117,7 +126,8 @@ module _ (message : LinkChoice) where
   stack_is false e = cc
 
   nak_is : (a b c d : Bool) (rest : Option Choice) →
-      IsNew (or_else (cond a (Some (SendNak HeaderCheck)) (cond b (Some (SendNak DataCheck)) (cond c (Some (SendNak RepResponse)) (cond d (Some (SendNak NoBuffer)) None)))) rest) → IsNew rest
+      IsNew (or_else (cond a (Some (SendNak HeaderCheck))
+      (cond b (Some (SendNak DataCheck)) (cond c (Some (SendNak RepResponse)) (cond d (Some (SendNak NoBuffer)) None)))) rest) → IsNew rest
   nak_is true b c d rest e = absurd cc
   nak_is false true c d rest e = absurd cc
   nak_is false false true d rest e = absurd cc
@@ -128,7 +138,8 @@ module _ (message : LinkChoice) where
   rep_is true rest e = absurd cc
   rep_is false rest e = e
 
-  data_is : (new room : Bool) (o : Option LinkChoice) (ack : Bool) → IsNew (or_else (cond new (cond room (new_packet o) None) (Some SendAgain)) (when ack SendAck)) →
+  data_is : (new room : Bool) (o : Option LinkChoice) (ack : Bool) →
+      IsNew (or_else (cond new (cond room (new_packet o) None) (Some SendAgain)) (when ack SendAck)) →
       (new ≡ true) × (room ≡ true) × (o ≡ Some message)
   data_is true true (Some x) ack e = (refl, refl, ap Some (same_message x message e))
   data_is true true None true e = absurd cc

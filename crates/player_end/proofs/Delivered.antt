@@ -1,22 +1,24 @@
 -- Messages that are whole, delivered one after the other.
-use Rattle.std.proofs.Common.{◌≡◌, ℕ, zero, suc, ◌+◌, ◌≤◌, ◌<◌, Bool, true, false, ◌&&◌, cond, Option, Some, None, List, [], ◌∷◌, ◌++◌, length, take, drop, refl, sym, subst, ap, ap₂, ◌∙◌, arith, add-one, append_assoc, le-leb}
+use Rattle.std.proofs.Common.{◌≡◌, ℕ, zero, suc, ◌+◌, ◌≤◌, ◌<◌, Bool, true, false, ◌&&◌, cond, Option, Some, None, List, [], ◌∷◌, ◌++◌, length, take}
+use Rattle.std.proofs.Common.{drop, refl, sym, subst, ap, ap₂, ◌∙◌, arith, add-one, append_assoc, le-leb}
 use Rattle.std.proofs.lemmas.Bool.{lt-leb}
 use Rattle.std.specs.Prelude.{nat_le}
 use Rattle.std.proofs.lemmas.List.{append-nil, drop-drop}
 use Rattle.capture.specs.declared.limit.TheConstants.{MAX_MESSAGE}
 use Rattle.capture.specs.declared.hint.HintForm.TheVariants.{Number}
 use Rattle.capture.specs.Text.{record_lines}
-use Rattle.dna_model.specs.Pieces.{Piece, Whole, with_piece, next_message, in_whole_messages, one_more}
-use Rattle.dna_model.specs.Receipt.{complete}
-use Rattle.dna_model.specs.KeptPlay.{all_short, ups}
+use Rattle.dna_links.specs.Pieces.{Piece, Whole, with_piece, next_message, in_whole_messages, one_more}
+use Rattle.dna_play.specs.Receipt.{complete}
+use Rattle.dna_play.specs.KeptPlay.{all_short, ups}
 use Rattle.player_end.specs.declared.fault.StepFault.{StepFault}
 use Rattle.player_end.specs.declared.fault.StepFault.TheVariants.{BadStep, Full, OutOfMemory}
 use Rattle.link_segments.specs.Received.{count_of, next_count}
-use Rattle.player_end.specs.Delivering.{bodies, lines_of, up_line, IsTooLong}
+use Rattle.player_end.specs.inner.Delivering.{bodies, lines_of, up_line, IsTooLong}
 use Rattle.player_end.specs.Stepping.{Stopped}
 
 -- what stands whole before these pieces: nothing, where the first message is not whole
-nothing_whole : (begun : List ℕ) (pieces : List (Option Piece)) → next_message pieces ≡ None → (complete begun pieces ≡ []) × (in_whole_messages pieces ≡ 0)
+nothing_whole : (begun : List ℕ) (pieces : List (Option Piece)) → next_message pieces ≡ None → (complete begun pieces ≡ []) ×
+    (in_whole_messages pieces ≡ 0)
 nothing_whole begun [] e = (refl, refl)
 nothing_whole begun (None ∷ later) e = (refl, refl)
 nothing_whole begun (Some p ∷ later) e = go p.ends refl (next_message later) refl (nothing_whole (begun ++ p.body) later)
@@ -61,13 +63,15 @@ same_some : (v w : Whole) → ◌≡◌ {A = Option Whole} (Some v) (Some w) →
 same_some v w e = cc
 
 module _ (begun : List ℕ) (p : Piece) (later : List (Option Piece)) where
-  complete_by : (b : Bool) → p.ends ≡ b → complete begun (Some p ∷ later) ≡ cond b ((begun ++ p.body) ∷ complete [] later) (complete (begun ++ p.body) later)
+  complete_by : (b : Bool) → p.ends ≡ b → complete begun (Some p ∷ later) ≡ cond b ((begun ++ p.body) ∷ complete [] later)
+      (complete (begun ++ p.body) later)
   complete_by b e = ap (λ (c : Bool). cond c ((begun ++ p.body) ∷ complete [] later) (complete (begun ++ p.body) later)) e
 
   count_by : (b : Bool) → p.ends ≡ b → in_whole_messages (Some p ∷ later) ≡ cond b (in_whole_messages later + 1) (one_more (in_whole_messages later))
   count_by b e = ap (λ (c : Bool). cond c (in_whole_messages later + 1) (one_more (in_whole_messages later))) e
 
-  next_by : (b : Bool) → p.ends ≡ b → next_message (Some p ∷ later) ≡ cond b (Some (record { pieces = 1; message = p.body })) (with_piece p (next_message later))
+  next_by : (b : Bool) → p.ends ≡ b → next_message (Some p ∷ later) ≡ cond b (Some (record { pieces = 1; message = p.body }))
+      (with_piece p (next_message later))
   next_by b e = ap (λ (c : Bool). cond c (Some (record { pieces = 1; message = p.body })) (with_piece p (next_message later))) e
 
 first_whole : (begun : List ℕ) (pieces : List (Option Piece)) (w : Whole) → next_message pieces ≡ Some w → First begun pieces w
@@ -80,8 +84,10 @@ first_whole begun (Some p ∷ later) w e = go p.ends refl (next_message later) r
     go true ends o is rest =
         let same : record { pieces = 1; message = p.body } ≡ w = same_some _ w (sym (next_by begun p later true ends) ∙ e) in
         subst (First begun (Some p ∷ later)) same (record {
-          messages = complete_by begun p later true ends ∙ ap (λ (l : List (Option Piece)). (begun ++ p.body) ∷ complete [] l) (sym (one_less 0 p later));
-          count = count_by begun p later true ends ∙ (omega arith) ∙ ap (λ (l : List (Option Piece)). 1 + in_whole_messages l) (sym (one_less 0 p later));
+          messages = complete_by begun p later true ends ∙ ap (λ (l : List (Option Piece)). (begun ++ p.body) ∷ complete [] l)
+              (sym (one_less 0 p later));
+          count = count_by begun p later true ends ∙ (omega arith) ∙ ap (λ (l : List (Option Piece)). 1 + in_whole_messages l)
+              (sym (one_less 0 p later));
           least = omega arith;
         })
     go false ends None is rest =
@@ -89,10 +95,12 @@ first_whole begun (Some p ∷ later) w e = go p.ends refl (next_message later) r
         absurd cc
     go false ends (Some v) is rest =
         let n = rest v is in
-        let same : record { pieces = v.pieces + 1; message = p.body ++ v.message } ≡ w = same_some _ w (sym (next_by begun p later false ends ∙ ap (with_piece p) is) ∙ e) in
+        let same : record { pieces = v.pieces + 1; message = p.body ++ v.message } ≡ w =
+        same_some _ w (sym (next_by begun p later false ends ∙ ap (with_piece p) is) ∙ e) in
         subst (First begun (Some p ∷ later)) same (record {
           messages = complete_by begun p later false ends ∙ n.messages
-              ∙ ap₂ (λ (m : List ℕ) (l : List (Option Piece)). m ∷ complete [] l) (append_assoc begun p.body v.message) (sym (one_less v.pieces p later));
+              ∙ ap₂ (λ (m : List ℕ) (l : List (Option Piece)). m ∷ complete [] l) (append_assoc begun p.body v.message)
+              (sym (one_less v.pieces p later));
           count = count_by begun p later false ends ∙ ap one_more n.count ∙ rises v.pieces (in_whole_messages (drop v.pieces later)) n.least
               ∙ ap (λ (l : List (Option Piece)). (v.pieces + 1) + in_whole_messages l) (sym (one_less v.pieces p later));
           least = omega arith;
@@ -120,7 +128,8 @@ bodies_of_next (Some p ∷ later) w e = go p.ends refl (next_message later) refl
         let none : next_message (Some p ∷ later) ≡ None = next_by [] p later false ends ∙ ap (with_piece p) is in
         absurd cc
     go false ends (Some v) is rest =
-        let same : record { pieces = v.pieces + 1; message = p.body ++ v.message } ≡ w = same_some _ w (sym (next_by [] p later false ends ∙ ap (with_piece p) is) ∙ e) in
+        let same : record { pieces = v.pieces + 1; message = p.body ++ v.message } ≡ w =
+        same_some _ w (sym (next_by [] p later false ends ∙ ap (with_piece p) is) ∙ e) in
         subst (λ (u : Whole). bodies (take u.pieces (Some p ∷ later)) ≡ u.message) same
         (taken v.pieces ∙ ap (λ (xs : List ℕ). p.body ++ xs) (rest v is))
 
@@ -142,13 +151,17 @@ module _ (own : ℕ) (text : List ℕ) (pieces : List (Option Piece)) (count : �
       lines_of own text pieces ≡ cond b (lines_of own (text ++ up_line own (bodies (take count pieces))) (drop count pieces)) None
   lines_by true e =
       ap (λ (messages : List (List ℕ)). cond (all_short messages) (Some (text ++ record_lines Number (ups own messages))) None) all
-      ∙ ap (λ (b : Bool). cond (b && all_short (complete [] (drop count pieces))) (Some (text ++ record_lines Number (ups own (bodies (take count pieces) ∷ complete [] (drop count pieces))))) None) e
-      ∙ ap (λ (t : List ℕ). cond (all_short (complete [] (drop count pieces))) (Some t) None) (sym (append_assoc text (up_line own (bodies (take count pieces))) (record_lines Number (ups own (complete [] (drop count pieces))))))
+      ∙ ap (λ (b : Bool). cond (b && all_short (complete [] (drop count pieces)))
+      (Some (text ++ record_lines Number (ups own (bodies (take count pieces) ∷ complete [] (drop count pieces))))) None) e
+      ∙ ap (λ (t : List ℕ). cond (all_short (complete [] (drop count pieces))) (Some t) None)
+      (sym (append_assoc text (up_line own (bodies (take count pieces))) (record_lines Number (ups own (complete [] (drop count pieces))))))
   lines_by false e =
       ap (λ (messages : List (List ℕ)). cond (all_short messages) (Some (text ++ record_lines Number (ups own messages))) None) all
-      ∙ ap (λ (b : Bool). cond (b && all_short (complete [] (drop count pieces))) (Some (text ++ record_lines Number (ups own (bodies (take count pieces) ∷ complete [] (drop count pieces))))) None) e
+      ∙ ap (λ (b : Bool). cond (b && all_short (complete [] (drop count pieces)))
+      (Some (text ++ record_lines Number (ups own (bodies (take count pieces) ∷ complete [] (drop count pieces))))) None) e
 
-  pub lines_behind : length (bodies (take count pieces)) ≤ MAX_MESSAGE → lines_of own text pieces ≡ lines_of own (text ++ up_line own (bodies (take count pieces))) (drop count pieces)
+  pub lines_behind : length (bodies (take count pieces)) ≤ MAX_MESSAGE →
+      lines_of own text pieces ≡ lines_of own (text ++ up_line own (bodies (take count pieces))) (drop count pieces)
   lines_behind h = lines_by true (le-leb (length (bodies (take count pieces))) MAX_MESSAGE h)
 
   pub no_lines : MAX_MESSAGE < length (bodies (take count pieces)) → lines_of own text pieces ≡ None
@@ -160,7 +173,8 @@ module _ (own : ℕ) (text : List ℕ) (pieces : List (Option Piece)) (count : �
       ∙ sym (drop-drop (in_whole_messages (drop count pieces)) count pieces)
 
   -- the step stops at a message that has no line
-  pub stops_at : (o : Option (List ℕ)) → o ≡ lines_of own text pieces → (fault : StepFault) → IsTooLong (bodies (take count pieces)) fault → Stopped o fault
+  pub stops_at : (o : Option (List ℕ)) → o ≡ lines_of own text pieces → (fault : StepFault) → IsTooLong (bodies (take count pieces)) fault →
+      Stopped o fault
   stops_at o same BadStep h = same ∙ no_lines h
   stops_at o same Full h = h
   stops_at o same OutOfMemory h = tt
@@ -179,7 +193,8 @@ module _ (own : ℕ) (text : List ℕ) (pieces : List (Option Piece)) where
 
   pub no_more_lines : next_count pieces ≡ None → lines_of own text pieces ≡ Some text
   no_more_lines e =
-      ap (λ (messages : List (List ℕ)). cond (all_short messages) (Some (text ++ record_lines Number (ups own messages))) None) (nothing_whole [] pieces (none_next e)).0
+      ap (λ (messages : List (List ℕ)). cond (all_short messages) (Some (text ++ record_lines Number (ups own messages))) None)
+      (nothing_whole [] pieces (none_next e)).0
       ∙ ap Some (append-nil text)
 
   pub none_left : next_count pieces ≡ None → drop (in_whole_messages pieces) pieces ≡ pieces

@@ -1,16 +1,17 @@
 -- A search among the links, one after the other, and what is found.
-use Rattle.std.proofs.Common.{◌≡◌, ℕ, suc, zero, ◌+◌, ◌≤◌, Bool, true, false, cond, Option, Some, None, List, [], ◌∷◌, length, drop, refl, sym, ap, ◌∙◌, add-one}
+use Rattle.std.proofs.Common.{◌≡◌, ℕ, suc, zero, ◌+◌, ◌≤◌, Bool, true, false, cond, Option, Some, None, List, [], ◌∷◌, length, drop, refl, sym, ap}
+use Rattle.std.proofs.Common.{◌∙◌, add-one}
 use Rattle.std.specs.Prelude.{slice_get}
 use Rattle.std.specs.List.{position_from}
 use Rattle.std.proofs.lemmas.Iterator.Adapters.{position_from-zero}
 use Rattle.std.proofs.Math.ListN.{drop_of_length-le}
-use Rattle.dna_model.specs.declared.port.LinkTest.{LinkTest}
-use Rattle.dna_model.specs.LinkTests.{passes}
-use Rattle.dna_model.specs.LinkOwed.{Turn}
-use Rattle.dna_model.specs.NextSent.{LinkEnd, OfLink, turn_or_next, first_turn}
-use Rattle.dna_model.specs.Kept.{KeptLinks}
-use Rattle.dna_model.specs.KeptLinks.{place_of, at_place, on_end, with_end}
-use Rattle.player_end.specs.Links.{passes_there, turn_there}
+use Rattle.dna_links.specs.declared.port.LinkTest.{LinkTest}
+use Rattle.dna_links.specs.LookUps.{passes}
+use Rattle.dna_play.specs.LinkOwed.{Turn}
+use Rattle.dna_play.specs.NextSent.{LinkEnd, OfLink, turn_or_next, first_turn}
+use Rattle.dna_play.specs.Kept.{KeptLinks}
+use Rattle.dna_play.specs.KeptLinks.{place_of, at_place, on_end, with_end}
+use Rattle.player_end.specs.inner.Links.{passes_there, turn_there}
 
 -- what is left of a search, from this place on
 abbrev pub rest_from : LinkTest → ℕ → List LinkEnd → Option ℕ
@@ -75,10 +76,12 @@ module _ (i : ℕ) (links : List LinkEnd) where
   turn_by None is (Some turn) e = absurd cc
   turn_by None is None e = ap (first_turn i) (none_there i links is) ∙ sym (ap (first_turn (i + 1)) (none_behind i links is))
 
-  pub turn_hits : (turn : Turn) → ◌≡◌ {A = Option Turn} (Some turn) (turn_there (slice_get links i)) → first_turn i (drop i links) ≡ Some (OfLink i turn)
+  pub turn_hits : (turn : Turn) → ◌≡◌ {A = Option Turn} (Some turn) (turn_there (slice_get links i)) →
+      first_turn i (drop i links) ≡ Some (OfLink i turn)
   turn_hits turn e = turn_by (slice_get links i) refl (Some turn) e
 
-  pub turn_goes_on : ◌≡◌ {A = Option Turn} None (turn_there (slice_get links i)) → first_turn i (drop i links) ≡ first_turn (i + 1) (drop (i + 1) links)
+  pub turn_goes_on : ◌≡◌ {A = Option Turn} None (turn_there (slice_get links i)) → first_turn i (drop i links) ≡ first_turn (i + 1)
+      (drop (i + 1) links)
   turn_goes_on e = turn_by (slice_get links i) refl None e
 
   pub turns_end : length links ≤ i → first_turn i (drop i links) ≡ None
@@ -86,10 +89,12 @@ module _ (i : ℕ) (links : List LinkEnd) where
 
 -- ---- what is found
 
-at_none : {R : Type 0} (links : List LinkEnd) (o : Option ℕ) (otherwise : R) (next : ℕ → LinkEnd → R) → o ≡ None → at_place links o otherwise next ≡ otherwise
+at_none : {R : Type 0} (links : List LinkEnd) (o : Option ℕ) (otherwise : R) (next : ℕ → LinkEnd → R) → o ≡ None →
+    at_place links o otherwise next ≡ otherwise
 at_none links o otherwise next e = ap (λ (p : Option ℕ). at_place links p otherwise next) e
 
-pub with_none : {R : Type 0} (test : LinkTest) (s : KeptLinks) (otherwise : R) (next : ℕ → LinkEnd → R) → place_of test s.links ≡ None → with_end test s otherwise next ≡ otherwise
+pub with_none : {R : Type 0} (test : LinkTest) (s : KeptLinks) (otherwise : R) (next : ℕ → LinkEnd → R) → place_of test s.links ≡ None →
+    with_end test s otherwise next ≡ otherwise
 with_none test s otherwise next e = at_none s.links (place_of test s.links) otherwise next e
 
 pub with_found : {R : Type 0} (test : LinkTest) (s : KeptLinks) (otherwise : R) (next : ℕ → LinkEnd → R) (place : ℕ) (link : LinkEnd) →

@@ -10,16 +10,16 @@ use Rattle.dna_packet.specs.Packet as packets
 use Rattle.capture.specs.declared.hint.HintForm.TheVariants.{Number}
 use Rattle.capture.specs.declared.record.Record.TheVariants.{Sent}
 use Rattle.capture.specs.Text.{record_line}
-use Rattle.dna_model.specs.declared.head.Head.{Head}
-use Rattle.dna_model.specs.WireStation.{StationVariables}
-use Rattle.dna_model.specs.NextSent.{LinkEnd, LinkChoice, Choice, SendStrt, SendStack, SendNak, SendRep, SendAgain, SendNew, SendAck}
-use Rattle.dna_model.specs.Compose.{data_with, packet_with, link_message, message_of, new_data}
-use Rattle.dna_model.specs.Stepped.{Stop, BadStep}
-use Rattle.dna_model.specs.Kept.{KeptStation, KeptLinks, KeptEnd}
-use Rattle.dna_model.specs.KeptStation as stations
-use Rattle.dna_model.specs.KeptLinks as of_links
-use Rattle.dna_model.specs.KeptPlay.{KeptStepped, links_sent, sends_message, sends_choice}
-use Rattle.player_end.specs.Composing.{is_new, without_links}
+use Rattle.dna_station.specs.declared.head.Head.{Head}
+use Rattle.dna_station.specs.WireStation.{StationVariables}
+use Rattle.dna_play.specs.NextSent.{LinkEnd, LinkChoice, Choice, SendStrt, SendStack, SendNak, SendRep, SendAgain, SendNew, SendAck}
+use Rattle.dna_play.specs.Compose.{data_with, packet_with, link_message, message_of, new_data}
+use Rattle.dna_play.specs.Stepped.{Stop, BadStep}
+use Rattle.dna_play.specs.Kept.{KeptStation, KeptLinks, KeptEnd}
+use Rattle.dna_play.specs.KeptStation as stations
+use Rattle.dna_play.specs.KeptLinks as of_links
+use Rattle.dna_play.specs.KeptPlay.{KeptStepped, links_sent, sends_message, sends_choice}
+use Rattle.player_end.specs.inner.Composing.{is_new, without_links}
 use Rattle.player_end.specs.Stepping.{with_lines}
 
 -- ---- what is not a new packet

@@ -2,11 +2,11 @@
 use Rattle.std.specs.Prelude.{◌≡◌, ℕ, ◌++◌, List, Option, None, Result, Ok, Err, IsSome}
 use Rattle.capture.specs.declared.hint.HintForm.TheVariants.{Number}
 use Rattle.capture.specs.Text.{record_lines}
-use Rattle.dna_model.specs.Stepped.{Stop}
-use Rattle.dna_model.specs.Stepped as stops
-use Rattle.dna_model.specs.NextSent.{choice, link_choice}
-use Rattle.dna_model.specs.Kept.{KeptEnd}
-use Rattle.dna_model.specs.KeptPlay.{KeptStepped}
+use Rattle.dna_play.specs.Stepped.{Stop}
+use Rattle.dna_play.specs.Stepped as stops
+use Rattle.dna_play.specs.NextSent.{choice, link_choice}
+use Rattle.dna_play.specs.Kept.{KeptEnd}
+use Rattle.dna_play.specs.KeptPlay.{KeptStepped}
 use Rattle.player_end.specs.declared.fault.StepFault.{StepFault}
 use Rattle.player_end.specs.declared.fault.StepFault.TheVariants.{BadStep, Full, OutOfMemory}
 

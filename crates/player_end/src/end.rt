@@ -1,8 +1,8 @@
 //! One end of the line.
 
 ghost use Rattle.std.specs.Prelude.{◌≡◌, Err, OnOk, IfOk, IfErr};
-ghost use Rattle.dna_model.specs.Kept.{new_kept_end};
-ghost use Rattle.dna_model.specs.KeptPlay as kept;
+ghost use Rattle.dna_play.specs.Kept.{new_kept_end};
+ghost use Rattle.dna_play.specs.KeptPlay as kept;
 ghost use Rattle.player_end.specs.Stepping.{StopMeans};
 
 mod receiving;
@@ -15,7 +15,7 @@ use crate::held_packet::HeldPacket;
 use crate::link_ends::LinkEnds;
 use crate::station_end::StationEnd;
 use capture::MAX_HINT;
-use dna_model::Head;
+use dna_station::Head;
 use std::alloc::{AllocError, Global};
 use std::marker::Model;
 use wire_base::Window;
@@ -38,7 +38,7 @@ pub struct End<W: Window<HeldPacket, 256> + Drop, V: Window<GivenPiece, 4096> + 
 }
 
 impl<W: Window<HeldPacket, 256> + Drop, V: Window<GivenPiece, 4096> + Drop> Model for End<W, V> {
-    ghost use Rattle.dna_model.specs.Kept.{KeptEnd};
+    ghost use Rattle.dna_play.specs.Kept.{KeptEnd};
 
     ghost Value = { KeptEnd };
 

@@ -1,41 +1,47 @@
-//! A packet that has a number and is not acknowledged.
+//! What an end keeps of a packet that is not acknowledged.
 
-ghost use Rattle.std.specs.Prelude.{◌≡◌, ◌≤◌, length, None};
+ghost use Rattle.std.specs.Prelude.{◌≡◌, ◌≤◌, length};
 
+use station_variables::PacketBytes;
 use std::marker::Model;
 
-/// A packet that a station has given a number and that is not acknowledged: its bytes, 1 to 16,383 of them. No label stands beside it.
+/// A packet that has a number and is not acknowledged, with no label beside it.
+pub type HeldPacket = station_variables::HeldPacket<(), ComposedPacket>;
+
+/// The bytes of a packet that an end has put together, 1 to 16,383 of them: as many as a data message has.
 #[derive(Drop)]
-pub struct HeldPacket {
+pub struct ComposedPacket {
     bytes: Vec<u8>,
 }
 
-impl Model for HeldPacket {
-    ghost use Rattle.std.specs.Prelude.{◌≤◌, length, None};
-    ghost use Rattle.dna_model.specs.WireStation.{HeldPacket};
+impl Model for ComposedPacket {
+    ghost use Rattle.std.specs.Prelude.{◌≤◌, ℕ, List, length};
 
-    ghost Value = { HeldPacket (Unit {0}) };
+    ghost Value = { List ℕ };
 
-    ghost view = { λ h. record { body = h.bytes.items; label = None } };
+    ghost view = { λ p. p.bytes.items };
 
-    ghost invariant = { λ h. (1 ≤ length h.bytes.items) × (length h.bytes.items ≤ 16383) };
+    ghost invariant = { λ p. (1 ≤ length p.bytes.items) × (length p.bytes.items ≤ 16383) };
 }
 
-impl HeldPacket {
-    /// The packet of these bytes, in the memory that they have. Takes no memory.
-    pub fn new(bytes: Vec<u8>) -> HeldPacket
+impl ComposedPacket {
+    /// These bytes, in the memory that they have. Takes no memory.
+    pub fn new(bytes: Vec<u8>) -> ComposedPacket
         requires least { 1 ≤ length bytes.items }
         requires most { length bytes.items ≤ 16383 }
-        ensures { result ≡ record { body = bytes.items; label = None } }
+        ensures { result ≡ bytes.items }
     {
-        HeldPacket { bytes }
+        ComposedPacket { bytes }
     }
+}
 
-    /// Its bytes.
-    pub fn body(&self) -> &[u8]
-        ensures body { result.now ≡ self.now.body }
-        ensures least { 1 ≤ length self.now.body }
-        ensures most { length self.now.body ≤ 16383 }
+impl PacketBytes for ComposedPacket {
+    ghost bytes = { λ packet. packet };
+
+    fn as_slice(&self) -> &[u8]
+        ensures bytes { result.now ≡ self.now }
+        ensures least { 1 ≤ length self.now }
+        ensures most { length self.now ≤ 16383 }
     {
         let _ = &self.bytes;
         self.bytes.as_slice()

@@ -3,7 +3,7 @@
 //!
 //! The crate decides what each step of a script makes of its end: the records that the end adds to its capture, the units that it sends, and
 //! what it owes behind that. It knows nothing of a script's text, of the other end, or of the line between them.
-//! Its tests are `pair_player`'s `one_end`: there they need no second proof of what stands here.
+//! Its tests are `pair_tests`' `one_end`: there they need no second proof of what stands here.
 #![tactic(auto)]
 
 mod choice;
@@ -18,10 +18,9 @@ mod link_owed;
 mod owed;
 mod owed_confirm;
 mod station_end;
-mod station_variables;
 mod turn;
 
 pub use end::End;
 pub use fault::StepFault;
 pub use given_piece::GivenPiece;
-pub use held_packet::HeldPacket;
+pub use held_packet::{ComposedPacket, HeldPacket};

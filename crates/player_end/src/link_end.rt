@@ -1,10 +1,10 @@
 //! One link of an end: its variables and what it owes.
 
 ghost use Rattle.std.specs.Prelude.{◌≡◌, true, false, Some, None, OnOk, OnErr};
-ghost use Rattle.dna_model.specs.LinkOwed as model;
-ghost use Rattle.dna_model.specs.KeptLinks as kept;
-ghost use Rattle.player_end.specs.Links.{retried_end};
-ghost use Rattle.player_end.specs.Owing.{turn_view};
+ghost use Rattle.dna_play.specs.LinkOwed as model;
+ghost use Rattle.dna_play.specs.KeptLinks as kept;
+ghost use Rattle.player_end.specs.inner.Links.{retried_end};
+ghost use Rattle.player_end.specs.inner.Owing.{turn_view};
 
 mod acting;
 mod composing;
@@ -13,7 +13,7 @@ mod delivering;
 use crate::given_piece::GivenPiece;
 use crate::link_owed::LinkOwed;
 use crate::turn::Turn;
-use dna_model::{Phase, Port};
+use dna_links::{Phase, Port};
 use link_segments::{Outstanding, Received, Unsent};
 use std::alloc::{AllocError, Global};
 use std::marker::Model;
@@ -34,7 +34,7 @@ pub struct LinkEnd<V: Window<GivenPiece, 4096> + Drop> {
 
 impl<V: Window<GivenPiece, 4096> + Drop> Model for LinkEnd<V> {
     ghost use Rattle.std.specs.Prelude.{◌≤◌, length};
-    ghost use Rattle.dna_model.specs.NextSent.{LinkEnd};
+    ghost use Rattle.dna_play.specs.NextSent.{LinkEnd};
 
     ghost Value = { LinkEnd };
 

@@ -1,10 +1,10 @@
 //! The links of an end.
 
 ghost use Rattle.std.specs.Prelude.{◌≡◌, ◌<◌, length, slice_get, option_copied, OnOk, OnErr, IfSome};
-ghost use Rattle.dna_model.specs.Kept.{no_kept_links};
-ghost use Rattle.dna_model.specs.KeptLinks.{place_of};
-ghost use Rattle.dna_model.specs.KeptLinks as kept;
-ghost use Rattle.player_end.specs.Links.{passes_there};
+ghost use Rattle.dna_play.specs.Kept.{no_kept_links};
+ghost use Rattle.dna_play.specs.KeptLinks.{place_of};
+ghost use Rattle.dna_play.specs.KeptLinks as kept;
+ghost use Rattle.player_end.specs.inner.Links.{passes_there};
 
 mod arriving;
 mod composing;
@@ -13,7 +13,7 @@ mod user;
 use crate::given_piece::GivenPiece;
 use crate::link_end::LinkEnd;
 use crate::owed_confirm::OwedConfirm;
-use dna_model::LinkTest;
+use dna_links::LinkTest;
 use link_segments::passes;
 use std::alloc::{AllocError, Global};
 use std::collections::VecDeque;
@@ -30,7 +30,7 @@ pub struct LinkEnds<V: Window<GivenPiece, 4096> + Drop> {
 }
 
 impl<V: Window<GivenPiece, 4096> + Drop> Model for LinkEnds<V> {
-    ghost use Rattle.dna_model.specs.Kept.{KeptLinks};
+    ghost use Rattle.dna_play.specs.Kept.{KeptLinks};
 
     ghost Value = { KeptLinks };
 

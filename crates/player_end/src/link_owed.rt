@@ -1,9 +1,9 @@
 //! What one link of an end owes.
 
 ghost use Rattle.std.specs.Prelude.{◌≡◌, ◌+◌, ◌-◌, ◌<◌, ◌^◌, true};
-ghost use Rattle.dna_model.specs.LinkOwed.{lowered, nothing, sent_again, unless_left, with_turn};
-ghost use Rattle.dna_model.specs.NextSent.{without_turn};
-ghost use Rattle.player_end.specs.Owing.{has_turn, turn_view};
+ghost use Rattle.dna_play.specs.LinkOwed.{lowered, nothing, sent_again, unless_left, with_turn};
+ghost use Rattle.dna_play.specs.NextSent.{without_turn};
+ghost use Rattle.player_end.specs.inner.Owing.{has_turn, turn_view};
 
 use crate::turn::Turn;
 use std::marker::Model;
@@ -23,7 +23,7 @@ pub struct LinkOwed {
 }
 
 impl Model for LinkOwed {
-    ghost use Rattle.dna_model.specs.LinkOwed.{LinkOwed};
+    ghost use Rattle.dna_play.specs.LinkOwed.{LinkOwed};
 
     ghost Value = { LinkOwed };
 

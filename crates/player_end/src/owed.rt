@@ -1,10 +1,10 @@
 //! What a station owes.
 
-ghost use Rattle.std.specs.Prelude.{◌≡◌, ◌&&◌, not, Some};
+ghost use Rattle.std.specs.Prelude.{◌≡◌, ◌&&◌, Some};
 ghost use Rattle.std.specs.Option.{option_map};
-ghost use Rattle.dna_model.specs.Owed.{nothing, unless_left, with_debt, with_nak};
-ghost use Rattle.dna_model.specs.NextSent.{after_choice, lowest_nak};
-ghost use Rattle.player_end.specs.Owing.{choice_view, debt_view};
+ghost use Rattle.dna_play.specs.Owed.{nothing, unless_left, with_debt, with_nak};
+ghost use Rattle.dna_play.specs.NextSent.{after_choice, lowest_nak};
+ghost use Rattle.player_end.specs.inner.Owing.{choice_view, debt_view};
 
 use crate::choice::Choice;
 use crate::debt::Debt;
@@ -26,7 +26,7 @@ pub struct Owed {
 }
 
 impl Model for Owed {
-    ghost use Rattle.dna_model.specs.Owed.{Owed};
+    ghost use Rattle.dna_play.specs.Owed.{Owed};
 
     ghost Value = { Owed };
 
@@ -143,15 +143,15 @@ impl Owed {
         }
     }
 
-    /// After a record: a state that was left drops what was owed, and no REP is owed once all is acknowledged.
-    pub fn settle(&mut self, stays: bool, all_acknowledged: bool)
-        ensures { self.new ≡ record (unless_left stays self.old) { rep = (unless_left stays self.old).rep && not all_acknowledged } }
+    /// After a record: a state that was left drops what was owed, and no REP is owed where no packet is outstanding.
+    pub fn settle(&mut self, stays: bool, outstanding: bool)
+        ensures { self.new ≡ record (unless_left stays self.old) { rep = (unless_left stays self.old).rep && outstanding } }
     {
         if !stays {
             *self = Owed::nothing();
             return;
         }
-        if all_acknowledged {
+        if !outstanding {
             self.rep = false;
         }
     }

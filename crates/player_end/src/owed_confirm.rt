@@ -1,7 +1,7 @@
 //! A DC that is owed.
 
 ghost use Rattle.std.specs.Prelude.{◌≡◌};
-ghost use Rattle.player_end.specs.Owing.{confirm_view};
+ghost use Rattle.player_end.specs.inner.Owing.{confirm_view};
 
 use crate::choice::EndConfirm;
 use std::marker::Model;
@@ -13,8 +13,8 @@ pub struct OwedConfirm {
 }
 
 impl Model for OwedConfirm {
-    ghost use Rattle.dna_model.specs.LinkOwed.{EndConfirm};
-    ghost use Rattle.player_end.specs.Owing.{confirm_view};
+    ghost use Rattle.dna_play.specs.LinkOwed.{EndConfirm};
+    ghost use Rattle.player_end.specs.inner.Owing.{confirm_view};
 
     ghost Value = { EndConfirm };
 

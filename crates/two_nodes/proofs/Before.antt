@@ -33,11 +33,14 @@ module _ {S R U Z : Type 0} (nodes : Nodes S R U Z) where
     run = Done;
     moves = let same : s ≡ r = cc in subst (λ (x : R). Moves (advance nodes.node_a w.a w.b x)) same (subst Moves (sym m) tt);
   }
-  before (OfA m rest) (suc n) r at = let b = before rest n r at in record { of_b = b.of_b; world = b.world; within = b.within; run = OfA m b.run; moves = b.moves }
-  before (OfB m rest) n r at = let b = before rest n r at in record { of_b = suc b.of_b; world = b.world; within = omega (arith, b.within); run = OfB m b.run; moves = b.moves }
+  before (OfA m rest) (suc n) r at = let b = before rest n r at in
+      record { of_b = b.of_b; world = b.world; within = b.within; run = OfA m b.run; moves = b.moves }
+  before (OfB m rest) n r at = let b = before rest n r at in
+      record { of_b = suc b.of_b; world = b.world; within = omega (arith, b.within); run = OfB m b.run; moves = b.moves }
 
   -- the records before record n, with what leads to its world, hold its causes
-  holds_before : BothTell nodes → (first_a first_b : S) (xs ys : List R) (n j : ℕ) (r : R) (w : World S U) → n ≤ length xs → j ≤ length ys → slice_get xs n ≡ Some r →
+  holds_before : BothTell nodes → (first_a first_b : S) (xs ys : List R) (n j : ℕ) (r : R) (w : World S U) → n ≤ length xs → j ≤ length ys →
+      slice_get xs n ≡ Some r →
       Run nodes (start_world first_a first_b) (take n xs) (take j ys) w → Moves (advance nodes.node_a w.a w.b r) → HoldsCauses nodes xs ys n n j
   holds_before tells first_a first_b xs ys n j r w within_a within_b place run moves = record {
     within_a = within_a;
@@ -50,7 +53,8 @@ module _ {S R U Z : Type 0} (nodes : Nodes S R U Z) where
         let t = there w.a w.b (nodes.node_a w.a.state r) (nodes.named r) (nodes.sends r) k (tells.of_a w.a.state r) (cc) moves in omega arith;
   }
 
-  past_of_next : BothTell nodes → (first_a first_b : S) (xs ys : List R) (n i j : ℕ) (r : R) → slice_get xs n ≡ Some r → n < i → IsPast nodes xs ys n i j → IsRun nodes (start_world first_a first_b) (take i xs) (take j ys) → i ≤ n
+  past_of_next : BothTell nodes → (first_a first_b : S) (xs ys : List R) (n i j : ℕ) (r : R) → slice_get xs n ≡ Some r → n < i →
+      IsPast nodes xs ys n i j → IsRun nodes (start_world first_a first_b) (take i xs) (take j ys) → i ≤ n
   past_of_next tells first_a first_b xs ys n i j r place l past run =
       let b = before run.1 n r (slice_get-take xs i n l ∙ place) in
       let short = length-take j ys in
@@ -61,7 +65,8 @@ module _ {S R U Z : Type 0} (nodes : Nodes S R U Z) where
       (subst (λ (y : List R). Run nodes (start_world first_a first_b) (take n (take i xs)) y b.world) (take-take b.of_b j ys fewer) b.run) in
       (past.least n b.of_b (holds_before tells first_a first_b xs ys n b.of_b r b.world (omega arith) (omega arith) place led b.moves)).0
 
-  pub past_is_before : BothTell nodes → (first_a first_b : S) (xs ys : List R) (n i j : ℕ) → IsPast nodes xs ys n i j → IsRun nodes (start_world first_a first_b) (take i xs) (take j ys) → i ≡ n
+  pub past_is_before : BothTell nodes → (first_a first_b : S) (xs ys : List R) (n i j : ℕ) → IsPast nodes xs ys n i j →
+      IsRun nodes (start_world first_a first_b) (take i xs) (take j ys) → i ≡ n
   past_is_before tells first_a first_b xs ys n i j past run = go (slice_get xs n) refl (cases_lt n i)
     where
       earlier : n ≤ i

@@ -20,7 +20,8 @@ module _ (P : ℕ → Type 0) where
 
   one_more : (n : ℕ) → NoneBelow n → ¬ (P n) → NoneBelow (suc n)
   unfolding NoneBelow
-  one_more n none not_here k l p = elim (cases_lt k n) [ inl below ↦ none k below p | inr above ↦ let e : k ≡ n = omega arith in not_here (subst P e p) ]
+  one_more n none not_here k l p =
+      elim (cases_lt k n) [ inl below ↦ none k below p | inr above ↦ let e : k ≡ n = omega arith in not_here (subst P e p) ]
 
   Found : ℕ → Type 0
   Found n = ((k : ℕ) × (k < n) × IsLeast P k) ⊎ NoneBelow n

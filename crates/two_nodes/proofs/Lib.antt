@@ -10,3 +10,6 @@ pub mod Ends
 pub mod Lasting
 pub mod Simulated
 pub mod Counts
+-- numbers that one side gives and the other takes
+pub mod Numbered
+pub mod NumberedSteps

@@ -29,11 +29,15 @@ module _ {X : Type 0} where
   within xs ys = let e = length-append xs ys in omega arith
 
 module _ {S R U Z : Type 0} where
-  pub run_taken : (nodes : Nodes S R U Z) (w e : World S U) (p q xs ys : List R) → Run nodes w p q e → Run nodes w (take (length p) (p ++ xs)) (take (length q) (q ++ ys)) e
+  pub run_taken : (nodes : Nodes S R U Z) (w e : World S U) (p q xs ys : List R) → Run nodes w p q e →
+      Run nodes w (take (length p) (p ++ xs)) (take (length q) (q ++ ys)) e
   run_taken nodes w e p q xs ys run =
       subst (λ (x : List R). Run nodes w x (take (length q) (q ++ ys)) e) (sym (take-append_seam p xs))
       (subst (λ (y : List R). Run nodes w p y e) (sym (take-append_seam q ys)) run)
 
-  pub next_offends : (nodes : Nodes S R U Z) → BothTell nodes → (first_a first_b : S) (w : World S U) (p q xs ys : List R) (r : R) (z : Z) → Run nodes (start_world first_a first_b) p q w → advance nodes.node_a w.a w.b r ≡ Refused z → Offends nodes (start_world first_a first_b) (p ++ r ∷ xs) (q ++ ys) (length p) z
+  pub next_offends : (nodes : Nodes S R U Z) → BothTell nodes → (first_a first_b : S) (w : World S U) (p q xs ys : List R) (r : R) (z : Z) →
+      Run nodes (start_world first_a first_b) p q w → advance nodes.node_a w.a w.b r ≡ Refused z →
+      Offends nodes (start_world first_a first_b) (p ++ r ∷ xs) (q ++ ys) (length p) z
   next_offends nodes tells first_a first_b w p q xs ys r z run refused =
-      offends nodes tells first_a first_b w (p ++ r ∷ xs) (q ++ ys) (length p) (length q) r z (within p (r ∷ xs)) (within q ys) (run_taken nodes (start_world first_a first_b) w p q (r ∷ xs) ys run) (next_at p xs r) refused
+      offends nodes tells first_a first_b w (p ++ r ∷ xs) (q ++ ys) (length p) (length q) r z (within p (r ∷ xs)) (within q ys)
+      (run_taken nodes (start_world first_a first_b) w p q (r ∷ xs) ys run) (next_at p xs r) refused

@@ -30,7 +30,8 @@ module _ {S U Z : Type 0} (own other : Half S U) where
   there-read then None k e m = absurd m
   there-read then (Some u) k e m = slice_get_within other.sent k u e
 
-  pub there : (answer : Answer S U Z) (name : Option ℕ) (sends : Bool) (k : ℕ) → AgreesWith answer name sends → name ≡ Some k → Moves (answered own other answer) → k < length other.sent
+  pub there : (answer : Answer S U Z) (name : Option ℕ) (sends : Bool) (k : ℕ) → AgreesWith answer name sends → name ≡ Some k →
+      Moves (answered own other answer) → k < length other.sent
   there (Refuses reason) name sends k a e m = cc
   there (Goes next) name sends k a e m = absurd (cc (a.0, e))
   there (Sends next unit) name sends k a e m = absurd (cc (a.0, e))
@@ -45,21 +46,24 @@ module _ {S U Z : Type 0} (own other : Half S U) where
       go (Err reason) w = absurd (cc)
 
   -- a record waits only for a unit that it names and that is not there
-  pub waits : (answer : Answer S U Z) (name : Option ℕ) (sends : Bool) → AgreesWith answer name sends → answered own other answer ≡ Waits → (k : ℕ) × (name ≡ Some k) × (length other.sent ≤ k)
+  pub waits : (answer : Answer S U Z) (name : Option ℕ) (sends : Bool) → AgreesWith answer name sends → answered own other answer ≡ Waits →
+      (k : ℕ) × (name ≡ Some k) × (length other.sent ≤ k)
   waits (Refuses reason) name sends a w = absurd (cc)
   waits (Goes next) name sends a w = absurd (cc)
   waits (Sends next unit) name sends a w = absurd (cc)
   waits (Reads k then) name sends a w = (k, a.0, waits-read then (slice_get other.sent k) k refl w)
 
 module _ {S R U Z : Type 0} where
-  pub below-cons : (nodes : Nodes S R U Z) (n : ℕ) (r : R) (xs : List R) → ((k : ℕ) → nodes.named r ≡ Some k → k < n) → NamesBelow nodes n xs → NamesBelow nodes n (r ∷ xs)
+  pub below-cons : (nodes : Nodes S R U Z) (n : ℕ) (r : R) (xs : List R) → ((k : ℕ) → nodes.named r ≡ Some k → k < n) → NamesBelow nodes n xs →
+      NamesBelow nodes n (r ∷ xs)
   below-cons nodes n r xs here later zero d l = here
   below-cons nodes n r xs here later (suc k) d l = later k d (omega arith)
 
   pub sent_more_b : (nodes : Nodes S R U Z) {w e : World S U} {xs ys : List R} → Run nodes w xs ys e → SentMore w.b e.b
   sent_more_b nodes {w} Done = sent_same w.b
   sent_more_b nodes (OfA m rest) = sent_more_b nodes rest
-  sent_more_b nodes {w} {e} (OfB {h = h} {r = r} m rest) = sent_more_trans w.b h e.b (made-sent w.b w.a (nodes.node_b w.b.state r) h m) (sent_more_b nodes rest)
+  sent_more_b nodes {w} {e} (OfB {h = h} {r = r} m rest) =
+      sent_more_trans w.b h e.b (made-sent w.b w.a (nodes.node_b w.b.state r) h m) (sent_more_b nodes rest)
 
   -- where only b made records, a is where it was
   pub a_rests : (nodes : Nodes S R U Z) {w e : World S U} {ys : List R} → Run nodes w [] ys e → w.a ≡ e.a
@@ -67,21 +71,25 @@ module _ {S R U Z : Type 0} where
   a_rests nodes (OfB m rest) = a_rests nodes rest
 
   -- what the records of a named was there
-  pub named_by_a : (nodes : Nodes S R U Z) → BothTell nodes → {w e : World S U} {xs ys : List R} → Run nodes w xs ys e → NamesBelow nodes (length e.b.sent) xs
+  pub named_by_a : (nodes : Nodes S R U Z) → BothTell nodes → {w e : World S U} {xs ys : List R} → Run nodes w xs ys e →
+      NamesBelow nodes (length e.b.sent) xs
   named_by_a nodes tells Done = λ k d l. absurd (omega arith)
   named_by_a nodes tells {w} {e} (OfA {h = h} {r = r} {xs = xs} m rest) =
       let more = sent_more-length w.b e.b (sent_more_b nodes rest) in
       below-cons nodes (length e.b.sent) r xs
-      (λ k named. let l = there w.a w.b (nodes.node_a w.a.state r) (nodes.named r) (nodes.sends r) k (tells.of_a w.a.state r) named (subst Moves (sym m) tt) in omega arith)
+      (λ k named. let l = there w.a w.b (nodes.node_a w.a.state r) (nodes.named r) (nodes.sends r) k (tells.of_a w.a.state r) named
+      (subst Moves (sym m) tt) in omega arith)
       (named_by_a nodes tells rest)
   named_by_a nodes tells (OfB m rest) = named_by_a nodes tells rest
 
   -- beginnings that are a run from the start are closed
-  pub closed : (nodes : Nodes S R U Z) → BothTell nodes → (first_a first_b : S) {e : World S U} {xs ys : List R} → Run nodes (start_world first_a first_b) xs ys e → IsClosed nodes xs ys
+  pub closed : (nodes : Nodes S R U Z) → BothTell nodes → (first_a first_b : S) {e : World S U} {xs ys : List R} →
+      Run nodes (start_world first_a first_b) xs ys e → IsClosed nodes xs ys
   closed nodes tells first_a first_b {e} {xs} {ys} run =
       let sent_a = sent_by_a nodes tells first_a first_b e xs ys run in
       let sent_b = sent_by_b nodes tells first_a first_b e xs ys run in
       record {
         of_a = below_more_units nodes (length e.b.sent) (sent_by nodes ys) xs (omega arith) (named_by_a nodes tells run);
-        of_b = below_more_units nodes (length e.a.sent) (sent_by nodes xs) ys (omega arith) (named_by_a (exchanged nodes) (both_tell nodes tells) (exchange nodes run));
+        of_b = below_more_units nodes (length e.a.sent) (sent_by nodes xs) ys (omega arith)
+            (named_by_a (exchanged nodes) (both_tell nodes tells) (exchange nodes run));
       }

@@ -21,14 +21,16 @@ cut_outcome cut Waits = Waits
 cut_outcome cut (Refused reason) = Refused reason
 
 -- In a world of which this holds, each record becomes the same to the others' eyes
-pub record Commutes {S U S' U' R Z : Type 0} (nodes : Nodes S R U Z) (others : Nodes S' R U' Z) (cut : Cut S U S' U') (holds : World S U → List R → List R → Type 0) : Type 0 where
+pub record Commutes {S U S' U' R Z : Type 0} (nodes : Nodes S R U Z) (others : Nodes S' R U' Z) (cut : Cut S U S' U')
+    (holds : World S U → List R → List R → Type 0) : Type 0 where
   pub of_a : (w : World S U) (made_a made_b : List R) (r : R) → holds w made_a made_b →
       advance others.node_a (cut_half cut w.a) (cut_half cut w.b) r ≡ cut_outcome cut (advance nodes.node_a w.a w.b r)
   pub of_b : (w : World S U) (made_a made_b : List R) (r : R) → holds w made_a made_b →
       advance others.node_b (cut_half cut w.b) (cut_half cut w.a) r ≡ cut_outcome cut (advance nodes.node_b w.b w.a r)
 
 -- The run of the others is the cut of a run of the nodes, in whose end the property holds
-pub record ComesOf {S U S' U' R Z : Type 0} (nodes : Nodes S R U Z) (cut : Cut S U S' U') (holds : World S U → List R → List R → Type 0) (w : World S U) (made_a made_b xs ys : List R) (seen : World S' U') : Type 0 where
+pub record ComesOf {S U S' U' R Z : Type 0} (nodes : Nodes S R U Z) (cut : Cut S U S' U') (holds : World S U → List R → List R → Type 0)
+    (w : World S U) (made_a made_b xs ys : List R) (seen : World S' U') : Type 0 where
   pub end : World S U
   pub run : Run nodes w xs ys end
   pub is_cut : seen ≡ cut_world cut end

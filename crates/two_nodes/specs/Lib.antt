@@ -4,6 +4,5 @@ pub mod Past
 pub mod Endings
 pub mod Kept
 pub mod Cutting
-pub mod Idle
-pub mod Example
-pub mod Keeping
+pub mod inner
+pub mod Beginning

@@ -1,6 +1,6 @@
 ghost use Rattle.std.specs.Prelude.{List};
 ghost use Rattle.two_nodes.specs.Cutting.{Cut, Commutes, ComesOf, cut_world};
-ghost use Rattle.two_nodes.specs.Idle.{idle_nodes, idle_cut, no_property};
+ghost use Rattle.two_nodes.specs.inner.Idle.{idle_nodes, idle_cut, no_property};
 ghost use Rattle.two_nodes.specs.Kept.{IsKept};
 ghost use Rattle.two_nodes.specs.Nodes.{Nodes, World, Run};
 

@@ -1,5 +1,5 @@
 ghost use Rattle.std.specs.Prelude.{List, [], ◌++◌};
-ghost use Rattle.two_nodes.specs.Idle.{idle_nodes, no_property};
+ghost use Rattle.two_nodes.specs.inner.Idle.{idle_nodes, no_property};
 ghost use Rattle.two_nodes.specs.Kept.{IsKept};
 ghost use Rattle.two_nodes.specs.Nodes.{Nodes, World, Run};
 

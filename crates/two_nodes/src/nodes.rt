@@ -1,4 +1,4 @@
-ghost use Rattle.two_nodes.specs.Idle.{idle_nodes, idle_nodes_tell};
+ghost use Rattle.two_nodes.specs.inner.Idle.{idle_nodes, idle_nodes_tell};
 ghost use Rattle.two_nodes.specs.Nodes.{Nodes};
 ghost use Rattle.two_nodes.specs.Past.{BothTell};
 

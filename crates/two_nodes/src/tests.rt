@@ -1,10 +1,10 @@
 ghost use Rattle.std.specs.Prelude.{◌≡◌, ◌≤◌, ◌+◌, ℕ, List, [], ◌∷◌, ◌++◌, length, take};
 ghost use Rattle.two_nodes.specs.Cutting.{ComesOf, cut_world};
 ghost use Rattle.two_nodes.specs.Endings.{LacksUnit, IsStuck};
-ghost use Rattle.two_nodes.specs.Example.{Event, Fault, SentWithin, counter, counters, counters_tell};
-ghost use Rattle.two_nodes.specs.Example.Event.{Count, Tell, Hear};
-ghost use Rattle.two_nodes.specs.Example.Fault.{Misheard, NothingToTell};
-ghost use Rattle.two_nodes.specs.Keeping.{Keeper, any_world, counts_of, keepers, new_keeper};
+ghost use Rattle.two_nodes.specs.inner.Example.{Event, Fault, SentWithin, counter, counters, counters_tell};
+ghost use Rattle.two_nodes.specs.inner.Example.Event.{Count, Tell, Hear};
+ghost use Rattle.two_nodes.specs.inner.Example.Fault.{Misheard, NothingToTell};
+ghost use Rattle.two_nodes.specs.inner.Keeping.{Keeper, any_world, counts_of, keepers, new_keeper};
 ghost use Rattle.two_nodes.specs.Nodes.{World, Half, Run, IsRun, advance, exchanged, exchanged_world, start_world};
 ghost use Rattle.two_nodes.specs.Nodes.Outcome.{Waits};
 ghost use Rattle.two_nodes.specs.Past.{Offends};

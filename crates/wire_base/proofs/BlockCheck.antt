@@ -1,11 +1,13 @@
 -- The check of a field is the one that makes its row, with the check behind it, a sum of copies of the generator.
-use Rattle.std.proofs.Common.{◌≡◌, ℕ, zero, suc, ◌+◌, ◌*◌, ◌/◌, ◌%◌, ◌^◌, ◌<◌, List, [], ◌∷◌, ◌++◌, length, take, drop, get_or, fold, refl, sym, ap, ap₂, ◌∙◌, subst, arith, pow-add}
+use Rattle.std.proofs.Common.{◌≡◌, ℕ, zero, suc, ◌+◌, ◌*◌, ◌/◌, ◌%◌, ◌^◌, ◌<◌, List, [], ◌∷◌, ◌++◌, length, take, drop, get_or, fold, refl, sym, ap}
+use Rattle.std.proofs.Common.{ap₂, ◌∙◌, subst, arith, pow-add}
 use Rattle.std.specs.Int.Bits.{bit_xor, xor_self, xor_zero_r, xor_assoc, xor_comm, xor_block, xor_shr, xor_mod, xor_lt, xor_shifted}
 use Rattle.std.proofs.Math.Nat.{mul_assoc, mul-one}
 use Rattle.std.proofs.lemmas.List.Sums.{fold_more, fold-append}
 use Rattle.std.proofs.Math.Seq.{take-add}
 use Rattle.wire_base.specs.BlockCheck.{row_of, generator, IsSumOfCopies, shift, shifted, after_byte, after_zeros, check_of}
-use Rattle.wire_base.proofs.SumsOfCopies.{xor_cancel, xor_swap, same_from_xor, xor-mul_pow, xor_double, mul_pow-suc, IsSumOfCopies-xor, IsSumOfCopies_double, IsSumOfCopies-mul_pow, IsSumOfCopies_one, IsSumOfCopies_low, zero_below}
+use Rattle.wire_base.proofs.SumsOfCopies.{xor_cancel, xor_swap, same_from_xor, xor-mul_pow, xor_double, mul_pow-suc, IsSumOfCopies-xor}
+use Rattle.wire_base.proofs.SumsOfCopies.{IsSumOfCopies_double, IsSumOfCopies-mul_pow, IsSumOfCopies_one, IsSumOfCopies_low, zero_below}
 
 -- each number of the list is a byte
 abbrev pub AreBytes : List ℕ → Type 0
@@ -105,7 +107,8 @@ after_byte_beside r b =
 after_zero-xor : (a b : ℕ) → after_byte (bit_xor a b) 0 ≡ bit_xor (after_byte a 0) (after_byte b 0)
 unfolding after_byte
 after_zero-xor a b =
-    ap (shifted 8) (xor_zero_r (bit_xor a b)) ∙ shifted-xor 8 a b ∙ ap₂ (λ x y. bit_xor (shifted 8 x) (shifted 8 y)) (sym (xor_zero_r a)) (sym (xor_zero_r b))
+    ap (shifted 8) (xor_zero_r (bit_xor a b)) ∙ shifted-xor 8 a b ∙ ap₂ (λ x y. bit_xor (shifted 8 x) (shifted 8 y)) (sym (xor_zero_r a))
+    (sym (xor_zero_r b))
 
 -- the high byte of a register comes down
 after_zero_high : (h : ℕ) → after_byte (h * 2 ^ 8) 0 ≡ h
@@ -149,7 +152,8 @@ after_bytes r (b ∷ bs) =
 -- the first two of eight bytes meet the register's own
 pub after_eight_bytes : (r : ℕ) (bs : List ℕ) → length bs ≡ 8
     → bit_xor (bit_xor (bit_xor (bit_xor (bit_xor (bit_xor (bit_xor (after_zeros 8 (bit_xor (r % 256) (get_or bs 0 0)))
-    (after_zeros 7 (bit_xor (r / 256) (get_or bs 1 0)))) (after_zeros 6 (get_or bs 2 0))) (after_zeros 5 (get_or bs 3 0))) (after_zeros 4 (get_or bs 4 0))) (after_zeros 3 (get_or bs 5 0)))
+    (after_zeros 7 (bit_xor (r / 256) (get_or bs 1 0)))) (after_zeros 6 (get_or bs 2 0))) (after_zeros 5 (get_or bs 3 0)))
+    (after_zeros 4 (get_or bs 4 0))) (after_zeros 3 (get_or bs 5 0)))
     (after_zeros 2 (get_or bs 6 0))) (after_zeros 1 (get_or bs 7 0))
     ≡ fold after_byte r bs
 after_eight_bytes r (b0 ∷ b1 ∷ b2 ∷ b3 ∷ b4 ∷ b5 ∷ b6 ∷ b7 ∷ []) eight =
@@ -158,7 +162,8 @@ after_eight_bytes r (b0 ∷ b1 ∷ b2 ∷ b3 ∷ b4 ∷ b5 ∷ b6 ∷ b7 ∷ [])
     let first = after_zeros 8 b0 in
     let second = after_zeros 7 b1 in
     let rest = left_by (b2 ∷ b3 ∷ b4 ∷ b5 ∷ b6 ∷ b7 ∷ []) in
-    let met : bit_xor (bit_xor (after_zeros 8 (bit_xor (r % 256) b0)) (after_zeros 7 (bit_xor (r / 256) b1))) rest ≡ fold after_byte r (b0 ∷ b1 ∷ b2 ∷ b3 ∷ b4 ∷ b5 ∷ b6 ∷ b7 ∷ []) =
+    let met : bit_xor (bit_xor (after_zeros 8 (bit_xor (r % 256) b0)) (after_zeros 7 (bit_xor (r / 256) b1))) rest ≡ fold after_byte r
+    (b0 ∷ b1 ∷ b2 ∷ b3 ∷ b4 ∷ b5 ∷ b6 ∷ b7 ∷ []) =
     ap₂ (λ x y. bit_xor (bit_xor x y) rest) (after_zeros-xor 8 (r % 256) b0) (after_zeros-xor 7 (r / 256) b1)
     ∙ ap (λ z. bit_xor z rest) (xor_swap low first high second)
     ∙ xor_assoc (bit_xor low high) (bit_xor first second) rest
@@ -189,7 +194,8 @@ row_sum : (xs ys : List ℕ) → row_of (xs ++ ys) ≡ row_of ys * 2 ^ width xs 
 row_sum [] ys = omega arith
 row_sum (x ∷ xs) ys =
     let rest = row_sum xs ys in
-    let power : row_of ys * 2 ^ (width xs + 8) ≡ row_of ys * 2 ^ width xs * 256 = ap (λ z. row_of ys * z) (pow-add 2 (width xs) 8) ∙ sym (mul_assoc (row_of ys) (2 ^ width xs) 256) in
+    let power : row_of ys * 2 ^ (width xs + 8) ≡ row_of ys * 2 ^ width xs * 256 =
+    ap (λ z. row_of ys * z) (pow-add 2 (width xs) 8) ∙ sym (mul_assoc (row_of ys) (2 ^ width xs) 256) in
     omega arith
 
 row_of-append : (xs ys : List ℕ) → AreBytes xs → row_of (xs ++ ys) ≡ bit_xor (row_of ys * 2 ^ width xs) (row_of xs)
@@ -206,7 +212,8 @@ unfolding check_of
 check_of_lt field h = fold_lt 0 field (omega arith) h
 
 -- the register at first, the row that went in and the register at last, behind that row, are a sum of copies
-fold_leaves : (r : ℕ) (field : List ℕ) → AreBytes field → IsSumOfCopies (bit_xor (bit_xor r (row_of field)) (fold after_byte r field * 2 ^ width field))
+fold_leaves : (r : ℕ) (field : List ℕ) → AreBytes field →
+    IsSumOfCopies (bit_xor (bit_xor r (row_of field)) (fold after_byte r field * 2 ^ width field))
 fold_leaves r [] h = subst (λ z. IsSumOfCopies (bit_xor z (r * 1))) (sym (xor_zero_r r)) (nothing r)
 fold_leaves r (b ∷ bs) h =
     let next = after_byte r b in
@@ -230,22 +237,27 @@ check_leaves field h = fold_leaves 0 field h
 
 pub copies_from_check : (field end : List ℕ) → AreBytes field → row_of end ≡ check_of field → IsSumOfCopies (row_of (field ++ end))
 copies_from_check field end h e =
-    subst IsSumOfCopies (ap (λ z. bit_xor (row_of field) (z * 2 ^ width field)) (sym e) ∙ xor_comm (row_of field) (row_of end * 2 ^ width field) ∙ sym (row_of-append field end h))
+    subst IsSumOfCopies (ap (λ z. bit_xor (row_of field) (z * 2 ^ width field)) (sym e) ∙ xor_comm (row_of field) (row_of end * 2 ^ width field) ∙
+    sym (row_of-append field end h))
     (check_leaves field h)
 
-pub check_from_copies : (field end : List ℕ) → AreBytes field → row_of end < 2 ^ 16 → IsSumOfCopies (row_of (field ++ end)) → row_of end ≡ check_of field
+pub check_from_copies : (field end : List ℕ) → AreBytes field → row_of end < 2 ^ 16 → IsSumOfCopies (row_of (field ++ end)) →
+    row_of end ≡ check_of field
 check_from_copies field end h small copies =
     let c = check_of field * 2 ^ width field in
     let e = row_of end * 2 ^ width field in
-    let both = IsSumOfCopies-xor (bit_xor e (row_of field)) (bit_xor (row_of field) c) (subst IsSumOfCopies (row_of-append field end h) copies) (check_leaves field h) in
+    let both = IsSumOfCopies-xor (bit_xor e (row_of field)) (bit_xor (row_of field) c) (subst IsSumOfCopies (row_of-append field end h) copies)
+    (check_leaves field h) in
     let behind = subst IsSumOfCopies (xor_cancel e (row_of field) c ∙ xor-mul_pow (row_of end) (check_of field) (width field)) both in
     let low = IsSumOfCopies_low (bit_xor (row_of end) (check_of field)) (width field) behind in
-    same_from_xor (row_of end) (check_of field) (zero_below (bit_xor (row_of end) (check_of field)) low (xor_lt 16 (row_of end) (check_of field) small (check_of_lt field h)))
+    same_from_xor (row_of end) (check_of field)
+    (zero_below (bit_xor (row_of end) (check_of field)) low (xor_lt 16 (row_of end) (check_of field) small (check_of_lt field h)))
 
 -- at the end of a field with its check behind it, and of no other, the register is 0
 pub copies_from_none : (bytes : List ℕ) → AreBytes bytes → check_of bytes ≡ 0 → IsSumOfCopies (row_of bytes)
 copies_from_none bytes h e =
-    subst IsSumOfCopies (ap (λ z. bit_xor (row_of bytes) (z * 2 ^ width bytes)) e ∙ ap (bit_xor (row_of bytes)) (none_times (2 ^ width bytes)) ∙ xor_zero_r (row_of bytes)) (check_leaves bytes h)
+    subst IsSumOfCopies (ap (λ z. bit_xor (row_of bytes) (z * 2 ^ width bytes)) e ∙ ap (bit_xor (row_of bytes)) (none_times (2 ^ width bytes)) ∙
+    xor_zero_r (row_of bytes)) (check_leaves bytes h)
   where
     none_times : (n : ℕ) → 0 * n ≡ 0
     none_times n = omega arith
@@ -269,9 +281,11 @@ one_byte_shows before after x y h hx hy p q =
     λ b k. row_of-append before (b ∷ after) h ∙ ap (λ z. bit_xor (z * 2 ^ w) row) (row_of_byte b (row_of after) k) in
     let second = subst IsSumOfCopies (at y hy ∙ xor_comm (bit_xor high y * 2 ^ w) row) q in
     let both = IsSumOfCopies-xor _ (bit_xor row (bit_xor high y * 2 ^ w)) (subst IsSumOfCopies (at x hx) p) second in
-    let apart : bit_xor (bit_xor high x) (bit_xor high y) ≡ bit_xor x y = xor_swap high x high y ∙ ap (λ z. bit_xor z (bit_xor x y)) (xor_self high) in
+    let apart : bit_xor (bit_xor high x) (bit_xor high y) ≡ bit_xor x y =
+    xor_swap high x high y ∙ ap (λ z. bit_xor z (bit_xor x y)) (xor_self high) in
     let alone = subst IsSumOfCopies
-    (xor_cancel (bit_xor high x * 2 ^ w) row (bit_xor high y * 2 ^ w) ∙ xor-mul_pow (bit_xor high x) (bit_xor high y) w ∙ ap (λ z. z * 2 ^ w) apart) both in
+    (xor_cancel (bit_xor high x * 2 ^ w) row (bit_xor high y * 2 ^ w) ∙ xor-mul_pow (bit_xor high x) (bit_xor high y) w ∙ ap (λ z. z * 2 ^ w) apart)
+    both in
     same_from_xor x y (zero_below (bit_xor x y) (IsSumOfCopies_low (bit_xor x y) w alone) (xor_lt 16 x y (omega arith) (omega arith)))
 
 -- ---- the check, byte by byte
@@ -280,7 +294,8 @@ pub check_of_none : check_of [] ≡ 0
 unfolding check_of
 check_of_none = refl
 
-pub check_of_more : (bytes : List ℕ) (i : ℕ) → i < length bytes → check_of (take (i + 1) bytes) ≡ after_byte (check_of (take i bytes)) (get_or bytes i 0)
+pub check_of_more : (bytes : List ℕ) (i : ℕ) → i < length bytes → check_of (take (i + 1) bytes) ≡ after_byte (check_of (take i bytes))
+    (get_or bytes i 0)
 unfolding check_of
 check_of_more bytes i h = fold_more after_byte 0 bytes i 0 h
 

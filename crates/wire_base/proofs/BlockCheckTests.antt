@@ -1,5 +1,6 @@
 -- `is_good` tells what `HasGoodCheck` says, and what follows for it.
-use Rattle.std.proofs.Common.{◌≡◌, ℕ, zero, suc, ◌+◌, ◌-◌, ◌/◌, ◌%◌, ◌^◌, ◌<◌, ◌≤◌, Bool, true, false, eqb, leb, ◌&&◌, inl, inr, List, [], ◌∷◌, ◌++◌, length, length-append, length-drop, take, drop, get_or, refl, sym, ap₂, ◌∙◌, subst, arith}
+use Rattle.std.proofs.Common.{◌≡◌, ℕ, zero, suc, ◌+◌, ◌-◌, ◌/◌, ◌%◌, ◌^◌, ◌<◌, ◌≤◌, Bool, true, false, eqb, leb, ◌&&◌, inl, inr, List, [], ◌∷◌, ◌++◌}
+use Rattle.std.proofs.Common.{length, length-append, length-drop, take, drop, get_or, refl, sym, ap₂, ◌∙◌, subst, arith}
 use Rattle.std.proofs.lemmas.Bool.{cases_Bool, eqb-true, eq-eqb, leb-true, le-leb}
 use Rattle.std.proofs.lemmas.Bool.Decides.{nat_tests}
 use Rattle.std.proofs.lemmas.List.{get_or-drop, take-append-drop}
@@ -14,11 +15,13 @@ AreBytes-drop n bytes h = λ i. rw (get_or-drop n bytes i 0) (h (n + i))
 pub AreBytes-take : (n : ℕ) (bytes : List ℕ) → AreBytes bytes → AreBytes (take n bytes)
 AreBytes-take zero bytes h = λ i. omega arith
 AreBytes-take (suc n) [] h = h
-AreBytes-take (suc n) (b ∷ bs) h = λ i. elim i as (λ j. get_or (b ∷ take n bs) j 0 < 256) [ zero ↦ h 0 | suc j ↦ AreBytes-take n bs (λ k. h (suc k)) j ]
+AreBytes-take (suc n) (b ∷ bs) h =
+    λ i. elim i as (λ j. get_or (b ∷ take n bs) j 0 < 256) [ zero ↦ h 0 | suc j ↦ AreBytes-take n bs (λ k. h (suc k)) j ]
 
 pub AreBytes-append : (xs ys : List ℕ) → AreBytes xs → AreBytes ys → AreBytes (xs ++ ys)
 AreBytes-append [] ys h k = k
-AreBytes-append (x ∷ xs) ys h k = λ i. elim i as (λ j. get_or (x ∷ (xs ++ ys)) j 0 < 256) [ zero ↦ h 0 | suc j ↦ AreBytes-append xs ys (λ m. h (suc m)) k j ]
+AreBytes-append (x ∷ xs) ys h k =
+    λ i. elim i as (λ j. get_or (x ∷ (xs ++ ys)) j 0 < 256) [ zero ↦ h 0 | suc j ↦ AreBytes-append xs ys (λ m. h (suc m)) k j ]
 
 row_lt_word : (end : List ℕ) → length end ≡ 2 → AreBytes end → row_of end < 2 ^ 16
 row_lt_word [] e h = omega arith
@@ -44,7 +47,8 @@ pub good_from_check : (field end : List ℕ) → AreBytes field → length end �
 good_from_check field end h two e =
     record { two_bytes = omega (arith, length-append field end); copies = copies_from_check field end h e }
 
-pub check_from_good : (field end : List ℕ) → AreBytes field → AreBytes end → length end ≡ 2 → HasGoodCheck (field ++ end) → row_of end ≡ check_of field
+pub check_from_good : (field end : List ℕ) → AreBytes field → AreBytes end → length end ≡ 2 → HasGoodCheck (field ++ end) →
+    row_of end ≡ check_of field
 check_from_good field end h k two good = check_from_copies field end h (row_lt_word end two k) good.copies
 
 pub good_from_word : (field : List ℕ) (word : ℕ) → AreBytes field → word ≡ check_of field → HasGoodCheck (field ++ word_bytes word)
@@ -69,7 +73,8 @@ good_from_test bytes h e =
     let same = eqb-true (check_of (take rest bytes)) (row_of (drop rest bytes)) both.1 in
     record {
       two_bytes = long;
-      copies = subst (λ z. IsSumOfCopies (row_of z)) (take-append-drop rest bytes) (copies_from_check (take rest bytes) (drop rest bytes) (AreBytes-take rest bytes h) (sym same));
+      copies = subst (λ z. IsSumOfCopies (row_of z)) (take-append-drop rest bytes)
+          (copies_from_check (take rest bytes) (drop rest bytes) (AreBytes-take rest bytes h) (sym same));
     }
 
 pub test_from_good : (bytes : List ℕ) → AreBytes bytes → HasGoodCheck bytes → is_good bytes ≡ true
@@ -92,7 +97,9 @@ is_good_long bytes h long = elim (cases_Bool (is_good bytes)) [
   | inl good ↦ eq-eqb (check_of bytes) 0 (none_from_copies bytes h (good_from_test bytes h good).copies) ∙ sym good
   | inr bad ↦
       elim (cases_Bool (eqb (check_of bytes) 0)) [
-        | inl none ↦ absurd (let good = test_from_good bytes h (record { two_bytes = long; copies = copies_from_none bytes h (eqb-true (check_of bytes) 0 none) }) in cc)
+        | inl none ↦ absurd (let good =
+            test_from_good bytes h (record
+            { two_bytes = long; copies = copies_from_none bytes h (eqb-true (check_of bytes) 0 none) }) in cc)
         | inr some ↦ some ∙ sym bad
       ]
 ]

@@ -1,6 +1,7 @@
 -- True numbers and their wire values: the next one, the distance, and the least number with a wire value.
 use Rattle.std.proofs.Common.{◌≡◌, ℕ, ◌+◌, ◌-◌, ◌%◌, ◌<◌, ◌≤◌, inl, inr, sym, ap, ◌∙◌, arith}
-use Rattle.std.proofs.Math.Nat.{mod-lt, mod-le, mod-eq_of_lt, mod-eq-sub-mod, add-mod, add-mod_right, mod-add-mod, add-mod-mod, mod-mod_of_dvd, dvd_of_mod-eq-zero}
+use Rattle.std.proofs.Math.Nat.{mod-lt, mod-le, mod-eq_of_lt, mod-eq-sub-mod, add-mod, add-mod_right, mod-add-mod, add-mod-mod, mod-mod_of_dvd}
+use Rattle.std.proofs.Math.Nat.{dvd_of_mod-eq-zero}
 use Rattle.std.proofs.lemmas.Bool.{cases_lt}
 use Rattle.wire_base.specs.Seq.{wire_distance, IsLift}
 
@@ -33,10 +34,12 @@ lift_least m base wire h =
     let below : low < m = mod-lt base pos in
     let gap = wire + m - low in
     record {
-      same_wire = add-mod-mod base gap m ∙ sym (mod-add-mod base m gap) ∙ ap (λ z. z % m) (let e : low + gap ≡ wire + m = omega arith in e) ∙ add-mod_right wire m ∙ mod-eq_of_lt h;
+      same_wire = add-mod-mod base gap m ∙ sym (mod-add-mod base m gap) ∙ ap (λ z. z % m) (let e : low + gap ≡ wire + m = omega arith in e) ∙
+          add-mod_right wire m ∙ mod-eq_of_lt h;
       above = omega arith;
       least = λ other above same.
-          let apart : wire_distance m low wire ≡ (other - base) % m = ap (wire_distance m low) (sym same) ∙ wire_distance-numbers m base other pos above in
+          let apart : wire_distance m low wire ≡ (other - base) % m =
+          ap (wire_distance m low) (sym same) ∙ wire_distance-numbers m base other pos above in
           omega (arith, apart, mod-le (other - base) m);
     }
 

@@ -4,7 +4,8 @@
 --
 -- A row of bits is written as a number, its first bit the lowest. A field is sent byte by byte and each byte low bit
 -- first, so the row of some bytes is their little-endian number.
-use Rattle.std.specs.Prelude.{◌≡◌, ℕ, zero, suc, ◌+◌, ◌-◌, ◌*◌, ◌/◌, ◌%◌, ◌≤◌, Bool, ◌&&◌, ◌==◌, nat_le, if◌then◌else◌, List, [], ◌∷◌, length, take, drop, fold, bit_xor}
+use Rattle.std.specs.Prelude.{◌≡◌, ℕ, zero, suc, ◌+◌, ◌-◌, ◌*◌, ◌/◌, ◌%◌, ◌≤◌, Bool, ◌&&◌, ◌==◌, nat_le, if◌then◌else◌, List, [], ◌∷◌, length, take}
+use Rattle.std.specs.Prelude.{drop, fold, bit_xor}
 
 -- ---- the rule, in bits
 

@@ -1,8 +1,6 @@
 -- Numbers as they are sent: modulo 256 in DDCMP (DDCMP 4.1, message numbers), modulo 4,096 in NSP (NSP 4.0, segment
 -- numbers). A true number has no bound; its wire value is its rest.
-use Rattle.std.specs.Prelude.{◌≡◌, ℕ, ◌+◌, ◌-◌, ◌%◌, ◌^◌, ◌<◌, ◌≤◌, zero, suc}
-use Rattle.std.proofs.Common.{arith}
-use Rattle.std.proofs.Math.Nat.{mod-lt, mod-zero}
+use Rattle.std.specs.Prelude.{◌≡◌, ℕ, ◌+◌, ◌-◌, ◌%◌, ◌≤◌}
 
 -- the wire value of a number
 abbrev pub wire_value : ℕ → ℕ → ℕ
@@ -17,8 +15,3 @@ pub record IsLift (modulus base wire number : ℕ) : Type 0 where
   pub same_wire : number % modulus ≡ wire
   pub above : base ≤ number
   pub least : (other : ℕ) → base ≤ other → other % modulus ≡ wire → number ≤ other
-
--- what 2 ^ 64 is a multiple of is not 0, so a rest is below it
-pub wire_value_lt : (m number : ℕ) → 2 ^ 64 % m ≡ 0 → number % m < m
-wire_value_lt zero number h = absurd (omega (arith, mod-zero (2 ^ 64), h))
-wire_value_lt (suc m) number h = mod-lt number (omega arith)

@@ -1,5 +1,6 @@
 -- What a contract sees of a counted reader or writer, and how a call moves the count.
-use Rattle.std.specs.Prelude.{◌≡◌, ℕ, ◌+◌, ◌-◌, ◌^◌, ◌<◌, min, Bool, true, ◌&&◌, ◌==◌, nat_lt, if◌then◌else◌, ◌⊎◌, List, length, take, Option, Result, Ok, Err}
+use Rattle.std.specs.Prelude.{◌≡◌, ℕ, ◌+◌, ◌-◌, ◌^◌, ◌<◌, min, Bool, true, ◌&&◌, ◌==◌, nat_lt, if◌then◌else◌, ◌⊎◌, List, length, take, Option, Result}
+use Rattle.std.specs.Prelude.{Ok, Err}
 use Rattle.std.specs.Io.KnownBytes.{Appends}
 use Rattle.wire_base.specs.declared.tally.Tally.{Tally}
 

@@ -69,6 +69,3 @@ pub fn checks(bytes: &[u8]) -> bool
     // Of a field with its check the register is 0 at last.
     block_check(bytes) == 0
 }
-
-#[cfg(test)]
-mod tests;

@@ -24,7 +24,7 @@ enum Room {
 
 impl Model for Copied {
     ghost use Rattle.std.specs.Prelude.{List, ℕ};
-    ghost use Rattle.wire_base.specs.Copied.{bytes_in, IsWithin};
+    ghost use Rattle.wire_base.specs.inner.Copied.{bytes_in, IsWithin};
 
     ghost Value = { List ℕ };
 
@@ -77,22 +77,5 @@ impl Copied {
             Room::Few { len, bytes } => &bytes[..usize::from(*len)],
             Room::Many(bytes) => bytes.as_slice(),
         }
-    }
-}
-
-#[cfg(test)]
-mod tests {
-    use super::*;
-    use std::test::Fail;
-
-    #[test]
-    fn few_and_many_bytes_are_copied(rt: HostRuntime) -> Result<(), Fail> {
-        let bytes = [7u8; 2 * FEW];
-        for len in [0, 1, FEW - 1, FEW, FEW + 1, 2 * FEW] {
-            let copy = Copied::of(rt.alloc(), &bytes[..len])?;
-            assert_eq!(rt; copy.as_slice(), &bytes[..len], "{len} bytes");
-        }
-        assert!(rt; Copied::none().as_slice().is_empty());
-        Ok(())
     }
 }

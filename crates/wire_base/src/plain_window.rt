@@ -16,7 +16,7 @@ pub struct PlainWindow<T, const M: u16> {
 impl<T: Drop, const M: u16> Window<T, M> for PlainWindow<T, M> {
     ghost use Rattle.wire_base.specs.Window.{empty_from};
     ghost use Rattle.wire_base.specs.PlainWindow.{plain_view};
-    ghost use Rattle.wire_base.specs.Seq.{wire_value_lt};
+    ghost use Rattle.wire_base.specs.inner.Wrapped.{wire_value_lt};
 
     ghost window = { plain_view };
 

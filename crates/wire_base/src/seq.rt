@@ -69,6 +69,3 @@ impl<const M: u16> Seq<M> {
         base + u64::from(Seq::distance(Seq::of(base), wire))
     }
 }
-
-#[cfg(test)]
-mod tests;

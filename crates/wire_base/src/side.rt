@@ -36,19 +36,3 @@ impl fmt::Display for Side {
         }
     }
 }
-
-#[cfg(test)]
-mod tests {
-    use super::*;
-    use std::test::Fail;
-
-    #[test]
-    fn each_side_has_its_letter_and_its_other(rt: HostRuntime) -> Result<(), Fail> {
-        for (side, letter, other) in [(Side::A, "a", Side::B), (Side::B, "b", Side::A)] {
-            let printed = format!(in rt.alloc(); "{side}")?;
-            assert_eq!(rt; printed.as_str(), letter, "the letter of {side:?}");
-            assert_eq!(rt; side.other(), other, "the other of {side:?}");
-        }
-        Ok(())
-    }
-}

@@ -147,6 +147,3 @@ pub fn write_whole<W: Write>(writer: &mut Tally<W>, piece: &[u8]) -> Result<(), 
     }
     Ok(())
 }
-
-#[cfg(test)]
-mod tests;

@@ -75,6 +75,3 @@ pub trait Window<T, const M: u16> {
 
     ghost wrapped: { (w : Self) → (window w).first < M };
 }
-
-#[cfg(test)]
-mod tests;

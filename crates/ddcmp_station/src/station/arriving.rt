@@ -4,21 +4,21 @@ ghost use Rattle.std.specs.Prelude.{◌≡◌, ◌+◌, ◌^◌, ◌<◌, ◌≤
 ghost use Rattle.std.specs.Option.{option_copied};
 ghost use Rattle.ddcmp_msg.specs.Message.{view};
 ghost use Rattle.ddcmp_msg.specs.declared.nak_reason.NakReason.TheVariants as nak;
-ghost use Rattle.dna_model.specs.Causes.{with_cause};
-ghost use Rattle.dna_model.specs.Table.{row};
-ghost use Rattle.dna_model.specs.Rules.{judged, meets};
-ghost use Rattle.dna_model.specs.Rules as rules;
-ghost use Rattle.dna_model.specs.Book.{num_of, has_packet, keep_refusal, damaged_by};
-ghost use Rattle.dna_model.specs.Book as arriving;
-ghost use Rattle.dna_model.specs.WireStation.{load};
-ghost use Rattle.dna_model.specs.WireBook.{wire_tag, wire_book, wire_is_next, with_next, wire_responded, wire_does, wire_arrival_refusal, wire_after_arrival, wire_taken};
+ghost use Rattle.dna_station.specs.Causes.{with_cause};
+ghost use Rattle.dna_station.specs.Table.{row};
+ghost use Rattle.dna_station.specs.Rules.{of_period, meets};
+ghost use Rattle.dna_station.specs.Rules as rules;
+ghost use Rattle.dna_station.specs.Book.{num_of, has_packet, keep_refusal, damaged_by};
+ghost use Rattle.dna_station.specs.Book as arriving;
+ghost use Rattle.dna_station.specs.WireStation.{load};
+ghost use Rattle.dna_station.specs.WireBook.{wire_tag, wire_book, wire_is_next, with_next, wire_responded, wire_does, wire_arrival_refusal, wire_after_arrival, wire_taken};
 ghost use Rattle.ddcmp_station.specs.Arrival.{arrival_view};
 ghost use Rattle.ddcmp_station.specs.Fault.{IsRefused};
 
-use super::Station;
-use crate::{Arrival, HeldPacket, StationFault};
+use super::{HeldPacket, Station};
+use crate::{Arrival, StationFault};
 use ddcmp_msg::{Message, NakReason};
-use dna_model::{State, StationRefusal, Tag};
+use dna_station::{State, StationRefusal, Tag};
 use wire_base::Window;
 
 impl<T: Copy, W: Window<HeldPacket<T>, 256>> Station<T, W> {
@@ -52,11 +52,11 @@ impl<T: Copy, W: Window<HeldPacket<T>, 256>> Station<T, W> {
         kept: bool,
     ) -> Result<Option<&'a [u8]>, StationFault>
         requires { load self.old < 2 ^ 63 }
-        ensures allowed { OnOk result (wire_arrival_refusal judged self.old (arrival_view arrival.entry) kept ≡ None) }
+        ensures allowed { OnOk result (wire_arrival_refusal of_period self.old (arrival_view arrival.entry) kept ≡ None) }
         ensures ok { OnOk result (self.new ≡ wire_after_arrival self.old (arrival_view arrival.entry) kept) }
         ensures taken { IfOk result (λ taken. option_copied taken ≡ wire_taken self.old (arrival_view arrival.entry) kept) }
         ensures refused { IfErr result (λ fault.
-            IsRefused (wire_arrival_refusal judged self.old (arrival_view arrival.entry) kept) fault) }
+            IsRefused (wire_arrival_refusal of_period self.old (arrival_view arrival.entry) kept) fault) }
         ensures alone { IfErr result (λ fault. (fault ≡ StationFault.Refused StationRefusal.CrossedPeriod)
             ⊎ (fault ≡ StationFault.Refused StationRefusal.WrongKeep)) }
         ensures err { OnErr result (self.new ≡ self.old) }
@@ -78,11 +78,11 @@ impl<T: Copy, W: Window<HeldPacket<T>, 256>> Station<T, W> {
         kept: bool,
     ) -> Result<Option<&'a [u8]>, StationFault>
         requires { load self.old < 2 ^ 63 }
-        ensures allowed { OnOk result (wire_arrival_refusal judged self.old (arriving.Sound (view message.entry) tag) kept ≡ None) }
+        ensures allowed { OnOk result (wire_arrival_refusal of_period self.old (arriving.Sound (view message.entry) tag) kept ≡ None) }
         ensures ok { OnOk result (self.new ≡ wire_after_arrival self.old (arriving.Sound (view message.entry) tag) kept) }
         ensures taken { IfOk result (λ taken. option_copied taken ≡ wire_taken self.old (arriving.Sound (view message.entry) tag) kept) }
         ensures refused { IfErr result (λ fault.
-            IsRefused (wire_arrival_refusal judged self.old (arriving.Sound (view message.entry) tag) kept) fault) }
+            IsRefused (wire_arrival_refusal of_period self.old (arriving.Sound (view message.entry) tag) kept) fault) }
         ensures alone { IfErr result (λ fault. (fault ≡ StationFault.Refused StationRefusal.CrossedPeriod)
             ⊎ (fault ≡ StationFault.Refused StationRefusal.WrongKeep)) }
         ensures err { OnErr result (self.new ≡ self.old) }
@@ -91,7 +91,7 @@ impl<T: Copy, W: Window<HeldPacket<T>, 256>> Station<T, W> {
         if !self.meets(&message, tag) {
             return Err(StationFault::Refused(StationRefusal::CrossedPeriod));
         }
-        let takes = self.takes(&message);
+        let takes = self.variables.can_take(&message);
         if !takes && kept {
             return Err(StationFault::Refused(StationRefusal::WrongKeep));
         }
@@ -125,25 +125,6 @@ impl<T: Copy, W: Window<HeldPacket<T>, 256>> Station<T, W> {
             State::Running => match message {
                 Message::Strt { .. } => true,
                 _ => of_pair,
-            },
-        }
-    }
-
-    // Whether the packet of a message can be taken: data with the next number, where data is acted on.
-    #[inline(always)]
-    fn takes(&self, message: &Message) -> bool
-        ensures { result ≡ (has_packet (row self.now.variables.state (view message.now)).effects
-            && wire_is_next self.now.variables (num_of (view message.now))) }
-    {
-        match self.variables.state() {
-            State::Halted | State::Istrt => false,
-            State::Astrt => match message {
-                Message::Data { resp: 0, num, .. } => self.variables.is_next(*num),
-                _ => false,
-            },
-            State::Running => match message {
-                Message::Data { num, .. } => self.variables.is_next(*num),
-                _ => false,
             },
         }
     }
@@ -208,7 +189,7 @@ impl<T: Copy, W: Window<HeldPacket<T>, 256>> Station<T, W> {
           causes = if num == self.old.variables.received then self.old.causes else with_cause nak.RepResponse self.old.causes;
         } }
     {
-        if !self.variables.is_received(num) {
+        if num != self.variables.received() {
             self.causes.add(NakReason::RepResponse);
         }
     }

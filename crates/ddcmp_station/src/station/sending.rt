@@ -2,19 +2,19 @@
 
 ghost use Rattle.std.specs.Prelude.{◌≡◌, ◌<◌, ◌≤◌, ◌==◌, ◌+◌, ◌∷◌, [], IsTrue, true, false, None, Some, if◌then◌else◌, length, not, nat_lt, slice_get, IfOk, OnOk, OnErr, IfErr};
 ghost use Rattle.ddcmp_msg.specs.Message.{view};
-ghost use Rattle.dna_model.specs.Causes.{has_cause};
-ghost use Rattle.dna_model.specs.Table.{WINDOW, checks};
-ghost use Rattle.dna_model.specs.Book.{failed};
-ghost use Rattle.dna_model.specs.Station.{wire};
-ghost use Rattle.dna_model.specs.WireStation.{load};
-ghost use Rattle.dna_model.specs.WireBook.{is_held_packet, wire_is_new, wire_passes, sends_packet, wire_sending_refusal, wire_after_sending, gives_new};
+ghost use Rattle.dna_station.specs.Causes.{has_cause};
+ghost use Rattle.dna_station.specs.Table.{WINDOW, checks};
+ghost use Rattle.dna_station.specs.Book.{failed};
+ghost use Rattle.dna_station.specs.Station.{wire};
+ghost use Rattle.dna_station.specs.WireStation.{load};
+ghost use Rattle.dna_station.specs.WireBook.{is_held_packet, wire_is_new, wire_passes, sends_packet, wire_sending_refusal, wire_after_sending, gives_new};
 ghost use Rattle.ddcmp_station.specs.Fault.{IsFault, is_of_repeats};
 ghost use Rattle.ddcmp_station.specs.Sent.{sent_as};
 
-use super::Station;
-use crate::{HeldPacket, SentAs, StationFault};
+use super::{HeldPacket, Station};
+use crate::{SentAs, StationFault};
 use ddcmp_msg::{Message, NakReason};
-use dna_model::{State, StationRefusal, Tag};
+use dna_station::{State, StationRefusal, Tag};
 use std::alloc::AllocError;
 use wire_base::{Copied, Window};
 
@@ -160,7 +160,7 @@ impl<T: Copy, W: Window<HeldPacket<T>, 256>> Station<T, W> {
     fn refusal_of_response(&self, resp: u8) -> Option<StationRefusal>
         ensures { result ≡ if resp == self.now.variables.received then None else Some StationRefusal.WrongResponse }
     {
-        if self.variables.is_received(resp) {
+        if resp == self.variables.received() {
             None
         } else {
             Some(StationRefusal::WrongResponse)
@@ -173,7 +173,7 @@ impl<T: Copy, W: Window<HeldPacket<T>, 256>> Station<T, W> {
             then (if has_cause reason self.now.causes then None else Some StationRefusal.NoCause)
             else Some StationRefusal.WrongResponse }
     {
-        if !self.variables.is_received(resp) {
+        if resp != self.variables.received() {
             return Some(StationRefusal::WrongResponse);
         }
         if !self.causes.has(reason) {
@@ -191,7 +191,7 @@ impl<T: Copy, W: Window<HeldPacket<T>, 256>> Station<T, W> {
         if !self.variables.is_outstanding() {
             return Some(StationRefusal::WrongState);
         }
-        if !self.variables.is_highest(num) {
+        if num != self.variables.highest() {
             return Some(StationRefusal::WrongNumber);
         }
         None
@@ -211,10 +211,10 @@ impl<T: Copy, W: Window<HeldPacket<T>, 256>> Station<T, W> {
             else Some StationRefusal.WrongResponse)
             else Some StationRefusal.WrongNumber }
     {
-        if !self.variables.is_to_send(num) {
+        if num != self.variables.to_send() {
             return Some(StationRefusal::WrongNumber);
         }
-        if !self.variables.is_received(resp) {
+        if resp != self.variables.received() {
             return Some(StationRefusal::WrongResponse);
         }
         if self.variables.is_new() {

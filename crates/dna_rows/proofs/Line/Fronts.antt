@@ -5,7 +5,7 @@ use Rattle.wire_base.specs.declared.side.Side.TheVariants.{B}
 use Rattle.ddcmp_msg.specs.Reading.{reading}
 use Rattle.capture.specs.declared.record.Record.TheVariants.{Sent, Received, User}
 use Rattle.capture.specs.declared.event.Event.TheVariants.{Start, Halt}
-use Rattle.dna_model.specs.declared.refusal.StepRefusal.TheVariants.{HintOrder}
+use Rattle.dna_station.specs.declared.refusal.StepRefusal.TheVariants.{HintOrder}
 use Rattle.dna_rows.proofs.Verdicts.{Verdict, verdict}
 use Rattle.dna_rows.proofs.Units.{STRT, ACK, data_of}
 use Rattle.dna_rows.proofs.Captures.{started, answered, acked_a, acked_b, refused}

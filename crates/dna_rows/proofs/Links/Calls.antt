@@ -5,9 +5,9 @@ use Rattle.wire_base.specs.declared.side.Side.TheVariants.{A, B}
 use Rattle.ddcmp_msg.specs.Reading.{reading}
 use Rattle.capture.specs.declared.record.Record.TheVariants.{Sent, Received, User}
 use Rattle.capture.specs.declared.event.Event.TheVariants.{Start, Open, Accept, In, Up, Close}
-use Rattle.dna_model.specs.declared.refusal.StepRefusal.TheVariants.{Links as OfLinks}
-use Rattle.dna_model.specs.declared.link_refusal.LinkRefusal.TheVariants.{NoLink, LinkState, SegmentTooLong}
-use Rattle.dna_model.specs.declared.finding.Finding.TheVariants.{Accepted}
+use Rattle.dna_station.specs.declared.refusal.StepRefusal.TheVariants.{Links as OfLinks}
+use Rattle.dna_station.specs.declared.link_refusal.LinkRefusal.TheVariants.{NoLink, LinkState, SegmentTooLong}
+use Rattle.dna_node.specs.declared.finding.Finding.TheVariants.{Accepted}
 use Rattle.dna_rows.proofs.Verdicts.{Verdict, verdict}
 use Rattle.dna_rows.proofs.Units.{STRT, STACK, data_of, from_a, from_b, CI, CI_AGAIN, CC, CONNECT_ACK, DI, DC, LINK_SERVICE, SEGMENT, carries}
 use Rattle.dna_rows.proofs.Captures.{started, answered, acked_a, acked_b, called_a, called_b, confirmed_b, running_a, running_b, refused}

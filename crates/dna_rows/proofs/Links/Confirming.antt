@@ -4,7 +4,7 @@ use Rattle.wire_base.specs.BlockCheck.{is_good, check_of, after_byte, shift}
 use Rattle.ddcmp_msg.specs.Reading.{reading}
 use Rattle.capture.specs.declared.record.Record.TheVariants.{Sent, Received, User}
 use Rattle.capture.specs.declared.event.Event.TheVariants.{In, Up}
-use Rattle.dna_model.specs.declared.finding.Finding.TheVariants.{Accepted}
+use Rattle.dna_node.specs.declared.finding.Finding.TheVariants.{Accepted}
 use Rattle.dna_rows.proofs.Verdicts.{Verdict, verdict}
 use Rattle.dna_rows.proofs.Units.{data_of, from_a, from_b, LINK_SERVICE, INTERRUPT, OTHER_ACK, ack, DATA_ACK, SEGMENT, carries}
 use Rattle.dna_rows.proofs.Captures.{confirmed_a, confirmed_b, running_a, running_b}

@@ -5,9 +5,9 @@ use Rattle.wire_base.specs.declared.side.Side.TheVariants.{B}
 use Rattle.ddcmp_msg.specs.Reading.{reading}
 use Rattle.capture.specs.declared.record.Record.TheVariants.{Sent, Received, User}
 use Rattle.capture.specs.declared.event.Event.TheVariants.{Start}
-use Rattle.dna_model.specs.declared.refusal.StationRefusal.TheVariants.{NoCause}
-use Rattle.dna_model.specs.declared.refusal.StepRefusal.TheVariants.{Station as OfStation}
-use Rattle.dna_model.specs.declared.finding.Finding.TheVariants.{Accepted}
+use Rattle.dna_station.specs.declared.refusal.StationRefusal.TheVariants.{NoCause}
+use Rattle.dna_station.specs.declared.refusal.StepRefusal.TheVariants.{Station as OfStation}
+use Rattle.dna_node.specs.declared.finding.Finding.TheVariants.{Accepted}
 use Rattle.dna_rows.proofs.Verdicts.{Verdict, verdict}
 use Rattle.dna_rows.proofs.Units.{STRT, control, data_with}
 use Rattle.dna_rows.proofs.Captures.{started, answered, refused}

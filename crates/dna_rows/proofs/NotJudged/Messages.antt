@@ -4,7 +4,7 @@ use Rattle.wire_base.specs.BlockCheck.{is_good, check_of, after_byte, shift}
 use Rattle.ddcmp_msg.specs.Reading.{reading}
 use Rattle.capture.specs.declared.record.Record.TheVariants.{Sent, Received, User}
 use Rattle.capture.specs.declared.event.Event.TheVariants.{Open, Accept, In, Up, Close}
-use Rattle.dna_model.specs.declared.finding.Finding.TheVariants.{Accepted}
+use Rattle.dna_node.specs.declared.finding.Finding.TheVariants.{Accepted}
 use Rattle.dna_rows.proofs.Verdicts.{Verdict, verdict}
 use Rattle.dna_rows.proofs.Units.{data_of, from_a, from_b, between, connects, CI, CC, DI, DC, LINK_SERVICE, INTERRUPT, SEGMENT, carries}
 use Rattle.dna_rows.proofs.Captures.{started, answered, confirmed_b, running_a, running_b}

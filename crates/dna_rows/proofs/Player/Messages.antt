@@ -5,12 +5,12 @@ use Rattle.ddcmp_msg.specs.Reading.{reading}
 use Rattle.ddcmp_msg.specs.Spelling.{spelling}
 use Rattle.capture.specs.declared.record.Record.TheVariants.{Sent, Received, User}
 use Rattle.capture.specs.declared.event.Event.TheVariants as event
-use Rattle.dna_model.specs.Script.{Send, Deliver, In}
-use Rattle.dna_model.specs.Player.{end_step}
-use Rattle.dna_model.specs.Play.{plays}
-use Rattle.dna_model.specs.Played.{plays_step}
-use Rattle.dna_model.specs.KeptPlay.{kept_plays}
-use Rattle.dna_model.specs.KeptPlayed.{kept_plays_step}
+use Rattle.dna_play.specs.Script.{Send, Deliver, In}
+use Rattle.dna_play.specs.Player.{end_step}
+use Rattle.dna_play.specs.Play.{plays}
+use Rattle.dna_play.specs.Played.{plays_step}
+use Rattle.dna_play.specs.KeptPlay.{kept_plays}
+use Rattle.dna_play.specs.KeptPlayed.{kept_plays_step}
 use Rattle.dna_rows.proofs.Units.{ACK, data_of, from_a, from_b, CI, CC, ack, DATA_ACK, SEGMENT, carries}
 use Rattle.dna_rows.proofs.Captures.{acked_a, acked_b}
 use Rattle.dna_rows.proofs.Scripts.{a, b, Plays, Captures, linked, counted}

@@ -4,7 +4,7 @@ ghost use Rattle.std.specs.Prelude.{◌≡◌, ◌<◌, true, OnOk, OnErr, IfErr
 ghost use Rattle.std.specs.List.{AllByRecursion};
 ghost use Rattle.dna_packet.specs.AckWord.{IsAckWord};
 ghost use Rattle.dna_packet.specs.Nsp.{segment_view};
-ghost use Rattle.dna_model.specs.WireFlow.{takes_segment, takes_acks};
+ghost use Rattle.dna_links.specs.WireFlow.{takes_segment, takes_acks};
 ghost use Rattle.nsp_link.specs.Flow.{with_held, is_held};
 
 use super::Flow;

@@ -4,10 +4,10 @@ ghost use Rattle.std.specs.Prelude.{◌≡◌, ◌<◌, ◌+◌, ◌==◌, Ok, E
 ghost use Rattle.std.specs.List.{AllByRecursion};
 ghost use Rattle.dna_packet.specs.AckWord.{IsAckWord};
 ghost use Rattle.dna_packet.specs.Nsp.{segment_view};
-ghost use Rattle.dna_model.specs.Pieces.{piece_of};
-ghost use Rattle.dna_model.specs.Flow.{wire, distance};
-ghost use Rattle.dna_model.specs.WireFlow.{sends_acks, sends_segment, sends_new, sends_again, is_repeat, sending};
-ghost use Rattle.dna_model.specs.WireFlow as spec;
+ghost use Rattle.dna_links.specs.Pieces.{piece_of};
+ghost use Rattle.dna_links.specs.Flow.{wire, distance};
+ghost use Rattle.dna_links.specs.WireFlow.{sends_acks, sends_segment, sends_new, sends_again, is_repeat, sending};
+ghost use Rattle.dna_links.specs.WireFlow as spec;
 ghost use Rattle.nsp_link.specs.Fault.{IsFault};
 ghost use Rattle.nsp_link.specs.Flow.{is_true_repeat};
 

@@ -5,17 +5,17 @@ ghost use Rattle.std.specs.List.{AllByRecursion};
 ghost use Rattle.dna_packet.specs.AckWord.{IsAckWord};
 ghost use Rattle.dna_packet.specs.Nsp.{segment_view};
 ghost use Rattle.dna_packet.specs.Nsp as nsp;
-ghost use Rattle.dna_model.specs.LinkTests as tests;
-ghost use Rattle.dna_model.specs.LinkArriving.{of_partner, message_arrived, ends_link};
-ghost use Rattle.dna_model.specs.LinkArriving as arriving;
-ghost use Rattle.dna_model.specs.WireFlow.{wire_flows};
-ghost use Rattle.dna_model.specs.WireLinks.{wire_links_arrived};
+ghost use Rattle.dna_links.specs.LookUps as tests;
+ghost use Rattle.dna_links.specs.Arriving.{of_partner, message_arrived, ends_link};
+ghost use Rattle.dna_links.specs.Arriving as arriving;
+ghost use Rattle.dna_links.specs.WireFlow.{wire_flows};
+ghost use Rattle.dna_links.specs.WireLinks.{wire_links_arrived};
 ghost use Rattle.nsp_link.specs.Fault.{IsFault};
 ghost use Rattle.nsp_link.specs.Phases.{arrival_takes_memory, holds_segment, begins_link};
 
 use super::Links;
 use crate::{LinkFault, LinkRefusal, LinkTag, Piece};
-use dna_model::LinkTest;
+use dna_links::LinkTest;
 use dna_packet::{ConnectConfirm, ConnectInitiate, DataAck, Nsp, Segment};
 use wire_base::Window;
 

@@ -5,17 +5,17 @@ ghost use Rattle.std.specs.Prelude.{OnOk, OnErr, IfOk, IfErr, if◌then◌else�
 ghost use Rattle.std.specs.Vec.{vec_len, vec_capacity};
 ghost use Rattle.std.specs.Ordering.{nat_cmp};
 ghost use Rattle.std.specs.BTreeMap.{get};
-ghost use Rattle.dna_model.specs.LinkTests.{is_live, is_called};
-ghost use Rattle.dna_model.specs.Links.{LinkOf, begun, changed, freed, forgotten, number_of};
-ghost use Rattle.dna_model.specs.LinkUser.{opened, answered};
-ghost use Rattle.dna_model.specs.LinkArriving.{of_partner, called};
-ghost use Rattle.dna_model.specs.WireFlow.{WireFlow, wire_flows};
-ghost use Rattle.nsp_link.specs.Index.{IsIndexed, forgotten_at};
+ghost use Rattle.dna_links.specs.LookUps.{is_live, is_called};
+ghost use Rattle.dna_links.specs.Links.{LinkOf, begun, changed, freed, forgotten, number_of};
+ghost use Rattle.dna_links.specs.User.{opened, answered};
+ghost use Rattle.dna_links.specs.Arriving.{of_partner, called};
+ghost use Rattle.dna_links.specs.WireFlow.{WireFlow, wire_flows};
+ghost use Rattle.nsp_link.specs.inner.Index.{IsIndexed, forgotten_at};
 
 use super::{Links, holder_of};
 use crate::link::Link;
 use crate::{LinkTag, Piece};
-use dna_model::{LinkTest, Phase};
+use dna_links::{LinkTest, Phase};
 use std::alloc::{AllocError, Global};
 use std::collections::BTreeMap;
 use wire_base::Window;

@@ -2,22 +2,22 @@
 
 ghost use Rattle.std.specs.Prelude.{◌≡◌, ◌<◌, Ok, Err, None, Some, true, false, length, slice_get, OnOk, OnErr, IfOk, IfErr, IfSome};
 ghost use Rattle.std.specs.Prelude.{if◌then◌else◌, position, eqb};
-ghost use Rattle.nsp_link.specs.Index.{without};
+ghost use Rattle.nsp_link.specs.inner.Index.{without};
 ghost use Rattle.std.specs.List.{AllByRecursion};
 ghost use Rattle.dna_packet.specs.AckWord.{IsAckWord};
 ghost use Rattle.dna_packet.specs.Nsp.{segment_view};
-ghost use Rattle.dna_model.specs.Links.{LinkOf, changed, in_phase, with_flow, ended};
-ghost use Rattle.dna_model.specs.LinkTests.{is_live};
-ghost use Rattle.dna_model.specs.LinkUser.{delivered};
-ghost use Rattle.dna_model.specs.LinkSending.{carries, segment_of, truth_of};
-ghost use Rattle.dna_model.specs.LinkArriving.{of_partner, confirmed, running};
-ghost use Rattle.dna_model.specs.WireFlow.{WireFlow, wire_flows, hands_in, delivers, is_new, sends_acks, takes_acks, takes_segment};
+ghost use Rattle.dna_links.specs.Links.{LinkOf, changed, in_phase, with_flow, ended};
+ghost use Rattle.dna_links.specs.LookUps.{is_live};
+ghost use Rattle.dna_links.specs.User.{delivered};
+ghost use Rattle.dna_links.specs.Sending.{carries, segment_of, truth_of};
+ghost use Rattle.dna_links.specs.Arriving.{of_partner, confirmed, running};
+ghost use Rattle.dna_links.specs.WireFlow.{WireFlow, wire_flows, hands_in, delivers, is_new, sends_acks, takes_acks, takes_segment};
 ghost use Rattle.nsp_link.specs.Fault.{IsFault};
 ghost use Rattle.nsp_link.specs.Flow.{is_held};
 
 use super::Links;
 use crate::{LinkFault, LinkRefusal, LinkTag, Piece};
-use dna_model::Phase;
+use dna_links::Phase;
 use dna_packet::{AckWord, Segment};
 use std::alloc::AllocError;
 use wire_base::Window;

@@ -1,17 +1,17 @@
 //! What the user of the links does.
 
 ghost use Rattle.std.specs.Prelude.{◌≡◌, ◌<◌, Ok, Some, true, false, length, slice_get, OnOk, OnErr, IfOk, IfErr};
-ghost use Rattle.dna_model.specs.LinkUser as user;
-ghost use Rattle.dna_model.specs.WireLinks.{wire_links_user};
+ghost use Rattle.dna_links.specs.User as user;
+ghost use Rattle.dna_links.specs.WireLinks.{wire_links_user};
 ghost use Rattle.nsp_link.specs.Fault.{IsFault};
-ghost use Rattle.dna_model.specs.Links.{LinkOf, changed, in_phase};
-ghost use Rattle.dna_model.specs.LinkTests.{is_live, is_called};
-ghost use Rattle.dna_model.specs.WireFlow.{WireFlow, wire_flows};
+ghost use Rattle.dna_links.specs.Links.{LinkOf, changed, in_phase};
+ghost use Rattle.dna_links.specs.LookUps.{is_live, is_called};
+ghost use Rattle.dna_links.specs.WireFlow.{WireFlow, wire_flows};
 ghost use Rattle.nsp_link.specs.Phases.{event_takes_memory};
 
 use super::Links;
 use crate::{LinkEvent, LinkFault, LinkRefusal, Piece};
-use dna_model::{LinkTest, Phase};
+use dna_links::{LinkTest, Phase};
 use link_segments::{is_connected, takes_messages};
 use wire_base::Window;
 

@@ -1,24 +1,25 @@
 //! What comes to a side.
 
 ghost use Rattle.std.specs.Prelude.{◌≡◌, ◌+◌, ◌^◌, ◌<◌, ◌≤◌, Ok, Err, OnOk, IfErr};
-ghost use Rattle.dna_model.specs.Content as spec;
-ghost use Rattle.dna_model.specs.Rules.{judged};
-ghost use Rattle.dna_model.specs.WireStation.{load};
-ghost use Rattle.dna_model.specs.WireLayers.{tag_or_none, wire_keeps_packet};
+ghost use Rattle.dna_node.specs.Content as spec;
+ghost use Rattle.dna_node.specs.Rules.{judged};
+ghost use Rattle.dna_station.specs.WireStation.{load};
+ghost use Rattle.dna_node.specs.WireLayers.{tag_or_none, wire_keeps_packet};
 ghost use Rattle.ddcmp_station.specs.Arrival.{arrival_view};
-ghost use Rattle.pair_judge.specs.Packets.{lent_content};
-ghost use Rattle.pair_judge.specs.Memory.{IfNoMemory, MayKeep};
-ghost use Rattle.pair_judge.specs.Receipts.{is_damage};
-ghost use Rattle.pair_judge.specs.Steps.{IfRefused, with_link};
-ghost use Rattle.pair_judge.specs.Wire.{judge_machine};
+ghost use Rattle.pair_judge.specs.inner.Packets.{lent_content};
+ghost use Rattle.pair_judge.specs.inner.Memory.{IfNoMemory, MayKeep};
+ghost use Rattle.pair_judge.specs.inner.Receipts.{is_damage};
+ghost use Rattle.pair_judge.specs.inner.Steps.{IfRefused, with_link};
+ghost use Rattle.pair_judge.specs.inner.Wire.{judge_machine};
 
 use super::{Layers, OF_NO_LINK};
 use crate::held_link::HeldLink;
 use crate::packet::{Carried, content};
 use crate::step_fault::StepFault;
 use ddcmp_station::{Arrival, StationFault};
-use dna_model::{LinkTag, StepRefusal};
+use dna_links::LinkTag;
 use dna_packet::read_nsp;
+use dna_station::StepRefusal;
 use nsp_link::LinkFault;
 
 impl Layers {

@@ -2,17 +2,17 @@
 
 ghost use Rattle.std.specs.Prelude.{◌≡◌, ◌<◌, ◌≤◌, Ok, Err, Some, None, length, OnOk, IfOk, IfErr};
 ghost use Rattle.ddcmp_msg.specs.Message.{view};
-ghost use Rattle.dna_model.specs.declared.tag.Tag.{Tag};
-ghost use Rattle.dna_model.specs.Book.{body_of};
-ghost use Rattle.dna_model.specs.Content as spec;
-ghost use Rattle.dna_model.specs.WireStation.{WireStation, load};
-ghost use Rattle.dna_model.specs.WireLayers.{WireLayers, first_tagged, wire_sends_first};
-ghost use Rattle.dna_model.specs.WireBook.{wire_sending_refusal};
-ghost use Rattle.pair_judge.specs.Memory.{IfNoMemory};
-ghost use Rattle.pair_judge.specs.Packets.{lent_content};
-ghost use Rattle.pair_judge.specs.Steps.{IfRefused};
-ghost use Rattle.pair_judge.specs.Unit.{tags_of};
-ghost use Rattle.pair_judge.specs.Wire.{judge_machine};
+ghost use Rattle.dna_station.specs.declared.tag.Tag.{Tag};
+ghost use Rattle.dna_station.specs.Book.{body_of};
+ghost use Rattle.dna_node.specs.Content as spec;
+ghost use Rattle.dna_station.specs.WireStation.{WireStation, load};
+ghost use Rattle.dna_node.specs.WireLayers.{WireLayers, first_tagged, wire_sends_first};
+ghost use Rattle.dna_station.specs.WireBook.{wire_sending_refusal};
+ghost use Rattle.pair_judge.specs.inner.Memory.{IfNoMemory};
+ghost use Rattle.pair_judge.specs.inner.Packets.{lent_content};
+ghost use Rattle.pair_judge.specs.inner.Steps.{IfRefused};
+ghost use Rattle.pair_judge.specs.inner.Unit.{tags_of};
+ghost use Rattle.pair_judge.specs.inner.Wire.{judge_machine};
 
 use super::{Layers, OF_NO_LINK};
 use crate::packet::{Carried, content};
@@ -20,8 +20,9 @@ use crate::step_fault::StepFault;
 use crate::unit_tag::UnitTag;
 use ddcmp_msg::Message;
 use ddcmp_station::StationFault;
-use dna_model::{LinkTag, StepRefusal};
+use dna_links::LinkTag;
 use dna_packet::read_nsp;
+use dna_station::StepRefusal;
 use nsp_link::LinkFault;
 
 impl Layers {

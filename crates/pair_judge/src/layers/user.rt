@@ -1,17 +1,17 @@
 //! What the user of a side does.
 
 ghost use Rattle.std.specs.Prelude.{◌≡◌, ◌+◌, ◌^◌, ◌<◌, ◌≤◌, Ok, Err, OnOk, IfErr};
-ghost use Rattle.dna_model.specs.LinkUser.{view};
-ghost use Rattle.dna_model.specs.WireStation.{load};
+ghost use Rattle.dna_links.specs.User.{view};
+ghost use Rattle.dna_station.specs.WireStation.{load};
 ghost use Rattle.pair_judge.specs.Events.{event_of_station, event_of_links};
-ghost use Rattle.pair_judge.specs.Memory.{IfNoMemory, MayEnter};
-ghost use Rattle.pair_judge.specs.Steps.{IfRefused};
-ghost use Rattle.pair_judge.specs.Wire.{judge_machine};
+ghost use Rattle.pair_judge.specs.inner.Memory.{IfNoMemory, MayEnter};
+ghost use Rattle.pair_judge.specs.inner.Steps.{IfRefused};
+ghost use Rattle.pair_judge.specs.inner.Wire.{judge_machine};
 
 use super::Layers;
 use crate::step_fault::StepFault;
 use ddcmp_station::{StationEvent, StationFault};
-use dna_model::StepRefusal;
+use dna_station::StepRefusal;
 use nsp_link::{LinkEvent, LinkFault};
 
 impl Layers {

@@ -7,11 +7,11 @@ ghost use Rattle.ddcmp_msg.specs.Message.{view};
 ghost use Rattle.ddcmp_msg.specs.Reading.{reading, reading_view};
 ghost use Rattle.dna_packet.specs.Packet as packets;
 ghost use Rattle.dna_packet.specs.Nsp as nsp;
-ghost use Rattle.dna_model.specs.Book as book;
-ghost use Rattle.dna_model.specs.Content as contents;
-ghost use Rattle.dna_model.specs.KeptPlay as steps;
-ghost use Rattle.dna_model.specs.Receipt as receipts;
-ghost use Rattle.player_end.specs.Delivering.{arrives_as};
+ghost use Rattle.dna_station.specs.Book as book;
+ghost use Rattle.dna_node.specs.Content as contents;
+ghost use Rattle.dna_play.specs.KeptPlay as steps;
+ghost use Rattle.dna_play.specs.Receipt as receipts;
+ghost use Rattle.player_end.specs.inner.Delivering.{arrives_as};
 ghost use Rattle.player_end.specs.Stepping.{StopMeans, Stopped, with_lines};
 
 use super::End;

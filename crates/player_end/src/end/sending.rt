@@ -4,12 +4,12 @@ ghost use Rattle.std.specs.Prelude.{◌≡◌, ◌<◌, ◌≤◌, [], ◌∷◌
 ghost use Rattle.capture.specs.declared.limit.TheConstants.{MAX_MESSAGE};
 ghost use Rattle.dna_packet.specs.Packet.{packet_bytes};
 ghost use Rattle.dna_packet.specs.Packet as packets;
-ghost use Rattle.dna_model.specs.KeptPlay as kept;
-ghost use Rattle.dna_model.specs.Table.{WINDOW};
-ghost use Rattle.dna_model.specs.WireBook.{wire_is_new};
-ghost use Rattle.dna_model.specs.NextSent.{SendNew, link_choice};
-ghost use Rattle.player_end.specs.Composing.{is_new};
-ghost use Rattle.player_end.specs.Owing.{choice_view, link_choice_view};
+ghost use Rattle.dna_play.specs.KeptPlay as kept;
+ghost use Rattle.dna_station.specs.Table.{WINDOW};
+ghost use Rattle.dna_station.specs.WireBook.{wire_is_new};
+ghost use Rattle.dna_play.specs.NextSent.{SendNew, link_choice};
+ghost use Rattle.player_end.specs.inner.Composing.{is_new};
+ghost use Rattle.player_end.specs.inner.Owing.{choice_view, link_choice_view};
 ghost use Rattle.player_end.specs.Stepping.{HasUnit, StopMeans, with_lines};
 
 use super::End;
@@ -19,8 +19,8 @@ use crate::fault::StepFault;
 use crate::given_piece::GivenPiece;
 use crate::held_packet::HeldPacket;
 use capture::Entry;
-use dna_model::Head;
 use dna_packet::{Packet, write_packet};
+use dna_station::Head;
 use std::alloc::{AllocError, Global};
 use wire_base::Window;
 

@@ -5,7 +5,7 @@ ghost use Rattle.capture.specs.declared.limit.TheConstants.{MAX_LINK, MAX_MESSAG
 ghost use Rattle.capture.specs.Entries.{record_with};
 ghost use Rattle.capture.specs.declared.hint.HintForm.TheVariants as HintForm;
 ghost use Rattle.capture.specs.Text.{record_line};
-ghost use Rattle.dna_model.specs.KeptPlay as kept;
+ghost use Rattle.dna_play.specs.KeptPlay as kept;
 ghost use Rattle.player_end.specs.Stepping.{StopMeans, with_lines};
 
 use super::End;
@@ -14,7 +14,8 @@ use crate::given_piece::GivenPiece;
 use crate::held_packet::HeldPacket;
 use crate::turn::Turn;
 use capture::{Entry, MAX_LINK, MAX_MESSAGE, put_line};
-use dna_model::{LinkTest, Phase, State};
+use dna_links::{LinkTest, Phase};
+use dna_station::State;
 use link_segments::{is_connected, takes_messages};
 use std::alloc::AllocError;
 use wire_base::Window;

@@ -3,10 +3,10 @@
 ghost use Rattle.std.specs.Prelude.{◌≡◌, ◌<◌, ◌≤◌, true, length, slice_get, OnOk, OnErr, IfOk};
 ghost use Rattle.std.specs.Option.{option_map};
 ghost use Rattle.dna_packet.specs.Nsp.{nsp_bytes};
-ghost use Rattle.dna_model.specs.NextSent.{has_segment, turn_of};
-ghost use Rattle.dna_model.specs.Compose.{address, piece_to_send, turn_message};
-ghost use Rattle.dna_model.specs.KeptLinks as kept;
-ghost use Rattle.player_end.specs.Owing.{turn_view};
+ghost use Rattle.dna_play.specs.NextSent.{has_segment, turn_of};
+ghost use Rattle.dna_play.specs.Compose.{address, piece_to_send, turn_message};
+ghost use Rattle.dna_play.specs.KeptLinks as kept;
+ghost use Rattle.player_end.specs.inner.Owing.{turn_view};
 ghost use Rattle.link_segments.specs.Piece.{slice_view};
 
 use super::LinkEnd;

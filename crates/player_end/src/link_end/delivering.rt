@@ -2,9 +2,9 @@
 
 ghost use Rattle.std.specs.Prelude.{◌≡◌, ◌++◌, ◌≤◌, ◌<◌, Some, length, take, drop, OnOk, IfOk, IfErr};
 ghost use Rattle.capture.specs.declared.limit.TheConstants.{MAX_MESSAGE};
-ghost use Rattle.dna_model.specs.Pieces.{in_whole_messages};
-ghost use Rattle.dna_model.specs.KeptLinks as kept;
-ghost use Rattle.player_end.specs.Delivering.{bodies, lines_of, up_line, IsTooLong};
+ghost use Rattle.dna_links.specs.Pieces.{in_whole_messages};
+ghost use Rattle.dna_play.specs.KeptLinks as kept;
+ghost use Rattle.player_end.specs.inner.Delivering.{bodies, lines_of, up_line, IsTooLong};
 ghost use Rattle.player_end.specs.Stepping.{Stopped};
 
 use super::LinkEnd;

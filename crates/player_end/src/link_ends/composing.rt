@@ -4,12 +4,12 @@ ghost use Rattle.std.specs.Prelude.{◌≡◌, ◌<◌, ◌≤◌, None, Some, l
 ghost use Rattle.std.specs.Option.{option_map};
 ghost use Rattle.dna_packet.specs.Nsp.{nsp_bytes};
 ghost use Rattle.dna_packet.specs.Nsp as nsp;
-ghost use Rattle.dna_model.specs.NextSent.{LinkEnd as KeptLink, first_turn, link_choice, turn_of};
-ghost use Rattle.dna_model.specs.Compose.{link_message};
-ghost use Rattle.dna_model.specs.KeptLinks.{after_sent};
-ghost use Rattle.dna_model.specs.KeptLinks as kept;
-ghost use Rattle.player_end.specs.Links.{turn_there};
-ghost use Rattle.player_end.specs.Owing.{link_choice_view, turn_view};
+ghost use Rattle.dna_play.specs.NextSent.{LinkEnd as KeptLink, first_turn, link_choice, turn_of};
+ghost use Rattle.dna_play.specs.Compose.{link_message};
+ghost use Rattle.dna_play.specs.KeptLinks.{after_sent};
+ghost use Rattle.dna_play.specs.KeptLinks as kept;
+ghost use Rattle.player_end.specs.inner.Links.{turn_there};
+ghost use Rattle.player_end.specs.inner.Owing.{link_choice_view, turn_view};
 
 use super::LinkEnds;
 use crate::choice::{EndConfirm, LinkChoice};

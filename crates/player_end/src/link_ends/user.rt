@@ -1,17 +1,17 @@
 //! What the user of the links does, and their timers.
 
 ghost use Rattle.std.specs.Prelude.{◌≡◌, ◌<◌, true, false, None, Some, length, slice_get, OnOk};
-ghost use Rattle.dna_model.specs.LinkOwed.{retried};
-ghost use Rattle.dna_model.specs.NextSent.{LinkEnd as KeptLink};
-ghost use Rattle.dna_model.specs.KeptLinks as kept;
-ghost use Rattle.player_end.specs.Links.{retried_end, changed_to};
-ghost use Rattle.player_end.specs.Owing.{turn_view};
+ghost use Rattle.dna_play.specs.LinkOwed.{retried};
+ghost use Rattle.dna_play.specs.NextSent.{LinkEnd as KeptLink};
+ghost use Rattle.dna_play.specs.KeptLinks as kept;
+ghost use Rattle.player_end.specs.inner.Links.{retried_end, changed_to};
+ghost use Rattle.player_end.specs.inner.Owing.{turn_view};
 
 use super::LinkEnds;
 use crate::given_piece::GivenPiece;
 use crate::link_end::LinkEnd;
 use crate::turn::Turn;
-use dna_model::Phase;
+use dna_links::Phase;
 use std::alloc::AllocError;
 use wire_base::Window;
 

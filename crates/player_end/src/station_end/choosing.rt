@@ -2,13 +2,13 @@
 
 ghost use Rattle.std.specs.Prelude.{◌≡◌};
 ghost use Rattle.std.specs.Option.{option_map};
-ghost use Rattle.dna_model.specs.NextSent as next;
-ghost use Rattle.player_end.specs.Owing.{choice_view, link_choice_view};
+ghost use Rattle.dna_play.specs.NextSent as next;
+ghost use Rattle.player_end.specs.inner.Owing.{choice_view, link_choice_view};
 
 use super::StationEnd;
 use crate::choice::{Choice, LinkChoice};
 use crate::held_packet::HeldPacket;
-use dna_model::State;
+use dna_station::State;
 use wire_base::Window;
 
 impl<W: Window<HeldPacket, 256> + Drop> StationEnd<W> {

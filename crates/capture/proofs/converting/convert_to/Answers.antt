@@ -32,13 +32,15 @@ pub returns-in-Ok-write_out-2-clause-converts : goal.returns-in-Ok-write_out-2-c
 returns-in-Ok-write_out-2-clause-converts g c =
     let h = c.loop-count.invariant.0 in
     rw c.fault_of-in-Ok-write_out-2.ensures
-    (stopped c.args.to _ _ _ h c.in-Err-advance.fault _ _ (λ e. c.in-Err-advance.ensures.memory (rw e refl)) (c.in-Err-advance.ensures.gives h.reading).0 c.in-Ok-write_out-2.ensures.ok c.in-Ok-write_out-2.ensures.empty)
+    (stopped c.args.to _ _ _ h c.in-Err-advance.fault _ _ (λ e. c.in-Err-advance.ensures.memory (rw e refl))
+    (c.in-Err-advance.ensures.gives h.reading).0 c.in-Ok-write_out-2.ensures.ok c.in-Ok-write_out-2.ensures.empty)
 
 pub returns-in-Ok-write_out-2-clause-lines : goal.returns-in-Ok-write_out-2-clause-lines
 returns-in-Ok-write_out-2-clause-lines g c =
     let h = c.loop-count.invariant.0 in
     rw c.fault_of-in-Ok-write_out-2.ensures
-    (lines_at_fault c.args.to _ _ _ h c.in-Err-advance.fault _ _ _ (c.in-Err-advance.ensures.cut h.reading) c.in-Ok-write_out-2.ensures.ok c.in-Ok-write_out-2.ensures.empty)
+    (lines_at_fault c.args.to _ _ _ h c.in-Err-advance.fault _ _ _ (c.in-Err-advance.ensures.cut h.reading) c.in-Ok-write_out-2.ensures.ok
+    c.in-Ok-write_out-2.ensures.empty)
 
 pub returns-in-Err-write_out-2-clause-converts : goal.returns-in-Err-write_out-2-clause-converts
 returns-in-Err-write_out-2-clause-converts g c =
@@ -52,7 +54,8 @@ loop-count-preserved g c =
     let line = rw c.in-Ok-Some.field-0-is at c.in-Ok-Some.ensures.line in
     let bytes = c.advance.new.self.bytes in
     let put = c.put_line.ensures c.loop-count.capture.form bytes (form_marked _ _ h.read) gives.0.spelling.numbers (c.line.ensures ∙ line) in (
-      line_on c.args.to _ _ _ h _ c.make_room.new.self (record_with c.in-Ok-Some.entry bytes) c.advance.ensures.head.0 c.advance.ensures.head.1 gives c.in-Ok-make_room.ensures.ok put (c.after-form.ensures bytes) refl,
+      line_on c.args.to _ _ _ h _ c.make_room.new.self (record_with c.in-Ok-Some.entry bytes) c.advance.ensures.head.0 c.advance.ensures.head.1 gives
+          c.in-Ok-make_room.ensures.ok put (c.after-form.ensures bytes) refl,
       c.in-Ok-Some.ensures.reads ∙ c.loop-count.invariant.1,
       c.in-Ok-make_room.ensures.faults ∙ c.loop-count.invariant.2,
     )

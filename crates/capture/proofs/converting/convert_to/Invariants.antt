@@ -7,6 +7,7 @@ use Rattle.capture.proofs.converting.convert_to.Given as goal
 abbrev pub invariant-loop-count : goal.invariant-loop-count
 invariant-loop-count g l =
     IsUnderWay l.fn.to (g.R.Read.remaining (tally_lent l.fn.reader)) (g.W.Write.contents (tally_lent l.fn.writer))
-    (place l.capture (to_come l.capture.unread (g.R.Read.remaining (tally_lent l.reader))) l.form l.count l.page (g.W.Write.contents (tally_lent l.writer)))
+    (place l.capture (to_come l.capture.unread (g.R.Read.remaining (tally_lent l.reader))) l.form l.count l.page
+    (g.W.Write.contents (tally_lent l.writer)))
     × (tally_faults l.reader ≡ tally_faults l.fn.reader)
     × (tally_faults l.writer ≡ tally_faults l.fn.writer)

@@ -3,7 +3,8 @@ use Rattle.capture.proofs.DigitsLaws.{pairs_of_spelling, pairs_of_others, pairs_
 use Rattle.capture.proofs.digits.pairs_into.Goals as goal
 
 pub returns-then-spells : goal.returns-then-spells
-returns-then-spells c = pairs_of_spelling c.args.text.now c.guess.new.bytes (omega arith) c.spells.ensures.bytes (c.spells.ensures.value.0 c.if-spells.true)
+returns-then-spells c = pairs_of_spelling c.args.text.now c.guess.new.bytes (omega arith) c.spells.ensures.bytes
+    (c.spells.ensures.value.0 c.if-spells.true)
 
 pub returns-then-not-are_digits : goal.returns-then-not-are_digits
 returns-then-not-are_digits c = pairs_of_others c.args.text.now (sym c.are_digits.ensures ∙ c.if-not-are_digits.true)

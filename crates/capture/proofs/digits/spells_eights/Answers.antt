@@ -21,7 +21,8 @@ loop-done-preserved c =
     let within : at + 8 ≤ length bytes = omega (arith, c.requires.eights, c.loop-done.invariant.1, c.loop-done-test.true) in
     let out = encode_lower (take (at + 8 - at) (drop at bytes)) in
     let tested = bytes_eq-Decides (take (2 * (at + 8) - 2 * at) (drop (2 * at) text)) out in
-    let more = spelled_more bytes text out at (at + 8) (omega arith) c.loop-done.invariant.2 refl (tested.1 (sym (c.if-not-spells_singly.ensures.value.0 refl))) in
+    let more = spelled_more bytes text out at (at + 8) (omega arith) c.loop-done.invariant.2 refl
+    (tested.1 (sym (c.if-not-spells_singly.ensures.value.0 refl))) in
     (within, omega (arith, c.loop-done.invariant.1), more)
 
 pub returns-clause-value : goal.returns-clause-value

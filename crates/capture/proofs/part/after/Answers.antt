@@ -4,4 +4,5 @@ use Rattle.capture.proofs.PartLaws.{after_stripped}
 use Rattle.capture.proofs.part.after.Goals as goal
 
 pub returns : goal.returns
-returns c = after_stripped c.args.front.now c.args.text.now c.strip_prefix.result (strip_prefix_is Decides-eqb c.args.text.now c.args.front.now c.strip_prefix.result c.strip_prefix.ensures.cases)
+returns c = after_stripped c.args.front.now c.args.text.now c.strip_prefix.result
+    (strip_prefix_is Decides-eqb c.args.text.now c.args.front.now c.strip_prefix.result c.strip_prefix.ensures.cases)

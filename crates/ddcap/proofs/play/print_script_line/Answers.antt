@@ -12,7 +12,8 @@ pub returns : goal.returns
 returns g c =
     let line : List ℕ = decimal c.args.line in
     let words : List ℕ = c.args.words.now in
-    subst (λ (text : List ℕ). Writes (stream_of g.W.Write.contents c.args.err.now) (stream_of g.W.Write.contents c.print.new.stream) text 2 c.print.result)
+    subst (λ (text : List ℕ). Writes (stream_of g.W.Write.contents c.args.err.now) (stream_of g.W.Write.contents c.print.new.stream) text 2
+    c.print.result)
     (c.as_slice.ensures ∙ c.put-4.ensures.bytes ∙ ap (λ (text : List ℕ). text ++ 10 ∷ [])
     (c.put-3.ensures.bytes ∙ ap (λ (text : List ℕ). text ++ words)
     (c.put-2.ensures.bytes ∙ ap (λ (text : List ℕ). text ++ 58 ∷ 32 ∷ [])

@@ -12,4 +12,5 @@ unreachable-requires c =
     no_departure c.read_control.result c.in_default.not-Sound (subst IsSound same c.requires.sound)
 
 pub returns-clause-value : goal.returns-clause-value
-returns-clause-value c = control_unit c.args.bytes.now c.requires.sound c.requires.control ∙ sym c.read_control.ensures.value ∙ ap reading_view c.in-Sound.is
+returns-clause-value c = control_unit c.args.bytes.now c.requires.sound c.requires.control ∙ sym c.read_control.ensures.value ∙
+    ap reading_view c.in-Sound.is

@@ -4,24 +4,32 @@ use Rattle.pair_judge.proofs.Starts.{found_in, started}
 use Rattle.pair_judge.proofs.judging.find.Goals as goal
 
 pub loop-init : goal.loop-init
-loop-init g c = (started _ _ c.in-Ok.course c.in-Ok-open.course _ _ c.in-Ok.ensures.opens c.in-Ok-open.ensures.opens, c.in-Ok.ensures.reads, c.in-Ok-open.ensures.reads)
+loop-init g c = (
+  started _ _ c.in-Ok.course c.in-Ok-open.course _ _ c.in-Ok.ensures.opens c.in-Ok-open.ensures.opens,
+  c.in-Ok.ensures.reads,
+  c.in-Ok-open.ensures.reads,
+)
 
 pub returns-in-Err-clause-fault : goal.returns-in-Err-clause-fault
-returns-in-Err-clause-fault g c = c.in-Err.ensures.fault (g.R.Read.remaining (tally_lent c.args.a.now)) (g.S.Read.remaining (tally_lent c.args.b.now)) refl
+returns-in-Err-clause-fault g c = c.in-Err.ensures.fault (g.R.Read.remaining (tally_lent c.args.a.now)) (g.S.Read.remaining (tally_lent c.args.b.now))
+    refl
 
 pub returns-in-Err-open-clause-fault : goal.returns-in-Err-open-clause-fault
-returns-in-Err-open-clause-fault g c = c.in-Err-open.ensures.fault (g.R.Read.remaining (tally_lent c.args.a.now)) (g.S.Read.remaining (tally_lent c.args.b.now)) refl
+returns-in-Err-open-clause-fault g c =
+    c.in-Err-open.ensures.fault (g.R.Read.remaining (tally_lent c.args.a.now)) (g.S.Read.remaining (tally_lent c.args.b.now)) refl
 
 pub returns-in-Ok-ending-clause-found : goal.returns-in-Ok-ending-clause-found
 returns-in-Ok-ending-clause-found g c =
     let h = c.loop.invariant.0 in
     let ended = rw c.in-Ok-ending.is at c.if-turn.ensures.turn in
-    found_in _ _ _ (ended (g.R.Read.remaining (tally_lent c.args.a.now)) (g.S.Read.remaining (tally_lent c.args.b.now)) h.made_a h.made_b h.under_way) c.summary.ensures c.summary-in-Ok-ending.ensures
+    found_in _ _ _ (ended (g.R.Read.remaining (tally_lent c.args.a.now)) (g.S.Read.remaining (tally_lent c.args.b.now)) h.made_a h.made_b h.under_way)
+    c.summary.ensures c.summary-in-Ok-ending.ensures
 
 pub loop-preserved : goal.loop-preserved
 loop-preserved g c =
     let h = c.loop.invariant.0 in
-    let gone_on = c.if-turn.ensures.turn (g.R.Read.remaining (tally_lent c.args.a.now)) (g.S.Read.remaining (tally_lent c.args.b.now)) h.made_a h.made_b h.under_way in (
+    let gone_on = c.if-turn.ensures.turn (g.R.Read.remaining (tally_lent c.args.a.now)) (g.S.Read.remaining (tally_lent c.args.b.now)) h.made_a
+    h.made_b h.under_way in (
       record {
         made_a = gone_on.made_a;
         made_b = gone_on.made_b;

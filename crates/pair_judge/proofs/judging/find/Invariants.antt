@@ -1,7 +1,7 @@
 use Rattle.std.proofs.Common.{◌≡◌, []}
 use Rattle.wire_base.specs.Tally.{tally_faults, tally_lent}
 use Rattle.capture.specs.Lines.{to_come}
-use Rattle.pair_judge.specs.Course.{along}
+use Rattle.pair_judge.specs.inner.Course.{along}
 use Rattle.pair_judge.proofs.Starts.{HasTaken}
 use Rattle.pair_judge.proofs.judging.find.Given as goal
 

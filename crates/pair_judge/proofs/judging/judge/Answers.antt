@@ -11,7 +11,8 @@ returns-in-Ok-clause-exact g c =
     let laws : WholeLaws = record { ended = w.ended; goes_on = w.goes_on; departs_nowhere = w.departs_nowhere; head_stands = w.head_stands } in
     let text_a = g.R.Read.remaining (tally_lent c.args.a.now) in
     let text_b = g.S.Read.remaining (tally_lent c.args.b.now) in
-    subst (λ (v : Verdict). IfTold text_a text_b (λ bytes_a bytes_b. IsExact bytes_a bytes_b (Ok v))) (sym c.verdict.ensures) (exact_of_found laws text_a text_b c.in-Ok.found c.in-Ok.ensures.found)
+    subst (λ (v : Verdict). IfTold text_a text_b (λ bytes_a bytes_b. IsExact bytes_a bytes_b (Ok v))) (sym c.verdict.ensures)
+    (exact_of_found laws text_a text_b c.in-Ok.found c.in-Ok.ensures.found)
 
 pub returns-in-Ok-clause-accepted : goal.returns-in-Ok-clause-accepted
 returns-in-Ok-clause-accepted g c =
@@ -21,21 +22,36 @@ returns-in-Ok-clause-accepted g c =
     let m = c.layers_deliver_in_order.ensures in
     let stations = c.layers_run_as_stations.ensures.run in
     let runs : RunLaws = record {
-      of_a = λ head_a head_b w of_a of_b run. record { packets = d.a_delivers head_a head_b _ of_a of_b (stations head_a head_b w of_a of_b run); messages = m.of_a head_a head_b w of_a of_b run; captured = m.a_captured head_a head_b w of_a of_b run };
-      of_b = λ head_a head_b w of_a of_b run. record { packets = d.b_delivers head_a head_b _ of_a of_b (stations head_a head_b w of_a of_b run); messages = m.of_b head_a head_b w of_a of_b run; captured = m.b_captured head_a head_b w of_a of_b run };
+      of_a = λ head_a head_b w of_a of_b run.
+          record {
+            packets = d.a_delivers head_a head_b _ of_a of_b (stations head_a head_b w of_a of_b run);
+            messages =
+                m.of_a head_a head_b w of_a of_b run;
+            captured = m.a_captured head_a head_b w of_a of_b run;
+          };
+      of_b = λ head_a head_b w of_a of_b run.
+          record {
+            packets = d.b_delivers head_a head_b _ of_a of_b (stations head_a head_b w of_a of_b run);
+            messages =
+                m.of_b head_a head_b w of_a of_b run;
+            captured = m.b_captured head_a head_b w of_a of_b run;
+          };
     } in
     let text_a = g.R.Read.remaining (tally_lent c.args.a.now) in
     let text_b = g.S.Read.remaining (tally_lent c.args.b.now) in
-    subst (λ (v : Verdict). IfTold text_a text_b (λ bytes_a bytes_b. IsAcceptance bytes_a bytes_b (Ok v))) (sym c.verdict.ensures) (accepted_of_found laws runs text_a text_b c.in-Ok.found c.in-Ok.ensures.found)
+    subst (λ (v : Verdict). IfTold text_a text_b (λ bytes_a bytes_b. IsAcceptance bytes_a bytes_b (Ok v))) (sym c.verdict.ensures)
+    (accepted_of_found laws runs text_a text_b c.in-Ok.found c.in-Ok.ensures.found)
 
 pub returns-in-Ok-clause-refused : goal.returns-in-Ok-clause-refused
 returns-in-Ok-clause-refused g c =
     let text_a = g.R.Read.remaining (tally_lent c.args.a.now) in
     let text_b = g.S.Read.remaining (tally_lent c.args.b.now) in
-    subst (λ (v : Verdict). IsRefusalWhere text_a text_b (Ok v)) (sym c.verdict.ensures) (refused_of_found text_a text_b c.in-Ok.found c.in-Ok.ensures.found)
+    subst (λ (v : Verdict). IsRefusalWhere text_a text_b (Ok v)) (sym c.verdict.ensures)
+    (refused_of_found text_a text_b c.in-Ok.found c.in-Ok.ensures.found)
 
 pub returns-in-Err-clause-exact : goal.returns-in-Err-clause-exact
 returns-in-Err-clause-exact g c =
     let w = c.whole_text.ensures in
     let laws : WholeLaws = record { ended = w.ended; goes_on = w.goes_on; departs_nowhere = w.departs_nowhere; head_stands = w.head_stands } in
-    exact_of_fault laws (g.R.Read.remaining (tally_lent c.args.a.now)) (g.S.Read.remaining (tally_lent c.args.b.now)) c.in-Err.fault c.in-Err.ensures.fault
+    exact_of_fault laws (g.R.Read.remaining (tally_lent c.args.a.now)) (g.S.Read.remaining (tally_lent c.args.b.now)) c.in-Err.fault
+    c.in-Err.ensures.fault

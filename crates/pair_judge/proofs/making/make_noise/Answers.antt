@@ -4,7 +4,8 @@ use Rattle.pair_judge.proofs.making.make_noise.Goals as goal
 
 pub returns-in-Ok-clause-made : goal.returns-in-Ok-clause-made
 returns-in-Ok-clause-made c = λ incoming mine theirs stands shows.
-    noise_made c.args.own.now _ incoming c.args.bytes.now mine theirs stands shows c.in-Ok.ensures.ok refl refl c.with_receipt-own.ensures c.hear.ensures.load
+    noise_made c.args.own.now _ incoming c.args.bytes.now mine theirs stands shows c.in-Ok.ensures.ok refl refl c.with_receipt-own.ensures
+    c.hear.ensures.load
 
 pub returns-in-Err-clause-made : goal.returns-in-Err-clause-made
 returns-in-Err-clause-made c = λ incoming mine theirs stands shows.

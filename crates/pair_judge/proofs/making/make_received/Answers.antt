@@ -13,8 +13,16 @@ returns-in-Ok-Done-clause-made c = λ mine theirs stands shows.
     let came = (rw c.in-Ok-Done.field-0-is at c.in-Ok-Done.ensures.receipt) theirs.sent shows in
     let damaged : c.in-Ok-Done.damaged ≡ shows_damage (reading bytes) = came.1 in
     let counts : c.with_receipt-own.result ≡ counted old (Received c.args.hint c.args.kept bytes) =
-    c.with_receipt-own.ensures ∙ ap (λ d. record old { records = old.records + 1; received = old.received + 1; damaged = more_if d old.damaged; kept = more_if c.args.kept old.kept }) damaged in
-    receipt_made c.args.own.now _ c.args.incoming.now c.receive.new.line c.args.hint c.args.kept bytes mine theirs stands came.0 refl refl counts c.receive.ensures.load
+    c.with_receipt-own.ensures ∙
+    ap (λ d. record old {
+      records = old.records + 1;
+      received = old.received + 1;
+      damaged = more_if d old.damaged;
+      kept =
+          more_if c.args.kept old.kept;
+    }) damaged in
+    receipt_made c.args.own.now _ c.args.incoming.now c.receive.new.line c.args.hint c.args.kept bytes mine theirs stands came.0 refl refl counts
+    c.receive.ensures.load
 
 pub returns-in-Ok-Fails-clause-made : goal.returns-in-Ok-Fails-clause-made
 returns-in-Ok-Fails-clause-made c = λ mine theirs stands shows.

@@ -1,7 +1,7 @@
 use Rattle.std.proofs.Common.{Ok, refl, sym, ap, subst, ◌∙◌}
 use Rattle.dna_packet.specs.Packet.{IsReturned, view}
 use Rattle.dna_packet.specs.declared.packet.Packet.{Packet}
-use Rattle.dna_model.specs.Content.{content_of}
+use Rattle.dna_node.specs.Content.{content_of}
 use Rattle.pair_judge.proofs.Packets.{carries_message, carries_nothing, never}
 use Rattle.pair_judge.proofs.packet.content.Goals as goal
 
@@ -12,4 +12,5 @@ pub returns-in-Data-clause-carried : goal.returns-in-Data-clause-carried
 returns-in-Data-clause-carried c =
     let d = c.in-Data in
     let there : IsReturned (view c.in-Ok.read) → ⊥ = λ back. never (c.if-returned.ensures.1 back) in
-    ap content_of (c.in-Ok.ensures.exact ∙ ap (λ (p : Packet). Ok (view p)) d.is) ∙ carries_message d.rtflg d.dst d.src d.forward d.nsp.now (λ back. there (subst (λ (p : Packet). IsReturned (view p)) (sym d.is) back))
+    ap content_of (c.in-Ok.ensures.exact ∙ ap (λ (p : Packet). Ok (view p)) d.is) ∙ carries_message d.rtflg d.dst d.src d.forward d.nsp.now
+    (λ back. there (subst (λ (p : Packet). IsReturned (view p)) (sym d.is) back))

@@ -3,17 +3,17 @@ use Rattle.std.specs.List.{slice_get}
 use Rattle.std.specs.Option.{option_map}
 use Rattle.std.proofs.lemmas.Option.{slice_get_within}
 use Rattle.ddcmp_station.specs.Arrival.{arrival_view}
-use Rattle.dna_model.specs.declared.head.Head.{Head}
-use Rattle.dna_model.specs.WireLayers.{WireLayersNode}
-use Rattle.dna_model.specs.declared.link_tag.LinkTag.{LinkTag}
-use Rattle.pair_judge.specs.Wire.{judge_machine}
-use Rattle.pair_judge.specs.Steps.{with_link}
-use Rattle.dna_model.specs.Line.{coming}
+use Rattle.dna_station.specs.declared.head.Head.{Head}
+use Rattle.dna_node.specs.WireLayers.{WireLayersNode}
+use Rattle.dna_links.specs.declared.tag.LinkTag.{LinkTag}
+use Rattle.pair_judge.specs.inner.Wire.{judge_machine}
+use Rattle.pair_judge.specs.inner.Steps.{with_link}
+use Rattle.dna_station.specs.Line.{coming}
 use Rattle.ddcmp_msg.specs.Reading.{reading}
 use Rattle.pair_judge.specs.Counting.{shows_damage}
-use Rattle.pair_judge.specs.Lines.{held}
-use Rattle.pair_judge.specs.Receipts.{node_of}
-use Rattle.pair_judge.specs.Runs.{tag_of}
+use Rattle.pair_judge.specs.inner.Lines.{held}
+use Rattle.pair_judge.specs.inner.Receipts.{node_of}
+use Rattle.pair_judge.specs.inner.Runs.{tag_of}
 use Rattle.pair_judge.proofs.Runs.{length-units_from}
 use Rattle.pair_judge.proofs.Sent.{held_at, item_within, released}
 use Rattle.pair_judge.proofs.Comes.{receives_back, receives_at, comes_met, comes_refused}
@@ -22,8 +22,12 @@ use Rattle.pair_judge.proofs.receipt.receive.Goals as goal
 -- the hint lies below the front, so its unit was sent
 pub returns-then-hint-line-clause-receipt : goal.returns-then-hint-line-clause-receipt
 returns-then-hint-line-clause-receipt c = λ sent shows.
-    let item = item_within sent c.args.hint (omega (arith, shows.within)) in
-    (item.0, item.1, λ head. receives_back (node_of head c.args.layers.now c.args.line.now) c.args.hint c.args.kept c.args.bytes.now item.0 c.if-hint-line.true)
+    let item = item_within sent c.args.hint (omega (arith, shows.within)) in (
+      item.0,
+      item.1,
+      λ head. receives_back (node_of head c.args.layers.now c.args.line.now) c.args.hint c.args.kept c.args.bytes.now item.0
+          c.if-hint-line.true,
+    )
 
 pub returns-in-None-clause-receipt : goal.returns-in-None-clause-receipt
 returns-in-None-clause-receipt c = λ sent shows.
@@ -31,13 +35,22 @@ returns-in-None-clause-receipt c = λ sent shows.
 
 pub returns-in-None-coming-clause-receipt : goal.returns-in-None-coming-clause-receipt
 returns-in-None-coming-clause-receipt c = λ sent shows.
-    let unit = c.in-Some.unit in
-    (unit, sym (sym c.in-Some.is ∙ c.unit.ensures ∙ held_at c.args.line.now sent c.args.hint shows c.if-hint-line.false), λ head. receives_at (node_of head c.args.layers.now c.args.line.now) c.args.hint c.args.kept c.args.bytes.now unit None c.if-hint-line.false (ap (option_map (λ arrival. with_link unit.known.link (arrival_view arrival))) (sym c.in-None-coming.is) ∙ c.coming.ensures.coming))
+    let unit = c.in-Some.unit in (
+      unit,
+      sym (sym c.in-Some.is ∙ c.unit.ensures ∙ held_at c.args.line.now sent c.args.hint shows c.if-hint-line.false),
+      λ head. receives_at (node_of head c.args.layers.now c.args.line.now) c.args.hint c.args.kept c.args.bytes.now unit None c.if-hint-line.false
+          (ap (option_map (λ arrival. with_link unit.known.link (arrival_view arrival))) (sym c.in-None-coming.is) ∙ c.coming.ensures.coming),
+    )
 
 pub release-requires-clause-sent : goal.release-requires-clause-sent
 release-requires-clause-sent c =
-    let there : slice_get (held c.args.line.now) (c.args.hint - c.args.line.now.gone) ≡ Some c.in-Some.unit = sym (sym c.in-Some.is ∙ c.unit.ensures) in
-    omega (arith, slice_get_within (held c.args.line.now) (c.args.hint - c.args.line.now.gone) c.in-Some.unit there, length-units_from (tag_of c.args.line.now.tags) c.args.line.now.gone c.args.line.now.units.items)
+    let there : slice_get (held c.args.line.now) (c.args.hint - c.args.line.now.gone) ≡ Some c.in-Some.unit =
+    sym (sym c.in-Some.is ∙ c.unit.ensures) in
+    omega (
+      arith,
+      slice_get_within (held c.args.line.now) (c.args.hint - c.args.line.now.gone) c.in-Some.unit there,
+      length-units_from (tag_of c.args.line.now.tags) c.args.line.now.gone c.args.line.now.units.items,
+    )
 
 pub returns-in-Ok-clause-receipt : goal.returns-in-Ok-clause-receipt
 returns-in-Ok-clause-receipt c = λ sent shows.
@@ -45,16 +58,24 @@ returns-in-Ok-clause-receipt c = λ sent shows.
     let n : Head → WireLayersNode = λ head. node_of head c.args.layers.now c.args.line.now in
     let arrival = with_link unit.known.link (arrival_view c.in-Some-coming.arrival) in
     let at_link : (P : Option LinkTag → Type 0) → P c.link.result.now → P unit.known.link = λ P. subst P c.link.ensures in
-    let was_sent : slice_get sent c.args.hint ≡ Some unit = sym (sym c.in-Some.is ∙ c.unit.ensures ∙ held_at c.args.line.now sent c.args.hint shows c.if-hint-line.false) in
-    let comes : Some arrival ≡ coming unit c.args.bytes.now = ap (option_map (λ arrival. with_link unit.known.link (arrival_view arrival))) (sym c.in-Some-coming.is) ∙ c.coming.ensures.coming in
+    let was_sent : slice_get sent c.args.hint ≡ Some unit =
+    sym (sym c.in-Some.is ∙ c.unit.ensures ∙ held_at c.args.line.now sent c.args.hint shows c.if-hint-line.false) in
+    let comes : Some arrival ≡ coming unit c.args.bytes.now =
+    ap (option_map (λ arrival. with_link unit.known.link (arrival_view arrival))) (sym c.in-Some-coming.is) ∙ c.coming.ensures.coming in
     let after : Head → WireLayersNode = λ head. node_of head c.arrived.new.self c.release.new.self in
-    let stepped : (head : Head) → record { head = head; station = c.arrived.new.self; front = c.args.hint + 1 } ≡ after head = λ head. ap (λ (front : ℕ). record { head = head; station = c.arrived.new.self; front = front }) (sym c.release.ensures.gone) in
-    let damaged : c.is_damaged-damaged.result ≡ shows_damage (reading c.args.bytes.now) = c.is_damaged-damaged.ensures ∙ c.in-Some-coming.ensures.damage in (
+    let stepped : (head : Head) → record { head = head; station = c.arrived.new.self; front = c.args.hint + 1 } ≡ after head =
+    λ head. ap (λ (front : ℕ). record { head = head; station = c.arrived.new.self; front = front }) (sym c.release.ensures.gone) in
+    let damaged : c.is_damaged-damaged.result ≡ shows_damage (reading c.args.bytes.now) =
+    c.is_damaged-damaged.ensures ∙ c.in-Some-coming.ensures.damage in (
       record {
         unit = unit;
         was_sent = was_sent;
-        step = λ head. receives_at (n head) c.args.hint c.args.kept c.args.bytes.now unit (Some arrival) c.if-hint-line.false comes ∙ comes_met (n head) c.args.hint c.args.kept arrival c.arrived.new.self (at_link (λ link. judge_machine.arrives c.args.layers.now (with_link link (arrival_view c.in-Some-coming.arrival)) c.args.kept ≡ Ok c.arrived.new.self) c.in-Ok.ensures.ok) ∙ ap Ok (stepped head);
-        shows = released c.args.line.now c.release.new.self sent c.args.hint shows c.if-hint-line.false (slice_get_within sent c.args.hint unit was_sent) c.release.ensures.gone c.release.ensures.units;
+        step = λ head. receives_at (n head) c.args.hint c.args.kept c.args.bytes.now unit (Some arrival) c.if-hint-line.false comes ∙
+            comes_met (n head) c.args.hint c.args.kept arrival c.arrived.new.self
+            (at_link (λ link. judge_machine.arrives c.args.layers.now (with_link link (arrival_view c.in-Some-coming.arrival)) c.args.kept ≡ Ok
+            c.arrived.new.self) c.in-Ok.ensures.ok) ∙ ap Ok (stepped head);
+        shows = released c.args.line.now c.release.new.self sent c.args.hint shows c.if-hint-line.false
+            (slice_get_within sent c.args.hint unit was_sent) c.release.ensures.gone c.release.ensures.units;
       },
       damaged,
     )
@@ -65,9 +86,17 @@ returns-in-Err-Refused-clause-receipt c = λ sent shows.
     let n : Head → WireLayersNode = λ head. node_of head c.args.layers.now c.args.line.now in
     let arrival = with_link unit.known.link (arrival_view c.in-Some-coming.arrival) in
     let at_link : (P : Option LinkTag → Type 0) → P c.link.result.now → P unit.known.link = λ P. subst P c.link.ensures in
-    let was_sent : slice_get sent c.args.hint ≡ Some unit = sym (sym c.in-Some.is ∙ c.unit.ensures ∙ held_at c.args.line.now sent c.args.hint shows c.if-hint-line.false) in
-    let comes : Some arrival ≡ coming unit c.args.bytes.now = ap (option_map (λ arrival. with_link unit.known.link (arrival_view arrival))) (sym c.in-Some-coming.is) ∙ c.coming.ensures.coming in
-    (unit, was_sent, λ head. receives_at (n head) c.args.hint c.args.kept c.args.bytes.now unit (Some arrival) c.if-hint-line.false comes ∙ comes_refused (n head) c.args.hint c.args.kept arrival c.in-Err-Refused.refusal (at_link (λ link. judge_machine.arrives c.args.layers.now (with_link link (arrival_view c.in-Some-coming.arrival)) c.args.kept ≡ Err c.in-Err-Refused.refusal) (rw c.in-Err-Refused.field-0-is at c.in-Err-Refused.ensures.refused)))
+    let was_sent : slice_get sent c.args.hint ≡ Some unit =
+    sym (sym c.in-Some.is ∙ c.unit.ensures ∙ held_at c.args.line.now sent c.args.hint shows c.if-hint-line.false) in
+    let comes : Some arrival ≡ coming unit c.args.bytes.now =
+    ap (option_map (λ arrival. with_link unit.known.link (arrival_view arrival))) (sym c.in-Some-coming.is) ∙ c.coming.ensures.coming in (
+      unit,
+      was_sent,
+      λ head. receives_at (n head) c.args.hint c.args.kept c.args.bytes.now unit (Some arrival) c.if-hint-line.false comes ∙
+          comes_refused (n head) c.args.hint c.args.kept arrival c.in-Err-Refused.refusal
+          (at_link (λ link. judge_machine.arrives c.args.layers.now (with_link link (arrival_view c.in-Some-coming.arrival)) c.args.kept ≡ Err
+          c.in-Err-Refused.refusal) (rw c.in-Err-Refused.field-0-is at c.in-Err-Refused.ensures.refused)),
+    )
 
 pub returns-in-Err-OutOfMemory-clause-memory : goal.returns-in-Err-OutOfMemory-clause-memory
 returns-in-Err-OutOfMemory-clause-memory c =

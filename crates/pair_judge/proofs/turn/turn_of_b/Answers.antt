@@ -1,11 +1,11 @@
 use Rattle.std.proofs.Common.{◌≡◌, Bool, [], ◌∷◌, ◌++◌, length, refl, subst, sym, ◌∙◌, arith, length-append}
 use Rattle.wire_base.specs.declared.side.Side.TheVariants.{A, B}
-use Rattle.dna_model.specs.declared.finding.Cause.TheVariants.{Step, NoSuchUnit, NoOrder}
+use Rattle.dna_node.specs.declared.finding.Cause.TheVariants.{Step, NoSuchUnit, NoOrder}
 use Rattle.pair_judge.specs.declared.course.Ahead.TheVariants.{Ended}
 use Rattle.pair_judge.specs.declared.fault.JudgeFault.{JudgeFault}
 use Rattle.pair_judge.specs.Faulty.{IsJudgeFault}
-use Rattle.pair_judge.specs.Reached.{IsHeldUp, IsStopped}
-use Rattle.dna_model.specs.WireLayers.{wire_layers_start}
+use Rattle.pair_judge.specs.inner.Reached.{IsHeldUp, IsStopped}
+use Rattle.dna_node.specs.WireLayers.{wire_layers_start}
 use Rattle.pair_judge.proofs.Turns.{reached_by_b, reached_still, same_end, same_read, next_place}
 use Rattle.pair_judge.proofs.Found.{at_place, b_fails, both_wait, a_waits, b_waits, both_ended}
 use Rattle.pair_judge.proofs.Faults.{faulty}
@@ -17,14 +17,16 @@ returns-in-Ok-Made-clause-turn g c = λ text_a text_b come_a made_a made_b under
     let m = advanced text_b made_b under.read_b in
     let h = under.reached in
     let made = m.made_it h.world.b h.world.a h.stands_b h.stands_a.sent in
-    let run = c.reading_on.ensures.of_b (wire_layers_start c.args.a.now.end.head c.args.b.now.end.head) h.world made.next m.next made_a made_b h.run made.step_is in
+    let run = c.reading_on.ensures.of_b (wire_layers_start c.args.a.now.end.head c.args.b.now.end.head) h.world made.next m.next made_a made_b h.run
+    made.step_is in
     record {
       made_a = made_a;
       made_b = made_b ++ m.next ∷ [];
       under_way = record {
         read_a = same_read text_a c.args.a.now _ come_a made_a refl refl refl under.read_a;
         read_b = m.read;
-        reached = reached_by_b c.args.a.now.end _ c.args.b.now.end c.advance.new.self.end c.advance.new.incoming made_a made_b m.next h made (record { head = refl; layers = refl; counts = refl; line = refl }) run;
+        reached = reached_by_b c.args.a.now.end _ c.args.b.now.end c.advance.new.self.end c.advance.new.incoming made_a made_b m.next h made
+            (record { head = refl; layers = refl; counts = refl; line = refl }) run;
       };
       one_more = omega (arith, length-append made_b (m.next ∷ []));
     }
@@ -38,10 +40,12 @@ returns-in-Ok-Fails-clause-turn g c = λ text_a text_b come_a made_a made_b unde
     let place : c.advance.new.self.end.counts.records ≡ length made_b =
     next_place c.advance.new.self.end.counts made_b (f.counts ∙ h.counts_b) in
     rw c.refused.ensures (at_place _ _ B (Step c.in-Ok-Fails.refusal) _ _ place
-    (b_fails _ _ c.args.a.now.end.head c.args.b.now.end.head refl c.advance.ensures.head (length made_b) c.in-Ok-Fails.refusal f.next c.args.a_waits c.args.a.now c.args.b.now.end.line
+    (b_fails _ _ c.args.a.now.end.head c.args.b.now.end.head refl c.advance.ensures.head (length made_b) c.in-Ok-Fails.refusal f.next c.args.a_waits
+    c.args.a.now c.args.b.now.end.line
     refl refl stopped
     (same_read text_a c.args.a.now _ come_a made_a refl refl refl under.read_a) f.read
-    (λ p rest_a rest_b waits. c.endings.ensures.b_refused_behind _ _ h.world made_a rest_a made_b rest_b p f.next c.in-Ok-Fails.refusal h.run (waits h.world.a h.world.b h.stands_a h.stands_b.sent) refused)
+    (λ p rest_a rest_b waits. c.endings.ensures.b_refused_behind _ _ h.world made_a rest_a made_b rest_b p f.next c.in-Ok-Fails.refusal h.run
+    (waits h.world.a h.world.b h.stands_a h.stands_b.sent) refused)
     (λ rest_b. c.endings.ensures.b_refused_last _ _ h.world made_a made_b rest_b f.next c.in-Ok-Fails.refusal h.run refused)))
 
 pub returns-in-Ok-Blocked-clause-turn : goal.returns-in-Ok-Blocked-clause-turn
@@ -49,11 +53,16 @@ returns-in-Ok-Blocked-clause-turn g c = λ text_a text_b come_a made_a made_b un
     let blocked = rw c.in-Ok-Blocked.field-0-is at c.in-Ok-Blocked.ensures.advance in
     let m = blocked text_b made_b under.read_b in
     let h = under.reached in
-    let held : IsHeldUp c.args.a.now c.args.b.now.end.line = subst (λ (w : Bool). IsStopped w c.args.a.now c.args.b.now.end.line) c.if-a_waits.true stopped in
+    let held : IsHeldUp c.args.a.now c.args.b.now.end.line =
+    subst (λ (w : Bool). IsStopped w c.args.a.now c.args.b.now.end.line) c.if-a_waits.true stopped in
     let waits_a = held.waits h.world.a h.world.b h.stands_a h.stands_b.sent in
     let waits_b = m.waits h.world.b h.world.a h.stands_b h.stands_a.sent in
     let place : c.args.a.now.end.counts.records ≡ length made_a = next_place c.args.a.now.end.counts made_a h.counts_a in
-    rw c.refused-in-Ok-Blocked.ensures (at_place _ _ A NoOrder _ _ place (both_wait _ _ c.args.a.now.end.head c.args.b.now.end.head refl c.advance.ensures.head (length made_a) held.next m.next (same_read text_a c.args.a.now _ come_a made_a refl refl refl under.read_a) m.read held.ahead m.ahead (λ rest_a rest_b. c.endings.ensures.stuck _ _ h.world made_a rest_a made_b rest_b held.next m.next h.run waits_a waits_b)))
+    rw c.refused-in-Ok-Blocked.ensures
+    (at_place _ _ A NoOrder _ _ place
+    (both_wait _ _ c.args.a.now.end.head c.args.b.now.end.head refl c.advance.ensures.head (length made_a) held.next m.next
+    (same_read text_a c.args.a.now _ come_a made_a refl refl refl under.read_a) m.read held.ahead m.ahead
+    (λ rest_a rest_b. c.endings.ensures.stuck _ _ h.world made_a rest_a made_b rest_b held.next m.next h.run waits_a waits_b)))
 
 pub returns-in-Ok-Blocked-2-clause-turn : goal.returns-in-Ok-Blocked-2-clause-turn
 returns-in-Ok-Blocked-2-clause-turn g c = λ text_a text_b come_a made_a made_b under stopped.
@@ -64,17 +73,26 @@ returns-in-Ok-Blocked-2-clause-turn g c = λ text_a text_b come_a made_a made_b 
     let waits_b = m.waits h.world.b h.world.a h.stands_b h.stands_a.sent in
     let place : c.advance.new.self.end.counts.records ≡ length made_b =
     next_place c.advance.new.self.end.counts made_b ((same_end _ _ m.still.same_end).counts ∙ h.counts_b) in
-    rw c.refused-in-Ok-Blocked-2.ensures (at_place _ _ B NoSuchUnit _ _ place (b_waits _ _ c.args.a.now.end.head c.args.b.now.end.head refl c.advance.ensures.head (length made_b) m.next (same_read text_a c.args.a.now _ come_a made_a refl refl refl under.read_a) m.read ended m.ahead (λ rest_b. c.endings.ensures.b_lacks _ _ h.world made_a made_b rest_b m.next h.run waits_b)))
+    rw c.refused-in-Ok-Blocked-2.ensures
+    (at_place _ _ B NoSuchUnit _ _ place
+    (b_waits _ _ c.args.a.now.end.head c.args.b.now.end.head refl c.advance.ensures.head (length made_b) m.next
+    (same_read text_a c.args.a.now _ come_a made_a refl refl refl under.read_a) m.read ended m.ahead
+    (λ rest_b. c.endings.ensures.b_lacks _ _ h.world made_a made_b rest_b m.next h.run waits_b)))
 
 pub returns-in-Ok-Ended-clause-turn : goal.returns-in-Ok-Ended-clause-turn
 returns-in-Ok-Ended-clause-turn g c = λ text_a text_b come_a made_a made_b under stopped.
     let ended = rw c.in-Ok-Ended.field-0-is at c.in-Ok-Ended.ensures.advance in
     let m = ended text_b made_b under.read_b in
     let h = under.reached in
-    let held : IsHeldUp c.args.a.now c.args.b.now.end.line = subst (λ (w : Bool). IsStopped w c.args.a.now c.args.b.now.end.line) c.if-a_waits-2.true stopped in
+    let held : IsHeldUp c.args.a.now c.args.b.now.end.line = subst (λ (w : Bool). IsStopped w c.args.a.now c.args.b.now.end.line) c.if-a_waits-2.true
+    stopped in
     let waits_a = held.waits h.world.a h.world.b h.stands_a h.stands_b.sent in
     let place : c.args.a.now.end.counts.records ≡ length made_a = next_place c.args.a.now.end.counts made_a h.counts_a in
-    rw c.refused-in-Ok-Ended.ensures (at_place _ _ A NoSuchUnit _ _ place (a_waits _ _ c.args.a.now.end.head c.args.b.now.end.head refl c.advance.ensures.head (length made_a) held.next (same_read text_a c.args.a.now _ come_a made_a refl refl refl under.read_a) m.read held.ahead m.ahead (λ rest_a. c.endings.ensures.a_lacks _ _ h.world made_a rest_a made_b held.next h.run waits_a)))
+    rw c.refused-in-Ok-Ended.ensures
+    (at_place _ _ A NoSuchUnit _ _ place
+    (a_waits _ _ c.args.a.now.end.head c.args.b.now.end.head refl c.advance.ensures.head (length made_a) held.next
+    (same_read text_a c.args.a.now _ come_a made_a refl refl refl under.read_a) m.read held.ahead m.ahead
+    (λ rest_a. c.endings.ensures.a_lacks _ _ h.world made_a rest_a made_b held.next h.run waits_a)))
 
 pub returns-in-Ok-Ended-2-clause-turn : goal.returns-in-Ok-Ended-2-clause-turn
 returns-in-Ok-Ended-2-clause-turn g c = λ text_a text_b come_a made_a made_b under stopped.
@@ -82,11 +100,15 @@ returns-in-Ok-Ended-2-clause-turn g c = λ text_a text_b come_a made_a made_b un
     let m = over text_b made_b under.read_b in
     let h = under.reached in
     let ended : c.args.a.now.ahead ≡ Ended = subst (λ (w : Bool). IsStopped w c.args.a.now c.args.b.now.end.line) c.if-a_waits-2.false stopped in
-    let now = reached_still c.args.a.now.end _ c.args.b.now.end c.advance.new.self.end made_a made_b h (record { head = refl; layers = refl; counts = refl; line = m.still.same_line }) (same_end c.args.b.now.end c.advance.new.self.end m.still.same_end) in
-    both_ended _ _ now (c.endings.ensures.accepted _ _ now.world made_a made_b now.run) (same_read text_a c.args.a.now _ come_a made_a refl refl refl under.read_a) m.read ended m.ahead
+    let now = reached_still c.args.a.now.end _ c.args.b.now.end c.advance.new.self.end made_a made_b h
+    (record { head = refl; layers = refl; counts = refl; line = m.still.same_line })
+    (same_end c.args.b.now.end c.advance.new.self.end m.still.same_end) in
+    both_ended _ _ now (c.endings.ensures.accepted _ _ now.world made_a made_b now.run)
+    (same_read text_a c.args.a.now _ come_a made_a refl refl refl under.read_a) m.read ended m.ahead
 
 pub returns-in-Err-clause-fault : goal.returns-in-Err-clause-fault
 returns-in-Err-clause-fault g c = λ text_a text_b come_a made_a made_b under.
     let h = under.reached in
     let run = (c.endings.ensures.accepted _ _ h.world made_a made_b h.run).run in
-    subst (λ (fault : JudgeFault). IsJudgeFault text_a text_b fault) (sym c.side_fault.ensures) (faulty _ _ under.read_a under.read_b run B c.in-Err.fault (c.in-Err.ensures.fault text_b made_b under.read_b))
+    subst (λ (fault : JudgeFault). IsJudgeFault text_a text_b fault) (sym c.side_fault.ensures)
+    (faulty _ _ under.read_a under.read_b run B c.in-Err.fault (c.in-Err.ensures.fault text_b made_b under.read_b))

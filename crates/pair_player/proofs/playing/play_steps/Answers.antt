@@ -1,17 +1,19 @@
 use Rattle.std.proofs.Common.{Err, Ok, ◌+◌, ◌∙◌, ap, arith, refl}
 use Rattle.wire_base.specs.Tally.{tally_faults, tally_lent}
 use Rattle.capture.specs.Lines.{to_come}
-use Rattle.pair_player.specs.Beginning.{fault_of}
-use Rattle.pair_player.specs.Making.{standing}
+use Rattle.pair_player.specs.inner.Beginning.{fault_of}
+use Rattle.pair_player.specs.inner.Making.{standing}
 use Rattle.pair_player.specs.Playing.{held}
-use Rattle.pair_player.specs.Waiting.{outlet}
-use Rattle.pair_player.proofs.PlayLaws.{at_end, at_fault, ended, fails, lines_at_fault, lines_on, lines_stopped, moved_on, some_step, step_on, stopped, under_way}
+use Rattle.pair_player.specs.inner.Waiting.{outlet}
+use Rattle.pair_player.proofs.PlayLaws.{at_end, at_fault, ended, fails, lines_at_fault, lines_on, lines_stopped, moved_on, some_step, step_on}
+use Rattle.pair_player.proofs.PlayLaws.{stopped, under_way}
 use Rattle.pair_player.proofs.playing.play_steps.Goals as goal
 
 pub returns-in-Err-clause-plays : goal.returns-in-Err-clause-plays
 returns-in-Err-clause-plays g c text is =
     let begun = c.args.begun.now in
-    let h = under_way text (g.R.Read.remaining (tally_lent c.args.script.now)) (held (g.A.Write.contents (tally_lent c.args.a.now)) (g.B.Write.contents (tally_lent c.args.b.now)))
+    let h = under_way text (g.R.Read.remaining (tally_lent c.args.script.now))
+    (held (g.A.Write.contents (tally_lent c.args.a.now)) (g.B.Write.contents (tally_lent c.args.b.now)))
     begun.lines (standing begun.ends begun.texts.a.items begun.texts.b.items) is in
     fails _ _ _ h c.in-Err.side (tally_faults c.args.a.now) (tally_faults c.args.b.now) (
       outlet c.write_out.new.self.a.items (g.A.Write.contents (tally_lent c.write_out.new.a)) (tally_faults c.write_out.new.a),
@@ -23,9 +25,11 @@ loop-steps-init g c =
     let begun = c.args.begun.now in
     let passes = c.in_default.ensures.writes in (
       λ text is.
-          let h = under_way text (g.R.Read.remaining (tally_lent c.args.script.now)) (held (g.A.Write.contents (tally_lent c.args.a.now)) (g.B.Write.contents (tally_lent c.args.b.now)))
+          let h = under_way text (g.R.Read.remaining (tally_lent c.args.script.now))
+          (held (g.A.Write.contents (tally_lent c.args.a.now)) (g.B.Write.contents (tally_lent c.args.b.now)))
           begun.lines (standing begun.ends begun.texts.a.items begun.texts.b.items) is in
-          moved_on _ _ _ h (held (g.A.Write.contents (tally_lent c.write_out.new.a)) (g.B.Write.contents (tally_lent c.write_out.new.b))) c.write_out.new.self.a.items c.write_out.new.self.b.items passes.0.over passes.1.over,
+          moved_on _ _ _ h (held (g.A.Write.contents (tally_lent c.write_out.new.a)) (g.B.Write.contents (tally_lent c.write_out.new.b)))
+          c.write_out.new.self.a.items c.write_out.new.self.b.items passes.0.over passes.1.over,
       c.requires.0,
       c.requires.1,
       omega arith,
@@ -41,7 +45,8 @@ returns-in-Err-write_full-clause-plays g c text is =
     let advances = rw c.in-Ok-true.field-0-test at c.in-Ok-true.ensures.advances c.loop-steps.invariant.1 in
     let some = some_step c.advance.new.self.step _ after advances.0 in
     let made = c.in-Ok.ensures some.0 some.1 in
-    let on = step_on _ _ _ h some.0 c.advance.new.self after (standing c.make_step.new.ends c.make_step.new.texts.a.items c.make_step.new.texts.b.items) some.1 advances made in
+    let on = step_on _ _ _ h some.0 c.advance.new.self after
+    (standing c.make_step.new.ends c.make_step.new.texts.a.items c.make_step.new.texts.b.items) some.1 advances made in
     fails _ _ _ on c.in-Err-write_full.side (tally_faults c.loop-steps.a) (tally_faults c.loop-steps.b) (
       outlet c.write_full.new.self.a.items (g.A.Write.contents (tally_lent c.write_full.new.a)) (tally_faults c.write_full.new.a),
       outlet c.write_full.new.self.b.items (g.B.Write.contents (tally_lent c.write_full.new.b)) (tally_faults c.write_full.new.b),
@@ -54,7 +59,8 @@ returns-in-Err-make_step-clause-plays g c text is =
     let advances = rw c.in-Ok-true.field-0-test at c.in-Ok-true.ensures.advances c.loop-steps.invariant.1 in
     let some = some_step c.advance.new.self.step _ after advances.0 in
     let stops = c.in-Err-make_step.ensures some.0 some.1 in
-    stopped _ _ _ h some.0 c.advance.new.self after (standing c.make_step.new.ends c.make_step.new.texts.a.items c.make_step.new.texts.b.items) c.in-Err-make_step.stop c.end.result
+    stopped _ _ _ h some.0 c.advance.new.self after (standing c.make_step.new.ends c.make_step.new.texts.a.items c.make_step.new.texts.b.items)
+    c.in-Err-make_step.stop c.end.result
     (tally_faults c.loop-steps.a) (tally_faults c.loop-steps.b) (
       outlet c.end.new.texts.a.items (g.A.Write.contents (tally_lent c.end.new.a)) (tally_faults c.end.new.a),
       outlet c.end.new.texts.b.items (g.B.Write.contents (tally_lent c.end.new.b)) (tally_faults c.end.new.b),
@@ -77,10 +83,13 @@ returns-in-Err-advance-clause-plays g c text is =
     let after = to_come c.advance.new.self.unread (g.R.Read.remaining (tally_lent c.advance.new.reader)) in
     let advances = c.in-Err-advance.ensures.advances c.loop-steps.invariant.1 in
     ended _ _ _ h (Err (fault_of fault)) c.end-in-Err-advance.result (tally_faults c.loop-steps.a) (tally_faults c.loop-steps.b) (
-      outlet c.end-in-Err-advance.new.texts.a.items (g.A.Write.contents (tally_lent c.end-in-Err-advance.new.a)) (tally_faults c.end-in-Err-advance.new.a),
-      outlet c.end-in-Err-advance.new.texts.b.items (g.B.Write.contents (tally_lent c.end-in-Err-advance.new.b)) (tally_faults c.end-in-Err-advance.new.b),
+      outlet c.end-in-Err-advance.new.texts.a.items (g.A.Write.contents (tally_lent c.end-in-Err-advance.new.a))
+          (tally_faults c.end-in-Err-advance.new.a),
+      outlet c.end-in-Err-advance.new.texts.b.items (g.B.Write.contents (tally_lent c.end-in-Err-advance.new.b))
+          (tally_faults c.end-in-Err-advance.new.b),
     )
-    (at_fault _ _ _ h c.advance.new.self after fault advances (λ same. c.in-Err-advance.ensures.memory (ap Err same))) (rw c.play_fault.ensures at c.end-in-Err-advance.ensures)
+    (at_fault _ _ _ h c.advance.new.self after fault advances (λ same. c.in-Err-advance.ensures.memory (ap Err same)))
+    (rw c.play_fault.ensures at c.end-in-Err-advance.ensures)
 
 pub loop-steps-preserved : goal.loop-steps-preserved
 loop-steps-preserved g c =
@@ -91,8 +100,10 @@ loop-steps-preserved g c =
     let passes = c.in_default-write_full.ensures.writes in (
       λ text is.
           let h = c.loop-steps.invariant.0 text is in
-          let on = step_on _ _ _ h some.0 c.advance.new.self after (standing c.make_step.new.ends c.make_step.new.texts.a.items c.make_step.new.texts.b.items) some.1 advances made in
-          moved_on _ _ _ on (held (g.A.Write.contents (tally_lent c.write_full.new.a)) (g.B.Write.contents (tally_lent c.write_full.new.b))) c.write_full.new.self.a.items c.write_full.new.self.b.items passes.0.over passes.1.over,
+          let on = step_on _ _ _ h some.0 c.advance.new.self after
+          (standing c.make_step.new.ends c.make_step.new.texts.a.items c.make_step.new.texts.b.items) some.1 advances made in
+          moved_on _ _ _ on (held (g.A.Write.contents (tally_lent c.write_full.new.a)) (g.B.Write.contents (tally_lent c.write_full.new.b)))
+          c.write_full.new.self.a.items c.write_full.new.self.b.items passes.0.over passes.1.over,
       advances.3,
       advances.2 ∙ ap (λ n. n + 1) c.loop-steps.invariant.2,
       (let few = advances.1 in let counted = c.loop-steps.invariant.2 in omega arith),
@@ -103,12 +114,16 @@ loop-steps-preserved g c =
 
 pub returns-in-Err-make_step-clause-lines : goal.returns-in-Err-make_step-clause-lines
 returns-in-Err-make_step-clause-lines g c text is =
-    lines_on text _ _ _ _ c.end.result _ _ (lines_stopped text _ _ _ (c.loop-steps.steps + 2) c.in-Err-make_step.stop) (rw c.stop_fault.ensures at c.end.ensures)
+    lines_on text _ _ _ _ c.end.result _ _ (lines_stopped text _ _ _ (c.loop-steps.steps + 2) c.in-Err-make_step.stop)
+    (rw c.stop_fault.ensures at c.end.ensures)
 
 pub returns-in-Err-advance-clause-lines : goal.returns-in-Err-advance-clause-lines
 returns-in-Err-advance-clause-lines g c text is =
     let h = c.loop-steps.invariant.0 text is in
-    lines_at_fault _ (g.R.Read.remaining (tally_lent c.advance.new.reader)) _ _ h c.advance.new.self c.in-Err-advance.fault c.end-in-Err-advance.result (tally_faults c.loop-steps.a) (tally_faults c.loop-steps.b) (
-      outlet c.end-in-Err-advance.new.texts.a.items (g.A.Write.contents (tally_lent c.end-in-Err-advance.new.a)) (tally_faults c.end-in-Err-advance.new.a),
-      outlet c.end-in-Err-advance.new.texts.b.items (g.B.Write.contents (tally_lent c.end-in-Err-advance.new.b)) (tally_faults c.end-in-Err-advance.new.b),
+    lines_at_fault _ (g.R.Read.remaining (tally_lent c.advance.new.reader)) _ _ h c.advance.new.self c.in-Err-advance.fault
+    c.end-in-Err-advance.result (tally_faults c.loop-steps.a) (tally_faults c.loop-steps.b) (
+      outlet c.end-in-Err-advance.new.texts.a.items (g.A.Write.contents (tally_lent c.end-in-Err-advance.new.a))
+          (tally_faults c.end-in-Err-advance.new.a),
+      outlet c.end-in-Err-advance.new.texts.b.items (g.B.Write.contents (tally_lent c.end-in-Err-advance.new.b))
+          (tally_faults c.end-in-Err-advance.new.b),
     ) (c.in-Err-advance.ensures.advances c.loop-steps.invariant.1) (rw c.play_fault.ensures at c.end-in-Err-advance.ensures)

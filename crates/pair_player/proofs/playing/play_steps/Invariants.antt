@@ -2,18 +2,20 @@ use Rattle.std.proofs.Common.{◌≡◌, ◌≤◌, List, ℕ, Option}
 use Rattle.wire_base.specs.Tally.{tally_faults, tally_lent}
 use Rattle.capture.specs.declared.phase.Phase.TheVariants.{Reading}
 use Rattle.capture.specs.Lines.{to_come}
-use Rattle.dna_model.specs.ScriptText.{MAX_STEPS}
-use Rattle.pair_player.specs.Beginning.{IsBegun}
+use Rattle.dna_play.specs.ScriptText.{MAX_STEPS}
+use Rattle.pair_player.specs.inner.Beginning.{IsBegun}
 use Rattle.pair_player.specs.Playing.{held}
-use Rattle.pair_player.specs.Making.{standing}
+use Rattle.pair_player.specs.inner.Making.{standing}
 use Rattle.pair_player.proofs.PlayLaws.{IsUnderWay, place}
 use Rattle.pair_player.proofs.playing.play_steps.Given as goal
 
 abbrev pub invariant-loop-steps : goal.invariant-loop-steps
 invariant-loop-steps g l =
-    ((text : Option (List ℕ)) → IsBegun text (g.R.Read.remaining (tally_lent l.fn.script)) l.fn.begun.lines (standing l.fn.begun.ends l.fn.begun.texts.a.items l.fn.begun.texts.b.items)
+    ((text : Option (List ℕ)) → IsBegun text (g.R.Read.remaining (tally_lent l.fn.script)) l.fn.begun.lines
+    (standing l.fn.begun.ends l.fn.begun.texts.a.items l.fn.begun.texts.b.items)
     → IsUnderWay text (held (g.A.Write.contents (tally_lent l.fn.a)) (g.B.Write.contents (tally_lent l.fn.b)))
-    (place l.begun.lines (to_come l.begun.lines.unread (g.R.Read.remaining (tally_lent l.script))) (standing l.begun.ends l.begun.texts.a.items l.begun.texts.b.items)
+    (place l.begun.lines (to_come l.begun.lines.unread (g.R.Read.remaining (tally_lent l.script)))
+    (standing l.begun.ends l.begun.texts.a.items l.begun.texts.b.items)
     (held (g.A.Write.contents (tally_lent l.a)) (g.B.Write.contents (tally_lent l.b))) l.steps))
     × (l.begun.lines.phase ≡ Reading)
     × (l.begun.lines.steps ≡ l.steps)

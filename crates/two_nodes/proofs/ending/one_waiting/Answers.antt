@@ -10,7 +10,9 @@ returns g c =
     let tells = g.N.TwoNodes.tells in
     record {
       a_lacks = λ first_a first_b w r done_a rest_a ys run waits. waiting_one nodes tells first_a first_b w done_a ys rest_a r run waits;
-      b_lacks = λ first_a first_b w r xs done_b rest_b run waits. waiting_one (exchanged nodes) (both_tell nodes tells) first_b first_a (exchanged_world w) done_b xs rest_b r (exchange nodes run) waits;
+      b_lacks = λ first_a first_b w r xs done_b rest_b run waits. waiting_one (exchanged nodes) (both_tell nodes tells) first_b first_a
+          (exchanged_world w) done_b xs rest_b r (exchange nodes run) waits;
       a_ends = λ first_a first_b xs ys n lacks. lacks_no_run nodes tells first_a first_b xs ys n lacks;
-      b_ends = λ first_a first_b xs ys n lacks run. lacks_no_run (exchanged nodes) (both_tell nodes tells) first_b first_a ys xs n lacks (exchange_run nodes (start_world first_a first_b) xs ys run);
+      b_ends = λ first_a first_b xs ys n lacks run. lacks_no_run (exchanged nodes) (both_tell nodes tells) first_b first_a ys xs n lacks
+          (exchange_run nodes (start_world first_a first_b) xs ys run);
     }

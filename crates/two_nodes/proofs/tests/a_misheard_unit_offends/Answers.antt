@@ -1,6 +1,6 @@
 use Rattle.std.proofs.Common.{[], ◌∷◌, refl}
-use Rattle.two_nodes.specs.Example.Event.{Count, Tell, Hear}
-use Rattle.two_nodes.specs.Example.Fault.{Misheard}
+use Rattle.two_nodes.specs.inner.Example.Event.{Count, Tell, Hear}
+use Rattle.two_nodes.specs.inner.Example.Fault.{Misheard}
 use Rattle.two_nodes.specs.Nodes.{start_world}
 use Rattle.two_nodes.specs.Nodes.Run.{Done, OfA}
 use Rattle.two_nodes.proofs.tests.a_misheard_unit_offends.Goals as goal

@@ -5,7 +5,7 @@ use Rattle.std.proofs.lemmas.List.{length-append}
 use Rattle.two_nodes.specs.Nodes.{Half, advance}
 use Rattle.two_nodes.specs.Nodes.Outcome.{Made}
 use Rattle.two_nodes.specs.Kept.{IsKept}
-use Rattle.two_nodes.specs.Example.{Event, SentWithin, counter, counters, counter_tells, unit_named, is_telling}
+use Rattle.two_nodes.specs.inner.Example.{Event, SentWithin, counter, counters, counter_tells, unit_named, is_telling}
 use Rattle.two_nodes.proofs.Closed.{made-length}
 use Rattle.two_nodes.specs.Nodes.{start_world}
 use Rattle.two_nodes.proofs.tests.no_side_sends_more_units_than_it_makes_records.Goals as goal
@@ -32,4 +32,5 @@ sent_within_kept = record {
 }
 
 pub returns : goal.returns
-returns c = λ end xs ys run. c.always.ensures.from_start (start_world 0 0) end xs ys sent_within_kept (record { of_a = omega arith; of_b = omega arith }) run
+returns c = λ end xs ys run. c.always.ensures.from_start (start_world 0 0) end xs ys sent_within_kept
+    (record { of_a = omega arith; of_b = omega arith }) run

@@ -1,5 +1,5 @@
 use Rattle.std.proofs.Common.{[], refl}
-use Rattle.two_nodes.specs.Example.Event.{Hear}
+use Rattle.two_nodes.specs.inner.Example.Event.{Hear}
 use Rattle.two_nodes.specs.Nodes.{start_world}
 use Rattle.two_nodes.specs.Nodes.Run.{Done}
 use Rattle.two_nodes.proofs.tests.one_that_waits_for_nothing_lacks_its_unit.Goals as goal

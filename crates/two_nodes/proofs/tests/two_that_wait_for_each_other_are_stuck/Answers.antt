@@ -1,5 +1,5 @@
 use Rattle.std.proofs.Common.{[], ◌∷◌, refl}
-use Rattle.two_nodes.specs.Example.Event.{Count, Hear}
+use Rattle.two_nodes.specs.inner.Example.Event.{Count, Hear}
 use Rattle.two_nodes.specs.Nodes.{start_world}
 use Rattle.two_nodes.specs.Nodes.Run.{Done}
 use Rattle.two_nodes.proofs.tests.two_that_wait_for_each_other_are_stuck.Goals as goal

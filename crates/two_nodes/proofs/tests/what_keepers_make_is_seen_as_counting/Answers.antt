@@ -1,6 +1,6 @@
 use Rattle.std.proofs.Common.{[]}
 use Rattle.two_nodes.specs.Nodes.{start_world}
-use Rattle.two_nodes.specs.Keeping.{new_keeper}
+use Rattle.two_nodes.specs.inner.Keeping.{new_keeper}
 use Rattle.two_nodes.proofs.Counts.{commutes, is_kept}
 use Rattle.two_nodes.proofs.tests.what_keepers_make_is_seen_as_counting.Goals as goal
 

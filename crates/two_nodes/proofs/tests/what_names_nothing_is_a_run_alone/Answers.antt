@@ -1,7 +1,7 @@
 use Rattle.std.proofs.Common.{[], ◌∷◌, arith}
 use Rattle.std.specs.Prelude.{zero, suc}
-use Rattle.two_nodes.specs.Example.{counters}
-use Rattle.two_nodes.specs.Example.Event.{Count, Tell, Hear}
+use Rattle.two_nodes.specs.inner.Example.{counters}
+use Rattle.two_nodes.specs.inner.Example.Event.{Count, Tell, Hear}
 use Rattle.two_nodes.specs.Past.{NamesBelow}
 use Rattle.two_nodes.proofs.tests.what_names_nothing_is_a_run_alone.Goals as goal
 

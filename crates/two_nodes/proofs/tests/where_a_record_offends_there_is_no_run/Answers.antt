@@ -1,4 +1,4 @@
-use Rattle.two_nodes.specs.Example.Fault.{NothingToTell}
+use Rattle.two_nodes.specs.inner.Example.Fault.{NothingToTell}
 use Rattle.two_nodes.specs.Nodes.{start_world}
 use Rattle.two_nodes.proofs.tests.where_a_record_offends_there_is_no_run.Goals as goal
 

@@ -4,8 +4,11 @@ use Rattle.wire_base.proofs.BlockCheckTests.{good_from_test, test_from_good, is_
 use Rattle.wire_base.proofs.check_laws.good_is_tested.Goals as goal
 
 pub returns-clause-tested : goal.returns-clause-tested
-returns-clause-tested c =
-    (good_from_test c.args.bytes.now (λ i. omega (arith, c.type_inv.bytes i)), test_from_good c.args.bytes.now (λ i. omega (arith, c.type_inv.bytes i)))
+returns-clause-tested c = (
+  good_from_test c.args.bytes.now (λ i. omega (arith, c.type_inv.bytes i)),
+  test_from_good c.args.bytes.now
+      (λ i. omega (arith, c.type_inv.bytes i)),
+)
 
 pub returns-clause-sent : goal.returns-clause-sent
 returns-clause-sent c = is_good-check c.args.bytes.now (λ i. omega (arith, c.type_inv.bytes i))

@@ -10,7 +10,8 @@ returns c =
     let check = check_of c.args.field.now in
     let whole : low + 256 * (high + 256 * 0) ≡ low + 256 * high = omega arith in (
       λ good.
-          let e = check_from_good c.args.field.now (low ∷ high ∷ []) (λ i. omega (arith, c.type_inv.field i)) (AreBytes_pair low high (omega arith) (omega arith)) refl good in
+          let e = check_from_good c.args.field.now (low ∷ high ∷ []) (λ i. omega (arith, c.type_inv.field i))
+          (AreBytes_pair low high (omega arith) (omega arith)) refl good in
           let first : low ≡ check % 256 = omega arith in
           let second : high ≡ check / 256 = omega arith in
           ap₂ (λ x y. x ∷ y ∷ []) first second,

@@ -20,7 +20,8 @@ nothing : after_byte 0 0 ≡ 0
 unfolding after_byte shift
 nothing = refl
 
-entry : (rows : List (List ℕ)) → get_or rows 0 [] ≡ map (after_zeros 1) (range_with_len 0 256) → drop 1 rows ≡ map (map (λ r. after_byte r 0)) (take 7 rows)
+entry : (rows : List (List ℕ)) → get_or rows 0 [] ≡ map (after_zeros 1) (range_with_len 0 256) → drop 1 rows ≡ map (map (λ r. after_byte r 0))
+    (take 7 rows)
     → (k byte : ℕ) → k < 8 → byte < 256 → get_or (get_or rows k []) byte 0 ≡ after_zeros (suc k) byte
 unfolding after_zeros
 entry rows first next zero byte h b = ap (λ xs. get_or xs byte 0) first ∙ get_or-map-range_with_len (after_zeros 1) 0 256 byte byte 0 b (omega arith)

@@ -12,4 +12,5 @@ returns-in_err-at c =
 pub returns : goal.returns
 returns c =
     let found = rw (take_rest, c.unread.ensures) at c.in_ok-at.ensures in
-    lf_found c.args.searched c.in_ok-at.at c.args.self.now.unread c.requires found.0.high (eqb-true _ _ found.1) (λ k lt e. found.0.before k (omega arith) lt (eq-eqb _ _ e))
+    lf_found c.args.searched c.in_ok-at.at c.args.self.now.unread c.requires found.0.high (eqb-true _ _ found.1)
+    (λ k lt e. found.0.before k (omega arith) lt (eq-eqb _ _ e))

@@ -1,7 +1,7 @@
 use Rattle.std.proofs.Common.{◌≡◌, ℕ, List, [], ◌∷◌, ◌++◌, length, ap, ◌∙◌}
-use Rattle.dna_model.specs.LinkTests.{is_live}
-use Rattle.dna_model.specs.Links.{LinkOf}
-use Rattle.dna_model.specs.WireFlow.{WireFlow}
+use Rattle.dna_links.specs.LookUps.{is_live}
+use Rattle.dna_links.specs.Links.{LinkOf}
+use Rattle.dna_links.specs.WireFlow.{WireFlow}
 use Rattle.nsp_link.proofs.Giving.{called_index}
 use Rattle.nsp_link.proofs.links.begin.called_at.Goals as goal
 

@@ -1,8 +1,8 @@
 use Rattle.std.proofs.Common.{◌≡◌, ℕ, Option, List, [], ◌∷◌, ◌++◌, length, sym, ap, ◌∙◌, arith}
-use Rattle.dna_model.specs.LinkTests.{is_live}
-use Rattle.dna_model.specs.Links.{LinkOf}
-use Rattle.dna_model.specs.WireFlow.{WireFlow}
-use Rattle.nsp_link.specs.Index.{forgotten_at}
+use Rattle.dna_links.specs.LookUps.{is_live}
+use Rattle.dna_links.specs.Links.{LinkOf}
+use Rattle.dna_links.specs.WireFlow.{WireFlow}
+use Rattle.nsp_link.specs.inner.Index.{forgotten_at}
 use Rattle.nsp_link.proofs.Giving.{open_index}
 use Rattle.nsp_link.proofs.links.begin.opened_at.Goals as goal
 

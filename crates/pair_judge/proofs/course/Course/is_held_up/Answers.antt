@@ -1,7 +1,7 @@
 use Rattle.std.proofs.Common.{◌-◌, ◌≤◌, length, sym, ◌∙◌, refl, arith, ltb-false}
 use Rattle.capture.specs.Entries.{record_with}
-use Rattle.pair_judge.specs.Lines.{held}
-use Rattle.pair_judge.specs.Runs.{tag_of}
+use Rattle.pair_judge.specs.inner.Lines.{held}
+use Rattle.pair_judge.specs.inner.Runs.{tag_of}
 use Rattle.pair_judge.proofs.Runs.{length-units_from}
 use Rattle.pair_judge.proofs.Sent.{held_at, item_past}
 use Rattle.pair_judge.proofs.Advances.{receipt_waits}

@@ -2,7 +2,7 @@ use Rattle.std.proofs.Common.{sym, subst, ◌∙◌, refl}
 use Rattle.capture.specs.Entries.{record_with}
 use Rattle.pair_judge.specs.declared.course.Ahead.TheVariants.{Waits}
 use Rattle.pair_judge.specs.declared.end.End.{End}
-use Rattle.pair_judge.specs.Course.{IsRead, along}
+use Rattle.pair_judge.specs.inner.Course.{IsRead, along}
 use Rattle.pair_judge.proofs.Courses.{put_back}
 use Rattle.pair_judge.proofs.course.Course.make.Goals as goal
 

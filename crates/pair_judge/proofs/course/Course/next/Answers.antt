@@ -1,6 +1,6 @@
 use Rattle.std.proofs.Common.{refl, subst}
 use Rattle.pair_judge.specs.declared.course.Ahead.{Ahead}
-use Rattle.pair_judge.specs.Course.{MayReadAhead}
+use Rattle.pair_judge.specs.inner.Course.{MayReadAhead}
 use Rattle.pair_judge.proofs.Courses.{GrowingLaws, read_on}
 use Rattle.pair_judge.proofs.course.Course.next.Goals as goal
 

@@ -3,8 +3,8 @@ use Rattle.std.proofs.lemmas.Grind.{common_steps}
 use Rattle.std.specs.List.{slice_get}
 use Rattle.std.specs.Option.{option_map}
 use Rattle.std.proofs.lemmas.Option.{gets}
-use Rattle.pair_judge.specs.Runs.{tag_of}
-use Rattle.pair_judge.specs.Held.{sent_as}
+use Rattle.pair_judge.specs.inner.Runs.{tag_of}
+use Rattle.pair_judge.specs.inner.Held.{sent_as}
 use Rattle.pair_judge.proofs.Runs.{slice_get-units_from}
 use Rattle.pair_judge.proofs.line.Line.unit.Goals as goal
 

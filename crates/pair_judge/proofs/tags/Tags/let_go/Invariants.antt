@@ -1,5 +1,5 @@
 use Rattle.std.proofs.Common.{◌≡◌, ℕ, ◌≤◌, length}
-use Rattle.pair_judge.specs.Runs.{behind, tag_at}
+use Rattle.pair_judge.specs.inner.Runs.{behind, tag_at}
 use Rattle.pair_judge.proofs.tags.Tags.let_go.Given as goal
 
 abbrev pub invariant-loop-self : goal.invariant-loop-self

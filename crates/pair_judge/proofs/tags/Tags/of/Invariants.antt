@@ -1,5 +1,5 @@
 use Rattle.std.proofs.Common.{◌≡◌, drop}
-use Rattle.pair_judge.specs.Runs.{tag_at}
+use Rattle.pair_judge.specs.inner.Runs.{tag_at}
 use Rattle.pair_judge.proofs.tags.Tags.of.Given as goal
 
 abbrev pub invariant-loop-place : goal.invariant-loop-place

@@ -1,4 +1,4 @@
-use Rattle.dna_model.specs.Kept.{KeptEnd}
+use Rattle.dna_play.specs.Kept.{KeptEnd}
 use Rattle.player_end.proofs.Came.{come_lines}
 use Rattle.player_end.proofs.end.End.come.Goals as goal
 

@@ -1,7 +1,7 @@
 use Rattle.std.proofs.Common.{Some, sym, ap, ◌∙◌}
 use Rattle.std.specs.Option.{option_map}
 use Rattle.player_end.specs.declared.choice.Choice.{Choice}
-use Rattle.player_end.specs.Owing.{choice_view, link_choice_view}
+use Rattle.player_end.specs.inner.Owing.{choice_view, link_choice_view}
 use Rattle.player_end.proofs.Choosing.{chosen_message}
 use Rattle.player_end.proofs.end.End.send.Goals as goal
 

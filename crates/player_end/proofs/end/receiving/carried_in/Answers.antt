@@ -2,8 +2,8 @@ use Rattle.std.proofs.Common.{Result, Ok, sym, ap, ◌∙◌}
 use Rattle.dna_packet.specs.declared.fault.PacketFault.{PacketFault}
 use Rattle.dna_packet.specs.declared.packet.Packet.{Packet}
 use Rattle.dna_packet.specs.Packet.{PacketValue, view}
-use Rattle.dna_model.specs.Content.{content_of}
-use Rattle.dna_model.specs.Receipt.{carried_in}
+use Rattle.dna_node.specs.Content.{content_of}
+use Rattle.dna_play.specs.Receipt.{carried_in}
 use Rattle.player_end.proofs.end.receiving.carried_in.Goals as goal
 
 pub returns-in-Data-clause-message : goal.returns-in-Data-clause-message

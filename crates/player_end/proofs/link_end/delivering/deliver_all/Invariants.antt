@@ -1,6 +1,6 @@
 use Rattle.std.proofs.Common.{◌≡◌, ◌+◌, ◌≤◌, drop, length}
-use Rattle.dna_model.specs.Pieces.{in_whole_messages}
-use Rattle.player_end.specs.Delivering.{lines_of}
+use Rattle.dna_links.specs.Pieces.{in_whole_messages}
+use Rattle.player_end.specs.inner.Delivering.{lines_of}
 use Rattle.player_end.proofs.link_end.delivering.deliver_all.Given as goal
 
 abbrev pub invariant-loop : goal.invariant-loop

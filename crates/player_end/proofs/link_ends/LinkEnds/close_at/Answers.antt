@@ -1,8 +1,9 @@
-use Rattle.dna_model.specs.KeptLinks.{closed}
+use Rattle.dna_play.specs.KeptLinks.{closed}
 use Rattle.player_end.proofs.Change.{change_made}
 use Rattle.player_end.proofs.link_ends.LinkEnds.close_at.Goals as goal
 
 pub returns : goal.returns
 returns g c =
     let l = c.self.inside in
-    change_made l.links.items l.confirms.items c.args.self.now c.self.view_is c.args.place c.index_mut.result.now c.requires c.index_mut.ensures.value closed c.close.new.self c.close.ensures
+    change_made l.links.items l.confirms.items c.args.self.now c.self.view_is c.args.place c.index_mut.result.now c.requires c.index_mut.ensures.value
+    closed c.close.new.self c.close.ensures

@@ -1,5 +1,5 @@
 use Rattle.std.proofs.Common.{◌≡◌, drop}
-use Rattle.dna_model.specs.KeptLinks.{place_of}
+use Rattle.dna_play.specs.KeptLinks.{place_of}
 use Rattle.player_end.proofs.Searching.{rest_from}
 use Rattle.player_end.proofs.link_ends.LinkEnds.find.Given as goal
 

@@ -1,5 +1,5 @@
 use Rattle.std.proofs.Common.{sym, ◌∙◌, arith}
-use Rattle.player_end.specs.Owing.{turn_view}
+use Rattle.player_end.specs.inner.Owing.{turn_view}
 use Rattle.player_end.proofs.Searching.{turn_goes_on, turn_hits, turns_end}
 use Rattle.player_end.proofs.link_ends.LinkEnds.first_turn.Goals as goal
 

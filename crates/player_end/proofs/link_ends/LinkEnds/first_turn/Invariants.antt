@@ -1,5 +1,5 @@
 use Rattle.std.proofs.Common.{◌≡◌, drop}
-use Rattle.dna_model.specs.NextSent.{first_turn}
+use Rattle.dna_play.specs.NextSent.{first_turn}
 use Rattle.player_end.proofs.link_ends.LinkEnds.first_turn.Given as goal
 
 abbrev pub invariant-loop-place : goal.invariant-loop-place

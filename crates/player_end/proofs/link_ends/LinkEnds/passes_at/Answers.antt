@@ -1,6 +1,6 @@
 use Rattle.std.proofs.Common.{ap, ◌∙◌}
-use Rattle.dna_model.specs.LinkTests.{passes}
-use Rattle.player_end.specs.Links.{passes_there}
+use Rattle.dna_links.specs.LookUps.{passes}
+use Rattle.player_end.specs.inner.Links.{passes_there}
 use Rattle.player_end.proofs.link_ends.LinkEnds.passes_at.Goals as goal
 
 pub returns-in-Some : goal.returns-in-Some

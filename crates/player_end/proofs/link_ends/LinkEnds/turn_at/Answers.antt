@@ -1,5 +1,5 @@
 use Rattle.std.proofs.Common.{ap, ◌∙◌}
-use Rattle.player_end.specs.Links.{turn_there}
+use Rattle.player_end.specs.inner.Links.{turn_there}
 use Rattle.player_end.proofs.link_ends.LinkEnds.turn_at.Goals as goal
 
 pub returns-in-Some : goal.returns-in-Some

@@ -1,0 +1,15 @@
+-- The links of both sides, in every run: what the captures tell, and pieces beside what was handed in
+pub mod Reads
+pub mod Pieces
+-- one link beside its partner, and all of both sides
+pub mod Sends
+pub mod Ends
+pub mod Sides
+-- which link has which address, and how many messages were delivered
+pub mod Owners
+pub mod Counts
+pub mod ReadSteps
+-- what a packet that is sent or kept does, and so what holds in every run
+pub mod Takes
+pub mod Steps
+pub mod Bounds

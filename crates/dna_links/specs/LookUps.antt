@@ -1,0 +1,67 @@
+-- Which link of a node a message or an event is about: nine look-ups, each a test on ports (NSP 4.0, ports).
+use Rattle.std.specs.Prelude.{ℕ, Bool, true, false, ◌&&◌, not, ◌==◌, Option, Some, None}
+use Rattle.dna_links.specs.declared.port.Phase.{Phase}
+use Rattle.dna_links.specs.declared.port.Phase.TheVariants.{Calling, Called, Confirming, Running, Disconnecting, Ended}
+use Rattle.dna_links.specs.declared.port.Port.{Port}
+use Rattle.dna_links.specs.declared.port.LinkTest.{LinkTest}
+use Rattle.dna_links.specs.declared.port.LinkTest.TheVariants.{HasAddress, LiveAt, TheLink, LiveTo, OpenedAt, CallingAt, CalledBy, BegunBy, ActedOn}
+
+-- ---- phases
+
+abbrev pub is_live : Phase → Bool
+is_live Ended = false
+is_live phase = true
+
+abbrev pub is_calling : Phase → Bool
+is_calling Calling = true
+is_calling phase = false
+
+abbrev pub is_called : Phase → Bool
+is_called Called = true
+is_called phase = false
+
+abbrev pub is_confirming : Phase → Bool
+is_confirming Confirming = true
+is_confirming phase = false
+
+abbrev pub is_running : Phase → Bool
+is_running Running = true
+is_running phase = false
+
+abbrev pub is_disconnecting : Phase → Bool
+is_disconnecting Disconnecting = true
+is_disconnecting phase = false
+
+-- both sides have agreed: segments that come are acted on, and the user may close the link
+abbrev pub is_connected : Phase → Bool
+is_connected Confirming = true
+is_connected Running = true
+is_connected phase = false
+
+-- the user may hand messages in
+abbrev pub takes_messages : Phase → Bool
+takes_messages Calling = true
+takes_messages phase = is_connected phase
+
+-- ---- addresses
+
+-- this is known, and it is that number
+abbrev pub is_at : Option ℕ → ℕ → Bool
+is_at None number = false
+is_at (Some known) number = known == number
+
+abbrev pub has_both : Port → ℕ → ℕ → Bool
+has_both port own far = is_at port.own own && is_at port.far far
+
+-- ---- the tests
+
+abbrev pub passes : LinkTest → Port → Bool
+passes (HasAddress own) port = is_at port.own own
+passes (LiveAt own) port = is_live port.phase && is_at port.own own
+passes (TheLink own far) port = is_live port.phase && has_both port own far
+passes (LiveTo far) port = is_live port.phase && is_at port.far far
+passes (OpenedAt own) port = is_live port.phase && (port.opened && is_at port.own own)
+passes (CallingAt own) port = is_calling port.phase && is_at port.own own
+passes (CalledBy far) port = is_called port.phase && is_at port.far far
+passes (BegunBy far) port = is_live port.phase && (not port.opened && is_at port.far far)
+passes (ActedOn own far) port = is_connected port.phase && has_both port own far

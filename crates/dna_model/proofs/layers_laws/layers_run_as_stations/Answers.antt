@@ -1,6 +1,0 @@
-use Rattle.dna_model.specs.LayersPair.{layers_start}
-use Rattle.dna_model.proofs.OnTop.{run_of_stations}
-use Rattle.dna_model.proofs.layers_laws.layers_run_as_stations.Goals as goal
-
-pub returns : goal.returns
-returns c = record { run = λ head_a head_b w of_a of_b run. run_of_stations (layers_start head_a head_b) w of_a of_b run }

@@ -1,5 +1,0 @@
-use Rattle.dna_model.proofs.Joined.{all_joined}
-use Rattle.dna_model.proofs.layers_laws.links_meet_packets_in_order.Goals as goal
-
-pub returns : goal.returns
-returns c = record { joined = λ head_a head_b w of_a of_b run. all_joined head_a head_b w of_a of_b run }

@@ -1,8 +1,0 @@
-use Rattle.dna_model.proofs.LinkRunBounds.{delivers}
-use Rattle.dna_model.proofs.link_run_laws.links_deliver_in_order.Goals as goal
-
-pub returns : goal.returns
-returns c = record {
-  of_a = λ node_a peer_a node_b peer_b w of_a of_b run. (delivers node_a peer_a node_b peer_b w of_a of_b run).0;
-  of_b = λ node_a peer_a node_b peer_b w of_a of_b run. (delivers node_a peer_a node_b peer_b w of_a of_b run).1;
-}

@@ -1,8 +1,0 @@
-use Rattle.dna_model.proofs.KeptLaw.{whole_kept, stopped_kept}
-use Rattle.dna_model.proofs.play_laws.kept_ends_play_the_same.Goals as goal
-
-pub returns : goal.returns
-returns c = record {
-  played = λ script fits once. whole_kept script fits once;
-  stopped = λ script stopped fits e once. stopped_kept script stopped fits e once;
-}

@@ -1,5 +1,0 @@
-use Rattle.dna_model.proofs.PlayedChecked.{whole_is_run, stopped_is_run}
-use Rattle.dna_model.proofs.play_laws.played_captures_are_a_run.Goals as goal
-
-pub returns : goal.returns
-returns c = record { played = λ script played e once. whole_is_run script played e once; stopped = λ script stopped e once. stopped_is_run script stopped e once }

@@ -1,0 +1,14 @@
+-- What a reader must believe of a node over both layers: the two rules that a judge alone asks, and what a packet carries
+pub mod Rules
+pub mod Content
+-- the node on true numbers, and as a program keeps it
+pub mod Layers
+pub mod WireLayers
+-- the run of two captures, and what two wire nodes show of it
+pub mod LayersPair
+pub mod CutLayers
+pub mod Seen
+-- what a finding says of two captures
+pub mod Verdict
+-- what ghost members alone name: there is nothing in it to believe
+pub mod inner

@@ -1,0 +1,15 @@
+//! What a reader must believe of a node, its station with its links on top, of the run of two captures and of the verdict on them, as
+//! definitions in `specs/`; the same node on numbers that wrap (the wire node); and laws of both. It decides nothing and touches no file and
+//! no memory.
+#![tactic(auto)]
+
+mod finding;
+pub mod laws;
+mod nodes;
+
+pub use finding::{Cause, Finding};
+pub use laws::{
+    layers_deliver_in_order, layers_run_as_stations, links_meet_packets_in_order,
+    wire_layers_see_right,
+};
+pub use nodes::{TrueLayersNodes, WireLayersNodes};

@@ -1,0 +1,26 @@
+-- What holds of an end: what comes to it, damaged or not, it can take
+pub mod DamagedUnits
+pub mod ReceiptMakes
+-- what a station owes can be paid
+pub mod StationPays
+pub mod OwedPays
+-- what it chooses to send it sends
+pub mod UnitLines
+pub mod SendMakes
+pub mod Sends
+-- all this is kept by each thing that happens
+pub mod StationOwes
+pub mod StationStage
+pub mod Stage
+pub mod ReceiptStage
+pub mod User
+pub mod SendStage
+pub mod UserStages
+pub mod ComesStage
+-- messages that are whole go to the user
+pub mod UpsFollow
+pub mod Receives
+pub mod ComesMade
+-- noise, and each step
+pub mod NoiseStage
+pub mod StepStages

@@ -1,0 +1,231 @@
+-- What a station of the player owes stays payable, whatever its user does, whatever it sends of what is owed, and whatever comes.
+use Rattle.std.proofs.Common.{◌≡◌, ℕ, ◌+◌, Bool, true, false, ◌&&◌, not, cond, eqb, nat_lt, nat_le, Option, Some, None, List, [], ◌∷◌, length, fold}
+use Rattle.std.proofs.Common.{refl, sym, ap, ap₂, ◌∙◌, subst}
+use Rattle.std.specs.Prelude.{slice_get}
+use Rattle.std.proofs.lemmas.Bool.{and_parts}
+use Rattle.ddcmp_msg.specs.Message.{MessageValue, Data, Nak, Rep, Strt}
+use Rattle.ddcmp_msg.specs.declared.flags.Flags.{Flags}
+use Rattle.ddcmp_msg.specs.declared.nak_reason.NakReason.{NakReason}
+use Rattle.ddcmp_msg.specs.declared.nak_reason.NakReason.TheVariants.{HeaderCheck, DataCheck, RepResponse, NoBuffer}
+use Rattle.dna_packet.specs.Nsp.{NspValue}
+use Rattle.dna_station.specs.declared.head.Head.{Head}
+use Rattle.dna_station.specs.declared.state.State.{State}
+use Rattle.dna_station.specs.declared.state.State.TheVariants.{Halted, Istrt, Astrt, Running}
+use Rattle.dna_station.specs.declared.state.StationEvent.TheVariants as events
+use Rattle.dna_station.specs.declared.tag.Tag.{Tag}
+use Rattle.dna_station.specs.Causes.{with_cause, has_cause}
+use Rattle.dna_station.specs.Table.{Effect, Respond, TakePacket, AnswerRep, row, counts_damage}
+use Rattle.dna_station.specs.Book.{Sound, HeaderBad, DataBad, num_of, resp_of, has_packet, damaged_by}
+use Rattle.dna_station.specs.Station.{wire}
+use Rattle.dna_station.specs.WireStation.{HeldPacket, StationVariables, WireStation, wire_after_event}
+use Rattle.dna_station.specs.WireBook.{acknowledges, wire_acknowledged_by, wire_responded, wire_is_next, wire_does, wire_book, wire_after_sending}
+use Rattle.dna_station.specs.WireBook.{wire_after_arrival}
+use Rattle.dna_play.specs.Owed.{Owed, Debt, OwesRep, OwesNak, with_debt, data_debt, rep_debt, damage_debt, same_state, can_take, message_debt}
+use Rattle.dna_play.specs.Owed.{still_owed}
+use Rattle.dna_play.specs.NextSent.{LinkEnd, Choice, SendStrt, SendStack, SendNak, SendRep, SendAgain, SendNew, SendAck, after_choice}
+use Rattle.dna_play.specs.Compose.{no_flags, data_with, packet_again, new_data, packet_with, link_message, message_of}
+use Rattle.dna_station.proofs.Steps.Effects.{kept_by_all}
+use Rattle.dna_play.proofs.Ends.StationPays.{IsPayable}
+use Rattle.dna_play.proofs.Ends.OwedPays.{StayOpen, one_more, now_open, used_up, rep_aside, still, lessened, debt_pays}
+
+module _ {L : Type 0} where
+  -- ---- the user
+
+  module _ (w : WireStation L) (owed : Owed) (p : IsPayable w.variables w.causes owed) where
+    abbrev k : StationVariables L
+    k = w.variables
+
+    abbrev Pays : WireStation L → Owed → Type 0
+    Pays v o = IsPayable v.variables v.causes o
+
+    pub start_pays : k.state ≡ Halted → Pays (wire_after_event w events.Start) (still_owed k (wire_after_event w events.Start).variables owed)
+    start_pays is = still k (wire_after_event w events.Start).variables w.causes _ owed
+        (λ e. let f = ap (λ (s : State). same_state s Istrt) is in absurd cc) p
+
+    pub halt_pays : Pays (wire_after_event w events.Halt) (still_owed k (wire_after_event w events.Halt).variables owed)
+    halt_pays = still k (wire_after_event w events.Halt).variables w.causes w.causes owed (λ same reason e. e) p
+
+    -- nothing becomes of it
+    pub same_pays : Pays w (still_owed k k owed)
+    same_pays = still k k w.causes w.causes owed (λ same reason e. e) p
+
+    -- ---- a sending
+
+    nak_pays : (reason : NakReason) (flags : Flags) (resp : ℕ) →
+        Pays (wire_after_sending w (Nak flags reason resp)) (after_choice (SendNak reason) (still_owed k k owed))
+    nak_pays reason flags resp =
+        let o = still_owed k k owed in
+        let q = lessened k w.causes o o.strt o.stack false o.rep (λ e. e) same_pays in
+        record {
+          nak = λ other e. used_up reason other w.causes (record o { ack = false }) (q.nak other) e;
+          rep = λ e. q.rep
+              (sym (rep_aside reason false (record o { ack = false })) ∙ e);
+        }
+
+    data_pays : (flags : Flags) (resp num : ℕ) (body : List ℕ) →
+        let v = wire_after_sending w (Data flags resp num body) in Pays v (record (still_owed k v.variables owed) { ack = false })
+    data_pays flags resp num body =
+        let v = wire_after_sending w (Data flags resp num body) in
+        let o = still_owed k v.variables owed in
+        lessened v.variables v.causes o o.strt o.stack false o.rep (λ e. e) (still k v.variables w.causes v.causes owed (λ same reason e. e) p)
+
+    -- what is chosen and put together
+    module _ (c : Choice) where
+      abbrev PaysAfter : MessageValue → Type 0
+      PaysAfter m = let v = wire_after_sending w m in Pays v (after_choice c (still_owed k v.variables owed))
+
+      pays_same : (x m : MessageValue) → PaysAfter x → ◌≡◌ {A = Option MessageValue} (Some x) (Some m) → PaysAfter m
+      pays_same x m q e = let same : x ≡ m = cc in subst PaysAfter same q
+
+      again_pays : (m : MessageValue) → ((body : List ℕ) → PaysAfter (data_with k body)) → (o : Option (HeldPacket L)) → packet_again k o ≡ Some m →
+          PaysAfter m
+      again_pays m all None e = absurd cc
+      again_pays m all (Some packet) e = pays_same (data_with k packet.body) m (all packet.body) e
+
+      new_pays : (head : Head) (m : MessageValue) → ((body : List ℕ) → PaysAfter (data_with k body)) → (o : Option NspValue) →
+          new_data k head o ≡ Some m → PaysAfter m
+      new_pays head m all None e = absurd cc
+      new_pays head m all (Some message) e = pays_same (data_with k (packet_with head message)) m (all (packet_with head message)) e
+
+    pub choice_pays : (c : Choice) (head : Head) (links : List LinkEnd) (m : MessageValue) → message_of c head k links ≡ Some m → PaysAfter c m
+    choice_pays SendStrt head links m e =
+        let o = still_owed k k owed in pays_same SendStrt _ m (lessened k w.causes o false o.stack o.ack o.rep (λ r. r) same_pays) e
+    choice_pays SendStack head links m e =
+        let o = still_owed k k owed in pays_same SendStack _ m (lessened k w.causes o o.strt false o.ack o.rep (λ r. r) same_pays) e
+    choice_pays (SendNak reason) head links m e = pays_same (SendNak reason) _ m (nak_pays reason no_flags k.received) e
+    choice_pays SendRep head links m e = let o = still_owed k k owed in
+        pays_same SendRep _ m (lessened k w.causes o o.strt o.stack o.ack false (λ r. absurd cc) same_pays) e
+    choice_pays SendAgain head links m e =
+        again_pays SendAgain m (λ body. data_pays no_flags k.received (wire (k.acknowledged + 1 + k.ahead)) body) (slice_get k.held k.ahead) e
+    choice_pays (SendNew message) head links m e =
+        new_pays (SendNew message) head m (λ body. data_pays no_flags k.received (wire (k.acknowledged + 1 + k.ahead)) body)
+        (link_message message links) e
+    choice_pays SendAck head links m e = let o = still_owed k k owed in
+        pays_same SendAck _ m (lessened k w.causes o o.strt o.stack false o.rep (λ r. r) same_pays) e
+
+    -- ---- something comes
+
+    module _ (m : MessageValue) (tag : Tag) (kept : Bool) where
+      abbrev comes : WireStation L → Effect → WireStation L
+      comes v effect = wire_does m tag kept v effect
+
+      -- no cause is closed
+      effect_opens : (v : WireStation L) (effect : Effect) (reason : NakReason) → has_cause reason v.causes ≡ true →
+          has_cause reason (comes v effect).causes ≡ true
+      effect_opens v TakePacket reason e = go (wire_is_next v.variables (num_of m) && not kept)
+        where
+          go : (b : Bool) → has_cause reason (cond b (with_cause NoBuffer v.causes) v.causes) ≡ true
+          go true = one_more NoBuffer v.causes reason e
+          go false = e
+      effect_opens v AnswerRep reason e = go (eqb (num_of m) v.variables.received)
+        where
+          go : (b : Bool) → has_cause reason (cond b v.causes (with_cause RepResponse v.causes)) ≡ true
+          go true = e
+          go false = one_more RepResponse v.causes reason e
+      effect_opens v effect reason e = e
+
+      all_open : (effects : List Effect) (v : WireStation L) → StayOpen v.causes (fold comes v effects).causes
+      all_open effects v reason e = kept_by_all (λ (x : WireStation L). has_cause reason x.causes ≡ true) comes
+          (λ x effect f. effect_opens x effect reason f) effects v e
+
+      -- a packet that is the next and is not kept opens one
+      response_same : (v : WireStation L) → (wire_responded v.variables (resp_of m)).received ≡ v.variables.received
+      response_same v = go (nat_lt 0 (acknowledges v.variables (resp_of m)) && nat_le (acknowledges v.variables (resp_of m))
+          (length v.variables.held))
+        where
+          go : (b : Bool) → (wire_acknowledged_by b v.variables (resp_of m)).received ≡ v.variables.received
+          go true = refl
+          go false = refl
+
+      not_kept_opens : kept ≡ false → (effects : List Effect) (v : WireStation L) → has_packet effects ≡ true →
+          wire_is_next v.variables (num_of m) ≡ true → has_cause NoBuffer (fold comes v effects).causes ≡ true
+      not_kept_opens none [] v has next = absurd cc
+      not_kept_opens none (TakePacket ∷ later) v has next =
+          all_open later (comes v TakePacket) NoBuffer
+          (ap (λ (b : Bool). has_cause NoBuffer (cond b (with_cause NoBuffer v.causes) v.causes)) (ap₂ (λ (x y : Bool). x && not y) next none)
+          ∙ now_open NoBuffer v.causes)
+      not_kept_opens none (Respond ∷ later) v has next =
+          not_kept_opens none later (comes v Respond) has (ap (λ (n : ℕ). eqb (num_of m) (wire (n + 1))) (response_same v) ∙ next)
+      not_kept_opens none (effect ∷ later) v has next = not_kept_opens none later (comes v effect) has next
+
+      -- ---- what is newly owed for it
+
+      abbrev Open : NakReason → Type 0
+      Open reason = has_cause reason (wire_after_arrival w (Sound m tag) kept).causes ≡ true
+
+      data_opens : (b now : Bool) (reason : NakReason) → (b ≡ true → now ≡ false → Open NoBuffer) → data_debt b now ≡ Some (OwesNak reason) →
+          Open reason
+      data_opens true true reason has e = absurd cc
+      data_opens true false reason has e = let same : NoBuffer ≡ reason = cc in subst Open same (has refl refl)
+      data_opens false now reason has e = absurd cc
+
+      rep_opens : (b : Bool) (reason : NakReason) → (b ≡ false → Open RepResponse) →
+          ◌≡◌ {A = Option Debt} (Some (rep_debt b)) (Some (OwesNak reason)) → Open reason
+      rep_opens true reason has e = absurd cc
+      rep_opens false reason has e = let same : RepResponse ≡ reason = cc in subst Open same (has refl)
+
+      taken_opens : can_take k m ≡ true → kept ≡ false → Open NoBuffer
+      taken_opens can none = let parts = and_parts _ _ can in not_kept_opens none (row k.state m).effects w parts.0 parts.1
+
+    message_opens : (state : State) → k.state ≡ state → (m : MessageValue) (tag : Tag) (kept : Bool) (reason : NakReason) →
+        message_debt state k m kept ≡ Some (OwesNak reason) → Open m tag kept reason
+    message_opens Istrt is (Strt flags) tag kept reason e = absurd cc
+    message_opens Astrt is (Data flags resp num body) tag kept reason e =
+        let m = Data flags resp num body in data_opens m tag kept (can_take k m) kept reason (taken_opens m tag kept) e
+    message_opens Running is (Data flags resp num body) tag kept reason e =
+        let m = Data flags resp num body in data_opens m tag kept (can_take k m) kept reason (taken_opens m tag kept) e
+    message_opens Running is (Rep flags num) tag kept reason e = rep_opens (Rep flags num) tag kept (eqb num k.received) reason
+        (λ other. ap (λ (s : State). has_cause RepResponse (fold (comes (Rep flags num) tag kept) w (row s (Rep flags num)).effects).causes) is
+        ∙ ap (λ (b : Bool). has_cause RepResponse (cond b w.causes (with_cause RepResponse w.causes))) other ∙ now_open RepResponse w.causes) e
+    message_opens state is m tag kept reason e = absurd cc
+
+    message_no_rep : (state : State) (m : MessageValue) (kept : Bool) → message_debt state k m kept ≡ Some OwesRep → ⊥
+    message_no_rep state m kept e = go state m e
+      where
+        data_no : (b now : Bool) → data_debt b now ≡ Some OwesRep → ⊥
+        data_no true true e = cc
+        data_no true false e = cc
+        data_no false now e = cc
+
+        rep_no : (b : Bool) → ◌≡◌ {A = Option Debt} (Some (rep_debt b)) (Some OwesRep) → ⊥
+        rep_no true e = cc
+        rep_no false e = cc
+
+        go : (state : State) (m : MessageValue) → message_debt state k m kept ≡ Some OwesRep → ⊥
+        go Istrt (Strt flags) e = cc
+        go Astrt (Data flags resp num body) e = data_no (can_take k (Data flags resp num body)) kept e
+        go Running (Data flags resp num body) e = data_no (can_take k (Data flags resp num body)) kept e
+        go Running (Rep flags num) e = rep_no (eqb num k.received) e
+        go state m e = cc
+
+    -- a sound message
+    pub sound_pays : (m : MessageValue) (tag : Tag) (kept : Bool) →
+        let v = wire_after_arrival w (Sound m tag) kept in Pays v (with_debt (message_debt k.state k m kept) (still_owed k v.variables owed))
+    sound_pays m tag kept =
+        let v = wire_after_arrival w (Sound m tag) kept in
+        debt_pays v.variables v.causes (still_owed k v.variables owed) (message_debt k.state k m kept)
+        (λ reason e. message_opens k.state refl m tag kept reason e) (λ e. absurd (message_no_rep k.state m kept e))
+        (still k v.variables w.causes v.causes owed (λ same reason e. all_open m tag kept (row k.state m).effects w reason e) p)
+
+    -- damage
+    damaged_pays : (reason : NakReason) (state : State) → k.state ≡ state →
+        let v = damaged_by wire_book reason w in Pays v (with_debt (damage_debt state reason) (still_owed k v.variables owed))
+    damaged_pays reason state is = go state (counts_damage k.state) (ap counts_damage is)
+      where
+        go : (state : State) (b : Bool) → b ≡ counts_damage state →
+            let v = cond b (wire_book.counts reason w) w in Pays v (with_debt (damage_debt state reason) (still_owed k v.variables owed))
+        go Running true e = debt_pays k (with_cause reason w.causes) (still_owed k k owed) (Some (OwesNak reason))
+            (λ other f. let same : reason ≡ other = cc in
+            subst (λ (r : NakReason). has_cause r (with_cause reason w.causes) ≡ true) same (now_open reason w.causes)) (λ f. absurd cc)
+            (still k k w.causes (with_cause reason w.causes) owed (λ same other f. one_more reason w.causes other f) p)
+        go Running false e = absurd cc
+        go state true e = absurd cc
+        go state false e = same_pays
+
+    pub header_pays : let v = wire_after_arrival w HeaderBad false in
+        Pays v (with_debt (damage_debt k.state HeaderCheck) (still_owed k v.variables owed))
+    header_pays = damaged_pays HeaderCheck k.state refl
+
+    pub data_bad_pays : let v = wire_after_arrival w DataBad false in
+        Pays v (with_debt (damage_debt k.state DataCheck) (still_owed k v.variables owed))
+    data_bad_pays = damaged_pays DataCheck k.state refl

@@ -1,0 +1,197 @@
+-- What an end of the player chooses to send as a station it may send: each NAK that it owes has an open cause, and it owes a REP only while a
+-- packet is outstanding.
+use Rattle.std.proofs.Common.{◌≡◌, ℕ, ◌+◌, Bool, true, false, not, cond, nat_lt, Option, Some, None, List, [], ◌∷◌, length, refl, sym, ap, ◌∙◌, subst}
+use Rattle.std.proofs.Common.{eq-eqb}
+use Rattle.std.specs.Prelude.{slice_get}
+use Rattle.std.proofs.lemmas.Slice.Eq.{bytes_eq-Decides}
+use Rattle.ddcmp_msg.specs.Message.{MessageValue, Ack, Nak, Rep}
+use Rattle.ddcmp_msg.specs.declared.nak_reason.NakReason.{NakReason}
+use Rattle.ddcmp_msg.specs.declared.nak_reason.NakReason.TheVariants.{HeaderCheck, DataCheck, RepResponse, NoBuffer}
+use Rattle.dna_packet.specs.Nsp.{NspValue}
+use Rattle.dna_station.specs.declared.head.Head.{Head}
+use Rattle.dna_station.specs.declared.state.State.{State}
+use Rattle.dna_station.specs.declared.state.State.TheVariants.{Halted, Istrt, Astrt, Running}
+use Rattle.dna_station.specs.Causes.{Causes, has_cause}
+use Rattle.dna_station.specs.Table.{WINDOW, Check, checks, RespIsLast, CauseIsOpen, SomeOutstanding, NumIsHighest, NumIsNext, RoomIfNew, AsFirstGiven}
+use Rattle.dna_station.specs.Table.{refusal_of}
+use Rattle.dna_station.specs.Book.{first_failed, failed}
+use Rattle.dna_station.specs.Station.{wire}
+use Rattle.dna_station.specs.WireStation.{HeldPacket, StationVariables, WireStation}
+use Rattle.dna_station.specs.WireBook.{wire_is_new, is_held_packet, wire_passes, wire_sending_refusal}
+use Rattle.dna_play.specs.Owed.{Owed, all_acknowledged}
+use Rattle.dna_play.specs.NextSent.{LinkEnd, LinkChoice, Choice, SendStrt, SendStack, SendNak, SendRep, SendAgain, SendNew, SendAck, when, or_else}
+use Rattle.dna_play.specs.NextSent.{lowest_nak, new_packet, data_choice, choice_in, choice}
+use Rattle.dna_play.specs.Compose.{no_flags, data_with, packet_again, new_data, link_message, message_of}
+
+-- whether a NAK of this reason is owed
+abbrev pub owes_nak : NakReason → Owed → Bool
+owes_nak HeaderCheck owed = owed.header_check
+owes_nak DataCheck owed = owed.data_check
+owes_nak RepResponse owed = owed.rep_response
+owes_nak NoBuffer owed = owed.no_buffer
+owes_nak reason owed = false
+
+-- what is owed can be paid
+pub record IsPayable {L : Type 0} (k : StationVariables L) (causes : Causes) (owed : Owed) : Type 0 where
+  pub nak : (reason : NakReason) → owes_nak reason owed ≡ true → has_cause reason causes ≡ true
+  pub rep : owed.rep ≡ true → all_acknowledged k ≡ false
+
+-- ---- what a choice says of its station
+
+pub data IsChosen {L : Type 0} (k : StationVariables L) (owed : Owed) (asked : Option LinkChoice) : State → Choice → Type 0 where
+  ByStrt : owed.strt ≡ true → IsChosen k owed asked Istrt SendStrt
+  ByStack : owed.stack ≡ true → IsChosen k owed asked Astrt SendStack
+  ByNak : (reason : NakReason) → owes_nak reason owed ≡ true → IsChosen k owed asked Running (SendNak reason)
+  ByRep : owed.rep ≡ true → IsChosen k owed asked Running SendRep
+  ByAgain : wire_is_new k ≡ false → IsChosen k owed asked Running SendAgain
+  ByNew : (message : LinkChoice) → wire_is_new k ≡ true → nat_lt (length k.held) WINDOW ≡ true → asked ≡ Some message →
+      IsChosen k owed asked Running (SendNew message)
+  ByAck : owed.ack ≡ true → IsChosen k owed asked Running SendAck
+
+module _ {L : Type 0} (k : StationVariables L) (owed : Owed) (asked : Option LinkChoice) (c : Choice) where
+  abbrev Chosen : State → Type 0
+  Chosen state = IsChosen k owed asked state c
+
+  same_choice : (state : State) (x : Choice) → IsChosen k owed asked state x → ◌≡◌ {A = Option Choice} (Some x) (Some c) → Chosen state
+  same_choice state x p e = subst (λ (y : Choice). IsChosen k owed asked state y) (same x e) p
+    where
+      same : (x : Choice) → ◌≡◌ {A = Option Choice} (Some x) (Some c) → x ≡ c
+      same x e = cc
+
+  when_chosen : (state : State) (b : Bool) (x : Choice) → (b ≡ true → IsChosen k owed asked state x) → when b x ≡ Some c → Chosen state
+  when_chosen state true x p e = same_choice state x (p refl) e
+  when_chosen state false x p e = absurd cc
+
+  else_chosen : (first next : Option Choice) → (first ≡ Some c → Chosen Running) → (next ≡ Some c → Chosen Running) → or_else first next ≡ Some c →
+      Chosen Running
+  else_chosen None next p q e = q e
+  else_chosen (Some x) next p q e = p e
+
+  nak_chosen : lowest_nak owed ≡ Some c → Chosen Running
+  nak_chosen e = header owed.header_check refl e
+    where
+      buffer : (b : Bool) → owed.no_buffer ≡ b → cond b (Some (SendNak NoBuffer)) None ≡ Some c → Chosen Running
+      buffer true is e = same_choice Running (SendNak NoBuffer) (ByNak NoBuffer is) e
+      buffer false is e = absurd cc
+
+      rep : (b : Bool) → owed.rep_response ≡ b → cond b (Some (SendNak RepResponse)) (cond owed.no_buffer (Some (SendNak NoBuffer)) None) ≡ Some c →
+          Chosen Running
+      rep true is e = same_choice Running (SendNak RepResponse) (ByNak RepResponse is) e
+      rep false is e = buffer owed.no_buffer refl e
+
+      data_ : (b : Bool) → owed.data_check ≡ b →
+          cond b (Some (SendNak DataCheck))
+          (cond owed.rep_response (Some (SendNak RepResponse)) (cond owed.no_buffer (Some (SendNak NoBuffer)) None)) ≡ Some c →
+          Chosen Running
+      data_ true is e = same_choice Running (SendNak DataCheck) (ByNak DataCheck is) e
+      data_ false is e = rep owed.rep_response refl e
+
+      header : (b : Bool) → owed.header_check ≡ b →
+          cond b (Some (SendNak HeaderCheck))
+          (cond owed.data_check (Some (SendNak DataCheck))
+          (cond owed.rep_response (Some (SendNak RepResponse)) (cond owed.no_buffer (Some (SendNak NoBuffer)) None))) ≡ Some c →
+          Chosen Running
+      header true is e = same_choice Running (SendNak HeaderCheck) (ByNak HeaderCheck is) e
+      header false is e = data_ owed.data_check refl e
+
+  data_chosen : data_choice k asked ≡ Some c → Chosen Running
+  data_chosen e = go (wire_is_new k) refl e
+    where
+      message : (o : Option LinkChoice) → asked ≡ o → wire_is_new k ≡ true → nat_lt (length k.held) WINDOW ≡ true → new_packet o ≡ Some c →
+          Chosen Running
+      message None is new room e = absurd cc
+      message (Some m) is new room e = same_choice Running (SendNew m) (ByNew m new room is) e
+
+      room : (b : Bool) → nat_lt (length k.held) WINDOW ≡ b → wire_is_new k ≡ true → cond b (new_packet asked) None ≡ Some c → Chosen Running
+      room true is new e = message asked refl new is e
+      room false is new e = absurd cc
+
+      go : (b : Bool) → wire_is_new k ≡ b → cond b (cond (nat_lt (length k.held) WINDOW) (new_packet asked) None) (Some SendAgain) ≡ Some c →
+          Chosen Running
+      go true is e = room (nat_lt (length k.held) WINDOW) refl is e
+      go false is e = same_choice Running SendAgain (ByAgain is) e
+
+  pub chosen : (state : State) → choice_in state k owed asked ≡ Some c → Chosen state
+  chosen Halted e = absurd cc
+  chosen Istrt e = when_chosen Istrt owed.strt SendStrt (λ is. ByStrt is) e
+  chosen Astrt e = when_chosen Astrt owed.stack SendStack (λ is. ByStack is) e
+  chosen Running e =
+      else_chosen (lowest_nak owed) _ nak_chosen
+      (else_chosen (when owed.rep SendRep) _ (when_chosen Running owed.rep SendRep (λ is. ByRep is))
+      (else_chosen (data_choice k asked) _ data_chosen (when_chosen Running owed.ack SendAck (λ is. ByAck is)))) e
+
+-- ---- it may be sent
+
+pass : (p : Check → Bool) (check : Check) (next : List Check) → p check ≡ true → first_failed p next ≡ None → first_failed p (check ∷ next) ≡ None
+pass p check next e rest = ap (λ (b : Bool). cond b (first_failed p next) (Some (refusal_of check))) e ∙ rest
+
+module _ {L : Type 0} (w : WireStation L) (owed : Owed) (asked : Option LinkChoice) (payable : IsPayable w.variables w.causes owed) (head : Head)
+    (links : List LinkEnd) where
+  abbrev k : StationVariables L
+  k = w.variables
+
+  abbrev MaySend : State → MessageValue → Type 0
+  MaySend state m = failed (wire_passes w m) (checks state m) ≡ None
+
+  same_message : (state : State) (x m : MessageValue) → MaySend state x → ◌≡◌ {A = Option MessageValue} (Some x) (Some m) → MaySend state m
+  same_message state x m p e = subst (MaySend state) (same x e) p
+    where
+      same : (x : MessageValue) → ◌≡◌ {A = Option MessageValue} (Some x) (Some m) → x ≡ m
+      same x e = cc
+
+  data_may : (body : List ℕ) → (wire_is_new k ≡ true → nat_lt (length k.held) WINDOW ≡ true) →
+      (wire_is_new k ≡ false → is_held_packet (slice_get k.held k.ahead) body ≡ true) → MaySend Running (data_with k body)
+  data_may body room given =
+      let m = data_with k body in let p = wire_passes w m in
+      pass p NumIsNext (RespIsLast ∷ RoomIfNew ∷ AsFirstGiven ∷ []) (eq-eqb _ _ refl)
+      (pass p RespIsLast (RoomIfNew ∷ AsFirstGiven ∷ []) (eq-eqb _ _ refl)
+      (pass p RoomIfNew (AsFirstGiven ∷ []) (has_room (wire_is_new k) refl) (pass p AsFirstGiven [] (as_given (wire_is_new k) refl) refl)))
+    where
+      has_room : (b : Bool) → wire_is_new k ≡ b → cond b (nat_lt (length k.held) WINDOW) true ≡ true
+      has_room true e = room e
+      has_room false e = refl
+
+      as_given : (b : Bool) → wire_is_new k ≡ b → cond b true (is_held_packet (slice_get k.held k.ahead) body) ≡ true
+      as_given true e = refl
+      as_given false e = given e
+
+  again_may : (m : MessageValue) → wire_is_new k ≡ false → (o : Option (HeldPacket L)) → slice_get k.held k.ahead ≡ o → packet_again k o ≡ Some m →
+      MaySend Running m
+  again_may m old None there e = absurd cc
+  again_may m old (Some packet) there e = same_message Running (data_with k packet.body) m
+      (data_may packet.body (λ new. absurd (differ (sym new ∙ old)))
+      (λ is. ap (λ (o : Option (HeldPacket L)). is_held_packet o packet.body) there ∙ (bytes_eq-Decides packet.body packet.body).1 refl)) e
+    where
+      differ : true ≡ false → ⊥
+      differ e = cc
+
+  new_may : (m : MessageValue) → wire_is_new k ≡ true → nat_lt (length k.held) WINDOW ≡ true → (o : Option NspValue) → new_data k head o ≡ Some m →
+      MaySend Running m
+  new_may m new room None e = absurd cc
+  new_may m new room (Some message) e = same_message Running _ m (data_may _ (λ is. room) (λ old. absurd (differ (sym new ∙ old)))) e
+    where
+      differ : true ≡ false → ⊥
+      differ e = cc
+
+  choice_may : (state : State) (c : Choice) (m : MessageValue) → IsChosen k owed asked state c → message_of c head k links ≡ Some m → MaySend state m
+  choice_may state c m (ByStrt is) e = same_message Istrt _ m refl e
+  choice_may state c m (ByStack is) e = same_message Astrt _ m refl e
+  choice_may state c m (ByNak reason is) e =
+      let x = Nak no_flags reason k.received in
+      same_message Running x m
+      (pass (wire_passes w x) RespIsLast (CauseIsOpen ∷ []) (eq-eqb _ _ refl)
+      (pass (wire_passes w x) CauseIsOpen [] (payable.nak reason is) refl)) e
+  choice_may state c m (ByRep is) e =
+      let x = Rep no_flags (wire (k.acknowledged + length k.held)) in
+      same_message Running x m
+      (pass (wire_passes w x) SomeOutstanding (NumIsHighest ∷ []) (ap not (payable.rep is))
+      (pass (wire_passes w x) NumIsHighest [] (eq-eqb _ _ refl) refl)) e
+  choice_may state c m (ByAgain old) e = again_may m old (slice_get k.held k.ahead) refl e
+  choice_may state c m (ByNew message new room is) e = new_may m new room (link_message message links) e
+  choice_may state c m (ByAck is) e = let x = Ack no_flags k.received in
+      same_message Running x m (pass (wire_passes w x) RespIsLast [] (eq-eqb _ _ refl) refl) e
+
+  -- what is chosen and put together, the station may send
+  pub chosen_may : (c : Choice) (m : MessageValue) → choice k owed asked ≡ Some c → message_of c head k links ≡ Some m →
+      wire_sending_refusal w m ≡ None
+  chosen_may c m is e = choice_may k.state c m (chosen k owed asked c k.state is) e

@@ -1,0 +1,172 @@
+-- What a receipt makes whole the user gets at once: each delivery that follows it is made.
+use Rattle.std.proofs.Common.{◌≡◌, ℕ, suc, ◌+◌, Bool, true, false, cond, Option, Some, None, List, [], ◌∷◌, ◌++◌, map, drop, Result, Ok, Err, refl}
+use Rattle.std.proofs.Common.{sym, ap, ◌∙◌, arith, append_assoc, ◌⊎◌, inl, inr}
+use Rattle.std.specs.Prelude.{slice_get}
+use Rattle.std.proofs.lemmas.List.{drop-drop}
+use Rattle.std.proofs.lemmas.Slice.Eq.{bytes_eq-Decides}
+use Rattle.two_nodes.specs.Nodes.{answered, advance, stepped}
+use Rattle.capture.specs.declared.event.Event.TheVariants as events
+use Rattle.capture.specs.declared.record.Record.TheVariants.{User}
+use Rattle.dna_station.specs.declared.link_refusal.LinkRefusal.{LinkRefusal}
+use Rattle.dna_station.specs.declared.link_refusal.LinkRefusal.TheVariants.{NoLink}
+use Rattle.dna_links.specs.declared.port.LinkTest.TheVariants.{HasAddress}
+use Rattle.dna_links.specs.LookUps.{is_at}
+use Rattle.dna_links.specs.Pieces.{Piece, Whole, with_piece, next_message}
+use Rattle.dna_links.specs.Links.{LinkOf, changed, with_flow}
+use Rattle.dna_links.specs.User.{Up, delivered}
+use Rattle.dna_links.specs.TrueFlow.{TrueFlow, true_flows, delivered_as, delivers_whole, delivers}
+use Rattle.dna_links.specs.TrueLinks.{Links, links_user}
+use Rattle.dna_station.specs.Machine.{does}
+use Rattle.dna_node.specs.Layers.{with_links}
+use Rattle.dna_play.specs.HasLine.{has_line}
+use Rattle.dna_play.specs.Player.{end_step, made_half, makes, links_of, after_record}
+use Rattle.dna_play.specs.Stepped.{Stepped}
+use Rattle.dna_play.specs.Receipt.{complete, with_half, gets_all}
+use Rattle.dna_links.proofs.Runs.Sides.{set_same, at_set}
+use Rattle.dna_play.proofs.Links.Pays.{found_at, with_found}
+use Rattle.dna_play.proofs.Played.Steps.{PlayHalf}
+
+-- ---- the first message that is whole is the next one, and the others are whole behind it
+
+pub record IsNextWhole (begun : List ℕ) (pieces : List (Option Piece)) (message : List ℕ) (rest : List (List ℕ)) : Type 0 where
+  pub w : Whole
+  pub is : next_message pieces ≡ Some w
+  pub message_is : begun ++ w.message ≡ message
+  pub left : complete [] (drop w.pieces pieces) ≡ rest
+
+same_first : (x y : List ℕ) (xs ys : List (List ℕ)) → x ∷ xs ≡ y ∷ ys → x ≡ y
+same_first x y xs ys e = cc
+
+same_rest : (x y : List ℕ) (xs ys : List (List ℕ)) → x ∷ xs ≡ y ∷ ys → xs ≡ ys
+same_rest x y xs ys e = cc
+
+pub next_whole : (begun : List ℕ) (pieces : List (Option Piece)) (message : List ℕ) (rest : List (List ℕ)) → complete begun pieces ≡ message ∷ rest →
+    IsNextWhole begun pieces message rest
+next_whole begun [] message rest e = absurd cc
+next_whole begun (None ∷ later) message rest e = absurd cc
+next_whole begun (Some p ∷ later) message rest e = go p.ends refl e (next_whole (begun ++ p.body) later message rest)
+  where
+    one_less : (n : ℕ) → drop (n + 1) (Some p ∷ later) ≡ drop n later
+    one_less n = ap (λ (k : ℕ). drop k (Some p ∷ later)) (more n)
+      where
+        more : (n : ℕ) → n + 1 ≡ suc n
+        more n = omega arith
+
+    go : (b : Bool) → p.ends ≡ b → cond b ((begun ++ p.body) ∷ complete [] later) (complete (begun ++ p.body) later) ≡ message ∷ rest →
+        (complete (begun ++ p.body) later ≡ message ∷ rest → IsNextWhole (begun ++ p.body) later message rest) →
+        IsNextWhole begun (Some p ∷ later) message rest
+    go true ends e next = record {
+      w = record { pieces = 1; message = p.body };
+      is = ap (λ (b : Bool). cond b (Some (record { pieces = 1; message = p.body })) (with_piece p (next_message later))) ends;
+      message_is = same_first _ message _ rest e;
+      left = same_rest _ message _ rest e;
+    }
+    go false ends e next =
+        let n = next e in
+        record {
+          w = record { pieces = n.w.pieces + 1; message = p.body ++ n.w.message };
+          is = ap (λ (b : Bool). cond b (Some (record { pieces = 1; message = p.body })) (with_piece p (next_message later))) ends ∙
+              ap (with_piece p) n.is;
+          message_is = sym (append_assoc begun p.body n.w.message) ∙ n.message_is;
+          left = ap (complete []) (one_less n.w.pieces) ∙ n.left;
+        }
+
+-- the flow after it is delivered, which came in so many pieces
+abbrev pub delivering : List ℕ → Whole → TrueFlow → TrueFlow
+delivering message w f = record f { delivered = f.delivered ++ message ∷ []; passed = f.passed + w.pieces }
+
+-- a flow whose first whole message this is delivers it
+pub record DeliversNext (f : TrueFlow) (message : List ℕ) (rest : List (List ℕ)) : Type 0 where
+  pub w : Whole
+  pub is : next_message (drop f.passed f.received) ≡ Some w
+  pub does : delivers message f ≡ Some (delivering message w f)
+  pub left : complete [] (drop (f.passed + w.pieces) f.received) ≡ rest
+
+pub delivers_next : (f : TrueFlow) (message : List ℕ) (rest : List (List ℕ)) → complete [] (drop f.passed f.received) ≡ message ∷ rest →
+    DeliversNext f message rest
+delivers_next f message rest e =
+    let n = next_whole [] (drop f.passed f.received) message rest e in
+    record {
+      w = n.w;
+      is = n.is;
+      does = ap (λ (o : Option Whole). delivers_whole o message f) n.is
+          ∙ ap (λ (b : Bool). delivered_as b n.w f) ((bytes_eq-Decides message n.w.message).1 (sym n.message_is))
+          ∙ ap (λ (bytes : List ℕ). Some (delivering bytes n.w f)) n.message_is;
+      left = ap (complete []) (sym (drop-drop n.w.pieces f.passed f.received)) ∙ n.left;
+    }
+
+-- ---- the deliveries of a link
+
+-- the link with this number is the only one that has this address, and these messages of it are whole
+pub record IsWholeAt (s : Links) (address number : ℕ) (messages : List (List ℕ)) : Type 0 where
+  pub link : LinkOf TrueFlow
+  pub there : slice_get s.links number ≡ Some link
+  pub owns : is_at link.port.own address ≡ true
+  pub only : (j : ℕ) (m : LinkOf TrueFlow) → slice_get s.links j ≡ Some m → is_at m.port.own address ≡ true → j ≡ number
+  pub whole : complete [] (drop link.flow.passed link.flow.received) ≡ messages
+
+-- one of this link that is delivered leaves the others
+pub record IsDelivered (s : Links) (address number : ℕ) (link : LinkOf TrueFlow) (message : List ℕ) (rest : List (List ℕ)) : Type 0 where
+  pub next : DeliversNext link.flow message rest
+  pub does : links_user s (Up address message) ≡ Ok (changed number (with_flow (delivering message next.w link.flow) link) s)
+  pub others : IsWholeAt (changed number (with_flow (delivering message next.w link.flow) link) s) address number rest
+
+pub one_delivered : (s : Links) (address number : ℕ) (message : List ℕ) (rest : List (List ℕ)) (h : IsWholeAt s address number (message ∷ rest)) →
+    IsDelivered s address number h.link message rest
+one_delivered s address number message rest h =
+    let d = delivers_next h.link.flow message rest h.whole in
+    let k = with_flow (delivering message d.w h.link.flow) h.link in
+    let found = found_at s (HasAddress address) number h.link h.there h.owns h.only in
+    record {
+      next = d;
+      does = with_found s (HasAddress address) number h.link (Err NoLink)
+          (λ number link. delivered true_flows number link s (true_flows.delivers message link.flow)) found ∙
+          ap (delivered true_flows number h.link s) d.does;
+      others = record {
+        link = k;
+        there = set_same s.links number h.link k h.there;
+        owns = h.owns;
+        only = λ j m at e. go j m e (at_set s.links number j k m at);
+        whole = d.left;
+      };
+    }
+  where
+    go : {k : LinkOf TrueFlow} (j : ℕ) (m : LinkOf TrueFlow) → is_at m.port.own address ≡ true →
+        ((j ≡ number) × (k ≡ m)) ⊎ ((j ≡ number → ⊥) × (slice_get s.links j ≡ Some m)) → j ≡ number
+    go j m e (inl is) = is.0
+    go j m e (inr is) = h.only j m is.1 e
+
+-- each has a line
+abbrev pub AllLined : (address : ℕ) → List (List ℕ) → Type 0
+AllLined address [] = Unit {0}
+AllLined address (message ∷ later) = (has_line (User (events.Up address message)) ≡ true) × AllLined address later
+
+module _ (own other : PlayHalf) where
+  pub up_made : (address : ℕ) (message : List ℕ) (left : Links) → has_line (User (events.Up address message)) ≡ true →
+      links_user (links_of own) (Up address message) ≡ Ok left →
+      makes own other (User (events.Up address message)) ≡ Some
+      (stepped own (record own.state { station = record own.state.station { links = left } }))
+  unfolding end_step
+  up_made address message left lined does_it =
+      ap (λ (b : Bool). cond b (made_half (advance end_step own other (User (events.Up address message)))) None) lined
+      ∙ ap (λ (r : Result Links LinkRefusal). made_half (answered own other (does own.state (with_links own.state.station r)))) does_it
+
+-- all that is whole is delivered
+pub gets_whole : (other : PlayHalf) (address number : ℕ) (messages : List (List ℕ)) (so_far : Stepped) → AllLined address messages →
+    IsWholeAt (links_of so_far.end.half) address number messages →
+    (got : Stepped) × (gets_all (map (λ (message : List ℕ). events.Up address message) messages) other so_far ≡ Ok got)
+gets_whole other address number [] so_far lined h = (so_far, refl)
+gets_whole other address number (message ∷ later) so_far lined h =
+    let d = one_delivered (links_of so_far.end.half) address number message later h in
+    let half = so_far.end.half in
+    let k = with_flow (delivering message d.next.w h.link.flow) h.link in
+    let left : Links = changed number k (links_of half) in
+    let next : PlayHalf = stepped half (record half.state { station = record half.state.station { links = left } }) in
+    let r = gets_whole other address number later
+    (record { end = after_record so_far.end next; records = so_far.records ++ User (events.Up address message) ∷ [] }) lined.1 d.others in (
+      r.0,
+      ap (λ (o : Option PlayHalf). with_half o
+          (λ half. gets_all (map (λ (message : List ℕ). events.Up address message) later) other
+          (record { end = after_record so_far.end half; records = so_far.records ++ User (events.Up address message) ∷ [] })))
+          (up_made half other address message left lined.0 d.does) ∙ r.1,
+    )

@@ -1,0 +1,84 @@
+-- What a user's event that is made leaves of an end of the player.
+use Rattle.std.proofs.Common.{◌≡◌, true, Option, Some, Result, Ok, Err, refl, sym, ap, ◌∙◌}
+use Rattle.std.proofs.lemmas.Option.{same_Some}
+use Rattle.two_nodes.specs.Nodes.{answered, stepped}
+use Rattle.capture.specs.declared.event.Event.{Event}
+use Rattle.capture.specs.declared.event.Event.TheVariants as happened
+use Rattle.capture.specs.declared.record.Record.TheVariants.{User}
+use Rattle.dna_station.specs.declared.state.State.{State}
+use Rattle.dna_station.specs.declared.state.State.TheVariants.{Halted, Istrt, Astrt, Running}
+use Rattle.dna_station.specs.declared.state.StationEvent.{StationEvent}
+use Rattle.dna_station.specs.declared.state.StationEvent.TheVariants.{Start, Halt}
+use Rattle.dna_station.specs.declared.link_refusal.LinkRefusal.{LinkRefusal}
+use Rattle.dna_station.specs.Table.{user_refusal}
+use Rattle.dna_station.specs.Station.{after_event}
+use Rattle.dna_station.specs.Machine.{does, unless_refused}
+use Rattle.dna_links.specs.User.{LinkEventValue}
+use Rattle.dna_links.specs.TrueLinks.{Links, links_user}
+use Rattle.dna_node.specs.Content.{link_event}
+use Rattle.dna_node.specs.Layers.{with_station, with_links, user_on}
+use Rattle.dna_play.specs.HasLine.{has_line}
+use Rattle.dna_play.specs.Player.{by_bytes, end_step, made_half, makes, station_of, links_of}
+use Rattle.dna_play.proofs.Played.Steps.{PlayHalf}
+use Rattle.dna_play.proofs.Played.Runs.{makes_tells}
+use Rattle.dna_play.proofs.Ends.Stage.{with_left}
+
+module _ (own other half : PlayHalf) where
+  -- ---- of the links
+
+  pub record LinkEventMade (event : Event) (of_links : LinkEventValue) : Type 0 where
+    pub lined : has_line (User event) ≡ true
+    pub left : Links
+    pub does_it : links_user (links_of own) of_links ≡ Ok left
+    pub is : with_left own left ≡ half
+
+  these_left : (event : Event) (of_links : LinkEventValue) → has_line (User event) ≡ true → (o : Result Links LinkRefusal) →
+      links_user (links_of own) of_links ≡ o →
+      made_half (answered own other (does own.state (with_links own.state.station o))) ≡ Some half → LinkEventMade event of_links
+  these_left event of_links lined (Ok left) does_it e =
+      record { lined = lined; left = left; does_it = does_it; is = same_Some (with_left own left) half e }
+  these_left event of_links lined (Err refusal) does_it e = absurd cc
+
+  pub link_event_made : (event : Event) (of_links : LinkEventValue) → link_event event ≡ Some of_links → makes own other (User event) ≡ Some half →
+      LinkEventMade event of_links
+  unfolding end_step
+  link_event_made event of_links is e =
+      let told = makes_tells own other (User event) half e in
+      these_left event of_links told.0 (links_user (links_of own) of_links) refl
+      (ap (λ (o : Option LinkEventValue). made_half (answered own other (does own.state (user_on by_bytes own.state.station event o)))) (sym is) ∙
+      ap made_half told.1)
+
+  -- ---- of the station
+
+  abbrev pub after_user : StationEvent → PlayHalf
+  after_user event = stepped own (record own.state { station = record own.state.station { station = after_event (station_of own) event } })
+
+  abbrev started : State → Option PlayHalf
+  started state = made_half
+      (answered own other (does own.state
+      (with_station own.state.station (unless_refused (user_refusal state Start) (after_event (station_of own) Start)))))
+
+  by_state : (state : State) → (station_of own).state ≡ state → started (station_of own).state ≡ Some half → ((station_of own).state ≡ Halted) ×
+      (after_user Start ≡ half)
+  by_state Halted is e = (is, same_Some (after_user Start) half (ap started (sym is) ∙ e))
+  by_state Istrt is e = let f : started Istrt ≡ Some half = ap started (sym is) ∙ e in absurd cc
+  by_state Astrt is e = let f : started Astrt ≡ Some half = ap started (sym is) ∙ e in absurd cc
+  by_state Running is e = let f : started Running ≡ Some half = ap started (sym is) ∙ e in absurd cc
+
+  pub start_made : makes own other (User happened.Start) ≡ Some half → ((station_of own).state ≡ Halted) × (after_user Start ≡ half)
+  unfolding end_step
+  start_made e = let told = makes_tells own other (User happened.Start) half e in by_state (station_of own).state refl (ap made_half told.1)
+
+  pub halt_made : makes own other (User happened.Halt) ≡ Some half → after_user Halt ≡ half
+  unfolding end_step
+  halt_made e = let told = makes_tells own other (User happened.Halt) half e in same_Some (after_user Halt) half (ap made_half told.1)
+
+-- ---- and it is made: a start in HALTED, a halt always
+
+pub start_makes : (own other : PlayHalf) → (station_of own).state ≡ Halted → (half : PlayHalf) × (makes own other (User happened.Start) ≡ Some half)
+unfolding end_step
+start_makes own other is = (after_user own other own Start, ap (started own other own) is)
+
+pub halt_makes : (own other : PlayHalf) → (half : PlayHalf) × (makes own other (User happened.Halt) ≡ Some half)
+unfolding end_step
+halt_makes own other = (after_user own other own Halt, refl)

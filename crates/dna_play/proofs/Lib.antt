@@ -1,0 +1,10 @@
+-- what follows where no side starts twice, and no link address is given twice
+pub mod Once
+-- whole scripts
+pub mod Played
+-- what holds of the links of an end
+pub mod Links
+-- what holds of an end, and of what it sends and takes
+pub mod Ends
+-- the same of ends as their nodes keep them
+pub mod Stored

@@ -1,0 +1,19 @@
+-- What holds of the links of an end: what they choose to send they may send
+pub mod FlowPays
+pub mod Pays
+pub mod Choices
+pub mod Confirms
+pub mod FlowDid
+-- what they owe goes with their phases
+pub mod Owing
+pub mod Debts
+-- what their phases ask, and what the user may do is done
+pub mod Fits
+pub mod Made
+pub mod Phases
+-- all this is kept
+pub mod SegmentSent
+pub mod Stage
+pub mod UserDebts
+-- pieces that wait
+pub mod WaitingPieces

@@ -1,0 +1,108 @@
+-- The message that the links of an end of the player choose next they may send, and it is there to be put together.
+use Rattle.std.proofs.Common.{◌≡◌, ℕ, zero, suc, ◌+◌, true, Option, Some, None, List, [], ◌∷◌, refl, sym, ap, ◌∙◌, subst, arith}
+use Rattle.std.specs.Prelude.{slice_get}
+use Rattle.std.proofs.lemmas.Option.{same_Some}
+use Rattle.dna_packet.specs.Nsp.{NspValue, DisconnectConfirm}
+use Rattle.dna_links.specs.declared.port.LinkTest.TheVariants.{TheLink}
+use Rattle.dna_links.specs.LookUps.{passes}
+use Rattle.dna_links.specs.Links.{LinkOf}
+use Rattle.dna_links.specs.TrueFlow.{TrueFlow}
+use Rattle.dna_links.specs.TrueLinks.{Links}
+use Rattle.dna_links.specs.CutFlow.{IsOrdered, IsAnswered}
+use Rattle.dna_play.specs.LinkOwed.{LinkOwed, LinksOwed, EndConfirm, Turn, variables_of}
+use Rattle.dna_play.specs.NextSent.{LinkEnd, link_ends, LinkChoice, Confirms, OfLink, turn_of, turn_or_next, first_turn, link_choice}
+use Rattle.dna_play.specs.Compose.{turn_message, message_at, link_message}
+use Rattle.dna_play.proofs.Once.Addresses.{LinkList, AreAddressed}
+use Rattle.dna_play.proofs.Links.Pays.{Fits, OwedFits, IsDue, turn_due, MaySendIt, confirm_may, due_may}
+
+-- the link with this number, with what it owes
+pub record EndAt (links : LinkList) (owed : List LinkOwed) (number : ℕ) (e : LinkEnd) : Type 0 where
+  pub link : LinkOf TrueFlow
+  pub owes : LinkOwed
+  pub there : slice_get links number ≡ Some link
+  pub owed_there : slice_get owed number ≡ Some owes
+  pub is : record { port = link.port; variables = variables_of link; owed = owes } ≡ e
+
+pub end_at : (links : LinkList) (owed : List LinkOwed) (number : ℕ) (e : LinkEnd) → slice_get (link_ends links owed) number ≡ Some e →
+    EndAt links owed number e
+end_at [] owed number e at = absurd cc
+end_at (link ∷ links) [] number e at = absurd cc
+end_at (link ∷ links) (first ∷ owed) zero e at = record { link = link; owes = first; there = refl; owed_there = refl; is = same_Some _ e at }
+end_at (link ∷ links) (first ∷ owed) (suc number) e at =
+    let later = end_at links owed number e at in
+    record { link = later.link; owes = later.owes; there = later.there; owed_there = later.owed_there; is = later.is }
+
+-- the first link that has a turn
+pub record TurnAt (ends : List LinkEnd) (from number : ℕ) (turn : Turn) : Type 0 where
+  pub place : ℕ
+  pub is : number ≡ from + place
+  pub e : LinkEnd
+  pub there : slice_get ends place ≡ Some e
+  pub has : turn_of e ≡ Some turn
+
+abbrev pub IsChosen : (ends : List LinkEnd) (from : ℕ) → LinkChoice → Type 0
+IsChosen ends from (Confirms confirm) = ⊥
+IsChosen ends from (OfLink number turn) = TurnAt ends from number turn
+
+pub first_chosen : (from : ℕ) (ends : List LinkEnd) (c : LinkChoice) → first_turn from ends ≡ Some c → IsChosen ends from c
+first_chosen from [] c e = absurd cc
+first_chosen from (first ∷ ends) c e = go (first_chosen (from + 1) ends c) (turn_of first) refl e
+  where
+    one_later : (c : LinkChoice) → IsChosen ends (from + 1) c → IsChosen (first ∷ ends) from c
+    one_later (Confirms confirm) x = x
+    one_later (OfLink number turn) x = let is = x.is in record { place = suc x.place; is = omega arith; e = x.e; there = x.there; has = x.has }
+
+    go : (first_turn (from + 1) ends ≡ Some c → IsChosen ends (from + 1) c) → (o : Option Turn) → turn_of first ≡ o →
+        turn_or_next from o (first_turn (from + 1) ends) ≡ Some c → IsChosen (first ∷ ends) from c
+    go later None is e = one_later c (later e)
+    go later (Some turn) is e =
+        subst (IsChosen (first ∷ ends) from) (same_Some (OfLink from turn) c e)
+        (record { place = 0; is = omega arith; e = first; there = refl; has = is })
+
+-- no live link has the two addresses that a DC names
+abbrev pub IsOver : Links → EndConfirm → Type 0
+IsOver s confirm = (j : ℕ) (m : LinkOf TrueFlow) → slice_get s.links j ≡ Some m → passes (TheLink confirm.src confirm.dst) m.port ≡ true → ⊥
+
+-- of all links with what they owe: what lets each send what is due
+pub record LinksPay (s : Links) (owed : LinksOwed) : Type 0 where
+  pub fits : (i : ℕ) (l : LinkOf TrueFlow) → slice_get s.links i ≡ Some l → Fits l
+  pub owes : (i : ℕ) (l : LinkOf TrueFlow) (o : LinkOwed) → slice_get s.links i ≡ Some l → slice_get owed.links i ≡ Some o → OwedFits l o
+  pub over : (i : ℕ) (confirm : EndConfirm) → slice_get owed.confirms i ≡ Some confirm → IsOver s confirm
+
+module _ (s : Links) (others : LinkList) (most : ℕ) (addressed : AreAddressed s.links others most) (owed : LinksOwed) (pays : LinksPay s owed)
+    (numbers : (i : ℕ) (l : LinkOf TrueFlow) → slice_get s.links i ≡ Some l → IsOrdered l.flow × IsAnswered l.flow) where
+  -- the end with what is due, and its message
+  pub record Composed (c : LinkChoice) : Type 0 where
+    pub message : NspValue
+    pub is : link_message c (link_ends s.links owed.links) ≡ Some message
+    pub may : MaySendIt s message
+
+  turn_composed : (number : ℕ) (turn : Turn) → TurnAt (link_ends s.links owed.links) 0 number turn → Composed (OfLink number turn)
+  turn_composed number turn t =
+      let same : number ≡ t.place = let e = t.is in omega arith in
+      let at = end_at s.links owed.links t.place t.e t.there in
+      let n = numbers t.place at.link at.there in
+      record {
+        message = turn_message turn t.e;
+        is = ap (λ (o : Option LinkEnd). message_at o turn) (ap (slice_get (link_ends s.links owed.links)) same ∙ t.there);
+        may = subst (λ (e : LinkEnd). MaySendIt s (turn_message turn e)) at.is
+            (due_may s others most addressed t.place at.link at.there (pays.fits t.place at.link at.there) at.owes
+            (pays.owes t.place at.link at.owes at.there at.owed_there) n.0 n.1 turn
+            (subst (λ (e : LinkEnd). IsDue e turn) (sym at.is) (turn_due t.e turn t.has)));
+      }
+
+  of_choice : (c : LinkChoice) → IsChosen (link_ends s.links owed.links) 0 c → Composed c
+  of_choice (Confirms confirm) x = absurd x
+  of_choice (OfLink number turn) x = turn_composed number turn x
+
+  pub composed : (c : LinkChoice) → link_choice owed.confirms (link_ends s.links owed.links) ≡ Some c → Composed c
+  composed c e = go owed.confirms refl e
+    where
+      go : (confirms : List EndConfirm) → owed.confirms ≡ confirms → link_choice confirms (link_ends s.links owed.links) ≡ Some c → Composed c
+      go [] is e = of_choice c (first_chosen 0 (link_ends s.links owed.links) c e)
+      go (confirm ∷ later) is e = subst Composed (same_Some (Confirms confirm) c e)
+          (record {
+            message = DisconnectConfirm confirm.dst confirm.src confirm.reason;
+            is = refl;
+            may = confirm_may s confirm.dst confirm.src confirm.reason (pays.over 0 confirm (ap (λ (l : List EndConfirm). slice_get l 0) is));
+          })

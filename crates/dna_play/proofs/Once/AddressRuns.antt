@@ -1,0 +1,196 @@
+-- Addresses of both sides' links at any time, where each is given once; and that the rule on link partners asks nothing then.
+use Rattle.std.proofs.Common.{◌≡◌, ℕ, ◌+◌, ◌⊎◌, inl, inr, Bool, true, ◌&&◌, Option, Some, None, List, [], ◌∷◌, ◌++◌, length, Ok, refl, sym, ap, ap₂}
+use Rattle.std.proofs.Common.{◌∙◌, subst, eq-eqb}
+use Rattle.std.specs.Prelude.{slice_get, is_some}
+use Rattle.std.proofs.lemmas.Bool.{and_parts}
+use Rattle.std.proofs.lemmas.Option.{same_Some}
+use Rattle.dna_packet.specs.Nsp.{NspValue, DataSegment, LinkService, DataAck, OtherDataAck, ConnectAck, NoOperation, ConnectInitiate, ConnectConfirm}
+use Rattle.dna_packet.specs.Nsp.{DisconnectInitiate, DisconnectConfirm}
+use Rattle.dna_station.specs.declared.link_refusal.LinkRefusal.TheVariants.{WrongNode, CrossedLink}
+use Rattle.dna_links.specs.declared.tag.LinkTag.{LinkTag}
+use Rattle.dna_links.specs.declared.port.LinkTest.{LinkTest}
+use Rattle.dna_links.specs.declared.port.LinkTest.TheVariants.{CallingAt, ActedOn}
+use Rattle.dna_links.specs.LookUps.{is_at, is_calling, is_connected, has_both}
+use Rattle.dna_links.specs.Links.{LinkOf, on_link, at_number, check, with_link, changed}
+use Rattle.dna_links.specs.User.{LinkEventValue}
+use Rattle.dna_links.specs.Arriving.{of_partner, of_anyone, are_same, is_for, is_of_pair, confirmed, running, acted_on, message_arrived}
+use Rattle.dna_links.specs.TrueFlow.{TrueFlow, true_flows}
+use Rattle.dna_links.specs.TrueLinks.{Links, links_arrived}
+use Rattle.dna_links.specs.Captures.{given_address}
+use Rattle.dna_links.specs.Runs.{SentMessage, LinkSide, LinkWorld, LinkStep, ByUser, Sends, SendsNone, Keeps, KeepsNone, Reached, Start, ByA, ByB}
+use Rattle.dna_links.specs.Runs.{sends, keeps, new_world}
+use Rattle.dna_play.proofs.Once.Orderly.{higher, highest, AddressesRise}
+use Rattle.two_nodes.proofs.NumberedSteps.{at_pushed}
+use Rattle.dna_links.proofs.Runs.Reads.{at_is}
+use Rattle.dna_links.proofs.Tables.Outcomes.{IsFound, looked, checked, user_did, sent_did}
+use Rattle.dna_play.proofs.Once.Addresses.{KeepsAddresses, AreAddressed, none_addressed, addressed_beside, user_addressed}
+use Rattle.dna_play.proofs.Once.Messages.{source, target, IsAddressed, message_kept, sent_from, sent_stays, came_stays}
+
+-- of one side beside the other, where this is the highest address that it gave
+pub record IsAddressedSide (own other : LinkSide) (most : ℕ) : Type 0 where
+  pub links : AreAddressed own.links.links other.links.links most
+  pub told : (k : ℕ) (u : SentMessage) → slice_get own.sent k ≡ Some (Some u) →
+      IsAddressed own.links.links other.links.links u.packet.message u.truth.tag
+
+record StaysAddressed (left other : LinkSide) (most others : ℕ) : Type 0 where
+  pub of_left : IsAddressedSide left other most
+  pub of_other : IsAddressedSide other left others
+
+-- ---- one step
+
+module _ (own other : LinkSide) (most others : ℕ) (h : IsAddressedSide own other most) (theirs : IsAddressedSide other own others) where
+  -- the links of this side change, and keep their addresses
+  links_left : (links : Links) (front top : ℕ) → AreAddressed links.links other.links.links top → KeepsAddresses own.links.links links.links →
+      StaysAddressed (record { links = links; sent = own.sent; front = front }) other top others
+  links_left links front top a keeps = record {
+    of_left = record {
+      links = a;
+      told =
+          λ k u at. message_kept own.links.links other.links.links links.links other.links.links u.packet.message u.truth.tag keeps (λ i n o. o)
+          (h.told k u at);
+    };
+    of_other = record {
+      links = addressed_beside other.links.links own.links.links links.links others keeps theirs.links;
+      told = λ k u at. message_kept other.links.links own.links.links other.links.links links.links u.packet.message u.truth.tag (λ i n o. o) keeps
+          (theirs.told k u at);
+    };
+  }
+
+  -- and a packet is first sent
+  sends_left : (links : Links) (message : Option SentMessage) → AreAddressed links.links other.links.links most →
+      KeepsAddresses own.links.links links.links →
+      ((u : SentMessage) → message ≡ Some u → IsAddressed links.links other.links.links u.packet.message u.truth.tag) →
+      StaysAddressed (sends own links message) other most others
+  sends_left links message a keeps this =
+      let l = links_left links own.front most a keeps in
+      record {
+        of_left = record { links = a; told = λ k u at. go k u (at_pushed own.sent message (Some u) k at) };
+        of_other = record { links = l.of_other.links; told = l.of_other.told };
+      }
+    where
+      go : (k : ℕ) (u : SentMessage) → (slice_get own.sent k ≡ Some (Some u)) ⊎ ((k ≡ length own.sent) × (message ≡ Some u)) →
+          IsAddressed links.links other.links.links u.packet.message u.truth.tag
+      go k u (inl at) = message_kept own.links.links other.links.links links.links other.links.links u.packet.message u.truth.tag keeps (λ i n o. o)
+          (h.told k u at)
+      go k u (inr e) = this u e.1
+
+  step_left : (left : LinkSide) (events : List LinkEventValue) → AddressesRise most events → LinkStep own other events left →
+      StaysAddressed left other (highest most events) others
+  step_left left events rise (ByUser event links does) =
+      let l = user_addressed own.links other.links.links most h.links event links rise.0 (user_did true_flows own.links links event does) in
+      links_left links own.front (higher most (given_address event)) l.addressed l.keeps
+  step_left left events rise (Sends packet made does) =
+      let l = sent_stays own.links other.links.links most h.links packet.message made (sent_did true_flows own.links made packet does) in
+      let m = sent_from own.links other.links.links most h.links packet.message made (checked _ _ _ made does).1 in
+      sends_left made.links (Some (record { packet = packet; truth = made.truth })) l.addressed l.keeps
+      (λ u e. subst (λ (x : SentMessage). IsAddressed made.links.links other.links.links x.packet.message x.truth.tag)
+      (same_Some (record { packet = packet; truth = made.truth }) u e)
+      (message_kept own.links.links other.links.links made.links.links other.links.links packet.message made.truth.tag l.keeps (λ i n o. o) m))
+  step_left left events rise SendsNone = sends_left own.links None h.links (λ i n o. o) (λ u e. absurd cc)
+  step_left left events rise (Keeps place unit links ahead there does) =
+      let l = came_stays own.links other.links.links most h.links unit.truth unit.packet.message links (theirs.told place unit there).from
+      (checked _ _ _ links does).1 in
+      links_left links (place + 1) most l.addressed l.keeps
+  step_left left events rise (KeepsNone place ahead there) = links_left own.links (place + 1) most h.links (λ i n o. o)
+
+-- ---- all steps
+
+pub rise_parts : (most : ℕ) (first later : List LinkEventValue) → AddressesRise most (first ++ later) → AddressesRise most first ×
+    AddressesRise (highest most first) later
+rise_parts most [] later r = (tt, r)
+rise_parts most (event ∷ first) later r = let p = rise_parts (higher most (given_address event)) first later r.1 in ((r.0, p.0), p.1)
+
+highest-append : (most : ℕ) (first later : List LinkEventValue) → highest most (first ++ later) ≡ highest (highest most first) later
+highest-append most [] later = refl
+highest-append most (event ∷ first) later = highest-append (higher most (given_address event)) first later
+
+pub record BothAddressed (w : LinkWorld) (events_a events_b : List LinkEventValue) : Type 0 where
+  pub of_a : IsAddressedSide w.a w.b (highest 0 events_a)
+  pub of_b : IsAddressedSide w.b w.a (highest 0 events_b)
+
+pub reached_addressed : (node_a peer_a node_b peer_b : ℕ) {w : LinkWorld} {of_a of_b : List LinkEventValue} →
+    Reached (new_world node_a peer_a node_b peer_b) w of_a of_b → AddressesRise 0 of_a → AddressesRise 0 of_b → BothAddressed w of_a of_b
+reached_addressed node_a peer_a node_b peer_b Start rise_a rise_b = record {
+  of_a = record { links = none_addressed [] 0; told = λ k u at. absurd cc };
+  of_b = record { links = none_addressed [] 0; told = λ k u at. absurd cc };
+}
+reached_addressed node_a peer_a node_b peer_b (ByA {w} {of_a} {of_b} {events} {left} r step) rise_a rise_b =
+    let p = rise_parts 0 of_a events rise_a in
+    let now = reached_addressed node_a peer_a node_b peer_b r p.0 rise_b in
+    let s = step_left w.a w.b (highest 0 of_a) (highest 0 of_b) now.of_a now.of_b left events p.1 step in
+    record { of_a = subst (IsAddressedSide left w.b) (sym (highest-append 0 of_a events)) s.of_left; of_b = s.of_other }
+reached_addressed node_a peer_a node_b peer_b (ByB {w} {of_a} {of_b} {events} {left} r step) rise_a rise_b =
+    let p = rise_parts 0 of_b events rise_b in
+    let now = reached_addressed node_a peer_a node_b peer_b r rise_a p.0 in
+    let s = step_left w.b w.a (highest 0 of_b) (highest 0 of_a) now.of_b now.of_a left events p.1 step in
+    record { of_a = s.of_other; of_b = subst (IsAddressedSide left w.a) (sym (highest-append 0 of_b events)) s.of_left }
+
+-- ---- the rule on partners asks nothing
+
+-- a look-up goes on in the same way
+with_same : {R : Type 0} (test : LinkTest) (s : Links) (otherwise : R) (next later : ℕ → LinkOf TrueFlow → R) →
+    ((number : ℕ) (link : LinkOf TrueFlow) → IsFound test s number link → next number link ≡ later number link) →
+    with_link test s otherwise next ≡ with_link test s otherwise later
+with_same {R} test s otherwise next later same = looked test s otherwise next (with_link test s otherwise next) refl
+    (λ none e. sym e ∙ sym (ap (λ (o : Option ℕ). at_number s.links o otherwise later) none))
+    (λ number link found e. sym e ∙ same number link found ∙
+    sym (ap (λ (o : Option ℕ). at_number s.links o otherwise later) found.found ∙
+    ap (λ (o : Option (LinkOf TrueFlow)). on_link number o otherwise later) found.there))
+
+module _ (own other : LinkSide) (most others : ℕ) (h : IsAddressedSide own other most) (theirs : IsAddressedSide other own others) (u : SentMessage)
+    (told : IsAddressed other.links.links own.links.links u.packet.message u.truth.tag) where
+  abbrev tag : LinkTag
+  tag = u.truth.tag
+
+  at_same : (known : Option ℕ) (number : ℕ) → known ≡ Some number → is_at known number ≡ true
+  at_same known number e = ap (λ (o : Option ℕ). is_at o number) e ∙ eq-eqb number number refl
+
+  -- the message is for the link with its target address
+  partner_is : (dst number : ℕ) (link : LinkOf TrueFlow) → target u.packet.message ≡ Some dst → slice_get own.links.links number ≡ Some link →
+      link.port.own ≡ Some dst → is_at tag.partner number ≡ true
+  partner_is dst number link is there owns =
+      let o = told.to dst is in
+      at_same tag.partner number (o.is ∙ ap Some (h.links.distinct o.number number dst o.owns (record { link = link; there = there; owns = owns })))
+
+  for_it : (src dst number : ℕ) (link : LinkOf TrueFlow) → source u.packet.message ≡ Some src → target u.packet.message ≡ Some dst →
+      IsFound (CallingAt dst) own.links number link → is_for number tag ≡ true
+  for_it src dst number link from is found =
+      let o = told.from src from in
+      let at = at_is link.port.own dst (and_parts (is_calling link.port.phase) (is_at link.port.own dst) found.passed).1 in
+      ap₂ (λ (x y : Bool). x && y) (ap is_some o.is) (partner_is dst number link is found.there at)
+
+  of_it : (src dst number : ℕ) (link : LinkOf TrueFlow) → source u.packet.message ≡ Some src → target u.packet.message ≡ Some dst →
+      IsFound (ActedOn dst src) own.links number link → is_of_pair number link.partner tag ≡ true
+  of_it src dst number link from is found =
+      let both = and_parts (is_at link.port.own dst) (is_at link.port.far src)
+      (and_parts (is_connected link.port.phase) (has_both link.port dst src) found.passed).1 in
+      let sender = told.from src from in
+      let partner = h.links.far number link found.there src (at_is link.port.far src both.1) in
+      let same = theirs.links.distinct partner.number sender.number src partner.owns sender.owns in
+      ap₂ (λ (x y : Bool). x && y) (ap₂ are_same partner.is sender.is ∙ at_same (Some sender.number) partner.number (ap Some (sym same)))
+      (partner_is dst number link is found.there (at_is link.port.own dst both.0))
+
+  acted_same : (src dst : ℕ) (takes : LinkOf TrueFlow → TrueFlow) → source u.packet.message ≡ Some src → target u.packet.message ≡ Some dst →
+      acted_on true_flows of_anyone dst src tag takes own.links ≡ acted_on true_flows of_partner dst src tag takes own.links
+  acted_same src dst takes from is = with_same (ActedOn dst src) own.links (Ok own.links) _ _
+      (λ number link found. ap (λ (b : Bool). check b CrossedLink (Ok (changed number (running true_flows of_anyone takes link) own.links)))
+      (sym (of_it src dst number link from is found)))
+
+  message_same : (m : NspValue) → u.packet.message ≡ m → message_arrived true_flows of_anyone own.links m u.truth ≡ message_arrived true_flows
+      of_partner own.links m u.truth
+  message_same (ConnectInitiate retransmitted src services info segsize user_data) is = refl
+  message_same (ConnectAck dst) is = refl
+  message_same (NoOperation rest) is = refl
+  message_same (ConnectConfirm dst src services info segsize user_data) is = with_same (CallingAt dst) own.links (Ok own.links) _ _
+      (λ number link found. ap
+      (λ (b : Bool). check b CrossedLink (Ok (changed number (confirmed true_flows of_anyone src segsize tag link) own.links)))
+      (sym (for_it src dst number link (ap source is) (ap target is) found)))
+  message_same (DisconnectInitiate dst src reason user_data) is = refl
+  message_same (DisconnectConfirm dst src reason) is = refl
+  message_same (DataSegment segment) is = acted_same segment.srcaddr segment.dstaddr _ (ap source is) (ap target is)
+  message_same (DataAck dst src acks) is = acted_same src dst _ (ap source is) (ap target is)
+  message_same (LinkService interrupt dst src rest) is = acted_same src dst _ (ap source is) (ap target is)
+  message_same (OtherDataAck dst src rest) is = acted_same src dst _ (ap source is) (ap target is)
+
+  pub anyone_same : links_arrived of_anyone own.links u.packet u.truth ≡ links_arrived of_partner own.links u.packet u.truth
+  anyone_same = ap (check _ WrongNode) (message_same u.packet.message refl)

@@ -1,0 +1,272 @@
+-- What two nodes make that ask no rule on tags, two that do make too, where each side starts at most once and gives its link addresses in order.
+use Rattle.std.proofs.Common.{◌≡◌, ℕ, ◌+◌, ◌≤◌, Bool, true, false, eqb, cond, nat_lt, Option, Some, None, option_map, List, [], ◌∷◌, ◌++◌, map, Err}
+use Rattle.std.proofs.Common.{refl, sym, ap, ◌∙◌, subst, arith, append-nil, append_assoc}
+use Rattle.std.specs.Prelude.{slice_get, bytes_eq}
+use Rattle.std.proofs.lemmas.Bool.{and_parts}
+use Rattle.std.proofs.lemmas.Grind.{flat_map-append}
+use Rattle.std.proofs.lemmas.Option.{slice_get-map}
+use Rattle.two_nodes.specs.Nodes.{Half, World, Run, Done, OfA, OfB, concluded, read, answered, advance, exchanged_world}
+use Rattle.two_nodes.specs.Cutting.{cut_world}
+use Rattle.two_nodes.proofs.Lasting.{lasts}
+use Rattle.two_nodes.proofs.Order.{one_more_of_a, one_more_of_b, exchange}
+use Rattle.ddcmp_msg.specs.Message.{MessageValue, Data, Ack, Nak, Rep, Strt, Stack}
+use Rattle.ddcmp_msg.specs.Reading.{ReadingValue, reading}
+use Rattle.ddcmp_msg.specs.Reading as read_as
+use Rattle.capture.specs.declared.event.Event.{Event}
+use Rattle.capture.specs.declared.event.Event.TheVariants as events
+use Rattle.capture.specs.declared.record.Record.{Record}
+use Rattle.capture.specs.declared.record.Record.TheVariants.{Sent, Received, Noise, User}
+use Rattle.dna_station.specs.declared.head.Head.{Head}
+use Rattle.dna_station.specs.declared.state.State.{State}
+use Rattle.dna_station.specs.declared.state.State.TheVariants.{Halted, Istrt, Astrt, Running}
+use Rattle.dna_station.specs.declared.refusal.StationRefusal.TheVariants.{CrossedPeriod}
+use Rattle.dna_station.specs.declared.refusal.StepRefusal.TheVariants.{HintOrder}
+use Rattle.dna_station.specs.Table.{row, Row, ignored}
+use Rattle.dna_station.specs.Rules.{meets}
+use Rattle.dna_node.specs.Rules.{judged}
+use Rattle.dna_station.specs.Station.{Station}
+use Rattle.dna_station.specs.Truth.{tag_of}
+use Rattle.dna_station.specs.Book.{Sound, has_packet, keep_refusal}
+use Rattle.dna_station.specs.StationBook.{takes, after_arrival}
+use Rattle.dna_station.specs.Line.{damage, coming_by}
+use Rattle.dna_station.specs.Machine.{met, comes, receives, sent_step, noise_step, user_step, unless_refused, step}
+use Rattle.dna_links.specs.TrueLinks.{Links, links_arrived}
+use Rattle.dna_links.specs.Runs.{SentMessage}
+use Rattle.dna_node.specs.Layers.{Layers, LayersNode, LayersUnit, with_links, keeps, meets_on, layers_machine, stations, unit_of_station}
+use Rattle.dna_node.specs.LayersPair.{layers_pair, layers_start, link_event_in, link_events, side_of}
+use Rattle.dna_play.specs.Player.{by_bytes}
+use Rattle.dna_play.proofs.Once.Orderly.{AddressesRise, starts, IsOrderly}
+use Rattle.dna_play.specs.PlayRun.{player_pair}
+use Rattle.dna_station.proofs.Bounds.Numbers.{is_data}
+use Rattle.dna_node.proofs.OnTop.{of_stations, lifted}
+use Rattle.dna_node.proofs.Joined.{AreTold, LayersJoined, joined_kept, start_joined}
+use Rattle.dna_play.proofs.Once.Starts.{AreBegun, BothBegun, begun_kept}
+use Rattle.dna_play.proofs.Once.Meets.{meets_always}
+use Rattle.dna_play.proofs.Once.AddressRuns.{IsAddressedSide, reached_addressed, rise_parts, anyone_same}
+
+-- a row that takes a packet is of data
+either_row : (b : Bool) (r : Row) → has_packet r.effects ≡ false → has_packet (cond b r ignored).effects ≡ false
+either_row true r e = e
+either_row false r e = refl
+
+pub row_is_data : (state : State) (m : MessageValue) → has_packet (row state m).effects ≡ true → is_data m ≡ true
+row_is_data Halted m e = absurd cc
+row_is_data Istrt (Strt flags) e = absurd cc
+row_is_data Istrt (Stack flags) e = absurd cc
+row_is_data Istrt m e = absurd cc
+row_is_data Astrt (Strt flags) e = absurd cc
+row_is_data Astrt (Stack flags) e = absurd cc
+row_is_data Astrt (Ack flags resp) e = let never = either_row (eqb resp 0) _ refl in absurd (never_true (sym e ∙ never))
+  where
+    never_true : true ≡ false → ⊥
+    never_true e = cc
+row_is_data Astrt (Data flags resp num body) e = refl
+row_is_data Astrt m e = absurd cc
+row_is_data Running (Strt flags) e = absurd cc
+row_is_data Running (Stack flags) e = absurd cc
+row_is_data Running (Ack flags resp) e = absurd cc
+row_is_data Running (Nak flags reason resp) e = absurd cc
+row_is_data Running (Rep flags num) e = absurd cc
+row_is_data Running (Data flags resp num body) e = refl
+
+-- ---- one record
+
+module _ (own other : Half LayersNode LayersUnit) where
+  abbrev s : Layers
+  s = own.state.station
+
+  abbrev station : Station
+  station = s.station
+
+  -- what is known of both sides at this time
+  pub record IsReady : Type 0 where
+    pub few : station.period ≤ 1
+    pub others : other.state.station.station.period ≤ 1
+    pub begun : AreBegun station (map unit_of_station own.sent) other.state.station.station.period
+    pub theirs : AreBegun other.state.station.station (map unit_of_station other.sent) station.period
+    pub told : AreTold other
+    pub front : ℕ
+    pub of_other : ℕ
+    pub most : ℕ
+    pub most_of_other : ℕ
+    pub addressed : IsAddressedSide (side_of own front) (side_of other of_other) most
+    pub other_addressed : IsAddressedSide (side_of other of_other) (side_of own front) most_of_other
+
+  module _ (h : IsReady) (hint : ℕ) (unit : LayersUnit) (there : slice_get other.sent hint ≡ Some unit) where
+    pub meets_it : meets (row station.state unit.message).needs (tag_of station) unit.known.station.tag ≡ true
+    meets_it = meets_always station other.state.station.station.period (unit_of_station unit) h.few h.others
+        (h.theirs.units hint (unit_of_station unit) (slice_get-map unit_of_station other.sent hint ∙ ap (option_map unit_of_station) there))
+        h.begun.started h.begun.partner
+
+    -- a packet that is kept, with what was true of its message
+    kept_same : (links_s : Layers) → links_s.links ≡ s.links → is_data unit.message ≡ true → (o : Option SentMessage) → unit.known.carried ≡ o →
+        keeps by_bytes links_s o ≡ keeps judged links_s o
+    kept_same links_s same d None is = refl
+    kept_same links_s same d (Some message) is =
+        ap (with_links links_s) (subst
+        (λ (x : Links). links_arrived by_bytes.partners x message.packet message.truth ≡ links_arrived judged.partners x message.packet message.truth)
+        (sym same)
+        (anyone_same (side_of own h.front) (side_of other h.of_other) h.most h.most_of_other h.addressed h.other_addressed message
+        (h.other_addressed.told unit.known.station.place message (h.told.told hint unit there d ∙ ap Some is))))
+
+    -- what comes is met in the same way
+    kept_or_not : (kept : Bool) (takes : Bool) → (takes ≡ true → is_data unit.message ≡ true) →
+        meets_on by_bytes s (Sound unit.message unit.known) kept
+        (unless_refused (keep_refusal takes kept) (after_arrival station (Sound unit.message unit.known.station) kept))
+        ≡ meets_on judged s (Sound unit.message unit.known) kept
+        (unless_refused (keep_refusal takes kept) (after_arrival station (Sound unit.message unit.known.station) kept))
+    kept_or_not false takes d = refl
+    kept_or_not true false d = refl
+    kept_or_not true true d =
+        kept_same (record s { station = after_arrival station (Sound unit.message unit.known.station) true }) refl (d refl) unit.known.carried refl
+
+    sound_same : (kept : Bool) → (layers_machine by_bytes).arrives s (Sound unit.message unit.known) kept ≡ (layers_machine judged).arrives s
+        (Sound unit.message unit.known) kept
+    sound_same kept =
+        kept_or_not kept (takes station unit.message unit.known.station) (λ e. row_is_data station.state unit.message (and_parts _ _ e).0)
+        ∙ ap (λ (b : Bool). meets_on judged s (Sound unit.message unit.known) kept
+        (unless_refused (cond b (keep_refusal (takes station unit.message unit.known.station) kept) (Some CrossedPeriod))
+        (after_arrival station (Sound unit.message unit.known.station) kept))) (sym meets_it)
+
+    damage_same : (kept : Bool) (read : ReadingValue) → comes (layers_machine by_bytes) own.state (hint + 1) kept (damage read) ≡ comes
+        (layers_machine judged) own.state (hint + 1) kept (damage read)
+    damage_same true read_as.HeaderBad = refl
+    damage_same false read_as.HeaderBad = refl
+    damage_same true read_as.DataBad = refl
+    damage_same false read_as.DataBad = refl
+    damage_same kept (read_as.Sound m) = refl
+    damage_same kept (read_as.Malformed departure) = refl
+
+    comes_same : (kept : Bool) (read : ReadingValue) (b : Bool) →
+        comes (layers_machine by_bytes) own.state (hint + 1) kept (coming_by b unit read) ≡ comes (layers_machine judged) own.state (hint + 1) kept
+        (coming_by b unit read)
+    comes_same kept read true = ap (met own.state (hint + 1)) (sound_same kept)
+    comes_same kept read false = damage_same kept read
+
+    receives_same : (kept : Bool) (bytes : List ℕ) → receives (layers_machine by_bytes) own.state hint kept bytes unit ≡ receives
+        (layers_machine judged) own.state hint kept bytes unit
+    receives_same kept bytes =
+        ap (λ x. cond (nat_lt hint own.state.front) (Err HintOrder) x) (comes_same kept (reading bytes) (bytes_eq bytes unit.bytes))
+
+  sent_same : (bytes : List ℕ) (r : ReadingValue) → sent_step (layers_machine by_bytes) own.state bytes r ≡ sent_step (layers_machine judged)
+      own.state bytes r
+  sent_same bytes (read_as.Sound m) = refl
+  sent_same bytes read_as.HeaderBad = refl
+  sent_same bytes read_as.DataBad = refl
+  sent_same bytes (read_as.Malformed departure) = refl
+
+  noise_same : (r : ReadingValue) → noise_step (layers_machine by_bytes) own.state r ≡ noise_step (layers_machine judged) own.state r
+  noise_same (read_as.Sound m) = refl
+  noise_same read_as.HeaderBad = refl
+  noise_same read_as.DataBad = refl
+  noise_same (read_as.Malformed departure) = refl
+
+  user_same : (event : Event) → user_step (layers_machine by_bytes) own.state event ≡ user_step (layers_machine judged) own.state event
+  user_same events.Start = refl
+  user_same events.Halt = refl
+  user_same (events.Open link) = refl
+  user_same (events.Accept partner link) = refl
+  user_same (events.Reject partner link) = refl
+  user_same (events.In link bytes) = refl
+  user_same (events.Up link bytes) = refl
+  user_same (events.Close link) = refl
+
+  -- each record becomes the same
+  pub record_same : IsReady → (r : Record) → advance (step (layers_machine by_bytes)) own other r ≡ advance (step (layers_machine judged)) own other r
+  record_same h (Sent bytes) = ap (answered own other) (sent_same bytes (reading bytes))
+  record_same h (Noise bytes) = ap (answered own other) (noise_same (reading bytes))
+  record_same h (User event) = ap (answered own other) (user_same event)
+  record_same h (Received hint kept bytes) = go (slice_get other.sent hint) refl
+    where
+      go : (o : Option LayersUnit) → slice_get other.sent hint ≡ o → read own (receives (layers_machine by_bytes) own.state hint kept bytes) o ≡ read
+          own (receives (layers_machine judged) own.state hint kept bytes) o
+      go None there = refl
+      go (Some unit) there = ap (concluded own) (receives_same h hint unit there kept bytes)
+
+-- ---- a run
+
+pub record HoldsAt (head_a head_b : Head) (w : World LayersNode LayersUnit) (made_a made_b : List Record) : Type 0 where
+  pub joined : LayersJoined head_a head_b w made_a made_b
+  pub begun : BothBegun (cut_world stations w) made_a made_b
+
+module _ (head_a head_b : Head) where
+  start_begun : BothBegun (cut_world stations (layers_start head_a head_b)) [] []
+  start_begun = record {
+    of_a = record { started = λ e. absurd cc; partner = λ e. absurd cc; units = λ i u at. absurd cc };
+    of_b = record { started = λ e. absurd cc; partner = λ e. absurd cc; units = λ i u at. absurd cc };
+    count_a = refl;
+    count_b = refl;
+  }
+
+  pub holds_at : (w : World LayersNode LayersUnit) (made_a made_b : List Record) → Run layers_pair (layers_start head_a head_b) made_a made_b w →
+      HoldsAt head_a head_b w made_a made_b
+  holds_at w made_a made_b run = record {
+    joined = lasts layers_pair (LayersJoined head_a head_b) (joined_kept head_a head_b) [] [] (start_joined head_a head_b) run;
+    begun = lasts layers_pair (of_stations BothBegun) (lifted BothBegun begun_kept) [] [] start_begun run;
+  }
+
+  module _ (w : World LayersNode LayersUnit) (made_a made_b : List Record) (run : Run layers_pair (layers_start head_a head_b) made_a made_b w)
+      (orderly_a : IsOrderly made_a) (orderly_b : IsOrderly made_b) where
+    pub ready_a : IsReady w.a w.b
+    ready_a =
+        let h = holds_at w made_a made_b run in
+        let a = reached_addressed head_a.own head_a.peer head_b.own head_b.peer h.joined.joined.reached orderly_a.rise orderly_b.rise in
+        let count_a = h.begun.count_a in let few_a = orderly_a.few in let count_b = h.begun.count_b in let few_b = orderly_b.few in
+        record {
+          few = omega arith;
+          others = omega arith;
+          begun = h.begun.of_a;
+          theirs = h.begun.of_b;
+          told = h.joined.b_told;
+          front = h.joined.joined.front_a;
+          of_other = h.joined.joined.front_b;
+          most = _;
+          most_of_other = _;
+          addressed = a.of_a;
+          other_addressed = a.of_b;
+        }
+
+module _ (head_a head_b : Head) (w : World LayersNode LayersUnit) (made_a made_b : List Record)
+    (run : Run layers_pair (layers_start head_a head_b) made_a made_b w) (orderly_a : IsOrderly made_a) (orderly_b : IsOrderly made_b) where
+  -- the same with the sides exchanged
+  pub ready_b : IsReady w.b w.a
+  ready_b = ready_a head_b head_a (exchanged_world w) made_b made_a (exchange layers_pair run) orderly_b orderly_a
+
+-- a beginning of what is orderly
+starts-both : (made later : List Record) → starts (made ++ later) ≡ starts made + starts later
+starts-both [] later = omega arith
+starts-both (r ∷ made) later = let e = starts-both made later in omega arith
+
+orderly_first : (made later : List Record) → IsOrderly (made ++ later) → IsOrderly made
+orderly_first made later o =
+    let e = starts-both made later in let f = o.few in
+    record {
+      few = omega arith;
+      rise = (rise_parts 0 (link_events made) (link_events later) (subst (AddressesRise 0) (flat_map-append link_event_in made later) o.rise)).0;
+    }
+
+module _ (head_a head_b : Head) where
+  goes_on : {w end : World LayersNode LayersUnit} {xs ys : List Record} (made_a made_b : List Record) →
+      Run layers_pair (layers_start head_a head_b) made_a made_b w → Run player_pair w xs ys end → IsOrderly (made_a ++ xs) →
+      IsOrderly (made_b ++ ys) →
+      Run layers_pair (layers_start head_a head_b) (made_a ++ xs) (made_b ++ ys) end
+  goes_on {w} made_a made_b run Done orderly_a orderly_b =
+      subst (λ (x : List Record). Run layers_pair (layers_start head_a head_b) x (made_b ++ []) w) (sym (append-nil made_a))
+      (subst (λ (y : List Record). Run layers_pair (layers_start head_a head_b) made_a y w) (sym (append-nil made_b)) run)
+  goes_on {w} {end} {ys = ys} made_a made_b run (OfA {h = h} {r = r} {xs = xs} made rest) orderly_a orderly_b =
+      let same = record_same w.a w.b
+      (ready_a head_a head_b w made_a made_b run (orderly_first made_a (r ∷ xs) orderly_a) (orderly_first made_b ys orderly_b)) r in
+      subst (λ (x : List Record). Run layers_pair (layers_start head_a head_b) x (made_b ++ ys) end) (append_assoc made_a (r ∷ []) xs)
+      (goes_on (made_a ++ r ∷ []) made_b (one_more_of_a layers_pair r h run (sym same ∙ made)) rest
+      (subst IsOrderly (sym (append_assoc made_a (r ∷ []) xs)) orderly_a) orderly_b)
+  goes_on {w} {end} {xs = xs} made_a made_b run (OfB {h = h} {r = r} {ys = ys} made rest) orderly_a orderly_b =
+      let same = record_same w.b w.a
+      (ready_b head_a head_b w made_a made_b run (orderly_first made_a xs orderly_a) (orderly_first made_b (r ∷ ys) orderly_b)) r in
+      subst (λ (y : List Record). Run layers_pair (layers_start head_a head_b) (made_a ++ xs) y end) (append_assoc made_b (r ∷ []) ys)
+      (goes_on made_a (made_b ++ r ∷ []) (one_more_of_b layers_pair r h run (sym same ∙ made)) rest orderly_a
+      (subst IsOrderly (sym (append_assoc made_b (r ∷ []) ys)) orderly_b))
+
+  -- the run of nodes that ask no rule on tags is one of nodes that do
+  pub is_checked_run : {end : World LayersNode LayersUnit} (of_a of_b : List Record) → Run player_pair (layers_start head_a head_b) of_a of_b end →
+      IsOrderly of_a → IsOrderly of_b → Run layers_pair (layers_start head_a head_b) of_a of_b end
+  is_checked_run of_a of_b run orderly_a orderly_b = goes_on [] [] Done run orderly_a orderly_b

@@ -1,0 +1,247 @@
+-- Where no link address is given twice, each message names its sender and its sender's partner by their addresses.
+use Rattle.std.proofs.Common.{◌≡◌, ℕ, Bool, true, Option, Some, None, Result, Ok, Err, refl, sym, ◌∙◌, subst}
+use Rattle.std.specs.Prelude.{slice_get}
+use Rattle.std.proofs.lemmas.Bool.{and_parts}
+use Rattle.dna_packet.specs.Nsp.{NspValue, DataSegment, LinkService, DataAck, OtherDataAck, ConnectAck, NoOperation, ConnectInitiate, ConnectConfirm}
+use Rattle.dna_packet.specs.Nsp.{DisconnectInitiate, DisconnectConfirm}
+use Rattle.dna_station.specs.declared.link_refusal.LinkRefusal.{LinkRefusal}
+use Rattle.dna_station.specs.declared.link_refusal.LinkRefusal.TheVariants.{NoLink, LinkState, CrossedLink}
+use Rattle.dna_links.specs.declared.tag.LinkTag.{LinkTag}
+use Rattle.dna_links.specs.declared.port.Phase.{Phase}
+use Rattle.dna_links.specs.declared.port.LinkTest.{LinkTest}
+use Rattle.dna_links.specs.declared.port.LinkTest.TheVariants.{TheLink, LiveTo, OpenedAt, CallingAt, ActedOn}
+use Rattle.dna_links.specs.LookUps.{is_live, is_at, is_calling, is_confirming, is_running, is_disconnecting, has_both, passes}
+use Rattle.dna_links.specs.Flow.{Sending}
+use Rattle.dna_links.specs.Links.{LinkOf, LinkTruth, check, with_link, begun, changed, with_flow, ended}
+use Rattle.dna_links.specs.Sending.{Sent, truth_of, unchanged, in_its_phase, carries, in_run, segment_of, message_sent}
+use Rattle.dna_links.specs.Arriving.{of_partner, called, confirmed, ends_link, running, acted_on, is_for, is_of_pair, message_arrived}
+use Rattle.dna_links.specs.TrueFlow.{TrueFlow, Numbers, true_flows}
+use Rattle.dna_links.specs.TrueLinks.{Links}
+use Rattle.dna_links.proofs.Runs.Reads.{at_is}
+use Rattle.dna_links.proofs.Tables.Outcomes.{looked, checked, SentDid, OfNone, Stays, EndsCalled, Segment, Acks}
+use Rattle.dna_play.proofs.Once.Addresses.{LinkList, Owner, owner_kept, KeepsAddresses, AreAddressed, PortKept, kept_addressed, kept_keeps}
+use Rattle.dna_play.proofs.Once.Addresses.{set_addressed, push_unnamed, push_keeps, LeavesAddressed}
+
+-- the address of the sender's link in a message, and that of the link it is for; a DC names a link that is over
+abbrev pub source : NspValue → Option ℕ
+source (ConnectInitiate retransmitted src services info segsize user_data) = Some src
+source (ConnectConfirm dst src services info segsize user_data) = Some src
+source (DisconnectInitiate dst src reason user_data) = Some src
+source (DataSegment segment) = Some segment.srcaddr
+source (DataAck dst src acks) = Some src
+source (LinkService interrupt dst src rest) = Some src
+source (OtherDataAck dst src rest) = Some src
+source (ConnectAck dst) = None
+source (NoOperation rest) = None
+source (DisconnectConfirm dst src reason) = None
+
+abbrev pub target : NspValue → Option ℕ
+target (ConnectInitiate retransmitted src services info segsize user_data) = None
+target (ConnectConfirm dst src services info segsize user_data) = Some dst
+target (DisconnectInitiate dst src reason user_data) = Some dst
+target (DataSegment segment) = Some segment.dstaddr
+target (DataAck dst src acks) = Some dst
+target (LinkService interrupt dst src rest) = Some dst
+target (OtherDataAck dst src rest) = Some dst
+target (ConnectAck dst) = None
+target (NoOperation rest) = None
+target (DisconnectConfirm dst src reason) = None
+
+pub record IsAddressed (own others : LinkList) (m : NspValue) (tag : LinkTag) : Type 0 where
+  pub from : (a : ℕ) → source m ≡ Some a → Owner own tag.link a
+  pub to : (a : ℕ) → target m ≡ Some a → Owner others tag.partner a
+
+pub message_kept : (own others further theirs : LinkList) (m : NspValue) (tag : LinkTag) → KeepsAddresses own further → KeepsAddresses others theirs →
+    IsAddressed own others m tag → IsAddressed further theirs m tag
+message_kept own others further theirs m tag mine more a = record {
+  from = λ n e. owner_kept own further tag.link n mine (a.from n e);
+  to = λ n e. owner_kept others theirs tag.partner n more (a.to n e);
+}
+
+-- ---- what is sent
+
+module _ (s : Links) (others : LinkList) (most : ℕ) (h : AreAddressed s.links others most) where
+  -- of a link with these addresses
+  of_link : (m : NspValue) (number : ℕ) (link : LinkOf TrueFlow) (src : ℕ) → slice_get s.links number ≡ Some link → link.port.own ≡ Some src →
+      source m ≡ Some src → ((a : ℕ) → target m ≡ Some a → link.port.far ≡ Some a) →
+      IsAddressed s.links others m (record { link = Some number; partner = link.partner })
+  of_link m number link src there owns is far = record {
+    from = λ a e. record { number = number; is = refl; owns = record { link = link; there = there; owns = owns ∙ sym is ∙ e } };
+    to = λ a e. h.far number link there a (far a e);
+  }
+
+  abbrev SentFrom : NspValue → Sent TrueFlow Numbers → Type 0
+  SentFrom m made = IsAddressed s.links others m made.truth.tag
+
+  abbrev OfThis : NspValue → LinkOf TrueFlow → Type 0
+  OfThis m link = (src : ℕ) × (link.port.own ≡ Some src) × (source m ≡ Some src) × ((a : ℕ) → target m ≡ Some a → link.port.far ≡ Some a)
+
+  -- the test tells both
+  the_link : (m : NspValue) (src dst : ℕ) (link : LinkOf TrueFlow) → source m ≡ Some src → target m ≡ Some dst →
+      passes (TheLink src dst) link.port ≡ true → OfThis m link
+  the_link m src dst link is for passed =
+      let both = and_parts (is_at link.port.own src) (is_at link.port.far dst)
+      (and_parts (is_live link.port.phase) (has_both link.port src dst) passed).1 in
+      (src, at_is link.port.own src both.0, is, λ a e. at_is link.port.far dst both.1 ∙ sym for ∙ e)
+
+  in_phase_from : (m : NspValue) (test : LinkTest) (is_right : Phase → Bool) (made : Sent TrueFlow Numbers) →
+      ((link : LinkOf TrueFlow) → passes test link.port ≡ true → OfThis m link) → in_its_phase true_flows test is_right s ≡ Ok made → SentFrom m made
+  in_phase_from m test is_right made tells e =
+      looked test s (Err NoLink) (λ number link. check (is_right link.port.phase) LinkState (Ok (unchanged true_flows s number link))) (Ok made) e
+      (λ missing e. absurd cc)
+      (λ number link found e.
+      let c = checked _ _ _ made e in let t = tells link found.passed in
+      subst (SentFrom m) (same_sent (unchanged true_flows s number link) made c.1) (of_link m number link t.0 found.there t.1 t.2 t.3))
+    where
+      same_sent : (x y : Sent TrueFlow Numbers) → ◌≡◌ {A = Result (Sent TrueFlow Numbers) LinkRefusal} (Ok x) (Ok y) → x ≡ y
+      same_sent x y e = cc
+
+  run_from : (m : NspValue) (src dst : ℕ) (sends : LinkOf TrueFlow → Result (Sending TrueFlow Numbers) LinkRefusal) (made : Sent TrueFlow Numbers) →
+      source m ≡ Some src → target m ≡ Some dst → in_run true_flows src dst sends s ≡ Ok made → SentFrom m made
+  run_from m src dst sends made is for e =
+      looked (TheLink src dst) s (Err NoLink)
+      (λ number link. check (is_running link.port.phase) LinkState (carries true_flows s number link (sends link))) (Ok made) e
+      (λ missing e. absurd cc)
+      (λ number link found e. let c = checked _ _ _ made e in let t = the_link m src dst link is for found.passed in
+      carried number link (sends link) (of_link m number link t.0 found.there t.1 t.2 t.3) c.1)
+    where
+      carried : (number : ℕ) (link : LinkOf TrueFlow) (o : Result (Sending TrueFlow Numbers) LinkRefusal) →
+          IsAddressed s.links others m (record { link = Some number; partner = link.partner }) → carries true_flows s number link o ≡ Ok made →
+          SentFrom m made
+      carried number link (Err refusal) a e = absurd cc
+      carried number link (Ok sent) a e =
+          subst (SentFrom m) (same_sent (record
+          { links = changed number (with_flow sent.flow link) s; truth = truth_of true_flows number link sent.known }) made e) a
+        where
+          same_sent : (x y : Sent TrueFlow Numbers) → ◌≡◌ {A = Result (Sent TrueFlow Numbers) LinkRefusal} (Ok x) (Ok y) → x ≡ y
+          same_sent x y e = cc
+
+  pub sent_from : (m : NspValue) (made : Sent TrueFlow Numbers) → message_sent true_flows s m ≡ Ok made → SentFrom m made
+  sent_from (ConnectInitiate retransmitted src services info segsize user_data) made e =
+      in_phase_from _ (OpenedAt src) is_calling made
+      (λ link passed. (
+        src,
+        at_is link.port.own src
+            (and_parts link.port.opened (is_at link.port.own src) (and_parts (is_live link.port.phase) _ passed).1).1,
+        refl,
+        λ a e. absurd cc,
+      )) e
+  sent_from (ConnectAck dst) made e = record { from = λ a e. absurd cc; to = λ a e. absurd cc }
+  sent_from (ConnectConfirm dst src services info segsize user_data) made e =
+      in_phase_from (ConnectConfirm dst src services info segsize user_data) (TheLink src dst) is_confirming made
+      (λ link passed. the_link (ConnectConfirm dst src services info segsize user_data) src dst link refl refl passed) e
+  sent_from (DisconnectInitiate dst src reason user_data) made e =
+      in_phase_from (DisconnectInitiate dst src reason user_data) (TheLink src dst) is_disconnecting made
+      (λ link passed. the_link (DisconnectInitiate dst src reason user_data) src dst link refl refl passed) e
+  sent_from (DisconnectConfirm dst src reason) made e = record { from = λ a e. absurd cc; to = λ a e. absurd cc }
+  sent_from (DataSegment segment) made e =
+      run_from (DataSegment segment) segment.srcaddr segment.dstaddr (segment_of true_flows segment) made refl refl e
+  sent_from (DataAck dst src acks) made e = run_from (DataAck dst src acks) src dst (λ link. true_flows.sends_acks acks link.flow) made refl refl e
+  sent_from (LinkService interrupt dst src rest) made e =
+      in_phase_from (LinkService interrupt dst src rest) (TheLink src dst) is_running made
+      (λ link passed. the_link (LinkService interrupt dst src rest) src dst link refl refl passed) e
+  sent_from (OtherDataAck dst src rest) made e =
+      in_phase_from (OtherDataAck dst src rest) (TheLink src dst) is_running made
+      (λ link passed. the_link (OtherDataAck dst src rest) src dst link refl refl passed) e
+  sent_from (NoOperation rest) made e = record { from = λ a e. absurd cc; to = λ a e. absurd cc }
+
+  -- and the links keep their addresses
+  abbrev Stays' : Links → Type 0
+  Stays' left = LeavesAddressed s.links others left.links most
+
+  same_links : Stays' s
+  same_links = record { addressed = h; keeps = λ i a o. o }
+
+  one_kept : (number : ℕ) (link left : LinkOf TrueFlow) → slice_get s.links number ≡ Some link → PortKept link left → Stays' (changed number left s)
+  one_kept number link left there p =
+      record { addressed = kept_addressed s.links number link left there others most p h; keeps = kept_keeps s.links number link left there p.own }
+
+  with_flow_kept : (number : ℕ) (link : LinkOf TrueFlow) (f : TrueFlow) → slice_get s.links number ≡ Some link →
+      Stays' (changed number (with_flow f link) s)
+  with_flow_kept number link f there =
+      one_kept number link (with_flow f link) there (record { own = refl; far = refl; partner = refl; called = λ c. c })
+
+  ended_kept : (number : ℕ) (link : LinkOf TrueFlow) → slice_get s.links number ≡ Some link → Stays' (changed number (ended true_flows link) s)
+  ended_kept number link there =
+      one_kept number link (ended true_flows link) there (record { own = refl; far = refl; partner = refl; called = λ c. absurd cc })
+
+  pub sent_stays : (m : NspValue) (made : Sent TrueFlow Numbers) → SentDid true_flows s m made → Stays' made.links
+  sent_stays m made (OfNone none) = same_links
+  sent_stays m made (Stays number link none there) = same_links
+  sent_stays m made (EndsCalled far number link none found) = ended_kept number link found.there
+  sent_stays m made (Segment segment number link sent is found run does) = with_flow_kept number link sent.flow found.there
+  sent_stays m made (Acks dst src acks number link sent is found run does) = with_flow_kept number link sent.flow found.there
+
+  -- ---- what comes
+
+  module _ (truth : LinkTruth Numbers) where
+    abbrev Comes : Links → Type 0
+    Comes left = Stays' left
+
+    came : (next left : Links) → Comes next → ◌≡◌ {A = Result Links LinkRefusal} (Ok next) (Ok left) → Comes left
+    came next left c e = subst Comes same c
+      where
+        same : next ≡ left
+        same = cc
+
+    called_comes : (far segsize : ℕ) → Owner others truth.tag.link far → Comes (begun (called true_flows of_partner far segsize truth.tag) s)
+    called_comes far segsize o = record {
+      addressed = push_unnamed s.links (called true_flows of_partner far segsize truth.tag) others most refl
+          (λ a e. subst (Owner others truth.tag.link) (same a e) o) h;
+      keeps = push_keeps s.links (called true_flows of_partner far segsize truth.tag);
+    }
+      where
+        same : (a : ℕ) → Some far ≡ Some a → far ≡ a
+        same a e = cc
+
+    confirmed_comes : (far segsize number : ℕ) (link : LinkOf TrueFlow) → slice_get s.links number ≡ Some link → Owner others truth.tag.link far →
+        Comes (changed number (confirmed true_flows of_partner far segsize truth.tag link) s)
+    confirmed_comes far segsize number link there o = record {
+      addressed = set_addressed s.links number link (confirmed true_flows of_partner far segsize truth.tag link) there others most refl
+          (λ a e. subst (Owner others truth.tag.link) (same a e) o) (λ c. absurd cc) h;
+      keeps = kept_keeps s.links number link (confirmed true_flows of_partner far segsize truth.tag link) there refl;
+    }
+      where
+        same : (a : ℕ) → Some far ≡ Some a → far ≡ a
+        same a e = cc
+
+    calling_comes : (own : ℕ) → Comes (with_link (CallingAt own) s s (λ number link. changed number (ended true_flows link) s))
+    calling_comes own = looked (CallingAt own) s s (λ number link. changed number (ended true_flows link) s) _ refl
+        (λ none e. subst Comes e same_links) (λ number link found e. subst Comes e (ended_kept number link found.there))
+
+    ends_comes : (own far : ℕ) → Comes (ends_link true_flows of_partner own far s)
+    ends_comes own far =
+        looked (TheLink own far) s (with_link (CallingAt own) s s (λ number link. changed number (ended true_flows link) s))
+        (λ number link. changed number (ended true_flows link) s) _ refl
+        (λ none e. subst Comes e (calling_comes own)) (λ number link found e. subst Comes e (ended_kept number link found.there))
+
+    acted_comes : (own far : ℕ) (takes : LinkOf TrueFlow → TrueFlow) (left : Links) →
+        acted_on true_flows of_partner own far truth.tag takes s ≡ Ok left → Comes left
+    acted_comes own far takes left e =
+        looked (ActedOn own far) s (Ok s)
+        (λ number link. check (of_partner (is_of_pair number link.partner truth.tag)) CrossedLink
+        (Ok (changed number (running true_flows of_partner takes link) s))) (Ok left) e (λ none e. came s left same_links e)
+        (λ number link found e. let c = checked _ _ _ left e in
+        came _ left (one_kept number link (running true_flows of_partner takes link) found.there
+        (record { own = refl; far = refl; partner = refl; called = λ c. absurd cc })) c.1)
+
+    pub came_stays : (m : NspValue) (left : Links) → ((a : ℕ) → source m ≡ Some a → Owner others truth.tag.link a) →
+        message_arrived true_flows of_partner s m truth ≡ Ok left → Comes left
+    came_stays (ConnectInitiate retransmitted src services info segsize user_data) left from e =
+        looked (LiveTo src) s (Ok (begun (called true_flows of_partner src segsize truth.tag) s)) (λ number link. Ok s) (Ok left) e
+        (λ none e. came _ left (called_comes src segsize (from src refl)) e) (λ number link found e. came s left same_links e)
+    came_stays (ConnectAck dst) left from e = came s left same_links e
+    came_stays (NoOperation rest) left from e = came s left same_links e
+    came_stays (ConnectConfirm dst src services info segsize user_data) left from e =
+        looked (CallingAt dst) s (Ok s)
+        (λ number link. check (of_partner (is_for number truth.tag)) CrossedLink
+        (Ok (changed number (confirmed true_flows of_partner src segsize truth.tag link) s))) (Ok left) e
+        (λ none e. came s left same_links e)
+        (λ number link found e. let c = checked _ _ _ left e in
+        came _ left (confirmed_comes src segsize number link found.there (from src refl)) c.1)
+    came_stays (DisconnectInitiate dst src reason user_data) left from e = came _ left (ends_comes dst src) e
+    came_stays (DisconnectConfirm dst src reason) left from e = came _ left (ends_comes dst src) e
+    came_stays (DataSegment segment) left from e = acted_comes segment.dstaddr segment.srcaddr _ left e
+    came_stays (DataAck dst src acks) left from e = acted_comes dst src _ left e
+    came_stays (LinkService interrupt dst src rest) left from e = acted_comes dst src _ left e
+    came_stays (OtherDataAck dst src rest) left from e = acted_comes dst src _ left e

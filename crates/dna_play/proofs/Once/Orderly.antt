@@ -1,0 +1,42 @@
+-- Records of a side that starts at most once, and gives each of its link addresses higher than all before.
+use Rattle.std.specs.Prelude.{ℕ, ◌+◌, ◌<◌, ◌≤◌, if◌then◌else◌, Option, Some, None, List, [], ◌∷◌}
+use Rattle.capture.specs.declared.record.Record.{Record}
+use Rattle.capture.specs.declared.record.Record.TheVariants.{Sent, Received, Noise, User}
+use Rattle.dna_station.specs.Delivery.{begins}
+use Rattle.dna_links.specs.User.{LinkEventValue}
+use Rattle.dna_links.specs.Captures.{given_address}
+use Rattle.dna_node.specs.LayersPair.{link_events}
+
+abbrev pub IsHigher : ℕ → Option ℕ → Type 0
+IsHigher most None = Unit {0}
+IsHigher most (Some address) = most < address
+
+-- the highest address after one more event, and after all these
+abbrev pub higher : ℕ → Option ℕ → ℕ
+higher most None = most
+higher most (Some address) = address
+
+abbrev pub highest : ℕ → List LinkEventValue → ℕ
+highest most [] = most
+highest most (event ∷ later) = highest (higher most (given_address event)) later
+
+-- each address that these events give is higher than all before
+abbrev pub AddressesRise : ℕ → List LinkEventValue → Type 0
+AddressesRise most [] = Unit {0}
+AddressesRise most (event ∷ later) = IsHigher most (given_address event) × AddressesRise (higher most (given_address event)) later
+
+-- how often a period begins in a capture
+abbrev pub starts_in : Record → ℕ
+starts_in (User event) = if begins event then 1 else 0
+starts_in (Sent bytes) = 0
+starts_in (Received hint kept bytes) = 0
+starts_in (Noise bytes) = 0
+
+abbrev pub starts : List Record → ℕ
+starts [] = 0
+starts (r ∷ later) = starts_in r + starts later
+
+-- the side starts at most once, and gives its link addresses in order
+pub record IsOrderly (records : List Record) : Type 0 where
+  pub few : starts records ≤ 1
+  pub rise : AddressesRise 0 (link_events records)

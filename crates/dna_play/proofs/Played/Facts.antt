@@ -1,0 +1,173 @@
+-- What is known of an end of the player beside the other while a script is played: of what may come to it, and of what its user may get then. It
+-- stays known while the end takes a unit and its user gets what is whole.
+use Rattle.std.proofs.Common.{◌≡◌, ℕ, ◌+◌, ◌<◌, ◌≤◌, ◌^◌, true, Option, Some, None, List, [], ◌++◌, Ok, sym, ap, ◌∙◌, arith}
+use Rattle.std.specs.Prelude.{slice_get}
+use Rattle.two_nodes.specs.Nodes.{Run}
+use Rattle.two_nodes.proofs.Lasting.{lasts}
+use Rattle.two_nodes.proofs.Order.{exchange}
+use Rattle.ddcmp_msg.specs.Reading.{reading}
+use Rattle.ddcmp_msg.specs.Reading as read_as
+use Rattle.dna_packet.specs.Nsp.{NspValue}
+use Rattle.capture.specs.declared.record.Record.{Record}
+use Rattle.capture.specs.Range.{IsNode}
+use Rattle.dna_node.specs.Rules.{judged}
+use Rattle.dna_station.specs.Book.{Sound, body_of}
+use Rattle.dna_station.specs.StationBook.{arrival_refusal}
+use Rattle.dna_links.specs.Arriving.{of_partner}
+use Rattle.dna_links.specs.CutLinks.{ArrivesNear}
+use Rattle.dna_links.specs.Bounds.{AreLinksBounded}
+use Rattle.dna_links.specs.Runs.{SentMessage, LinkWorld}
+use Rattle.dna_node.specs.Content.{content}
+use Rattle.dna_node.specs.Layers.{LayersUnit}
+use Rattle.dna_node.specs.LayersPair.{layers_pair, layers_start, side_of, link_events}
+use Rattle.dna_play.specs.Script.{Script}
+use Rattle.dna_play.specs.Player.{End, station_of, links_of}
+use Rattle.dna_play.specs.Played.{Played, head_a, head_b}
+use Rattle.dna_play.specs.PlayRun.{player_pair, ArePlayed, world_of}
+use Rattle.dna_station.proofs.Bounds.Numbers.{is_data}
+use Rattle.dna_node.proofs.LayersRead.{LayersRead, packet_in, read_kept, start_read}
+use Rattle.dna_links.proofs.Runs.Bounds.{BothOwned, sound, owned, bounded}
+use Rattle.dna_node.proofs.ReadInRange.{content_in_range}
+use Rattle.dna_node.proofs.CutLayersNode.{IsLayersBounded}
+use Rattle.dna_node.proofs.LayersBounds.{a_bounded}
+use Rattle.dna_links.proofs.Runs.Steps.{BothLinksSound}
+use Rattle.dna_play.proofs.Once.Nodes.{BothFrom, reached_from}
+use Rattle.dna_play.proofs.Once.Units.{unit_reads, unit_content}
+use Rattle.dna_play.proofs.Played.HandedLined.{events_lined}
+use Rattle.dna_play.proofs.Played.SidesLined.{is_lined}
+use Rattle.dna_play.proofs.Played.SentLined.{AreSentLined, sent_lined}
+use Rattle.dna_play.proofs.Played.Steps.{PlayHalf, MakesAll}
+use Rattle.dna_play.proofs.Played.Order.{InOrder, order_join}
+use Rattle.dna_play.proofs.Played.Runs.{more_of_a, exchanged_nodes}
+use Rattle.dna_play.proofs.Once.Checked.{is_checked_run}
+use Rattle.dna_play.proofs.Played.Checked.{AreInOrder, orderly}
+use Rattle.dna_play.proofs.Played.Known.{known_a, exchanged_ends}
+use Rattle.dna_play.proofs.Ends.Stage.{Known}
+use Rattle.dna_play.proofs.Ends.Receives.{IsLined}
+
+pub record Facts (own other : End) : Type 0 where
+  pub known : Known own other
+  -- each message of the other side's links goes from its node to this one
+  pub from : (k : ℕ) (u : SentMessage) → slice_get other.half.state.station.messages k ≡ Some (Some u) →
+      (u.packet.src ≡ (links_of own.half).peer) × (u.packet.dst ≡ (links_of own.half).node)
+  -- what is whole of its links has lines
+  pub whole : (m : NspValue) → IsLined (links_of own.half) m
+  -- each unit that may come has a line, and reads as it was put together
+  pub lined : AreSentLined other.half
+  pub reads : (k : ℕ) (unit : LayersUnit) → slice_get other.half.sent k ≡ Some unit → reading unit.bytes ≡ read_as.Sound unit.message
+  pub packets : (k : ℕ) (unit : LayersUnit) → slice_get other.half.sent k ≡ Some unit → is_data unit.message ≡ true →
+      content (body_of unit.message) ≡ Ok (packet_in unit.known.carried)
+  -- the numbers of a message that may be kept are near those of the link that it is for
+  pub near : (k : ℕ) (unit : LayersUnit) → slice_get other.half.sent k ≡ Some unit → own.half.state.front ≤ k →
+      arrival_refusal judged.periods (station_of own.half) (Sound unit.message unit.known.station) true ≡ None →
+      (u : SentMessage) → unit.known.carried ≡ Some u → ArrivesNear of_partner (links_of own.half) u.packet.message u.truth
+
+-- also behind records that start nothing and give no address
+abbrev pub Later : (own other : End) → Type 0
+Later own other = (e : End) (records : List Record) → MakesAll other.half own.half records e.half → InOrder own.addresses 0 records e.addresses →
+    Facts e other
+
+-- a unit that may be kept has its message, and that is near
+comes_near : (own other : PlayHalf) (front of_other : ℕ) → IsLayersBounded own other front of_other →
+    AreLinksBounded (side_of own front) (side_of other of_other) → (k : ℕ) (unit : LayersUnit) → slice_get other.sent k ≡ Some unit →
+    own.state.front ≤ k → arrival_refusal judged.periods own.state.station.station (Sound unit.message unit.known.station) true ≡ None →
+    (u : SentMessage) → unit.known.carried ≡ Some u → ArrivesNear of_partner own.state.station.links u.packet.message u.truth
+comes_near own other front of_other c bounds k unit there ahead allowed u is =
+    let h = c.kept k unit there ahead allowed in
+    let small = content_in_range (body_of unit.message) u.packet (h.read ∙ ap (λ (o : Option SentMessage). Ok (packet_in o)) is) in
+    bounds.near unit.known.station.place u h.ahead (h.told ∙ ap Some is) small
+
+module _ (script : Script) where
+  -- what was played so far starts each side at most once
+  pub record Going (played : Played) : Type 0 where
+    pub made : ArePlayed script played
+    pub count_a : ℕ
+    pub count_b : ℕ
+    pub order : AreInOrder played count_a count_b
+    pub few_a : count_a ≤ 1
+    pub few_b : count_b ≤ 1
+
+  word : (node : ℕ) → IsNode node → node < 2 ^ 16
+  word node h = let most = h.most_area in omega arith
+
+  module _ (node_a : IsNode script.node_a) (node_b : IsNode script.node_b) (played : Played) (g : Going played) where
+    run : Run layers_pair (layers_start (head_a script) (head_b script)) played.of_a played.of_b (world_of played)
+    run = is_checked_run (head_a script) (head_b script) played.of_a played.of_b g.made.run (orderly played.of_a g.order.of_side_a g.few_a)
+        (orderly played.of_b g.order.of_side_b g.few_b)
+
+    met : LayersRead (head_a script) (head_b script) (world_of played) played.of_a played.of_b
+    met = lasts layers_pair (LayersRead (head_a script) (head_b script)) (read_kept (head_a script) (head_b script)) [] []
+        (start_read (head_a script) (head_b script)) run
+
+    abbrev links_world : LinkWorld
+    links_world = record { a = side_of played.a.half met.joined.joined.front_a; b = side_of played.b.half met.joined.joined.front_b }
+
+    all_sound : BothLinksSound links_world
+    all_sound = sound script.node_a script.node_b script.node_b script.node_a links_world (link_events played.of_a)
+        (link_events played.of_b) met.joined.joined.reached
+
+    all_owned : BothOwned links_world (link_events played.of_a) (link_events played.of_b)
+    all_owned = owned script.node_a script.node_b script.node_b script.node_a links_world (link_events played.of_a)
+        (link_events played.of_b) met.joined.joined.reached
+
+    bounds : AreLinksBounded links_world.a links_world.b × AreLinksBounded links_world.b links_world.a
+    bounds = bounded script.node_a script.node_b script.node_b script.node_a links_world (link_events played.of_a)
+        (link_events played.of_b) met.joined.joined.reached
+
+    nodes : BothFrom script.node_a script.node_b script.node_b script.node_a links_world
+    nodes = reached_from script.node_a script.node_b script.node_b script.node_a met.joined.joined.reached
+
+    lines : AreSentLined played.a.half × AreSentLined played.b.half
+    lines = sent_lined run g.made.lines_a g.made.lines_b (λ k unit at. absurd cc) (λ k unit at. absurd cc)
+
+    pub facts_a : Facts played.a played.b
+    facts_a =
+        let order = met.joined.placed.order in
+        record {
+          known = known_a (head_a script) (head_b script) played run g.order.of_side_a g.order.of_side_b g.few_a g.few_b (word _ node_a)
+              (word _ node_b) (word _ node_b) (word _ node_a);
+          from = λ k u at. let f = nodes.of_b.from k u at in (f.0 ∙ sym nodes.of_a.links.peer_is, f.1 ∙ sym nodes.of_a.links.node_is);
+          whole = is_lined links_world.a links_world.b (link_events played.of_a)
+              (link_events played.of_b) all_sound.of_a all_sound.of_b all_owned.of_a all_owned.of_b
+              (events_lined played.of_a g.made.lines_a) (events_lined played.of_b g.made.lines_b);
+          lined = lines.1;
+          reads = unit_reads played.b.half played.a.half order.of_b.sound;
+          packets = λ k unit there. unit_content played.b.half played.a.half order.of_b.sound k unit there order.of_b.places met.joined.b_told
+              met.b_read;
+          near = comes_near played.a.half played.b.half met.joined.joined.front_a met.joined.joined.front_b
+              (a_bounded (head_a script) (head_b script) (world_of played) played.of_a played.of_b met) bounds.0;
+        }
+
+  module _ (node_a : IsNode script.node_a) (node_b : IsNode script.node_b) (played : Played) (g : Going played) where
+    pub later_a : Later played.a played.b
+    later_a e records makes order =
+        let m = more_of_a script played.b.half played.of_a played.of_b makes
+        (record { run = g.made.run; lines_a = g.made.lines_a; lines_b = g.made.lines_b }) in
+        let few = g.few_a in
+        facts_a node_a node_b (record { a = e; b = played.b; of_a = played.of_a ++ records; of_b = played.of_b }) (record {
+          made = record { run = m.run; lines_a = m.lines_a; lines_b = m.lines_b };
+          count_a = g.count_a + 0;
+          count_b = g.count_b;
+          order = record {
+            of_side_a = order_join 0 played.a.addresses e.addresses g.count_a 0 played.of_a records g.order.of_side_a order;
+            of_side_b = g.order.of_side_b;
+          };
+          few_a = omega arith;
+          few_b = g.few_b;
+        })
+
+-- ---- the other end, with the sides exchanged
+
+going_on : (script : Script) (played : Played) → Going script played → Going (exchanged_nodes script) (exchanged_ends played)
+going_on script played g = record {
+  made = record { run = exchange player_pair g.made.run; lines_a = g.made.lines_b; lines_b = g.made.lines_a };
+  count_a = g.count_b;
+  count_b = g.count_a;
+  order = record { of_side_a = g.order.of_side_b; of_side_b = g.order.of_side_a };
+  few_a = g.few_b;
+  few_b = g.few_a;
+}
+
+module _ (script : Script) (node_a : IsNode script.node_a) (node_b : IsNode script.node_b) (played : Played) (g : Going script played) where
+  pub later_b : Later played.b played.a
+  later_b = later_a (exchanged_nodes script) node_b node_a (exchanged_ends played) (going_on script played g)

@@ -1,0 +1,53 @@
+-- What a node has sent by records that have lines can stand in a line: each unit on the line has no more bytes than one may hold.
+use Rattle.std.proofs.Common.{◌≡◌, ℕ, Some, List, [], ◌∷◌, ◌++◌, length, subst, ◌⊎◌, inl, inr}
+use Rattle.std.specs.Prelude.{slice_get}
+use Rattle.std.specs.List.{AllByRecursion}
+use Rattle.two_nodes.specs.Nodes.{World, Run, Done, OfA, OfB}
+use Rattle.ddcmp_msg.specs.Message.{MessageValue}
+use Rattle.capture.specs.declared.record.Record.{Record}
+use Rattle.capture.specs.declared.record.Record.TheVariants.{Sent}
+use Rattle.capture.specs.Range.{IsRecord}
+use Rattle.dna_node.specs.Rules.{judged}
+use Rattle.dna_node.specs.Layers.{LayersTruth, LayersNode, LayersUnit, first_sent, sends_again}
+use Rattle.dna_node.specs.LayersPair.{layers_pair}
+use Rattle.two_nodes.proofs.NumberedSteps.{at_pushed}
+use Rattle.dna_node.proofs.OnTop.{sent_by, OnTop, ByStation, ByLinks, Again, First, Receipt, Counted, Unheard, follows}
+use Rattle.dna_play.proofs.Played.Steps.{PlayHalf}
+
+-- each unit that was sent has a line
+abbrev pub AreSentLined : PlayHalf → Type 0
+AreSentLined half = (k : ℕ) (unit : LayersUnit) → slice_get half.sent k ≡ Some unit → IsRecord (Sent unit.bytes)
+
+-- with one more
+one_more_lined : (sent : List LayersUnit) (bytes : List ℕ) (m : MessageValue) (known : LayersTruth) →
+    ((k : ℕ) (unit : LayersUnit) → slice_get sent k ≡ Some unit → IsRecord (Sent unit.bytes)) →
+    IsRecord (Sent bytes) → (k : ℕ) (unit : LayersUnit) → slice_get (sent ++ record {
+      bytes = bytes;
+      message = m;
+      known = known;
+    } ∷ []) k ≡ Some unit → IsRecord (Sent unit.bytes)
+one_more_lined sent bytes m known all line k unit at = go (at_pushed sent (record { bytes = bytes; message = m; known = known }) unit k at)
+  where
+    go : (slice_get sent k ≡ Some unit) ⊎ ((k ≡ length sent) × (record { bytes = bytes; message = m; known = known } ≡ unit)) →
+        IsRecord (Sent unit.bytes)
+    go (inl there) = all k unit there
+    go (inr e) = subst (λ (x : LayersUnit). IsRecord (Sent x.bytes)) e.1 line
+
+lined_left : (own other h : PlayHalf) (r : Record) → OnTop judged own other r h → IsRecord r → AreSentLined own → AreSentLined h
+lined_left own other h r (ByStation event) line all = all
+lined_left own other h r (ByLinks event of_links links is done) line all = all
+lined_left own other h r (Again bytes m old) line all = one_more_lined own.sent bytes m (sends_again own.state.station m (sent_by own m)).1 all line
+lined_left own other h r (First bytes m new links carried made) line all = one_more_lined own.sent bytes m
+    (first_sent own.state.station (sent_by own m) links carried).1 all line
+lined_left own other h r (Receipt hint kept bytes unit arrival there links met) line all = all
+lined_left own other h r (Counted bytes reason) line all = all
+lined_left own other h r (Unheard bytes) line all = all
+
+-- of both sides, in every run of records that have lines
+pub sent_lined : {w end : World LayersNode LayersUnit} {of_a of_b : List Record} → Run layers_pair w of_a of_b end → AllByRecursion IsRecord of_a →
+    AllByRecursion IsRecord of_b → AreSentLined w.a → AreSentLined w.b → AreSentLined end.a × AreSentLined end.b
+sent_lined Done lines_a lines_b a b = (a, b)
+sent_lined {w} (OfA {h = h} {r = r} made rest) lines_a lines_b a b =
+    sent_lined rest lines_a.1 lines_b (lined_left w.a w.b h r (follows judged w.a w.b h r made).links lines_a.0 a) b
+sent_lined {w} (OfB {h = h} {r = r} made rest) lines_a lines_b a b =
+    sent_lined rest lines_a lines_b.1 a (lined_left w.b w.a h r (follows judged w.b w.a h r made).links lines_b.0 b)

@@ -1,0 +1,44 @@
+-- What is whole of the links of a side has lines, where the records of both sides' users have.
+use Rattle.std.proofs.Common.{◌≡◌, ℕ, Some, List, [], drop}
+use Rattle.std.specs.Prelude.{slice_get}
+use Rattle.std.proofs.lemmas.Bool.{and_parts}
+use Rattle.dna_packet.specs.Nsp.{NspValue, DataSegment}
+use Rattle.dna_links.specs.declared.port.LinkTest.TheVariants.{ActedOn}
+use Rattle.dna_links.specs.LookUps.{is_at, is_connected, has_both}
+use Rattle.dna_links.specs.Links.{LinkOf}
+use Rattle.dna_links.specs.User.{LinkEventValue}
+use Rattle.dna_links.specs.TrueFlow.{TrueFlow}
+use Rattle.dna_links.specs.Delivery.{IsCut}
+use Rattle.dna_play.specs.LinkOwed as owing
+use Rattle.dna_links.specs.Runs.{LinkSide}
+use Rattle.dna_play.specs.Receipt.{complete}
+use Rattle.dna_links.proofs.Tables.Outcomes.{IsFound}
+use Rattle.dna_links.proofs.Runs.Reads.{at_is}
+use Rattle.dna_links.proofs.Runs.Sides.{IsSoundSide}
+use Rattle.dna_links.proofs.Runs.Owners.{AreOwned}
+use Rattle.dna_play.proofs.Ends.UpsFollow.{AllLined}
+use Rattle.dna_play.proofs.Ends.Receives.{IsLined}
+use Rattle.dna_play.proofs.Played.HandedLined.{AreMessages, EventsLined, link_handed_lined, address_lined, whole_lined, all_lined}
+
+module _ (own other : LinkSide) (events further : List LinkEventValue) (h : IsSoundSide own other) (theirs : IsSoundSide other own)
+    (owned : AreOwned events own.links.links) (others : AreOwned further other.links.links) (lined : EventsLined events)
+    (others_lined : EventsLined further) where
+  theirs_lined : (i : ℕ) (l : LinkOf TrueFlow) → slice_get other.links.links i ≡ Some l → IsCut l.flow × AreMessages l.flow.handed
+  theirs_lined i l at = ((theirs.ends i l at).flow.cut, link_handed_lined further l (others.place_of i) (others.owned i l at).read others_lined)
+
+  link_lined : (address i : ℕ) (l : LinkOf TrueFlow) → slice_get own.links.links i ≡ Some l → l.port.own ≡ Some address →
+      AllLined address (complete [] (owing.variables_of l).pieces)
+  link_lined address i l at owns = all_lined address (complete [] (drop l.flow.passed l.flow.received))
+      (address_lined events address l.port.own (owned.place_of i) (owned.owned i l at).holds owns lined)
+      (whole_lined l.flow l.partner other.links.links (h.ends i l at).flow.passed (h.ends i l at).held theirs_lined)
+
+  segment_lined : (address far number : ℕ) (link : LinkOf TrueFlow) → IsFound (ActedOn address far) own.links number link →
+      AllLined address (complete [] (owing.variables_of link).pieces)
+  segment_lined address far number link found =
+      let both = (and_parts (is_connected link.port.phase) (has_both link.port address far) found.passed).1 in
+      link_lined address number link found.there
+      (at_is link.port.own address (and_parts (is_at link.port.own address) (is_at link.port.far far) both).0)
+
+  pub is_lined : (m : NspValue) → IsLined own.links m
+  is_lined (DataSegment segment) = segment_lined segment.dstaddr segment.srcaddr
+  is_lined m = tt

@@ -1,0 +1,278 @@
+-- How what a step of a script makes comes about: the one walk over all kinds of step. What holds of each way to come about holds of every step.
+use Rattle.std.proofs.Common.{◌≡◌, ℕ, ◌+◌, ◌≤◌, Bool, true, false, cond, nat_lt, Option, Some, None, List, [], ◌∷◌, ◌++◌, length, Result, Ok, Err}
+use Rattle.std.proofs.Common.{refl, sym, subst, arith, length-set}
+use Rattle.std.specs.Prelude.{slice_get, if◌then◌else◌}
+use Rattle.std.proofs.lemmas.Option.{slice_get_within}
+use Rattle.ddcmp_msg.specs.Message.{MessageValue}
+use Rattle.ddcmp_msg.specs.Reading.{ReadingValue, reading}
+use Rattle.ddcmp_msg.specs.Spelling.{spelling}
+use Rattle.dna_packet.specs.Nsp.{NspValue}
+use Rattle.capture.specs.declared.event.Event.{Event}
+use Rattle.capture.specs.declared.event.Event.TheVariants as events
+use Rattle.capture.specs.declared.limit.TheConstants.{MAX_LINK}
+use Rattle.capture.specs.declared.record.Record.{Record}
+use Rattle.capture.specs.declared.record.Record.TheVariants.{Sent, Received, User}
+use Rattle.capture.specs.declared.record.Record.TheVariants as recorded
+use Rattle.dna_links.specs.declared.port.LinkTest.{LinkTest}
+use Rattle.dna_links.specs.declared.port.LinkTest.TheVariants.{LiveAt, CalledBy}
+use Rattle.dna_links.specs.Links.{LinkOf, with_link}
+use Rattle.dna_links.specs.TrueFlow.{TrueFlow}
+use Rattle.dna_node.specs.Layers.{LayersUnit}
+use Rattle.dna_play.specs.Script.{StepValue, Start, Halt, Timer, Send, Deliver, Refuse, Lose, Damage, Noise, Open, Accept, Reject, In, Close, Retry}
+use Rattle.dna_play.specs.PlayRun.{starts_now}
+use Rattle.dna_play.specs.Owed.{Debt, OwesStrt, timer_debt}
+use Rattle.dna_play.specs.LinkOwed.{LinkOwed, LinksOwed, LinkDebt, NoDebt, Owes, OwesConfirm, InitiateTurn, ConfirmTurn, DisconnectTurn, with_debt}
+use Rattle.dna_play.specs.LinkOwed.{changed, changed_at, retried}
+use Rattle.dna_play.specs.NextSent.{Choice, SendNew, LinkChoice, Confirms, OfLink}
+use Rattle.dna_play.specs.NextSent.{without_turn, after_link_choice, choice, link_choice}
+use Rattle.dna_play.specs.Compose.{message_of}
+use Rattle.dna_play.specs.Player.{End, makes, links_of, variables_of, link_ends_of, after_record}
+use Rattle.dna_play.specs.Stepped.{Stop, BadStep, Full, Stepped, made, silent, owing_more, links_owing_more}
+use Rattle.dna_play.specs.Receipt.{with_half, gets_all, delivered_now, then_gets, carried, carried_debt, after_receipt, receives, can_keep, comes}
+use Rattle.dna_play.specs.Receipt.{passing, on_unit, is_damage, damaged, heard}
+use Rattle.dna_play.specs.Play.{by_user, with_address, giving, timed, retrying, after_sending, sends_message, sends_choice, no_more, plays}
+use Rattle.dna_play.specs.KeptPlayed.{is_of_line}
+use Rattle.dna_links.proofs.Tables.Outcomes.{looked}
+use Rattle.dna_play.proofs.Played.Order.{InOrder, AreUps, now_ups, quiet}
+use Rattle.dna_play.proofs.Played.Steps.{PlayHalf}
+
+-- ---- what is owed
+
+changed_counted : (n : ℕ) (change : LinkOwed → LinkOwed) (owed : LinksOwed) → length (changed n change owed).links ≡ length owed.links
+changed_counted n change owed = go (slice_get owed.links n)
+  where
+    go : (o : Option LinkOwed) → length (changed_at n change o owed.links) ≡ length owed.links
+    go None = refl
+    go (Some first) = length-set owed.links n (change first)
+
+debt_counted : (debt : LinkDebt) (owed : LinksOwed) → length (with_debt debt owed).links ≡ length owed.links
+debt_counted NoDebt owed = refl
+debt_counted (Owes number turn) owed = changed_counted number _ owed
+debt_counted (OwesConfirm confirm) owed = refl
+
+choice_counted : (c : LinkChoice) (owed : LinksOwed) → length (after_link_choice c owed).links ≡ length owed.links
+choice_counted (Confirms confirm) owed = refl
+choice_counted (OfLink number turn) owed = changed_counted number (without_turn turn) owed
+
+-- what is added leaves the node, its addresses and the count of what its links owe as they are; so many units pass
+pub record Adds (more : End → End) (units : ℕ) : Type 0 where
+  pub half : (e : End) → (more e).half ≡ e.half
+  pub addresses : (e : End) → (more e).addresses ≡ e.addresses
+  pub owed : (e : End) → length (more e).links_owed.links ≡ length e.links_owed.links
+  pub passed : (e : End) → (more e).passed ≡ e.passed + units
+
+-- what changes nothing but what the station owes
+abbrev OwesOnly : (End → End) → Type 0
+OwesOnly more = (e : End) → more e ≡ record e { owed = (more e).owed }
+
+adds_owed : (more : End → End) → OwesOnly more → Adds more 0
+adds_owed more only = record {
+  half = λ e. subst (λ (x : End). x.half ≡ e.half) (back e) refl;
+  addresses = λ e. subst (λ (x : End). x.addresses ≡ e.addresses) (back e) refl;
+  owed = λ e. subst (λ (x : End). length x.links_owed.links ≡ length e.links_owed.links) (back e) refl;
+  passed = λ e. subst (λ (x : End). x.passed ≡ e.passed + 0) (back e) (omega arith);
+}
+  where
+    back : (e : End) → record e { owed = (more e).owed } ≡ more e
+    back e = sym (only e)
+
+adds_link_debt : (debt : LinkDebt) → Adds (links_owing_more debt) 0
+adds_link_debt debt = record {
+  half = λ e. refl;
+  addresses = λ e. refl;
+  owed = λ e. debt_counted debt e.links_owed;
+  passed = λ e. omega arith;
+}
+
+adds_sending : (next : Choice) → Adds (after_sending next) 0
+adds_sending (SendNew message) = record {
+  half = λ e. refl;
+  addresses = λ e. refl;
+  owed = λ e. choice_counted message e.links_owed;
+  passed = λ e. omega arith;
+}
+adds_sending next = adds_owed (after_sending next) (λ e. refl)
+
+adds_receipt : (before : End) (read : ReadingValue) (kept : Bool) → Adds (after_receipt before read kept) 1
+adds_receipt before read kept = record {
+  half = λ e. refl;
+  addresses = λ e. refl;
+  owed = λ e. debt_counted (carried_debt (links_of before.half) (carried kept read)) e.links_owed;
+  passed = λ e. refl;
+}
+
+-- ---- the ways to come about
+
+-- how many units a step takes off the line
+abbrev pub off_line : StepValue → ℕ
+off_line step = if is_of_line step then 1 else 0
+
+-- so many units of the other end were there to pass
+abbrev pub WereSent : (own : End) (other : PlayHalf) (units : ℕ) → Type 0
+WereSent own other units = own.passed ≤ length other.sent → own.passed + units ≤ length other.sent
+
+-- the record is made of the end as it was, but for the address that it may give
+pub record Begins (own : End) (starts : ℕ) (e : End) (r : Record) : Type 0 where
+  pub half : e.half ≡ own.half
+  pub passed : e.passed ≡ own.passed
+  pub order : InOrder own.addresses starts (r ∷ []) e.addresses
+
+-- a step that starts its end so often, and takes so many units off the line, leaves this: without a record, by one record, or by one with deliveries
+pub data Comes (own : End) (other : PlayHalf) (starts units : ℕ) : Stepped → Type 0 where
+  Silent : (more : End → End) → Adds more units → WereSent own other units → starts ≡ 0 →
+      Comes own other starts units (record { end = more own; records = [] })
+  Makes : (e : End) (r : Record) (more : End → End) (half : PlayHalf) → Begins own starts e r → Adds more units → WereSent own other units →
+      makes own.half other r ≡ Some half → Comes own other starts units (record { end = more (after_record e half); records = r ∷ [] })
+  Delivers : (so_far : Stepped) (address : ℕ) (message : List ℕ) (half : PlayHalf) → Comes own other starts units so_far →
+      makes so_far.end.half other (User (events.Up address message)) ≡ Some half → Comes own other starts units
+      (record { end = after_record so_far.end half; records = so_far.records ++ User (events.Up address message) ∷ [] })
+
+-- this holds of what is left, if anything is made
+abbrev pub AllOf : (Stepped → Type 0) → Result Stepped Stop → Type 0
+AllOf P (Ok stepped) = P stepped
+AllOf P (Err stop) = Unit {0}
+
+pub each : {P Q : Stepped → Type 0} → ((stepped : Stepped) → P stepped → Q stepped) → (result : Result Stepped Stop) → AllOf P result → AllOf Q result
+each more (Ok stepped) p = more stepped p
+each more (Err stop) p = tt
+
+-- ---- the walk
+
+module _ (own : End) (other : PlayHalf) (starts units : ℕ) where
+  abbrev Come : Result Stepped Stop → Type 0
+  Come = AllOf (Comes own other starts units)
+
+  made_comes : (e : End) (r : Record) (more : End → End) → Begins own starts e r → Adds more units → WereSent own other units →
+      (o : Option PlayHalf) → makes own.half other r ≡ o → Come (made e r more o)
+  made_comes e r more begins adds sent None is = tt
+  made_comes e r more begins adds sent (Some half) is = Makes e r more half begins adds sent is
+
+  got_comes : (address : ℕ) (message : List ℕ) (later : List Event) (so_far : Stepped) → Comes own other starts units so_far →
+      ((next : Stepped) → Comes own other starts units next → Come (gets_all later other next)) →
+      (o : Option PlayHalf) → makes so_far.end.half other (User (events.Up address message)) ≡ o →
+      Come (with_half o (λ half. gets_all later other
+      (record { end = after_record so_far.end half; records = so_far.records ++ User (events.Up address message) ∷ [] })))
+  got_comes address message later so_far c all None is = tt
+  got_comes address message later so_far c all (Some half) is =
+      all (record { end = after_record so_far.end half; records = so_far.records ++ User (events.Up address message) ∷ [] })
+      (Delivers so_far address message half c is)
+
+  gets_comes : (list : List Event) → AreUps list → (so_far : Stepped) → Comes own other starts units so_far → Come (gets_all list other so_far)
+  gets_comes [] ups so_far c = c
+  gets_comes (events.Up address message ∷ later) ups so_far c =
+      got_comes address message later so_far c (gets_comes later ups) (makes so_far.end.half other (User (events.Up address message))) refl
+  gets_comes (event ∷ later) ups so_far c = absurd ups
+
+  then_comes : (message : Option NspValue) (result : Result Stepped Stop) → Come result → Come (then_gets other message result)
+  then_comes message (Err stop) c = tt
+  then_comes message (Ok so_far) c =
+      gets_comes (delivered_now (links_of so_far.end.half) message) (now_ups (links_of so_far.end.half) message) so_far c
+
+  link_comes : (test : LinkTest) (next : ℕ → LinkOf TrueFlow → Result Stepped Stop) →
+      ((number : ℕ) (link : LinkOf TrueFlow) → Come (next number link)) → Come (with_link test (links_of own.half) (Err BadStep) next)
+  link_comes test next all =
+      looked test (links_of own.half) (Err BadStep) next (with_link test (links_of own.half) (Err BadStep) next) refl
+      (λ none e. subst Come e tt) (λ number link found e. subst Come e (all number link))
+
+module _ (own : End) (other : PlayHalf) where
+  -- ---- nothing passes
+
+  none_sent : WereSent own other 0
+  none_sent few = omega arith
+
+  user_comes : (starts : ℕ) (event : Event) (more : End → End) → InOrder own.addresses starts (User event ∷ []) own.addresses → Adds more 0 →
+      AllOf (Comes own other starts 0) (by_user own other event more)
+  user_comes starts event more order adds = made_comes own other starts 0 own (User event) more (record { half = refl; passed = refl; order = order })
+      adds none_sent (makes own.half other (User event)) refl
+
+  given_comes : (debt : LinkDebt) (event : ℕ → Event) → InOrder own.addresses 0 (User (event (own.addresses + 1)) ∷ []) (own.addresses + 1) →
+      AllOf (Comes own other 0 0) (giving own (λ end address. by_user end other (event address) (links_owing_more debt)))
+  given_comes debt event order = go (nat_lt own.addresses MAX_LINK)
+    where
+      r : Record
+      r = User (event (own.addresses + 1))
+
+      go : (b : Bool) → AllOf (Comes own other 0 0) (cond b (by_user (with_address own (own.addresses + 1)) other (event (own.addresses + 1))
+          (links_owing_more debt)) (Err Full))
+      go true = made_comes own other 0 0 (with_address own (own.addresses + 1)) r (links_owing_more debt)
+          (record { half = refl; passed = refl; order = order }) (adds_link_debt debt) none_sent (makes own.half other r) refl
+      go false = tt
+
+  message_comes : (next : Choice) (o : Option MessageValue) → AllOf (Comes own other 0 0) (sends_message own other next o)
+  message_comes next None = tt
+  message_comes next (Some m) = let r = Sent (spelling m) in made_comes own other 0 0 own r (after_sending next)
+      (record { half = refl; passed = refl; order = quiet own r refl refl }) (adds_sending next) none_sent (makes own.half other r) refl
+
+  choice_comes : (o : Option Choice) → AllOf (Comes own other 0 0) (sends_choice own other o)
+  choice_comes None = tt
+  choice_comes (Some next) = message_comes next (message_of next own.half.state.head (variables_of own.half) (link_ends_of own))
+
+  timed_comes : (o : Option Debt) → AllOf (Comes own other 0 0) (timed own o)
+  timed_comes None = tt
+  timed_comes (Some debt) = Silent (owing_more (Some debt)) (adds_owed (owing_more (Some debt)) (λ e. refl)) none_sent refl
+
+  retrying_comes : (number : ℕ) (o : Option (LinkOwed → LinkOwed)) → AllOf (Comes own other 0 0) (retrying own number o)
+  retrying_comes number None = tt
+  retrying_comes number (Some change) = Silent (λ e. record e { links_owed = changed number change e.links_owed }) (record {
+    half = λ e. refl;
+    addresses = λ e. refl;
+    owed = λ e. changed_counted number change e.links_owed;
+    passed = λ e. omega arith;
+  }) none_sent refl
+
+  -- ---- a unit passes
+
+  receives_comes : WereSent own other 1 → (bytes : List ℕ) (read : ReadingValue) (kept : Bool) →
+      AllOf (Comes own other 0 1) (receives own other bytes read kept)
+  receives_comes sent bytes read kept = let r = Received own.passed kept bytes in
+      then_comes own other 0 1 (carried kept read) _ (made_comes own other 0 1 own r (after_receipt own read kept)
+      (record { half = refl; passed = refl; order = quiet own r refl refl }) (adds_receipt own read kept) sent (makes own.half other r) refl)
+
+  unit_comes : (next : List ℕ → Result Stepped Stop) → (WereSent own other 1 → (bytes : List ℕ) → AllOf (Comes own other 0 1) (next bytes)) →
+      (o : Option LayersUnit) → slice_get other.sent own.passed ≡ o → AllOf (Comes own other 0 1) (on_unit o next)
+  unit_comes next all None e = tt
+  unit_comes next all (Some unit) e = let l = slice_get_within other.sent own.passed unit e in all (λ few. omega arith) unit.bytes
+
+  damage_comes : WereSent own other 1 → (b : Bool) (bytes : List ℕ) → AllOf (Comes own other 0 1) (cond b (comes own other true bytes) (Err BadStep))
+  damage_comes sent true bytes = receives_comes sent bytes (reading bytes) (can_keep own (reading bytes))
+  damage_comes sent false bytes = tt
+
+  -- ---- the steps
+
+  pub plays_comes : (step : StepValue) → AllOf (Comes own other (starts_now step) (off_line step)) (plays own other step)
+  unfolding plays
+  plays_comes Start = user_comes 1 events.Start (owing_more (Some OwesStrt)) (record { counted = refl; rise = tt; top = refl })
+      (adds_owed (owing_more (Some OwesStrt)) (λ e. refl))
+  plays_comes Halt = user_comes 0 events.Halt no_more (record { counted = refl; rise = tt; top = refl }) (adds_owed no_more (λ e. refl))
+  plays_comes Timer = timed_comes (timer_debt (variables_of own.half).state (variables_of own.half))
+  plays_comes Send = choice_comes (choice (variables_of own.half) own.owed (link_choice own.links_owed.confirms (link_ends_of own)))
+  plays_comes Deliver = unit_comes (λ bytes. comes own other true bytes)
+      (λ sent bytes. receives_comes sent bytes (reading bytes) (can_keep own (reading bytes))) (slice_get other.sent own.passed) refl
+  plays_comes Refuse = unit_comes (λ bytes. comes own other false bytes)
+      (λ sent bytes. receives_comes sent bytes (reading bytes) false) (slice_get other.sent own.passed) refl
+  plays_comes Lose = unit_comes (λ bytes. silent (passing own)) (λ sent bytes. Silent passing
+      (record { half = λ e. refl; addresses = λ e. refl; owed = λ e. refl; passed = λ e. refl }) sent refl) (slice_get other.sent own.passed) refl
+  plays_comes (Damage place value) =
+      unit_comes (λ bytes. cond (is_damage place value bytes) (comes own other true (damaged place value bytes)) (Err BadStep))
+      (λ sent bytes. damage_comes sent (is_damage place value bytes) (damaged place value bytes)) (slice_get other.sent own.passed) refl
+  plays_comes (Noise bytes) = let r = recorded.Noise bytes in made_comes own other 0 0 own r (heard own (reading bytes))
+      (record { half = refl; passed = refl; order = quiet own r refl refl }) (adds_owed (heard own (reading bytes)) (λ e. refl)) none_sent
+      (makes own.half other r) refl
+  plays_comes Open = given_comes (Owes (length (links_of own.half).links) InitiateTurn) (λ address. events.Open address)
+      (record { counted = refl; rise = (omega arith, tt); top = refl })
+  plays_comes (Accept partner) = link_comes own other 0 0 (CalledBy partner)
+      (λ number link. giving own (λ end address. by_user end other (events.Accept partner address) (links_owing_more (Owes number ConfirmTurn))))
+      (λ number link. given_comes (Owes number ConfirmTurn) (λ address. events.Accept partner address)
+      (record { counted = refl; rise = (omega arith, tt); top = refl }))
+  plays_comes (Reject partner) = link_comes own other 0 0 (CalledBy partner)
+      (λ number link. giving own (λ end address. by_user end other (events.Reject partner address) (links_owing_more (Owes number DisconnectTurn))))
+      (λ number link. given_comes (Owes number DisconnectTurn) (λ address. events.Reject partner address)
+      (record { counted = refl; rise = (omega arith, tt); top = refl }))
+  plays_comes (In link message) =
+      user_comes 0 (events.In link message) no_more (record { counted = refl; rise = (tt, tt); top = refl }) (adds_owed no_more (λ e. refl))
+  plays_comes (Close link) = link_comes own other 0 0 (LiveAt link)
+      (λ number found. by_user own other (events.Close link) (links_owing_more (Owes number DisconnectTurn)))
+      (λ number found. user_comes 0 (events.Close link) (links_owing_more (Owes number DisconnectTurn))
+      (record { counted = refl; rise = (tt, tt); top = refl }) (adds_link_debt (Owes number DisconnectTurn)))
+  plays_comes (Retry link) = link_comes own other 0 0 (LiveAt link) (λ number found. retrying own number (retried found.port.phase))
+      (λ number found. retrying_comes number (retried found.port.phase))

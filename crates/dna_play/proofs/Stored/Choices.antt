@@ -1,0 +1,175 @@
+-- What an end of the player chooses to send, of all its links and of those that live: the same message, of the link at its place among those.
+use Rattle.std.proofs.Common.{◌≡◌, ℕ, suc, ◌+◌, Bool, true, false, cond, nat_lt, Option, Some, None, option_map, List, [], ◌∷◌, length, refl, sym, ap}
+use Rattle.std.proofs.Common.{◌∙◌, arith}
+use Rattle.std.specs.Prelude.{slice_get}
+use Rattle.ddcmp_msg.specs.declared.nak_reason.NakReason.{NakReason}
+use Rattle.ddcmp_msg.specs.declared.nak_reason.NakReason.TheVariants.{HeaderCheck, DataCheck, RepResponse, NoBuffer}
+use Rattle.dna_station.specs.declared.head.Head.{Head}
+use Rattle.dna_station.specs.declared.state.State.{State}
+use Rattle.dna_station.specs.declared.state.State.TheVariants.{Halted, Istrt, Astrt, Running}
+use Rattle.dna_links.specs.LookUps.{is_live}
+use Rattle.dna_station.specs.Table.{WINDOW}
+use Rattle.dna_station.specs.WireStation.{StationVariables}
+use Rattle.dna_station.specs.WireBook.{wire_is_new}
+use Rattle.dna_play.specs.Owed.{Owed}
+use Rattle.dna_play.specs.LinkOwed.{EndConfirm, Turn}
+use Rattle.dna_play.specs.NextSent.{LinkEnd, LinkChoice, Confirms, OfLink, turn_of, turn_or_next, first_turn, link_choice}
+use Rattle.dna_play.specs.NextSent.{Choice, SendStrt, SendStack, SendNak, SendRep, SendAgain, SendNew, SendAck, when, or_else, lowest_nak, new_packet}
+use Rattle.dna_play.specs.NextSent.{data_choice, choice_in, choice}
+use Rattle.dna_play.specs.Compose.{new_data, message_at, link_message, message_of}
+use Rattle.dna_play.specs.Kept.{live_ends}
+use Rattle.dna_play.proofs.Stored.LiveLists.{place_in, filter_get}
+
+abbrev pub lives : LinkEnd → Bool
+lives l = is_live l.port.phase
+
+-- a link that has ended has nothing to send
+abbrev pub NoneOfEnded : List LinkEnd → Type 0
+NoneOfEnded ends = (i : ℕ) (e : LinkEnd) (turn : Turn) → slice_get ends i ≡ Some e → turn_of e ≡ Some turn → lives e ≡ true
+
+-- ---- the first link that has a turn
+
+-- of all, and of those that live, where these are counted from
+pub data SameTurn (ends : List LinkEnd) (from kept_from : ℕ) (all live : Option LinkChoice) : Type 0 where
+  NoTurn : all ≡ None → live ≡ None → SameTurn ends from kept_from all live
+  OneTurn : (n : ℕ) (e : LinkEnd) (turn : Turn) → slice_get ends n ≡ Some e → turn_of e ≡ Some turn → all ≡ Some (OfLink (from + n) turn) →
+      live ≡ Some (OfLink (kept_from + place_in lives n ends) turn) → SameTurn ends from kept_from all live
+
+no_further : (from : ℕ) → from ≡ from + 0
+no_further from = omega arith
+
+one_further : (from n : ℕ) → from + 1 + n ≡ from + suc n
+one_further from n = omega arith
+
+same_turn : (ends : List LinkEnd) (from kept_from : ℕ) → NoneOfEnded ends →
+    SameTurn ends from kept_from (first_turn from ends) (first_turn kept_from (live_ends ends))
+same_turn [] from kept_from ended = NoTurn refl refl
+same_turn (first ∷ ends) from kept_from ended =
+    go (turn_of first) refl (lives first) refl (same_turn ends (from + 1) (kept_from + 1) (λ i. ended (suc i)))
+    (same_turn ends (from + 1) kept_from (λ i. ended (suc i)))
+  where
+    -- one that lives, and has none
+    behind : turn_of first ≡ None → lives first ≡ true →
+        SameTurn ends (from + 1) (kept_from + 1) (first_turn (from + 1) ends) (first_turn (kept_from + 1) (live_ends ends)) →
+        SameTurn (first ∷ ends) from kept_from (first_turn (from + 1) ends) (first_turn kept_from (first ∷ live_ends ends))
+    behind none live (NoTurn all kept) =
+        NoTurn all (ap (λ (o : Option Turn). turn_or_next kept_from o (first_turn (kept_from + 1) (live_ends ends))) none ∙ kept)
+    behind none live (OneTurn n e turn there has all kept) =
+        OneTurn (suc n) e turn there has (all ∙ ap (λ (k : ℕ). Some (OfLink k turn)) (one_further from n))
+        (ap (λ (o : Option Turn). turn_or_next kept_from o (first_turn (kept_from + 1) (live_ends ends))) none ∙ kept
+        ∙ ap (λ (k : ℕ). Some (OfLink k turn)) (one_further kept_from (place_in lives n ends))
+        ∙ ap (λ (b : Bool). Some (OfLink (kept_from + cond b (suc (place_in lives n ends)) (place_in lives n ends)) turn)) (sym live))
+
+    -- one that has ended
+    beside : lives first ≡ false → SameTurn ends (from + 1) kept_from (first_turn (from + 1) ends) (first_turn kept_from (live_ends ends)) →
+        SameTurn (first ∷ ends) from kept_from (first_turn (from + 1) ends) (first_turn kept_from (live_ends ends))
+    beside over (NoTurn all kept) = NoTurn all kept
+    beside over (OneTurn n e turn there has all kept) =
+        OneTurn (suc n) e turn there has (all ∙ ap (λ (k : ℕ). Some (OfLink k turn)) (one_further from n))
+        (kept ∙ ap (λ (b : Bool). Some (OfLink (kept_from + cond b (suc (place_in lives n ends)) (place_in lives n ends)) turn)) (sym over))
+
+    go : (o : Option Turn) → turn_of first ≡ o → (b : Bool) → lives first ≡ b →
+        SameTurn ends (from + 1) (kept_from + 1) (first_turn (from + 1) ends) (first_turn (kept_from + 1) (live_ends ends)) →
+        SameTurn ends (from + 1) kept_from (first_turn (from + 1) ends) (first_turn kept_from (live_ends ends)) →
+        SameTurn (first ∷ ends) from kept_from (turn_or_next from o (first_turn (from + 1) ends))
+        (first_turn kept_from (cond b (first ∷ live_ends ends) (live_ends ends)))
+    go (Some turn) is true live with_it without = OneTurn 0 first turn refl is (ap (λ (k : ℕ). Some (OfLink k turn)) (no_further from))
+        (ap (λ (o : Option Turn). turn_or_next kept_from o (first_turn (kept_from + 1) (live_ends ends))) is
+        ∙ ap (λ (k : ℕ). Some (OfLink k turn)) (no_further kept_from))
+    go (Some turn) is false over with_it without = absurd (never (ended 0 first turn refl is) over)
+      where
+        never : lives first ≡ true → lives first ≡ false → ⊥
+        never live over = cc
+    go None is true live with_it without = behind is live with_it
+    go None is false over with_it without = beside over without
+
+-- ---- the message of the links that is chosen
+
+-- the same, of the link at its place among those that live
+abbrev pub among_live : List LinkEnd → LinkChoice → LinkChoice
+among_live ends (Confirms confirm) = Confirms confirm
+among_live ends (OfLink number turn) = OfLink (place_in lives number ends) turn
+
+pub link_choice_live : (confirms : List EndConfirm) (ends : List LinkEnd) → NoneOfEnded ends →
+    link_choice confirms (live_ends ends) ≡ option_map (among_live ends) (link_choice confirms ends)
+link_choice_live (confirm ∷ later) ends ended = refl
+link_choice_live [] ends ended = go (same_turn ends 0 0 ended)
+  where
+    from_zero : (n : ℕ) → 0 + n ≡ n
+    from_zero n = omega arith
+
+    go : SameTurn ends 0 0 (first_turn 0 ends) (first_turn 0 (live_ends ends)) →
+        first_turn 0 (live_ends ends) ≡ option_map (among_live ends) (first_turn 0 ends)
+    go (NoTurn all kept) = kept ∙ sym (ap (option_map (among_live ends)) all)
+    go (OneTurn n e turn there has all kept) =
+        kept ∙ ap (λ (k : ℕ). Some (OfLink k turn)) (from_zero (place_in lives n ends))
+        ∙ sym (ap (option_map (among_live ends)) (all ∙ ap (λ (k : ℕ). Some (OfLink k turn)) (from_zero n)))
+
+-- ---- what is chosen
+
+abbrev pub kept_choice : List LinkEnd → Choice → Choice
+kept_choice ends (SendNew message) = SendNew (among_live ends message)
+kept_choice ends c = c
+
+module _ (ends : List LinkEnd) where
+  abbrev kept_of : Option Choice → Option Choice
+  kept_of o = option_map (kept_choice ends) o
+
+  when_same : (b : Bool) (c : Choice) → kept_choice ends c ≡ c → when b c ≡ kept_of (when b c)
+  when_same true c same = ap Some (sym same)
+  when_same false c same = refl
+
+  else_same : (first first' next next' : Option Choice) → first' ≡ kept_of first → next' ≡ kept_of next →
+      or_else first' next' ≡ kept_of (or_else first next)
+  else_same None first' next next' e f = ap (λ (o : Option Choice). or_else o next') e ∙ f
+  else_same (Some c) first' next next' e f = ap (λ (o : Option Choice). or_else o next') e
+
+  one_nak : (b : Bool) (reason : NakReason) (rest : Option Choice) → rest ≡ kept_of rest →
+      cond b (Some (SendNak reason)) rest ≡ kept_of (cond b (Some (SendNak reason)) rest)
+  one_nak true reason rest e = refl
+  one_nak false reason rest e = e
+
+  nak_same : (owed : Owed) → lowest_nak owed ≡ kept_of (lowest_nak owed)
+  nak_same owed = one_nak owed.header_check HeaderCheck _
+      (one_nak owed.data_check DataCheck _ (one_nak owed.rep_response RepResponse _ (one_nak owed.no_buffer NoBuffer None refl)))
+
+  data_same : (new room : Bool) (o : Option LinkChoice) →
+      cond new (cond room (new_packet (option_map (among_live ends) o)) None) (Some SendAgain)
+      ≡ kept_of (cond new (cond room (new_packet o) None) (Some SendAgain))
+  data_same true true None = refl
+  data_same true true (Some message) = refl
+  data_same true false o = refl
+  data_same false room o = refl
+
+  module _ {L : Type 0} (k : StationVariables L) (owed : Owed) (o : Option LinkChoice) where
+    in_state : (state : State) → choice_in state k owed (option_map (among_live ends) o) ≡ kept_of (choice_in state k owed o)
+    in_state Halted = refl
+    in_state Istrt = when_same owed.strt SendStrt refl
+    in_state Astrt = when_same owed.stack SendStack refl
+    in_state Running =
+        else_same (lowest_nak owed) (lowest_nak owed) _ _ (nak_same owed)
+        (else_same (when owed.rep SendRep) (when owed.rep SendRep) _ _ (when_same owed.rep SendRep refl)
+        (else_same (data_choice k o) (data_choice k (option_map (among_live ends) o)) (when owed.ack SendAck) (when owed.ack SendAck)
+        (data_same (wire_is_new k) (nat_lt (length k.held) WINDOW) o) (when_same owed.ack SendAck refl)))
+
+    pub choice_live : choice k owed (option_map (among_live ends) o) ≡ kept_of (choice k owed o)
+    choice_live = in_state k.state
+
+-- ---- its message
+
+-- a link that is named lives
+abbrev pub NamesLive : List LinkEnd → LinkChoice → Type 0
+NamesLive ends (Confirms confirm) = Unit {0}
+NamesLive ends (OfLink number turn) = (e : LinkEnd) × (slice_get ends number ≡ Some e) × (lives e ≡ true)
+
+pub link_message_live : (ends : List LinkEnd) (c : LinkChoice) → NamesLive ends c → link_message (among_live ends c) (live_ends ends) ≡ link_message c
+    ends
+link_message_live ends (Confirms confirm) named = refl
+link_message_live ends (OfLink number turn) named =
+    ap (λ (o : Option LinkEnd). message_at o turn) (filter_get lives ends number named.0 named.1 named.2 ∙ sym named.1)
+
+pub message_live : (ends : List LinkEnd) (c : Choice) → ((one : LinkChoice) → c ≡ SendNew one → NamesLive ends one) →
+    (head : Head) (k : StationVariables (Unit {0})) →
+    message_of (kept_choice ends c) head k (live_ends ends) ≡ message_of c head k ends
+message_live ends (SendNew one) named head k = ap (new_data k head) (link_message_live ends one (named one refl))
+message_live ends c named head k = refl

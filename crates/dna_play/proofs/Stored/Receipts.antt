@@ -1,0 +1,289 @@
+-- What comes to an end of the player is the same of what its node keeps: a unit as it was sent, with a buffer or without one, or damaged; with what
+-- its user gets then.
+use Rattle.std.proofs.Common.{◌≡◌, ℕ, ◌+◌, Bool, true, false, ◌&&◌, cond, Option, Some, None, List, [], ◌∷◌, length, drop, Result, Ok, Err, refl, sym}
+use Rattle.std.proofs.Common.{ap, ap₂, ◌∙◌, subst, le-leb, ◌⊎◌, inl, inr}
+use Rattle.std.specs.Prelude.{slice_get}
+use Rattle.two_nodes.specs.Nodes.{Made, advance}
+use Rattle.ddcmp_msg.specs.Reading.{ReadingValue, reading}
+use Rattle.ddcmp_msg.specs.Reading as read_as
+use Rattle.dna_packet.specs.Nsp.{NspValue}
+use Rattle.capture.specs.declared.limit.TheConstants.{MAX_HINT}
+use Rattle.capture.specs.declared.record.Record.{Record}
+use Rattle.capture.specs.declared.record.Record.TheVariants.{Received}
+use Rattle.dna_station.specs.declared.refusal.StepRefusal.{StepRefusal}
+use Rattle.dna_station.specs.declared.refusal.StationRefusal.TheVariants.{CrossedPeriod}
+use Rattle.dna_node.specs.Rules.{judged}
+use Rattle.dna_station.specs.Book.{ArrivalValue, Sound, HeaderBad, DataBad, body_of, keep_refusal}
+use Rattle.dna_station.specs.Bounds.{IsWithin}
+use Rattle.dna_station.specs.Station.{Station}
+use Rattle.dna_station.specs.StationBook.{arrival_refusal, after_arrival}
+use Rattle.dna_station.specs.WireStation.{StationVariables}
+use Rattle.dna_station.specs.WireNode.{unlabelled}
+use Rattle.dna_links.specs.Links.{LinkOf, Carried}
+use Rattle.dna_links.specs.Arriving.{of_anyone}
+use Rattle.dna_links.specs.TrueFlow.{TrueFlow}
+use Rattle.dna_links.specs.TrueLinks.{Links, links_arrived}
+use Rattle.dna_links.specs.CutFlow.{IsOrdered}
+use Rattle.dna_links.specs.Runs.{SentMessage}
+use Rattle.dna_node.specs.Content.{content}
+use Rattle.dna_node.specs.LayersPair.{side_of}
+use Rattle.dna_node.specs.Layers.{LayersTruth, LayersUnit}
+use Rattle.dna_play.specs.Owed.{Debt, arrival_debt, can_take, with_debt}
+use Rattle.dna_play.specs.Script.{Deliver, Refuse, Damage}
+use Rattle.dna_play.specs.Player.{End, by_bytes, end_step, makes, links_of, station_of, after_record}
+use Rattle.dna_play.specs.Player as player
+use Rattle.dna_play.specs.Stepped.{Stop, BadStep, Stepped, made}
+use Rattle.dna_play.specs.Receipt.{carried_in, carried, after_receipt, then_gets, on_unit, is_damage, damaged}
+use Rattle.dna_play.specs.Receipt as receiving
+use Rattle.dna_play.specs.Play.{plays}
+use Rattle.dna_play.specs.Kept.{KeptStation, KeptLinks, kept}
+use Rattle.dna_play.specs.KeptStation as of_station
+use Rattle.dna_play.specs.KeptLinks.{Delivering}
+use Rattle.dna_play.specs.KeptPlay.{KeptStepped, kept_plays, arrived, up_address, ups, all_short, came_as}
+use Rattle.dna_play.specs.KeptPlay as keeping
+use Rattle.dna_play.specs.KeptRun.{bytes_of, kept_stepped, IsKept}
+use Rattle.dna_station.proofs.Cut.Arriving.{arrival_refusal_same}
+use Rattle.dna_station.proofs.Bounds.Numbers.{is_data}
+use Rattle.dna_node.proofs.LayersRead.{packet_in}
+use Rattle.dna_node.proofs.OnTop.{IsMet, NotKept, KeptNone, KeptOne}
+use Rattle.dna_links.proofs.Tables.Outcomes.{checked}
+use Rattle.dna_play.proofs.Once.AddressRuns.{anyone_same}
+use Rattle.dna_play.proofs.Played.Steps.{PlayHalf, Nothing, First}
+use Rattle.dna_play.proofs.Played.Order.{quiet}
+use Rattle.dna_play.proofs.Played.Facts.{Facts}
+use Rattle.dna_play.proofs.Once.Checked.{meets_it}
+use Rattle.dna_play.proofs.Ends.DamagedUnits.{Damaged, damage_is_seen}
+use Rattle.dna_play.proofs.Ends.ReceiptMakes.{came_left, header_made, data_made, taken_is_data, within, unit_made}
+use Rattle.dna_play.proofs.Ends.ReceiptStage.{unit_stage}
+use Rattle.dna_play.proofs.Ends.StationStage.{cut_of, left_owed}
+use Rattle.dna_play.proofs.Ends.Stage.{Stage}
+use Rattle.dna_play.proofs.Ends.ComesStage.{from_here, can_be, are_bytes_of}
+use Rattle.dna_play.proofs.Ends.ComesMade.{made_is, unit_line, damaged_line}
+use Rattle.dna_play.proofs.Ends.StepStages.{facts_now}
+use Rattle.dna_play.proofs.Stored.Timers.{none_behind, kept_on, next_on_line}
+use Rattle.dna_play.proofs.Stored.LiveLinks.{record_same}
+use Rattle.dna_play.proofs.Stored.Now.{KeptNow}
+use Rattle.dna_play.proofs.Stored.Stations.{station_with, sound_came, header_bad_came, data_bad_came, can_keep_same}
+use Rattle.dna_play.proofs.Stored.Segments.{left_half, left_end, Got, nothing_got, message_got}
+
+module _ (own other : End) (now : KeptNow own other) where
+  abbrev s : Links
+  s = links_of own.half
+
+  abbrev station : Station
+  station = station_of own.half
+
+  abbrev k : StationVariables (Unit {0})
+  k = player.variables_of own.half
+
+  abbrev live : KeptLinks
+  live = (kept own).links
+
+  facts : Facts own other
+  facts = facts_now own other now.stage now.theirs now.later
+
+  ordered : (i : ℕ) (l : LinkOf TrueFlow) → slice_get s.links i ≡ Some l → IsOrdered l.flow
+  ordered i l at = (facts.known.numbers i l at).0
+
+  -- ---- a receipt that is made, with what the user gets
+
+  module _ (bytes : List ℕ) (read : ReadingValue) (is_kept : Bool) where
+    abbrev r : Record
+    r = Received own.passed is_kept bytes
+
+    abbrev debt : Option Debt
+    debt = arrival_debt k read is_kept
+
+    abbrev step : Delivering → KeptStation → KeptLinks → List (List ℕ) → Result KeptStepped Stop
+    step d after links units = Ok (record {
+      end = record (kept own) { station = after; links = links; passed = own.passed + 1 };
+      sent = units;
+      records = r ∷ ups (up_address (carried is_kept read)) d.messages;
+    })
+
+    made_kept : (left : Station) (links : Links) → makes own.half other.half r ≡ Some (left_half own left links) →
+        station_with (cut_of left).variables (with_debt debt (left_owed station left own.owed)) ≡ of_station.after_arrival read is_kept
+        (kept own).station →
+        Got own other.half now.counted ordered (r ∷ []) left debt (left_end own left debt (carried is_kept read) links) (carried is_kept read) →
+        kept_stepped own (receiving.receives own other.half bytes read is_kept) ≡ keeping.receives (kept own) bytes read is_kept
+    made_kept left links makes_it after got =
+        let delivering = arrived (carried is_kept read) live in
+        ap (λ (o : Option PlayHalf). kept_stepped own (then_gets other.half (carried is_kept read) (made own r (after_receipt own read is_kept) o)))
+        makes_it
+        ∙ ap (kept_stepped own) got.gets
+        ∙ ap₂ (λ (x : KeptStation) (y : KeptLinks). step delivering x y (drop (length own.half.sent) (bytes_of own.half.sent))) after got.links
+        ∙ ap (step delivering (of_station.after_arrival read is_kept (kept own).station) delivering.links) (none_behind own.half.sent)
+        ∙ sym (ap (λ (b : Bool). cond b (step delivering (of_station.after_arrival read is_kept (kept own).station) delivering.links [])
+        (Err BadStep)) got.short)
+        ∙ sym (ap (λ (b : Bool). cond b
+        (came_as (kept own) r (of_station.after_arrival read is_kept (kept own).station) (up_address (carried is_kept read)) delivering)
+        (Err BadStep))
+        (le-leb own.passed MAX_HINT now.few))
+
+  -- ---- a unit that is on the line
+
+  module _ (unit : LayersUnit) (there : slice_get other.half.sent own.passed ≡ Some unit) where
+    abbrev from : is_data unit.message ≡ true → (u : SentMessage) → unit.known.carried ≡ Some u → (u.packet.src ≡ s.peer) × (u.packet.dst ≡ s.node)
+    from = from_here own other now.later now.stage now.theirs facts unit there
+
+    told : reading unit.bytes ≡ read_as.Sound unit.message
+    told = facts.reads own.passed unit there
+
+    is_within : IsWithin station unit.message unit.known.station
+    is_within = within own.half other.half own.passed unit there now.stage.ahead facts.known.ready facts.known.bounded
+        (from_here own other now.later now.stage now.theirs facts unit there)
+
+    -- the judge takes it too
+    judged_takes : can_take k unit.message ≡ true → arrival_refusal judged.periods station (Sound unit.message unit.known.station) true ≡ None
+    judged_takes can =
+        arrival_refusal_same (unlabelled {L = Unit {0}} station.packets) judged.periods station unit.message unit.known.station true (λ e. is_within)
+        ∙ ap₂ (λ (met takes : Bool). cond met (keep_refusal takes true) (Some CrossedPeriod))
+        (meets_it own.half other.half facts.known.ready own.passed unit there) can
+
+    abbrev sound : ArrivalValue LayersTruth
+    sound = Sound unit.message unit.known
+
+    abbrev left : Bool → Station
+    left is_kept = after_arrival station (Sound unit.message unit.known.station) is_kept
+
+    abbrev owes : Bool → Option Debt
+    owes is_kept = arrival_debt k (read_as.Sound unit.message) is_kept
+
+    abbrev first : Bool → List Record
+    first is_kept = Received own.passed is_kept unit.bytes ∷ []
+
+    abbrev GotOf : Bool → Option NspValue → Links → Type 0
+    GotOf is_kept message links = Got own other.half now.counted ordered (first is_kept) (left is_kept) (owes is_kept)
+        (left_end own (left is_kept) (owes is_kept) message links) message
+
+    nothing_of : (is_kept : Bool) → GotOf is_kept None s
+    nothing_of is_kept = nothing_got own other.half now.counted ordered (first is_kept) (left is_kept) (owes is_kept)
+        (left_end own (left is_kept) (owes is_kept) None s) None live refl refl (record_same s.links own.links_owed now.counted)
+
+    module _ (is_kept : Bool) (can : is_kept ≡ true → can_take k unit.message ≡ true) where
+      abbrev half_with : Links → PlayHalf
+      half_with links = came_left own.half other.half own.passed unit there now.stage.ahead sound is_kept links
+
+      met_as_read : is_kept ≡ true → content (body_of unit.message) ≡ Ok (packet_in unit.known.carried)
+      met_as_read e = facts.packets own.passed unit there (taken_is_data k unit.message (can e))
+
+      stage_left : (links : Links) → IsMet by_bytes s unit.known.carried is_kept links →
+          Stage (after_receipt own (read_as.Sound unit.message) is_kept (after_record own (half_with links)))
+      stage_left links met_as = subst (λ (r : ReadingValue). Stage (after_receipt own r is_kept (after_record own (half_with links)))) told
+          (unit_stage own other now.stage now.theirs facts.known unit there now.stage.ahead is_kept links
+          (λ e. taken_is_data k unit.message (can e)) told is_within met_as_read met_as)
+
+    one_got : (u : SentMessage) (links : Links) → unit.known.carried ≡ Some u → can_take k unit.message ≡ true →
+        links_arrived of_anyone s u.packet u.truth ≡ Ok links → Facts (after_record own (left_half own (left true) links)) other →
+        Stage (after_receipt own (read_as.Sound unit.message) true (after_record own (left_half own (left true) links))) →
+        GotOf true (Some u.packet.message) links
+    one_got u links is can does after stage =
+        let ready = facts.known.ready in
+        let at = ready.told.told own.passed unit there (taken_is_data k unit.message can) ∙ ap Some is in
+        let same = anyone_same (side_of own.half ready.front) (side_of other.half ready.of_other) ready.most ready.most_of_other ready.addressed
+        ready.other_addressed u (ready.other_addressed.told unit.known.station.place u at) in
+        message_got own other.half now.counted ordered (first true) (left true) (owes true) u.truth links u.packet.message
+        (facts.near own.passed unit there now.stage.ahead (judged_takes can) u is) (checked _ _ _ links (sym same ∙ does)).1
+        after.known.addressed.distinct (after.whole u.packet.message) stage.pays.rep
+
+    got_of : (is_kept : Bool) → (is_kept ≡ true → can_take k unit.message ≡ true) → (links : Links) →
+        IsMet by_bytes s unit.known.carried is_kept links →
+        Facts (after_record own (left_half own (left is_kept) links)) other →
+        (IsMet by_bytes s unit.known.carried is_kept links →
+        Stage (after_receipt own (read_as.Sound unit.message) is_kept (after_record own (left_half own (left is_kept) links)))) →
+        (is_kept ≡ true → content (body_of unit.message) ≡ Ok (packet_in unit.known.carried)) →
+        GotOf is_kept (carried is_kept (read_as.Sound unit.message)) links
+    got_of false can links NotKept after stage is_read = nothing_of false
+    got_of true can links (KeptNone is) after stage is_read =
+        let e = is_read refl ∙ ap (λ (o : Option SentMessage). Ok (packet_in o)) is in
+        subst (λ (r : Result (Option Carried) StepRefusal). GotOf true (carried_in r) s) (sym e) (nothing_of true)
+    got_of true can links (KeptOne u now_links is does) after stage is_read =
+        let e = is_read refl ∙ ap (λ (o : Option SentMessage). Ok (packet_in o)) is in
+        subst (λ (r : Result (Option Carried) StepRefusal). GotOf true (carried_in r) now_links) (sym e)
+        (one_got u now_links is (can refl) does after (stage (KeptOne u now_links is does)))
+
+    abbrev IsSame : Bool → ReadingValue → Type 0
+    IsSame is_kept read =
+        kept_stepped own (receiving.receives own other.half unit.bytes read is_kept) ≡ keeping.receives (kept own) unit.bytes read is_kept
+
+    unit_kept : (buffer : Bool) → kept_stepped own (receiving.comes own other.half buffer unit.bytes) ≡ keeping.comes (kept own) buffer unit.bytes
+    unit_kept buffer =
+        let is_kept = buffer && receiving.can_keep own (reading unit.bytes) in
+        let can = can_be own other now.later now.stage now.theirs facts unit there buffer in
+        let u = unit_made own.half other.half own.passed unit there now.stage.ahead facts.known.ready facts.known.bounded
+        (from_here own other now.later now.stage now.theirs facts unit there) is_kept can in
+        let line = unit_line own other now.stage now.theirs now.later facts now.few unit there is_kept in
+        let makes_it = made_is own.half other.half unit.bytes own.passed is_kept (left_half own (left is_kept) u.links) line u.makes_it in
+        let after = now.later (after_record own (left_half own (left is_kept) u.links)) (first is_kept) (First makes_it Nothing)
+        (quiet own (Received own.passed is_kept unit.bytes) refl refl) in
+        subst (IsSame is_kept) (sym told)
+        (made_kept unit.bytes (read_as.Sound unit.message) is_kept (left is_kept) u.links makes_it
+        (sound_came station own.owed facts.known.bounded.ordered unit.message unit.known.station is_kept is_within)
+        (got_of is_kept can u.links u.met_as after (stage_left is_kept can u.links) (met_as_read is_kept can)))
+        ∙ ap (λ (b : Bool). keeping.receives (kept own) unit.bytes (reading unit.bytes) (buffer && b)) (can_keep_same own (reading unit.bytes))
+
+    -- ---- it comes damaged
+
+    module _ (place value : ℕ) (is : is_damage place value unit.bytes ≡ true) where
+      abbrev hurt : List ℕ
+      hurt = damaged place value unit.bytes
+
+      differs : Damaged place value unit.bytes
+      differs = damage_is_seen unit.message unit.bytes place value (are_bytes_of own other now.later now.stage now.theirs facts unit there) told is
+
+      bad_kept : (read : ReadingValue) (arrival : ArrivalValue LayersTruth) (after : Station) → carried false read ≡ None →
+          advance end_step own.half other.half (Received own.passed false hurt) ≡ Made (left_half own after s) →
+          station_with (cut_of after).variables (with_debt (arrival_debt k read false) (left_owed station after own.owed)) ≡ of_station.after_arrival
+          read false (kept own).station →
+          kept_stepped own (receiving.receives own other.half hurt read false) ≡ keeping.receives (kept own) hurt read false
+      bad_kept read arrival after none makes_it same =
+          let line = damaged_line own other now.stage now.theirs now.later facts now.few unit there place value is in
+          made_kept hurt read false after s (made_is own.half other.half hurt own.passed false (left_half own after s) line makes_it) same
+          (nothing_got own other.half now.counted ordered (Received own.passed false hurt ∷ []) after (arrival_debt k read false)
+          (left_end own after (arrival_debt k read false) None s) None live refl refl (record_same s.links own.links_owed now.counted))
+
+      abbrev HurtSame : ReadingValue → Type 0
+      HurtSame read = kept_stepped own (receiving.receives own other.half hurt read (true && receiving.can_keep own read))
+          ≡ keeping.receives (kept own) hurt read (true && of_station.can_keep read (kept own).station)
+
+      damage_same : kept_stepped own (receiving.comes own other.half true hurt) ≡ keeping.comes (kept own) true hurt
+      damage_same = go differs.shows
+        where
+          go : (reading hurt ≡ read_as.HeaderBad) ⊎ (reading hurt ≡ read_as.DataBad) → HurtSame (reading hurt)
+          go (inl e) = subst HurtSame (sym e) (bad_kept read_as.HeaderBad HeaderBad (after_arrival station HeaderBad false) refl
+              (header_made own.half other.half own.passed unit there now.stage.ahead hurt differs.differs e) (header_bad_came station own.owed))
+          go (inr e) = subst HurtSame (sym e) (bad_kept read_as.DataBad DataBad (after_arrival station DataBad false) refl
+              (data_made own.half other.half own.passed unit there now.stage.ahead hurt differs.differs e) (data_bad_came station own.owed))
+
+  -- ---- the steps
+
+  -- the next unit on the line
+  on_line : (next : List ℕ → Result Stepped Stop) (then_next : List ℕ → Result KeptStepped Stop) →
+      ((unit : LayersUnit) → slice_get other.half.sent own.passed ≡ Some unit → kept_stepped own (next unit.bytes) ≡ then_next unit.bytes) →
+      kept_stepped own (on_unit (slice_get other.half.sent own.passed) next) ≡ keeping.with_next (drop own.passed (bytes_of other.half.sent))
+      then_next
+  on_line next then_next same = go (slice_get other.half.sent own.passed) refl ∙ sym (next_on_line own.passed other.half.sent then_next)
+    where
+      go : (o : Option LayersUnit) → slice_get other.half.sent own.passed ≡ o → kept_stepped own (on_unit o next) ≡ kept_on o then_next
+      go None there = refl
+      go (Some unit) there = same unit there
+
+  pub deliver_kept : IsKept own other.half Deliver
+  unfolding plays kept_plays
+  deliver_kept = on_line (receiving.comes own other.half true) (keeping.comes (kept own) true) (λ unit there. unit_kept unit there true)
+
+  pub refuse_kept : IsKept own other.half Refuse
+  unfolding plays kept_plays
+  refuse_kept = on_line (receiving.comes own other.half false) (keeping.comes (kept own) false) (λ unit there. unit_kept unit there false)
+
+  pub damage_kept : (place value : ℕ) → IsKept own other.half (Damage place value)
+  unfolding plays kept_plays
+  damage_kept place value = on_line
+      (λ bytes. cond (is_damage place value bytes) (receiving.comes own other.half true (damaged place value bytes)) (Err BadStep))
+      (keeping.comes_damaged (kept own) place value) (λ unit there. go unit there (is_damage place value unit.bytes) refl)
+    where
+      go : (unit : LayersUnit) → slice_get other.half.sent own.passed ≡ Some unit → (b : Bool) → is_damage place value unit.bytes ≡ b →
+          kept_stepped own (cond b (receiving.comes own other.half true (damaged place value unit.bytes)) (Err BadStep))
+          ≡ cond b (keeping.comes (kept own) true (damaged place value unit.bytes)) (Err BadStep)
+      go unit there true is = damage_same unit there place value is
+      go unit there false is = refl

@@ -1,0 +1,95 @@
+-- What sending and arrival make of a station, as its node keeps it: what the tables make of its station variables, and what it owes then.
+use Rattle.std.proofs.Common.{◌≡◌, Bool, true, false, cond, Option, List, [], ◌∷◌, fold, refl, ap, ◌∙◌}
+use Rattle.ddcmp_msg.specs.Message.{MessageValue}
+use Rattle.ddcmp_msg.specs.Reading.{ReadingValue}
+use Rattle.ddcmp_msg.specs.Reading as read_as
+use Rattle.ddcmp_msg.specs.declared.nak_reason.NakReason.TheVariants.{HeaderCheck, DataCheck}
+use Rattle.dna_station.specs.declared.tag.Tag.{Tag}
+use Rattle.dna_station.specs.Causes.{Causes, with_cause}
+use Rattle.dna_station.specs.Table.{Change, Nothing, UseCause, SendPacket, change_of, Effect, row, counts_damage}
+use Rattle.dna_station.specs.Bounds.{IsOrdered, IsWithin}
+use Rattle.dna_station.specs.Book.{Sound, HeaderBad, DataBad, body_of}
+use Rattle.dna_station.specs.Station.{Station}
+use Rattle.dna_station.specs.Truth.{Truth}
+use Rattle.dna_station.specs.StationBook.{after_sending, after_arrival}
+use Rattle.dna_station.specs.WireStation.{StationVariables, WireStation}
+use Rattle.dna_station.specs.WireBook.{wire_sends, variables_after, wire_does}
+use Rattle.dna_play.specs.Owed.{Owed, Debt, with_debt, arrival_debt, still_owed}
+use Rattle.dna_play.specs.NextSent.{Choice, after_choice}
+use Rattle.dna_play.specs.Receipt as receiving
+use Rattle.dna_play.specs.Player.{End}
+use Rattle.dna_play.specs.Kept.{KeptStation, kept}
+use Rattle.dna_play.specs.KeptStation as keeping
+use Rattle.dna_play.proofs.Ends.StationStage.{cut_of, left_owed, sent_kept, came_kept}
+
+-- the station variables, and what is owed
+abbrev pub station_with : StationVariables (Unit {0}) → Owed → KeptStation
+station_with k owed = record { variables = k; owed = owed }
+
+abbrev pub kept_station : Station → Owed → KeptStation
+kept_station s owed = station_with (cut_of s).variables owed
+
+-- ---- a message is sent
+
+sent_variables : (w : WireStation (Unit {0})) (m : MessageValue) (change : Change) →
+    (wire_sends w m change).variables ≡ keeping.variables_sent change (body_of m) w.variables
+sent_variables w m Nothing = refl
+sent_variables w m UseCause = refl
+sent_variables w m SendPacket = refl
+
+pub station_sent : (s : Station) (owed : Owed) → IsOrdered s → (c : Choice) (m : MessageValue) →
+    station_with (cut_of (after_sending s m)).variables (after_choice c (left_owed s (after_sending s m) owed)) ≡ keeping.after_sent c m
+    (kept_station s owed)
+station_sent s owed ordered c m =
+    ap (λ (k : StationVariables (Unit {0})). station_with k (after_choice c (still_owed (cut_of s).variables k owed)))
+    (ap (λ (w : WireStation (Unit {0})). w.variables) (sent_kept s ordered m) ∙ sent_variables (cut_of s) m (change_of m))
+
+-- ---- an arrival
+
+met_variables : (m : MessageValue) (tag : Tag) (kept : Bool) (effects : List Effect) (w : WireStation (Unit {0})) →
+    (fold (wire_does m tag kept) w effects).variables ≡ fold (variables_after m kept) w.variables effects
+met_variables m tag kept [] w = refl
+met_variables m tag kept (effect ∷ later) w = met_variables m tag kept later (wire_does m tag kept w effect)
+
+module _ (s : Station) (owed : Owed) where
+  -- these are the variables after it
+  abbrev came_to : Station → StationVariables (Unit {0}) → Option Debt → Type 0
+  came_to t k debt = station_with (cut_of t).variables (with_debt debt (left_owed s t owed)) ≡ keeping.owing debt
+      (keeping.becoming k (kept_station s owed))
+
+  left_as : (t : Station) (k : StationVariables (Unit {0})) (debt : Option Debt) → (cut_of t).variables ≡ k → came_to t k debt
+  left_as t k debt same = ap (λ (x : StationVariables (Unit {0})). station_with x (with_debt debt (still_owed (cut_of s).variables x owed))) same
+
+  pub sound_came : IsOrdered s → (m : MessageValue) (u : Truth) (kept : Bool) → IsWithin s m u →
+      station_with (cut_of (after_arrival s (Sound m u) kept)).variables
+      (with_debt (arrival_debt (cut_of s).variables (read_as.Sound m) kept) (left_owed s (after_arrival s (Sound m u) kept) owed))
+      ≡ keeping.after_arrival (read_as.Sound m) kept (kept_station s owed)
+  sound_came ordered m u kept within =
+      left_as (after_arrival s (Sound m u) kept) (keeping.message_came m kept (cut_of s).variables)
+      (arrival_debt (cut_of s).variables (read_as.Sound m) kept)
+      (ap (λ (w : WireStation (Unit {0})). w.variables) (came_kept s ordered m u kept within)
+      ∙ met_variables m u.tag kept (row s.state m).effects (cut_of s))
+
+  -- one more cause for a NAK, or none
+  counted : (b : Bool) (causes : Causes) → (cut_of (cond b (record s { causes = causes }) s)).variables ≡ (cut_of s).variables
+  counted true causes = refl
+  counted false causes = refl
+
+  pub header_bad_came : station_with (cut_of (after_arrival s HeaderBad false)).variables
+      (with_debt (arrival_debt (cut_of s).variables read_as.HeaderBad false) (left_owed s (after_arrival s HeaderBad false) owed))
+      ≡ keeping.after_arrival read_as.HeaderBad false (kept_station s owed)
+  header_bad_came = left_as (after_arrival s HeaderBad false) (cut_of s).variables (arrival_debt (cut_of s).variables read_as.HeaderBad false)
+      (counted (counts_damage s.state) (with_cause HeaderCheck s.causes))
+
+  pub data_bad_came : station_with (cut_of (after_arrival s DataBad false)).variables
+      (with_debt (arrival_debt (cut_of s).variables read_as.DataBad false) (left_owed s (after_arrival s DataBad false) owed))
+      ≡ keeping.after_arrival read_as.DataBad false (kept_station s owed)
+  data_bad_came = left_as (after_arrival s DataBad false) (cut_of s).variables (arrival_debt (cut_of s).variables read_as.DataBad false)
+      (counted (counts_damage s.state) (with_cause DataCheck s.causes))
+
+-- whether the packet of what came can be taken
+pub can_keep_same : (own : End) (read : ReadingValue) → receiving.can_keep own read ≡ keeping.can_keep read (kept own).station
+can_keep_same own (read_as.Sound m) = refl
+can_keep_same own read_as.HeaderBad = refl
+can_keep_same own read_as.DataBad = refl
+can_keep_same own (read_as.Malformed departure) = refl

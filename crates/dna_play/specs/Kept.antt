@@ -1,0 +1,56 @@
+-- An end of the player as its node keeps it: station variables and link variables with what they owe, and no number of the true node. Of the
+-- links it keeps those that live: one that has ended owes nothing, and nothing comes to it any more.
+use Rattle.std.specs.Prelude.{ℕ, List, []}
+use Rattle.std.specs.List.{filter}
+use Rattle.dna_station.specs.declared.head.Head.{Head}
+use Rattle.dna_station.specs.declared.state.State.TheVariants.{Halted}
+use Rattle.dna_links.specs.LookUps.{is_live}
+use Rattle.dna_station.specs.WireStation.{StationVariables, no_numbers}
+use Rattle.dna_play.specs.Owed.{Owed}
+use Rattle.dna_play.specs.Owed as owing
+use Rattle.dna_play.specs.LinkOwed.{EndConfirm}
+use Rattle.dna_play.specs.NextSent.{LinkEnd}
+use Rattle.dna_play.specs.Player.{End, variables_of, link_ends_of}
+
+-- The station variables, and what the station owes. No packet has a label
+pub record KeptStation : Type 0 where
+  pub variables : StationVariables (Unit {0})
+  pub owed : Owed
+
+-- The links that live, with what each owes, in the order in which they began; and the DCs that are owed, the oldest first
+pub record KeptLinks : Type 0 where
+  pub links : List LinkEnd
+  pub confirms : List EndConfirm
+
+pub record KeptEnd : Type 0 where
+  pub head : Head
+  pub station : KeptStation
+  pub links : KeptLinks
+  -- how many link addresses it has given: 1, 2, 3 and so on
+  pub addresses : ℕ
+  -- how many units of the other end came or were lost
+  pub passed : ℕ
+
+abbrev pub new_kept_station : KeptStation
+new_kept_station = record { variables = no_numbers Halted; owed = owing.nothing }
+
+abbrev pub no_kept_links : KeptLinks
+no_kept_links = record { links = []; confirms = [] }
+
+-- before any step
+abbrev pub new_kept_end : Head → KeptEnd
+new_kept_end head = record { head = head; station = new_kept_station; links = no_kept_links; addresses = 0; passed = 0 }
+
+-- ---- what a node keeps of an end on true numbers
+
+abbrev pub live_ends : List LinkEnd → List LinkEnd
+live_ends links = filter (λ (l : LinkEnd). is_live l.port.phase) links
+
+abbrev pub kept : End → KeptEnd
+kept e = record {
+  head = e.half.state.head;
+  station = record { variables = variables_of e.half; owed = e.owed };
+  links = record { links = live_ends (link_ends_of e); confirms = e.links_owed.confirms };
+  addresses = e.addresses;
+  passed = e.passed;
+}

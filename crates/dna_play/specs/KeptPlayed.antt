@@ -1,0 +1,96 @@
+-- The captures that a script stands for, by ends as their nodes keep them: both ends, and the units on both lines, over its steps.
+use Rattle.std.specs.Prelude.{ℕ, ◌+◌, Bool, true, false, if◌then◌else◌, List, [], ◌∷◌, ◌++◌, drop, Result, Ok, Err}
+use Rattle.wire_base.specs.declared.side.Side.{Side}
+use Rattle.wire_base.specs.declared.side.Side.TheVariants.{A, B}
+use Rattle.capture.specs.declared.record.Record.{Record}
+use Rattle.dna_play.specs.Script.{StepValue, ScriptStep, Script, Deliver, Refuse, Lose, Damage}
+use Rattle.dna_play.specs.Stepped.{Stop}
+use Rattle.dna_play.specs.Kept.{KeptEnd, new_kept_end}
+use Rattle.dna_play.specs.KeptPlay.{KeptStepped, kept_plays}
+
+-- Both ends, and of each direction the units that were sent and neither came nor were lost, the oldest first
+pub record KeptPair : Type 0 where
+  pub a : KeptEnd
+  pub b : KeptEnd
+  pub to_a : List (List ℕ)
+  pub to_b : List (List ℕ)
+
+-- what a step makes of both, and the records that it adds to the capture of its end
+pub record KeptMade : Type 0 where
+  pub pair : KeptPair
+  pub records : List Record
+
+-- whether the step takes a unit off the line
+abbrev pub is_of_line : StepValue → Bool
+is_of_line Deliver = true
+is_of_line Refuse = true
+is_of_line Lose = true
+is_of_line (Damage place value) = true
+is_of_line step = false
+
+abbrev pub left_by : StepValue → List (List ℕ) → List (List ℕ)
+left_by step coming = if is_of_line step then drop 1 coming else coming
+
+abbrev pub kept_with_a : KeptPair → StepValue → Result KeptStepped Stop → Result KeptMade Stop
+kept_with_a pair step (Ok made) = Ok (record {
+  pair = record pair { a = made.end; to_a = left_by step pair.to_a; to_b = pair.to_b ++ made.sent };
+  records = made.records;
+})
+kept_with_a pair step (Err stop) = Err stop
+
+abbrev pub kept_with_b : KeptPair → StepValue → Result KeptStepped Stop → Result KeptMade Stop
+kept_with_b pair step (Ok made) = Ok (record {
+  pair = record pair { b = made.end; to_b = left_by step pair.to_b; to_a = pair.to_a ++ made.sent };
+  records = made.records;
+})
+kept_with_b pair step (Err stop) = Err stop
+
+abbrev pub kept_plays_at : KeptPair → Side → StepValue → Result KeptMade Stop
+kept_plays_at pair A step = kept_with_a pair step (kept_plays pair.a pair.to_a step)
+kept_plays_at pair B step = kept_with_b pair step (kept_plays pair.b pair.to_b step)
+
+unfoldable pub kept_plays_step : KeptPair → ScriptStep → Result KeptMade Stop
+kept_plays_step pair step = kept_plays_at pair step.side step.step
+
+-- ---- all steps
+
+-- both ends, and the records of each so far
+pub record KeptPlayed : Type 0 where
+  pub pair : KeptPair
+  pub of_a : List Record
+  pub of_b : List Record
+
+abbrev pub new_pair : (node_a node_b : ℕ) → KeptPair
+new_pair node_a node_b = record {
+  a = new_kept_end (record { own = node_a; peer = node_b });
+  b = new_kept_end (record { own = node_b; peer = node_a });
+  to_a = [];
+  to_b = [];
+}
+
+abbrev pub kept_not_begun : Script → KeptPlayed
+kept_not_begun script = record { pair = new_pair script.node_a script.node_b; of_a = []; of_b = [] }
+
+abbrev pub with_records : KeptPlayed → Side → KeptMade → KeptPlayed
+with_records so_far A made = record { pair = made.pair; of_a = so_far.of_a ++ made.records; of_b = so_far.of_b }
+with_records so_far B made = record { pair = made.pair; of_a = so_far.of_a; of_b = so_far.of_b ++ made.records }
+
+-- how many steps were made, what stops the one behind them, and all that they made
+pub record KeptStopped : Type 0 where
+  pub steps : ℕ
+  pub stop : Stop
+  pub so_far : KeptPlayed
+
+abbrev pub if_made : Result KeptMade Stop → (KeptMade → Result KeptPlayed KeptStopped) → (Stop → KeptStopped) → Result KeptPlayed KeptStopped
+if_made (Ok made) next stopped = next made
+if_made (Err stop) next stopped = Err (stopped stop)
+
+abbrev pub kept_plays_all : (steps : ℕ) → KeptPlayed → List ScriptStep → Result KeptPlayed KeptStopped
+kept_plays_all steps so_far [] = Ok so_far
+kept_plays_all steps so_far (step ∷ later) = if_made (kept_plays_step so_far.pair step)
+    (λ made. kept_plays_all (steps + 1) (with_records so_far step.side made) later)
+    (λ stop. record { steps = steps; stop = stop; so_far = so_far })
+
+-- the two captures of a script, or the first step that has no successor
+abbrev pub kept_play : Script → Result KeptPlayed KeptStopped
+kept_play script = kept_plays_all 0 (kept_not_begun script) script.steps

@@ -1,0 +1,147 @@
+-- What an end of the player sends next: chosen by the station variables, the link variables and what is owed. It is put together by `Compose`.
+use Rattle.std.specs.Prelude.{ℕ, ◌+◌, Bool, true, false, ◌&&◌, ◌||◌, nat_lt, if◌then◌else◌, Option, Some, None, List, [], ◌∷◌, length, drop}
+use Rattle.ddcmp_msg.specs.declared.nak_reason.NakReason.{NakReason}
+use Rattle.ddcmp_msg.specs.declared.nak_reason.NakReason.TheVariants.{HeaderCheck, DataCheck, RepResponse, NoBuffer}
+use Rattle.dna_station.specs.declared.state.State.{State}
+use Rattle.dna_station.specs.declared.state.State.TheVariants.{Halted, Istrt, Astrt, Running}
+use Rattle.dna_links.specs.declared.port.Port.{Port}
+use Rattle.dna_station.specs.Table.{WINDOW}
+use Rattle.dna_station.specs.WireStation.{StationVariables}
+use Rattle.dna_station.specs.WireBook.{wire_is_new}
+use Rattle.dna_links.specs.LookUps.{is_running}
+use Rattle.dna_links.specs.Pieces.{has_more}
+use Rattle.dna_links.specs.Flow.{REACH}
+use Rattle.dna_links.specs.Links.{LinkOf}
+use Rattle.dna_links.specs.TrueFlow.{TrueFlow}
+use Rattle.dna_links.specs.WireFlow.{LinkVariables}
+use Rattle.dna_play.specs.Owed.{Owed, with_nak}
+use Rattle.dna_play.specs.LinkOwed.{LinkOwed, LinksOwed, EndConfirm, Turn, ConnectAckTurn, InitiateTurn, ConfirmTurn, DisconnectTurn, DataAckTurn}
+use Rattle.dna_play.specs.LinkOwed.{SegmentTurn, variables_of, with_turn, changed}
+
+-- ---- the links
+
+-- One end of a link as a node keeps it, with what it owes
+pub record LinkEnd : Type 0 where
+  pub port : Port
+  pub variables : LinkVariables
+  pub owed : LinkOwed
+
+-- all of them, in the order in which they began
+abbrev pub link_ends : List (LinkOf TrueFlow) → List LinkOwed → List LinkEnd
+link_ends [] owed = []
+link_ends (link ∷ links) [] = []
+link_ends (link ∷ links) (first ∷ owed) = record { port = link.port; variables = variables_of link; owed = first } ∷ link_ends links owed
+
+-- the next message of the links
+pub data LinkChoice : Type 0 where
+  -- the oldest DC that is owed
+  Confirms : EndConfirm → LinkChoice
+  -- of the link with this number
+  OfLink : (number : ℕ) (turn : Turn) → LinkChoice
+
+-- an outstanding segment that is not sent in the present go yet
+abbrev pub has_repeat : LinkEnd → Bool
+has_repeat l = nat_lt l.owed.ahead (length l.variables.outstanding)
+
+-- fewer than 2,047 are outstanding, and something handed in is in no segment yet
+abbrev pub has_new : LinkEnd → Bool
+has_new l = nat_lt (length l.variables.outstanding) REACH && has_more l.variables.unsent.messages
+
+-- segments in RUN alone
+abbrev pub has_segment : LinkEnd → Bool
+has_segment l = is_running l.port.phase && (has_repeat l || has_new l)
+
+-- the first of the six kinds
+abbrev pub turn_of : LinkEnd → Option Turn
+turn_of l =
+    if l.owed.connect_ack then Some ConnectAckTurn else
+    if l.owed.initiate then Some InitiateTurn else
+    if l.owed.confirm then Some ConfirmTurn else
+    if l.owed.disconnect then Some DisconnectTurn else
+    if l.owed.data_ack then Some DataAckTurn else
+    if has_segment l then Some SegmentTurn else
+    None
+
+-- of the first link that has any
+abbrev pub turn_or_next : ℕ → Option Turn → Option LinkChoice → Option LinkChoice
+turn_or_next number None next = next
+turn_or_next number (Some turn) next = Some (OfLink number turn)
+
+abbrev pub first_turn : (number : ℕ) → List LinkEnd → Option LinkChoice
+first_turn number [] = None
+first_turn number (link ∷ links) = turn_or_next number (turn_of link) (first_turn (number + 1) links)
+
+-- DCs come before the links
+abbrev pub link_choice : List EndConfirm → List LinkEnd → Option LinkChoice
+link_choice [] links = first_turn 0 links
+link_choice (confirm ∷ later) links = Some (Confirms confirm)
+
+-- sending clears what it sends
+abbrev pub without_turn : Turn → LinkOwed → LinkOwed
+without_turn InitiateTurn owed = record owed { initiate = false; initiated = true }
+without_turn SegmentTurn owed = record owed { ahead = owed.ahead + 1 }
+without_turn turn owed = with_turn turn false owed
+
+abbrev pub after_link_choice : LinkChoice → LinksOwed → LinksOwed
+after_link_choice (Confirms confirm) owed = record owed { confirms = drop 1 owed.confirms }
+after_link_choice (OfLink number turn) owed = changed number (without_turn turn) owed
+
+-- ---- the station
+
+pub data Choice : Type 0 where
+  SendStrt : Choice
+  SendStack : Choice
+  SendNak : (reason : NakReason) → Choice
+  SendRep : Choice
+  -- the packet of number T once more; a new packet with this message
+  SendAgain : Choice
+  SendNew : LinkChoice → Choice
+  SendAck : Choice
+
+abbrev pub when : Bool → Choice → Option Choice
+when true choice = Some choice
+when false choice = None
+
+abbrev pub or_else : Option Choice → Option Choice → Option Choice
+or_else None next = next
+or_else (Some choice) next = Some choice
+
+abbrev pub lowest_nak : Owed → Option Choice
+lowest_nak owed =
+    if owed.header_check then Some (SendNak HeaderCheck) else
+    if owed.data_check then Some (SendNak DataCheck) else
+    if owed.rep_response then Some (SendNak RepResponse) else
+    if owed.no_buffer then Some (SendNak NoBuffer) else
+    None
+
+abbrev pub new_packet : Option LinkChoice → Option Choice
+new_packet None = None
+new_packet (Some message) = Some (SendNew message)
+
+module _ {L : Type 0} where
+  -- number T again if it was given; else a new one if fewer than 255 are outstanding and the links have a message
+  abbrev pub data_choice : StationVariables L → Option LinkChoice → Option Choice
+  data_choice k message =
+      if wire_is_new k then (if nat_lt (length k.held) WINDOW then new_packet message else None) else
+      Some SendAgain
+
+  -- ISTRT: STRT; ASTRT: STACK; RUNNING: the lowest NAK, else REP, else data, else ACK
+  abbrev pub choice_in : State → StationVariables L → Owed → Option LinkChoice → Option Choice
+  choice_in Halted k owed message = None
+  choice_in Istrt k owed message = when owed.strt SendStrt
+  choice_in Astrt k owed message = when owed.stack SendStack
+  choice_in Running k owed message =
+      or_else (lowest_nak owed) (or_else (when owed.rep SendRep) (or_else (data_choice k message) (when owed.ack SendAck)))
+
+  abbrev pub choice : StationVariables L → Owed → Option LinkChoice → Option Choice
+  choice k owed message = choice_in k.state k owed message
+
+-- sending clears what it sends; a NAK and data carry what an ACK says
+abbrev pub after_choice : Choice → Owed → Owed
+after_choice SendStrt owed = record owed { strt = false }
+after_choice SendStack owed = record owed { stack = false }
+after_choice (SendNak reason) owed = with_nak reason false (record owed { ack = false })
+after_choice SendRep owed = record owed { rep = false }
+after_choice SendAgain owed = record owed { ack = false }
+after_choice (SendNew message) owed = record owed { ack = false }
+after_choice SendAck owed = record owed { ack = false }

@@ -1,0 +1,125 @@
+-- The text of a script, and how a text departs from it. Lines, numbers, addresses and BYTES are those of a capture.
+use Rattle.std.specs.Prelude.{◌≡◌, ℕ, ◌<◌, ◌≤◌, ◌⊎◌, false, List, [], ◌++◌, codes, length}
+use Rattle.std.specs.Fmt.{decimal}
+use Rattle.std.specs.List.{flat_map, AllByRecursion}
+use Rattle.ddcmp_msg.specs.Message.{IsBytes}
+use Rattle.wire_base.specs.Side.{side_letter}
+use Rattle.capture.specs.declared.limit.TheConstants.{MAX_HINT, MAX_UNIT, MAX_MESSAGE, MAX_LINE}
+use Rattle.capture.specs.declared.fault.Departure.{Departure}
+use Rattle.capture.specs.declared.fault.Departure.TheVariants.{Syntax, TooLong, TooMany}
+use Rattle.capture.specs.Text.{bytes_text, address_text, spaced, ended}
+use Rattle.capture.specs.Range.{IsLink, IsNode}
+use Rattle.capture.specs.Departing.{first_line, has_lf, IsWhole, LineDeparts}
+use Rattle.dna_play.specs.Script.{StepValue, ScriptStep, Script, Start, Halt, Timer, Send, Deliver, Refuse, Lose, Damage, Noise, Open, Accept, Reject}
+use Rattle.dna_play.specs.Script.{In, Close, Retry}
+
+-- how many steps a script may have
+abbrev pub MAX_STEPS : ℕ
+MAX_STEPS = 100000000
+
+-- ---- the text
+
+-- the line behind the letter of its side
+abbrev pub step_text : StepValue → List ℕ
+step_text Start = codes "start"
+step_text Halt = codes "halt"
+step_text Timer = codes "timer"
+step_text Send = codes "send"
+step_text Deliver = codes "deliver"
+step_text Refuse = codes "refuse"
+step_text Lose = codes "lose"
+step_text (Damage place value) = codes "damage " ++ spaced (decimal place) (decimal value)
+step_text (Noise bytes) = codes "noise " ++ bytes_text bytes
+step_text Open = codes "open"
+step_text (Accept partner) = codes "accept " ++ decimal partner
+step_text (Reject partner) = codes "reject " ++ decimal partner
+step_text (In link message) = codes "in " ++ spaced (decimal link) (bytes_text message)
+step_text (Close link) = codes "close " ++ decimal link
+step_text (Retry link) = codes "retry " ++ decimal link
+
+-- a step's line, without its LF
+abbrev pub line_text : ScriptStep → List ℕ
+line_text step = spaced (side_letter step.side) (step_text step.step)
+
+-- the head, without its LF
+abbrev pub script_head : (node_a node_b : ℕ) → List ℕ
+script_head node_a node_b = codes "ddplay 1 " ++ spaced (address_text node_a) (address_text node_b)
+
+abbrev pub script_line : ScriptStep → List ℕ
+script_line step = ended (line_text step)
+
+abbrev pub script_text : Script → List ℕ
+script_text script = ended (script_head script.node_a script.node_b) ++ flat_map script_line script.steps
+
+-- ---- the ranges
+
+-- the numbers of a step are in their ranges
+abbrev pub NumbersFit : StepValue → Type 0
+NumbersFit (Damage place value) = (place ≤ MAX_HINT) × (value ≤ MAX_HINT)
+NumbersFit (Accept partner) = IsLink partner
+NumbersFit (Reject partner) = IsLink partner
+NumbersFit (In link message) = IsLink link
+NumbersFit (Close link) = IsLink link
+NumbersFit (Retry link) = IsLink link
+NumbersFit step = Unit {0}
+
+-- the noise or the message of a step
+abbrev pub step_bytes : StepValue → List ℕ
+step_bytes (Noise bytes) = bytes
+step_bytes (In link message) = message
+step_bytes step = []
+
+-- how many bytes the line of a step may hold
+abbrev pub most_bytes : StepValue → ℕ
+most_bytes (Noise bytes) = MAX_UNIT
+most_bytes step = MAX_MESSAGE
+
+-- a step that a line could spell, were BYTES of any length allowed
+pub record HasSpelling (step : ScriptStep) : Type 0 where
+  pub numbers : NumbersFit step.step
+  pub bytes : IsBytes (step_bytes step.step)
+
+-- its BYTES is no longer than allowed
+abbrev pub IsShort : ScriptStep → Type 0
+IsShort step = length (step_bytes step.step) ≤ most_bytes step.step
+
+-- a step that has a line
+pub record IsStep (step : ScriptStep) : Type 0 where
+  pub spelling : HasSpelling step
+  pub short : IsShort step
+
+-- addresses and steps that a text may hold
+pub record IsScript (script : Script) : Type 0 where
+  pub node_a : IsNode script.node_a
+  pub node_b : IsNode script.node_b
+  pub each : AllByRecursion IsStep script.steps
+  pub few : length script.steps ≤ MAX_STEPS
+
+-- the text begins with this script, and goes on with these bytes
+pub record BeginsWithScript (text : List ℕ) (script : Script) (rest : List ℕ) : Type 0 where
+  pub fits : IsScript script
+  pub spelled : text ≡ script_text script ++ rest
+
+abbrev pub IsScriptText : Script → List ℕ → Type 0
+IsScriptText script text = BeginsWithScript text script []
+
+-- ---- departures
+
+-- The words of a line depart: they are no step's, of any length of BYTES; or they are a step's but for too long a BYTES
+abbrev pub WordsDepart : Departure → List ℕ → Type 0
+WordsDepart TooMany line = ⊥
+WordsDepart TooLong line = (step : ScriptStep) × HasSpelling step × ¬ (IsShort step) × (line ≡ line_text step)
+WordsDepart Syntax line = (step : ScriptStep) → HasSpelling step → line ≡ line_text step → ⊥
+
+-- The first line of what is to come departs, after this many steps
+abbrev pub StepDeparts : ℕ → Departure → List ℕ → Type 0
+StepDeparts steps kind bytes = LineDeparts MAX_STEPS steps kind bytes ⊎ ((steps < MAX_STEPS) × IsWhole bytes × WordsDepart kind (first_line bytes))
+
+-- The first line of a text departs from a head: it is too long; or without its LF, as in a text with no line; or no head's
+abbrev pub HeadWordsDepart : List ℕ → Type 0
+HeadWordsDepart line = (node_a node_b : ℕ) → IsNode node_a → IsNode node_b → line ≡ script_head node_a node_b → ⊥
+
+abbrev pub ScriptHeadDeparts : Departure → List ℕ → Type 0
+ScriptHeadDeparts TooMany text = ⊥
+ScriptHeadDeparts TooLong text = MAX_LINE < length (first_line text)
+ScriptHeadDeparts Syntax text = ((length (first_line text) ≤ MAX_LINE) × (has_lf text ≡ false)) ⊎ (IsWhole text × HeadWordsDepart (first_line text))

@@ -1,0 +1,61 @@
+//! What holds of the captures that a script stands for, whatever the code does, for the proofs of callers to cite.
+
+ghost use Rattle.std.specs.Prelude.{◌≡◌, ◌*◌, ◌≤◌, length, take, Ok, Err};
+ghost use Rattle.two_nodes.specs.Nodes.{Run};
+ghost use Rattle.capture.specs.declared.limit.TheConstants.{MAX_RECORDS};
+ghost use Rattle.dna_node.specs.LayersPair.{layers_pair, layers_start};
+ghost use Rattle.dna_play.specs.Script.{ScriptStep, Script};
+ghost use Rattle.dna_play.specs.ScriptText.{IsScript};
+ghost use Rattle.dna_play.specs.Played.{Played, Stopped, head_a, head_b, plays_step, play};
+ghost use Rattle.dna_play.specs.PlayRun.{ArePlayed, StartsOnce, world_of};
+ghost use Rattle.dna_play.specs.StepRule.{StepsByRule, StopsByRule, and_then};
+ghost use Rattle.dna_play.specs.KeptPlayed.{kept_play};
+ghost use Rattle.dna_play.specs.KeptRun.{kept_of};
+
+/// The records of a script are made by two nodes that ask no rule on tags, in some order, and each has a line in a capture; so are those of the
+/// steps before one that can't be made.
+pub fn played_records_are_made()
+    ensures played { (script : Script) (played : Played) → play script ≡ Ok played → ArePlayed script played }
+    ensures stopped { (script : Script) (stopped : Stopped) → play script ≡ Err stopped → ArePlayed script stopped.so_far }
+{}
+
+/// The captures of a script have few records: each at most two for each step of the script, whether it ends or a step can't be made. So they are
+/// never too long for their texts, where the script has one.
+pub fn played_captures_are_few()
+    ensures played { (script : Script) (played : Played) → play script ≡ Ok played
+        → (length played.of_a ≤ 2 * length script.steps) × (length played.of_b ≤ 2 * length script.steps) }
+    ensures stopped { (script : Script) (stopped : Stopped) → play script ≡ Err stopped
+        → (length stopped.so_far.of_a ≤ 2 * length script.steps) × (length stopped.so_far.of_b ≤ 2 * length script.steps) }
+    ensures played_fits { (script : Script) (played : Played) → IsScript script → play script ≡ Ok played
+        → (length played.of_a ≤ MAX_RECORDS) × (length played.of_b ≤ MAX_RECORDS) }
+    ensures stopped_fits { (script : Script) (stopped : Stopped) → IsScript script → play script ≡ Err stopped
+        → (length stopped.so_far.of_a ≤ MAX_RECORDS) × (length stopped.so_far.of_b ≤ MAX_RECORDS) }
+{}
+
+/// The captures of a script that starts each side at most once are a run of two nodes as a judge has them; so are those of the steps before one
+/// that can't be made, where these start each side at most once.
+pub fn played_captures_are_a_run()
+    ensures played { (script : Script) (played : Played) → play script ≡ Ok played → StartsOnce script.steps
+        → Run layers_pair (layers_start (head_a script) (head_b script)) played.of_a played.of_b (world_of played) }
+    ensures stopped { (script : Script) (stopped : Stopped) → play script ≡ Err stopped → StartsOnce (take stopped.steps script.steps)
+        → Run layers_pair (layers_start (head_a script) (head_b script)) stopped.so_far.of_a stopped.so_far.of_b (world_of stopped.so_far) }
+{}
+
+/// A step behind a script that starts each side at most once goes by its rule, where both have a text: it is bad exactly where it breaks the
+/// rule, and full exactly where it keeps the rule but needs a link address and all of its end are given. So does the step that stops a script.
+pub fn steps_go_by_their_rules()
+    ensures next { (script : Script) (step : ScriptStep) (so_far : Played) → IsScript (and_then script step) → play script ≡ Ok so_far
+        → StartsOnce script.steps → StepsByRule so_far step (plays_step so_far step) }
+    ensures stopped { (script : Script) (stopped : Stopped) → IsScript script → play script ≡ Err stopped →
+        StartsOnce (take stopped.steps script.steps)
+        → StopsByRule script stopped }
+{}
+
+/// What the nodes of the ends keep plays a script that starts each side at most once as the ends on true numbers do: the same captures, the same
+/// ends as their nodes keep them, and the same step that can't be made. So it does where the steps before that one start each side at most once.
+pub fn kept_ends_play_the_same()
+    ensures played { (script : Script) → IsScript script → StartsOnce script.steps → kept_of (play script) ≡ kept_play script }
+    ensures stopped { (script : Script) (stopped : Stopped) → IsScript script → play script ≡ Err stopped →
+        StartsOnce (take stopped.steps script.steps)
+        → kept_of (play script) ≡ kept_play script }
+{}

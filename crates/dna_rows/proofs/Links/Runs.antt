@@ -1,0 +1,178 @@
+-- Worked runs of both sides' links: packets are lost, and a segment that was lost at a restart of the line comes when it is sent again.
+use Rattle.std.proofs.Common.{◌≡◌, ℕ, ◌≤◌, Bool, true, false, nat_le, Option, Some, None, List, [], ◌∷◌, ◌++◌, map, refl, Result, Ok, Err, leb-true}
+use Rattle.std.specs.Prelude.{slice_get}
+use Rattle.dna_packet.specs.declared.fault.NspFault.{NspFault}
+use Rattle.dna_packet.specs.Nsp.{NspValue}
+use Rattle.dna_packet.specs.ReadingNsp.{nsp_at}
+use Rattle.dna_station.specs.declared.link_refusal.LinkRefusal.{LinkRefusal}
+use Rattle.dna_links.specs.Links.{LinkOf, Carried}
+use Rattle.dna_links.specs.User.{LinkEventValue, Open, Accept, In, Up, Close}
+use Rattle.dna_links.specs.Sending.{Sent}
+use Rattle.dna_links.specs.Arriving.{of_partner}
+use Rattle.dna_links.specs.TrueFlow.{TrueFlow, Numbers}
+use Rattle.dna_links.specs.TrueLinks.{Links, links_user, links_sent, links_arrived}
+use Rattle.dna_links.specs.Runs.{SentMessage, LinkSide, LinkWorld, LinkStep, ByUser, Sends, SendsNone, Keeps, KeepsNone, Reached, Start, ByA, ByB}
+use Rattle.dna_links.specs.Runs.{new_world}
+use Rattle.dna_links.specs.Captures.{handed_in, delivered_up, behind}
+use Rattle.dna_rows.proofs.Links.Messages.{CI, CC, DI, DC, DATA_ACK, ack, SEGMENT, carries}
+use Rattle.dna_rows.proofs.Links.Steps.{End, A, B, NODE_A, NODE_B}
+
+-- What a side does: its user, a packet that is first sent with this message or with none, or the packet at this place that is kept
+data Turn : Type 0 where
+  Does : (event : LinkEventValue) → Turn
+  First : (bytes : List ℕ) → Turn
+  FirstNone : Turn
+  Kept : (place : ℕ) → Turn
+
+record Made (own other : LinkSide) : Type 0 where
+  pub events : List LinkEventValue
+  pub left : LinkSide
+  pub step : LinkStep own other events left
+
+module _ (own other : LinkSide) where
+  abbrev does_made : (event : LinkEventValue) (r : Result Links LinkRefusal) → links_user own.links event ≡ r → Option (Made own other)
+  does_made event (Ok links) e = Some (record { events = event ∷ []; left = _; step = ByUser event links e })
+  does_made event (Err reason) e = None
+
+  abbrev sends_made : (packet : Carried) (r : Result (Sent TrueFlow Numbers) LinkRefusal) → links_sent own.links packet ≡ r → Option (Made own other)
+  sends_made packet (Ok made) e = Some (record { events = []; left = _; step = Sends packet made e })
+  sends_made packet (Err reason) e = None
+
+  abbrev first_made : Result NspValue NspFault → Option (Made own other)
+  first_made (Ok message) = sends_made (record { dst = own.links.peer; src = own.links.node; message = message }) _ refl
+  first_made (Err fault) = None
+
+  abbrev arrives_made : (place : ℕ) (unit : SentMessage) (r : Result Links LinkRefusal) → own.front ≤ place →
+      slice_get other.sent place ≡ Some (Some unit) → links_arrived of_partner own.links unit.packet unit.truth ≡ r → Option (Made own other)
+  arrives_made place unit (Ok links) ahead there e = Some (record { events = []; left = _; step = Keeps place unit links ahead there e })
+  arrives_made place unit (Err reason) ahead there e = None
+
+  abbrev kept_made : (place : ℕ) (o : Option (Option SentMessage)) → own.front ≤ place → slice_get other.sent place ≡ o → Option (Made own other)
+  kept_made place None ahead there = None
+  kept_made place (Some None) ahead there = Some (record { events = []; left = _; step = KeepsNone place ahead there })
+  kept_made place (Some (Some unit)) ahead there = arrives_made place unit _ ahead there refl
+
+  abbrev ahead_made : (place : ℕ) (b : Bool) → nat_le own.front place ≡ b → Option (Made own other)
+  ahead_made place true e = kept_made place _ (leb-true own.front place e) refl
+  ahead_made place false e = None
+
+  abbrev turn_made : Turn → Option (Made own other)
+  turn_made (Does event) = does_made event _ refl
+  turn_made (First bytes) = first_made (nsp_at bytes)
+  turn_made FirstNone = Some (record { events = []; left = _; step = SendsNone })
+  turn_made (Kept place) = ahead_made place _ refl
+
+-- all that was made from this world on
+record Ran (start : LinkWorld) : Type 0 where
+  pub world : LinkWorld
+  pub of_a : List LinkEventValue
+  pub of_b : List LinkEventValue
+  pub reached : Reached start world of_a of_b
+
+abbrev ran_a : {start : LinkWorld} (r : Ran start) → Option (Made r.world.a r.world.b) → Option (Ran start)
+ran_a r None = None
+ran_a r (Some m) = Some (record { world = _; of_a = _; of_b = _; reached = ByA r.reached m.step })
+
+abbrev ran_b : {start : LinkWorld} (r : Ran start) → Option (Made r.world.b r.world.a) → Option (Ran start)
+ran_b r None = None
+ran_b r (Some m) = Some (record { world = _; of_a = _; of_b = _; reached = ByB r.reached m.step })
+
+record Step : Type 0 where
+  pub at : End
+  pub turn : Turn
+
+abbrev one_more : {start : LinkWorld} → Ran start → (at : End) → Turn → Option (Ran start)
+one_more r A turn = ran_a r (turn_made r.world.a r.world.b turn)
+one_more r B turn = ran_b r (turn_made r.world.b r.world.a turn)
+
+abbrev all_more : {start : LinkWorld} → Option (Ran start) → List Step → Option (Ran start)
+all_more None steps = None
+all_more (Some r) [] = Some r
+all_more (Some r) (step ∷ steps) = all_more (one_more r step.at step.turn) steps
+
+abbrev a : Turn → Step
+a turn = record { at = A; turn = turn }
+
+abbrev b : Turn → Step
+b turn = record { at = B; turn = turn }
+
+abbrev new : LinkWorld
+new = new_world NODE_A NODE_B NODE_B NODE_A
+
+abbrev run_of : List Step → Option (Ran new)
+run_of steps = all_more (Some (record { world = new; of_a = []; of_b = []; reached = Start })) steps
+
+-- what each link of b delivered; and what was handed in at address 1 of a, and delivered at address 2 of b, behind the events at these places
+record Shown : Type 0 where
+  pub up : List (List (List ℕ))
+  pub in_at_a : List (List ℕ)
+  pub up_at_b : List (List ℕ)
+
+abbrev shown : (place_a place_b : ℕ) → Option (Ran new) → Option Shown
+shown place_a place_b None = None
+shown place_a place_b (Some r) =
+    Some (record {
+      up = map (λ (l : LinkOf TrueFlow). l.flow.delivered) r.world.b.links.links;
+      in_at_a = handed_in 1 (behind place_a r.of_a);
+      up_at_b = delivered_up 2 (behind place_b r.of_b);
+    })
+
+abbrev letters : List ℕ
+letters = 0x61 ∷ 0x62 ∷ 0x63 ∷ []
+
+abbrev connected : List Step
+connected =
+    a (Does (Open 1)) ∷ a FirstNone ∷ a (First (CI 1)) ∷ b (Kept 1) ∷ b (Does (Accept 1 2)) ∷ b (First (CC 1 2)) ∷ a (Kept 0) ∷
+    a (First (DATA_ACK 2 1 (ack 0))) ∷ b (Kept 2) ∷ []
+
+-- the first segment is lost with the period it was sent in, and the second comes; then the first is sent again
+abbrev lost_at_a_restart : List Step
+lost_at_a_restart =
+    connected
+    ++ a (Does (In 1 letters))
+    ∷ a (First (SEGMENT 0x20 2 1 (carries 1 (0x61 ∷ 0x62 ∷ []))))
+    ∷ a (First (SEGMENT 0x40 2 1 (carries 2 (0x63 ∷ []))))
+    ∷ b (Kept 4)
+    ∷ a (First (SEGMENT 0x20 2 1 (carries 1 (0x61 ∷ 0x62 ∷ []))))
+    ∷ b (Kept 5)
+    ∷ b (Does (Up 2 letters))
+    ∷ []
+
+it_is_a_run : shown 0 0 (run_of lost_at_a_restart) ≡ Some (record { up = (letters ∷ []) ∷ []; in_at_a = letters ∷ []; up_at_b = letters ∷ [] })
+it_is_a_run = refl
+
+-- a packet is not kept twice, nor behind a later one
+kept_twice : shown 0 0 (run_of (lost_at_a_restart ++ b (Kept 5) ∷ [])) ≡ None
+kept_twice = refl
+
+kept_late : shown 0 0 (run_of (lost_at_a_restart ++ b (Kept 3) ∷ [])) ≡ None
+kept_late = refl
+
+-- the link ends, and both addresses are given again
+abbrev given_again : List Step
+given_again =
+    lost_at_a_restart
+    ++ a (Does (Close 1))
+    ∷ a (First (DI 2 1))
+    ∷ b (Kept 6)
+    ∷ b (First (DC 1 2))
+    ∷ a (Kept 1)
+    ∷ a (Does (Open 1))
+    ∷ a (First (CI 1))
+    ∷ b (Kept 7)
+    ∷ b (Does (Accept 1 2))
+    ∷ b (First (CC 1 2))
+    ∷ a (Kept 2)
+    ∷ a (Does (In 1 (0x78 ∷ [])))
+    ∷ a (First (SEGMENT 0x60 2 1 (carries 1 (0x78 ∷ []))))
+    ∷ b (Kept 8)
+    ∷ b (Does (Up 2 (0x78 ∷ [])))
+    ∷ []
+
+first_link : shown 0 0 (run_of given_again) ≡ Some
+    (record { up = (letters ∷ []) ∷ ((0x78 ∷ []) ∷ []) ∷ []; in_at_a = letters ∷ []; up_at_b = letters ∷ [] })
+first_link = refl
+
+second_link : shown 3 2 (run_of given_again) ≡ Some
+    (record { up = (letters ∷ []) ∷ ((0x78 ∷ []) ∷ []) ∷ []; in_at_a = (0x78 ∷ []) ∷ []; up_at_b = (0x78 ∷ []) ∷ [] })
+second_link = refl

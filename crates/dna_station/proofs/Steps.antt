@@ -1,0 +1,4 @@
+-- What a sending, an effect and a record do
+pub mod Checks
+pub mod Effects
+pub mod Happens

@@ -1,0 +1,46 @@
+-- Which records may take memory, and so find that there is none.
+use Rattle.std.specs.Prelude.{◌≡◌, Bool, true, false, Option, Some, None, IsOk}
+use Rattle.ddcmp_msg.specs.Reading.{ReadingValue, reading, Sound, HeaderBad, DataBad, Malformed}
+use Rattle.capture.specs.declared.record.Record.{Record}
+use Rattle.capture.specs.declared.record.Record.TheVariants.{Sent, Received, Noise, User}
+use Rattle.dna_node.specs.Content.{link_event}
+use Rattle.dna_links.specs.User.{LinkEventValue}
+use Rattle.dna_station.specs.WireBook.{wire_sending_refusal}
+use Rattle.dna_node.specs.WireLayers.{WireLayers}
+use Rattle.dna_links.specs.WireLinks.{WireLinks, wire_links_user}
+use Rattle.nsp_link.specs.Phases.{event_takes_memory}
+use Rattle.pair_judge.specs.declared.step_fault.StepFault.{StepFault}
+use Rattle.pair_judge.specs.declared.step_fault.StepFault.TheVariants.{Refused, OutOfMemory}
+use Rattle.pair_judge.specs.Counting.{shows_damage}
+
+-- a fact of want of memory, where that is answered
+abbrev pub IfNoMemory : Type 0 → StepFault → Type 0
+IfNoMemory P (Refused refusal) = Unit {0}
+IfNoMemory P OutOfMemory = P
+
+-- a message that the station may send: for its unit on the line, for a new packet, and for the piece in that
+abbrev pub MaySend : WireLayers → ReadingValue → Type 0
+MaySend s (Sound message) = wire_sending_refusal s.station message ≡ None
+MaySend s HeaderBad = ⊥
+MaySend s DataBad = ⊥
+MaySend s (Malformed departure) = ⊥
+
+-- what shows no damage and was kept: for the link that its packet begins, or the piece in that
+abbrev pub MayKeep : (kept damaged : Bool) → Type 0
+MayKeep kept damaged = (kept ≡ true) × (damaged ≡ false)
+
+-- an event that the links allow, and that begins a link, gives it an address or hands a message in
+abbrev pub MayEnter : WireLinks → LinkEventValue → Type 0
+MayEnter links event = IsOk (wire_links_user links event) × (event_takes_memory event ≡ true)
+
+abbrev pub MayEnterAny : WireLinks → Option LinkEventValue → Type 0
+MayEnterAny links None = ⊥
+MayEnterAny links (Some event) = MayEnter links event
+
+-- no other record does: not a start, halt, delivery or close, not noise, not a receipt that is damaged or not kept, and no event that
+-- breaks a rule
+abbrev pub MayTakeMemory : WireLayers → Record → Type 0
+MayTakeMemory s (Sent bytes) = MaySend s (reading bytes)
+MayTakeMemory s (Received hint kept bytes) = MayKeep kept (shows_damage (reading bytes))
+MayTakeMemory s (Noise bytes) = ⊥
+MayTakeMemory s (User event) = MayEnterAny s.links (link_event event)

@@ -1,0 +1,41 @@
+-- What one step makes of the ends and of the lines that wait.
+use Rattle.std.specs.Prelude.{◌≡◌, ℕ, List, ◌++◌, Result, Ok, Err}
+use Rattle.wire_base.specs.declared.side.Side.{Side}
+use Rattle.wire_base.specs.declared.side.Side.TheVariants.{A, B}
+use Rattle.capture.specs.declared.hint.HintForm.TheVariants.{Number}
+use Rattle.capture.specs.Text.{record_lines}
+use Rattle.dna_play.specs.Script.{ScriptStep}
+use Rattle.dna_play.specs.KeptPlayed.{KeptPair, KeptMade, kept_plays_step}
+use Rattle.player_end.specs.declared.fault.StepFault.{StepFault}
+use Rattle.player_end.specs.Stepping.{StopMeans}
+
+-- both ends, and the lines of both captures that are not written yet
+pub record Standing : Type 0 where
+  pub pair : KeptPair
+  pub a : List ℕ
+  pub b : List ℕ
+
+abbrev pub standing : KeptPair → List ℕ → List ℕ → Standing
+standing pair a b = record { pair = pair; a = a; b = b }
+
+-- the lines of one side are behind those that waited, and the other side's stay
+abbrev pub PutsLines : Side → (old new : List ℕ × List ℕ) → List ℕ → Type 0
+PutsLines A old new lines = (new.0 ≡ old.0 ++ lines) × (new.1 ≡ old.1)
+PutsLines B old new lines = (new.0 ≡ old.0) × (new.1 ≡ old.1 ++ lines)
+
+-- the step is made, and the lines of its records wait
+pub record Steps (step : ScriptStep) (old new : Standing) : Type 0 where
+  pub made : KeptMade
+  pub makes : kept_plays_step old.pair step ≡ Ok made
+  pub pair : new.pair ≡ made.pair
+  pub puts : PutsLines step.side (old.a, old.b) (new.a, new.b) (record_lines Number made.records)
+
+-- it isn't made, for this reason, and no line is put
+pub record StopsStep (step : ScriptStep) (old new : Standing) (fault : StepFault) : Type 0 where
+  pub means : StopMeans (kept_plays_step old.pair step) fault
+  pub a : new.a ≡ old.a
+  pub b : new.b ≡ old.b
+
+abbrev pub StepsOrStops : ScriptStep → Standing → Standing → Result (Unit {0}) StepFault → Type 0
+StepsOrStops step old new (Ok x) = Steps step old new
+StepsOrStops step old new (Err fault) = StopsStep step old new fault
