@@ -7,6 +7,7 @@ use Rattle.dna_play.specs.PlayRun.{StartsOnce}
 use Rattle.pair_judge.specs.declared.fault.JudgeFault.TheVariants as judge
 use Rattle.pair_judge.specs.declared.fault.TextFault.TheVariants as of_text
 use Rattle.pair_judge.specs.declared.verdict.Verdict.TheVariants.{Accepted, Refused}
+use Rattle.dna_node.specs.Kind.{both_layers}
 use Rattle.pair_judge.specs.Judged.{AcceptsOrFails, Answer, IfTold, IsAnswer, IsExact}
 use Rattle.pair_player.specs.declared.fault.PlayFault.{PlayFault}
 use Rattle.pair_player.specs.declared.fault.PlayFault.TheVariants.{Departs, BadStep, Full, Read, Write, OutOfMemory}
@@ -16,12 +17,12 @@ use Rattle.pair_player.specs.Runs.{AreARun, StartsOnceThroughout}
 use Rattle.pair_player.proofs.RunLaws.{a_run}
 use Rattle.ddcap.specs.Accepting.{HasCaptures, IsAcceptedStatus, PlaysThenChecks, empty_captures}
 use Rattle.ddcap.specs.Playing.{TellsPlayed}
-use Rattle.ddcap.specs.Printed.{Moved, Prints}
+use Rattle.ddcap.specs.Printed.{Moved, Prints, verdict_text}
 
 -- ---- of what was played
 
 told : (r : Reached) (a b : Option (List ℕ)) (answer : Answer) → AreARun r → Appends (Some []) a (text_a r) → Appends (Some []) b (text_b r) →
-    IfTold a b (λ bytes_a bytes_b. IsExact bytes_a bytes_b answer) → AcceptsOrFails answer
+    IfTold a b (λ bytes_a bytes_b. IsExact both_layers bytes_a bytes_b answer) → AcceptsOrFails answer
 told r None b answer run of_a of_b exact = absurd of_a
 told r (Some a) None answer run of_a of_b exact = absurd of_b
 told r (Some a) (Some b) answer run of_a of_b exact =
@@ -30,14 +31,14 @@ told r (Some a) (Some b) answer run of_a of_b exact =
     (subst (IsText r.script.node_b r.script.node_a r.played.of_b) (sym of_b) run.is_text_b) run.run
 
 pub reached : (text : Option (List ℕ)) (r : Reached) (written : Held) (answer : Answer) → HasPlayed text r → StartsOnce r.script.steps →
-    HasWritten empty_captures written r → IsAnswer written.a written.b answer → AcceptsOrFails answer
+    HasWritten empty_captures written r → IsAnswer both_layers written.a written.b answer → AcceptsOrFails answer
 reached text r written answer h once wrote judged =
     told r written.a written.b answer (a_run text r h once) wrote.a wrote.b judged.exact
 
 -- ---- of what was answered
 
 module _ (text : Option (List ℕ)) (written : Held) (answer : Answer) (once : StartsOnceThroughout text)
-    (judged : IsAnswer written.a written.b answer) where
+    (judged : IsAnswer both_layers written.a written.b answer) where
   played_to : {Behind : Reached → Type 0} → PlaysTo text empty_captures written Behind → AcceptsOrFails answer
   played_to plays = reached text plays.0 written answer plays.1 (once plays.0 plays.1) plays.2 judged
 
@@ -68,7 +69,7 @@ all_played out err (Err OutOfMemory) (inl tells, same) = absurd (omega (arith, t
 all_played out err (Err OutOfMemory) (inr tells, same) = absurd (omega (arith, tells.2))
 
 -- the status of an acceptance, or of a fault of memory or of a device
-accepted_status : (out err : Moved) (answer : Answer) (status : ℕ) → AcceptsOrFails answer → Prints out err answer status → IsAcceptedStatus status
+accepted_status : (out err : Moved) (answer : Answer) (status : ℕ) → AcceptsOrFails answer → Prints both_layers verdict_text out err answer status → IsAcceptedStatus status
 accepted_status out err (Ok (Accepted summary)) status is (inl prints, same) = inl prints.2
 accepted_status out err (Ok (Accepted summary)) status is (inr prints, same) = inr prints.2
 accepted_status out err (Ok (Refused side place reason)) status is prints = absurd is
@@ -85,9 +86,9 @@ printed script captures played_to checked_to status h once =
     let plays : Plays script.old.bytes empty_captures written h.plays.answer =
     subst (λ (b : Option (List ℕ)). Plays script.old.bytes (held (Some []) b) written h.plays.answer) h.empty_b
     (subst (λ (a : Option (List ℕ)). Plays script.old.bytes (held a captures.1.old.bytes) written h.plays.answer) h.empty_a h.plays.plays) in
-    let judged : IsAnswer captures.0.new.bytes captures.1.new.bytes h.checks.answer =
-    subst (λ (b : Option (List ℕ)). IsAnswer captures.0.new.bytes b h.checks.answer) h.reads_b
-    (subst (λ (a : Option (List ℕ)). IsAnswer a h.b.old.bytes h.checks.answer) h.reads_a h.checks.judged) in
+    let judged : IsAnswer both_layers captures.0.new.bytes captures.1.new.bytes h.checks.answer =
+    subst (λ (b : Option (List ℕ)). IsAnswer both_layers captures.0.new.bytes b h.checks.answer) h.reads_b
+    (subst (λ (a : Option (List ℕ)). IsAnswer both_layers a h.b.old.bytes h.checks.answer) h.reads_a h.checks.judged) in
     accepted_status checked_to.0 checked_to.1 h.checks.answer status
     (answered script.old.bytes written h.checks.answer once judged h.plays.answer plays
     (all_played played_to.0 played_to.1 h.plays.answer h.plays.tells)) h.checks.printed

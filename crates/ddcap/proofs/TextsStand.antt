@@ -6,6 +6,7 @@ use Rattle.capture.specs.Range.{IsText}
 use Rattle.capture.proofs.SoFarLaws.{departs_nowhere, head_stands}
 use Rattle.pair_judge.specs.declared.fault.JudgeFault.TheVariants as judge
 use Rattle.pair_judge.specs.declared.fault.TextFault.TheVariants as of_text
+use Rattle.dna_node.specs.Kind.{both_layers}
 use Rattle.pair_judge.specs.Judged.{Answer, IsAnswer, IsFaultyWhere}
 use Rattle.pair_player.specs.declared.fault.PlayFault.{PlayFault}
 use Rattle.pair_player.specs.declared.fault.PlayFault.TheVariants.{Departs, BadStep, Full, Read, Write, OutOfMemory}
@@ -24,7 +25,7 @@ module _ (r : Reached) (texts : AreTexts r) where
   text_of_b : (bytes : List ℕ) → Appends (Some []) (Some bytes) (text_b r) → IsText r.script.node_b r.script.node_a r.played.of_b bytes
   text_of_b bytes wrote = subst (IsText r.script.node_b r.script.node_a r.played.of_b) (sym wrote) texts.is_text_b
 
-  told : (a b : Option (List ℕ)) (answer : Answer) → Appends (Some []) a (text_a r) → Appends (Some []) b (text_b r) → IsFaultyWhere a b answer →
+  told : (a b : Option (List ℕ)) (answer : Answer) → Appends (Some []) a (text_a r) → Appends (Some []) b (text_b r) → IsFaultyWhere both_layers a b answer →
       NamesNoText answer
   told None b answer of_a of_b faulty = absurd of_a
   told (Some a) None answer of_a of_b faulty = absurd of_b
@@ -41,12 +42,12 @@ module _ (r : Reached) (texts : AreTexts r) where
   told (Some a) (Some b) (Err judge.OutOfMemory) of_a of_b faulty = tt
 
 pub reached : (text : Option (List ℕ)) (r : Reached) (written : Held) (answer : Answer) → HasPlayed text r →
-    HasWritten empty_captures written r → IsAnswer written.a written.b answer → NamesNoText answer
+    HasWritten empty_captures written r → IsAnswer both_layers written.a written.b answer → NamesNoText answer
 reached text r written answer h wrote judged = told r (all_texts text r h) written.a written.b answer wrote.a wrote.b judged.faulty
 
 -- ---- of what was answered
 
-module _ (text : Option (List ℕ)) (written : Held) (answer : Answer) (judged : IsAnswer written.a written.b answer) where
+module _ (text : Option (List ℕ)) (written : Held) (answer : Answer) (judged : IsAnswer both_layers written.a written.b answer) where
   played_to : {Behind : Reached → Type 0} → PlaysTo text empty_captures written Behind → NamesNoText answer
   played_to plays = reached text plays.0 written answer plays.1 plays.2 judged
 

@@ -7,8 +7,9 @@ use Rattle.pair_player.specs.declared.fault.PlayFault.{PlayFault}
 use Rattle.pair_player.specs.declared.fault.PlayFault.TheVariants.{Departs, BadStep, Full, Read, Write, OutOfMemory}
 use Rattle.pair_player.specs.declared.played.Played.{Played}
 use Rattle.pair_player.specs.Playing.{Held, held}
+use Rattle.dna_node.specs.Kind.{both_layers}
 use Rattle.ddcap.specs.Playing.{IsPlaying}
-use Rattle.ddcap.specs.Printed.{Checks, Moved}
+use Rattle.ddcap.specs.Printed.{Checks, Moved, verdict_text}
 
 -- two writers that took nothing yet
 abbrev pub empty_captures : Held
@@ -40,7 +41,7 @@ pub record PlaysThenChecks (script : Moved) (captures : Moved × Moved) (played_
   pub b : Moved
   pub reads_a : a.old.bytes ≡ captures.0.new.bytes
   pub reads_b : b.old.bytes ≡ captures.1.new.bytes
-  pub checks : Checks a b checked_to.0 checked_to.1 status
+  pub checks : Checks both_layers verdict_text a b checked_to.0 checked_to.1 status
 
 -- `check` accepts, or a device or the memory failed
 abbrev pub IsAcceptedStatus : ℕ → Type 0

@@ -11,9 +11,11 @@ use Rattle.capture.specs.Faulty.{CountsReads, line_fault_words}
 use Rattle.wire_base.specs.declared.side.Side.{Side}
 use Rattle.wire_base.specs.declared.side.Side.TheVariants.{A, B}
 use Rattle.wire_base.specs.declared.tally.Tally.{Tally}
+use Rattle.dna_node.specs.Kind.{NodeKind}
 use Rattle.pair_judge.specs.Faulty.{is_failed_read_of}
 use Rattle.pair_judge.specs.Judged.{Answer, IsAnswer}
 use Rattle.pair_judge.specs.Reason.{reason_name, reason_number}
+use Rattle.pair_judge.specs.declared.reason.Reason.{Reason}
 use Rattle.pair_judge.specs.declared.summary.SideSummary.{SideSummary}
 use Rattle.pair_judge.specs.declared.verdict.Verdict.{Verdict}
 use Rattle.pair_judge.specs.declared.verdict.Verdict.TheVariants.{Accepted, Refused}
@@ -34,12 +36,29 @@ side_line side counts =
     ++ (codes " kept " ++ (decimal counts.kept ++ (codes " periods " ++ (decimal counts.periods
     ++ (codes " links " ++ (decimal counts.links ++ (codes " up " ++ decimal counts.up)))))))))))))))
 
--- `accepted`, and a line a side; or `refused SIDE RECORD line LINE: NUMBER NAME`, where record i stands on line i + 2
-abbrev pub verdict_text : Verdict → List ℕ
-verdict_text (Accepted summary) = codes "accepted\n" ++ (side_line A summary.a ++ (codes "\n" ++ (side_line B summary.b ++ codes "\n")))
-verdict_text (Refused side place reason) =
+-- of stations alone it ends with the periods: `a records 5 sent 3 received 1 damaged 0 kept 0 periods 1`
+abbrev pub station_line : Side → SideSummary → List ℕ
+station_line side counts =
+    side_letter side ++ (codes " records " ++ (decimal counts.records ++ (codes " sent " ++ (decimal counts.sent
+    ++ (codes " received " ++ (decimal counts.received ++ (codes " damaged " ++ (decimal counts.damaged
+    ++ (codes " kept " ++ (decimal counts.kept ++ (codes " periods " ++ decimal counts.periods)))))))))))
+
+-- `refused SIDE RECORD line LINE: NUMBER NAME`, where record i stands on line i + 2
+abbrev pub refused_text : Side → (place : ℕ) → Reason → List ℕ
+refused_text side place reason =
     codes "refused " ++ (side_letter side ++ (codes " " ++ (decimal place ++ (codes " line " ++ (decimal (place + 2)
     ++ (codes ": " ++ (decimal (reason_number reason) ++ (codes " " ++ (reason_name reason ++ codes "\n")))))))))
+
+-- `accepted`, and a line a side; or what is refused
+abbrev pub verdict_text : Verdict → List ℕ
+verdict_text (Accepted summary) = codes "accepted\n" ++ (side_line A summary.a ++ (codes "\n" ++ (side_line B summary.b ++ codes "\n")))
+verdict_text (Refused side place reason) = refused_text side place reason
+
+-- the same of stations alone
+abbrev pub line_verdict_text : Verdict → List ℕ
+line_verdict_text (Accepted summary) =
+    codes "accepted\n" ++ (station_line A summary.a ++ (codes "\n" ++ (station_line B summary.b ++ codes "\n")))
+line_verdict_text (Refused side place reason) = refused_text side place reason
 
 -- what was wrong with a text, behind its side
 abbrev pub text_fault : TextFault → List ℕ
@@ -108,16 +127,25 @@ Writes old new text meant status =
     (Appends old.bytes new.bytes text × (new.faults ≡ old.faults) × (status ≡ meant))
     ⊎ (AppendsBeginning old.bytes new.bytes text × CountedFault old.faults new.faults × (status ≡ 3))
 
--- a verdict is written to standard output and a fault to standard error; the other stream stays as it is
-abbrev pub Prints : (out err : Moved) → Answer → ℕ → Type 0
-Prints out err (Ok verdict) status = Writes out.old out.new (verdict_text verdict) (verdict_status verdict) status × (err.new ≡ err.old)
-Prints out err (Err fault) status = Writes err.old err.new (fault_text fault) (fault_status fault) status × (out.new ≡ out.old)
+-- why there is no verdict is written to standard error; where there is no memory for the text of a faulty line, that is told
+abbrev pub TellsFault : (err : Moved) → JudgeFault → ℕ → Type 0
+TellsFault err (Capture side (Departs kind line)) status =
+    Writes err.old err.new (fault_text (Capture side (Departs kind line))) 2 status ⊎ Writes err.old err.new (fault_text OutOfMemory) 3 status
+TellsFault err (Capture side Read) status = Writes err.old err.new (fault_text (Capture side Read)) 3 status
+TellsFault err OutOfMemory status = Writes err.old err.new (fault_text OutOfMemory) 3 status
 
--- One call of `check`: what is printed, with its status, is an answer of which all is true that the judge's contract says of its own:
--- of what the two readers had left, and of their counts.
-pub record Checks (a b out err : Moved) (status : ℕ) : Type 0 where
-  pub answer : Answer
-  pub judged : IsAnswer a.old.bytes b.old.bytes answer
-  pub reads_a : CountsReads (is_failed_read_of A answer) a.old.faults a.new.faults
-  pub reads_b : CountsReads (is_failed_read_of B answer) b.old.faults b.new.faults
-  pub printed : Prints out err answer status
+-- The kind of node that both ends are taken for, and the text of a verdict
+module _ (nodes : NodeKind) (text : Verdict → List ℕ) where
+  -- a verdict is written to standard output and a fault to standard error; the other stream stays as it is
+  abbrev pub Prints : (out err : Moved) → Answer → ℕ → Type 0
+  Prints out err (Ok verdict) status = Writes out.old out.new (text verdict) (verdict_status verdict) status × (err.new ≡ err.old)
+  Prints out err (Err fault) status = Writes err.old err.new (fault_text fault) (fault_status fault) status × (out.new ≡ out.old)
+
+  -- One call of `check`: what is printed, with its status, is an answer of which all is true that the judge's contract says of its own:
+  -- of what the two readers had left, and of their counts.
+  pub record Checks (a b out err : Moved) (status : ℕ) : Type 0 where
+    pub answer : Answer
+    pub judged : IsAnswer nodes a.old.bytes b.old.bytes answer
+    pub reads_a : CountsReads (is_failed_read_of A answer) a.old.faults a.new.faults
+    pub reads_b : CountsReads (is_failed_read_of B answer) b.old.faults b.new.faults
+    pub printed : Prints out err answer status

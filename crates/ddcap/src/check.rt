@@ -2,10 +2,14 @@
 
 ghost use Rattle.pair_judge.specs.declared.fault.JudgeFault.TheVariants.{Capture, OutOfMemory};
 ghost use Rattle.pair_judge.specs.declared.fault.TextFault.TheVariants.{Read as FailedRead};
-ghost use Rattle.ddcap.specs.Printed.{Checks, Writes, fault_text as text_of, moved, stream_of};
+ghost use Rattle.dna_node.specs.Kind.{both_layers, stations_alone};
+ghost use Rattle.ddcap.specs.Printed.{Checks, TellsFault, Writes, moved, stream_of};
+ghost use Rattle.ddcap.specs.Printed.{fault_text as text_of, line_verdict_text as line_verdict_text_of, verdict_text as verdict_text_of};
 
-use crate::text::{FAILED, FAULTY, line_fault_text, verdict_status, verdict_text};
-use pair_judge::{JudgeFault, TextFault, judge};
+use crate::text::{
+    FAILED, FAULTY, line_fault_text, line_verdict_text, verdict_status, verdict_text,
+};
+use pair_judge::{JudgeFault, TextFault, judge, judge_line};
 use std::alloc::Global;
 use std::io::{Read, Write};
 use wire_base::{Side, Tally, write_whole};
@@ -24,7 +28,7 @@ pub fn check_to<A: Read, B: Read, O: Write, E: Write>(
     out: &mut Tally<O>,
     err: &mut Tally<E>,
 ) -> u8
-    ensures { Checks (moved A.remaining a.old a.new) (moved B.remaining b.old b.new)
+    ensures { Checks both_layers verdict_text_of (moved A.remaining a.old a.new) (moved B.remaining b.old b.new)
         (moved O.contents out.old out.new) (moved E.contents err.old err.new) result }
 {
     match judge(alloc, a, b) {
@@ -32,18 +36,43 @@ pub fn check_to<A: Read, B: Read, O: Write, E: Write>(
             Ok(text) => print(out, text.as_bytes(), verdict_status(verdict)),
             Err(_) => print_out_of_memory(err),
         },
-        Err(fault) => match fault {
-            JudgeFault::Capture { side, fault } => match fault {
-                TextFault::Departs { kind, line } => {
-                    match line_fault_text(alloc, side, kind, line) {
-                        Ok(text) => print(err, text.as_bytes(), FAULTY),
-                        Err(_) => print_out_of_memory(err),
-                    }
-                }
-                TextFault::Read => print_failed_read(err, side),
-            },
-            JudgeFault::OutOfMemory => print_out_of_memory(err),
+        Err(fault) => print_fault(alloc, fault, err),
+    }
+}
+
+/// Judges stations and line alone, and prints the answer as `check_to` does, but that a side's line of counts ends with its periods.
+pub fn check_line_to<A: Read, B: Read, O: Write, E: Write>(
+    alloc: Global,
+    a: &mut Tally<A>,
+    b: &mut Tally<B>,
+    out: &mut Tally<O>,
+    err: &mut Tally<E>,
+) -> u8
+    ensures { Checks stations_alone line_verdict_text_of (moved A.remaining a.old a.new) (moved B.remaining b.old b.new)
+        (moved O.contents out.old out.new) (moved E.contents err.old err.new) result }
+{
+    match judge_line(alloc, a, b) {
+        Ok(verdict) => match line_verdict_text(alloc, verdict) {
+            Ok(text) => print(out, text.as_bytes(), verdict_status(verdict)),
+            Err(_) => print_out_of_memory(err),
         },
+        Err(fault) => print_fault(alloc, fault, err),
+    }
+}
+
+// Prints why there is no verdict, and answers the status.
+fn print_fault<E: Write>(alloc: Global, fault: JudgeFault, err: &mut Tally<E>) -> u8
+    ensures { TellsFault (moved E.contents err.old err.new) fault result }
+{
+    match fault {
+        JudgeFault::Capture { side, fault } => match fault {
+            TextFault::Departs { kind, line } => match line_fault_text(alloc, side, kind, line) {
+                Ok(text) => print(err, text.as_bytes(), FAULTY),
+                Err(_) => print_out_of_memory(err),
+            },
+            TextFault::Read => print_failed_read(err, side),
+        },
+        JudgeFault::OutOfMemory => print_out_of_memory(err),
     }
 }
 

@@ -7,6 +7,7 @@ ghost use Rattle.dna_play.specs.Script.{Script};
 ghost use Rattle.dna_play.specs.ScriptText.{IsScriptText};
 ghost use Rattle.pair_judge.specs.declared.reason.Reason.{Reason as Why};
 ghost use Rattle.pair_judge.specs.declared.verdict.Verdict.TheVariants.{Refused};
+ghost use Rattle.dna_node.specs.Kind.{both_layers};
 ghost use Rattle.pair_judge.specs.Judged.{AcceptsOrFails, Answer, IsAnswer};
 ghost use Rattle.pair_player.specs.declared.fault.PlayFault.{PlayFault};
 ghost use Rattle.pair_player.specs.declared.played.Played.{Played};
@@ -22,9 +23,9 @@ use pair_player::starts_once_throughout;
 /// that the player answers behind the head of a script, where no device and no memory failed.
 pub fn played_texts_stand()
     ensures reached { (text : Option (List ℕ)) (r : Reached) (written : Held) (answer : Answer) → HasPlayed text r →
-        HasWritten empty_captures written r → IsAnswer written.a written.b answer → NamesNoText answer }
+        HasWritten empty_captures written r → IsAnswer both_layers written.a written.b answer → NamesNoText answer }
     ensures answered { (text : Option (List ℕ)) (written : Held) (played : Result Played PlayFault) (answer : Answer) →
-        Plays text empty_captures written played → HasCaptures played → IsAnswer written.a written.b answer → NamesNoText answer }
+        Plays text empty_captures written played → HasCaptures played → IsAnswer both_layers written.a written.b answer → NamesNoText answer }
 {}
 
 /// What is played into two empty captures, of steps that start each side at most once, the judge accepts, where neither memory nor a read fails
@@ -33,10 +34,10 @@ pub fn played_texts_stand()
 pub fn played_is_accepted()
     ensures reached { (text : Option (List ℕ)) (r : Reached) (written : Held) (answer : Answer) →
         HasPlayed text r → StartsOnce r.script.steps →
-        HasWritten empty_captures written r → IsAnswer written.a written.b answer → AcceptsOrFails answer }
+        HasWritten empty_captures written r → IsAnswer both_layers written.a written.b answer → AcceptsOrFails answer }
     ensures answered { (text : Option (List ℕ)) (written : Held) (played : Result Played PlayFault) (answer : Answer) →
         Plays text empty_captures written played → HasCaptures played → StartsOnceThroughout text →
-        IsAnswer written.a written.b answer → AcceptsOrFails answer }
+        IsAnswer both_layers written.a written.b answer → AcceptsOrFails answer }
     ensures printed { (script : Moved) (captures played_to checked_to : Moved × Moved) (status : ℕ) →
         PlaysThenChecks script captures played_to checked_to status → StartsOnceThroughout script.old.bytes →
         IsAcceptedStatus status }
@@ -46,7 +47,7 @@ pub fn played_is_accepted()
 pub fn what_was_played_whole_is_not_refused()
     ensures { (bytes : List ℕ) (script : Script) (written : Held) (played : Played) (side : OfSide) (place : ℕ) (reason : Why) →
         IsScriptText script bytes → StartsOnce script.steps → Plays (Some bytes) empty_captures written (Ok played) →
-        IsAnswer written.a written.b (Ok (Refused side place reason)) → ⊥ }
+        IsAnswer both_layers written.a written.b (Ok (Refused side place reason)) → ⊥ }
 {
     starts_once_throughout();
     played_is_accepted();

@@ -3,7 +3,7 @@
 ghost use Rattle.std.specs.IoError.{error_kind};
 ghost use Rattle.ddcap.specs.Printed.{Writes, not_opened_says, stream_of, words_fault_status, words_fault_text};
 
-use crate::check::{check_to, print, print_out_of_memory};
+use crate::check::{check_line_to, check_to, print, print_out_of_memory};
 use crate::convert::convert_to;
 use crate::explain::explain_to;
 use crate::explanations::explanation_of;
@@ -59,6 +59,7 @@ fn do_task<R: Files + AllocGlobal, O: Write, E: Write>(
 ) -> Result<u8, u8> {
     match task {
         Task::Check { a, b } => check_files(rt, a, b, out, err),
+        Task::CheckLine { a, b } => check_line_files(rt, a, b, out, err),
         Task::Show { a } => show_file(rt, a, out, err),
         Task::Play { script, a, b } => play_file(rt, script, a, b, out, err),
         Task::Convert { to, a, b } => convert_file(rt, to, a, b, out, err),
@@ -103,6 +104,19 @@ fn check_files<R: Files + AllocGlobal, O: Write, E: Write>(
     let mut a = opened(rt, path_a, Named::A, err)?;
     let mut b = opened(rt, path_b, Named::B, err)?;
     Ok(check_to(rt.alloc(), &mut a, &mut b, out, err))
+}
+
+// The same of stations and line alone.
+fn check_line_files<R: Files + AllocGlobal, O: Write, E: Write>(
+    rt: &R,
+    path_a: &str,
+    path_b: &str,
+    out: &mut Tally<O>,
+    err: &mut Tally<E>,
+) -> Result<u8, u8> {
+    let mut a = opened(rt, path_a, Named::A, err)?;
+    let mut b = opened(rt, path_b, Named::B, err)?;
+    Ok(check_line_to(rt.alloc(), &mut a, &mut b, out, err))
 }
 
 // Opens the file, and shows what it holds.

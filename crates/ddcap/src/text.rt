@@ -7,7 +7,7 @@ ghost use Rattle.pair_judge.specs.declared.fault.TextFault.TheVariants.{Departs}
 ghost use Rattle.ddcap.specs.Printed as printed;
 
 use capture::Departure;
-use pair_judge::{SideSummary, Verdict};
+use pair_judge::{Reason, SideSummary, Verdict};
 use std::alloc::{AllocError, Global};
 use std::fmt;
 use wire_base::Side;
@@ -45,6 +45,36 @@ impl fmt::Display for SideLine {
         write!(
             f,
             "{side} records {records} sent {sent} received {received} damaged {damaged} kept {kept} periods {periods} links {links} up {up}"
+        )
+    }
+}
+
+/// The line of one side of an accepted pair of stations alone.
+#[derive(Clone, Copy)]
+struct StationLine {
+    side: Side,
+    counts: SideSummary,
+}
+
+impl fmt::Display for StationLine {
+    ghost use Rattle.std.specs.Prelude.{Some};
+
+    ghost output = { λ line. Some (printed.station_line line.side line.counts) };
+
+    fn fmt<W: fmt::Write>(&self, f: &mut fmt::Formatter<W>) -> fmt::Result {
+        let side = self.side;
+        let SideSummary {
+            records,
+            sent,
+            received,
+            damaged,
+            kept,
+            periods,
+            ..
+        } = self.counts;
+        write!(
+            f,
+            "{side} records {records} sent {sent} received {received} damaged {damaged} kept {kept} periods {periods}"
         )
     }
 }
@@ -88,13 +118,47 @@ pub fn verdict_text(alloc: Global, verdict: Verdict) -> Result<String, AllocErro
             side,
             place,
             reason,
-        } => {
-            // Wide, since a record's number may be any u64.
-            let line = u128::from(place) + 2;
-            let number = reason.number();
-            format!(in alloc; "refused {side} {place} line {line}: {number} {reason}\n")
-        }
+        } => refused_text(alloc, side, place, reason),
     }
+}
+
+/// The text of a verdict on stations alone: the same, without the counts of links. Fails for want of memory alone.
+pub fn line_verdict_text(alloc: Global, verdict: Verdict) -> Result<String, AllocError>
+    ensures { IfOk result (λ text. string_bytes text ≡ printed.line_verdict_text verdict) }
+{
+    match verdict {
+        Verdict::Accepted(summary) => {
+            let line_a = StationLine {
+                side: Side::A,
+                counts: summary.a,
+            };
+            let line_b = StationLine {
+                side: Side::B,
+                counts: summary.b,
+            };
+            format!(in alloc; "accepted\n{line_a}\n{line_b}\n")
+        }
+        Verdict::Refused {
+            side,
+            place,
+            reason,
+        } => refused_text(alloc, side, place, reason),
+    }
+}
+
+// What is printed of a refusal.
+fn refused_text(
+    alloc: Global,
+    side: Side,
+    place: u64,
+    reason: Reason,
+) -> Result<String, AllocError>
+    ensures { IfOk result (λ text. string_bytes text ≡ printed.refused_text side place reason) }
+{
+    // Wide, since a record's number may be any u64.
+    let line = u128::from(place) + 2;
+    let number = reason.number();
+    format!(in alloc; "refused {side} {place} line {line}: {number} {reason}\n")
 }
 
 /// The text of a line of this side that departs, with its LF: `a: line 3: syntax` and its kin. Fails for want of memory alone.

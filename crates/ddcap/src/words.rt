@@ -4,7 +4,7 @@ use crate::explanations::reason_spelled;
 use crate::help::Topic;
 use capture::Format;
 use clap::error::ErrorKind;
-use clap::{Arg, ArgMatches, Command};
+use clap::{Arg, ArgAction, ArgMatches, Command};
 use pair_judge::Reason;
 use std::alloc::{AllocError, Global};
 use std::convert::AsStr;
@@ -14,6 +14,11 @@ use std::convert::AsStr;
 pub enum Task<'a> {
     /// To judge the captures in two files.
     Check {
+        a: &'a str,
+        b: &'a str,
+    },
+    /// To judge stations and line alone of the captures in two files.
+    CheckLine {
         a: &'a str,
         b: &'a str,
     },
@@ -59,10 +64,7 @@ pub fn task_of<'a, S: AsStr>(alloc: Global, words: &'a [S]) -> Result<Task<'a>, 
     };
     match program.try_get_matches_from(words) {
         Ok(matches) => match matches.subcommand() {
-            Some(("check", found)) => match (found.get_str("A"), found.get_str("B")) {
-                (Some(a), Some(b)) => Ok(Task::Check { a, b }),
-                _ => Err(WordsFault::BadWords),
-            },
+            Some(("check", found)) => checked_of(found),
             Some(("show", found)) => match found.get_str("A") {
                 Some(a) => Ok(Task::Show { a }),
                 None => Err(WordsFault::BadWords),
@@ -78,6 +80,17 @@ pub fn task_of<'a, S: AsStr>(alloc: Global, words: &'a [S]) -> Result<Task<'a>, 
             _ => Err(WordsFault::BadWords),
         },
     }
+}
+
+// The captures that the words behind `check` name, and whether the line alone is judged.
+fn checked_of<'a>(found: &ArgMatches<'a>) -> Result<Task<'a>, WordsFault> {
+    let (Some(a), Some(b)) = (found.get_str("A"), found.get_str("B")) else {
+        return Err(WordsFault::BadWords);
+    };
+    if found.get_flag("line") {
+        return Ok(Task::CheckLine { a, b });
+    }
+    Ok(Task::Check { a, b })
 }
 
 // The conversion that the words behind `convert` ask for: the format's number has one spelling.
@@ -154,11 +167,17 @@ fn program<'a>(alloc: Global) -> Result<Command<'a>, AllocError> {
         .subcommand(explain(alloc)?)
 }
 
-// `check A B`
+// `check [--line] A B`
 fn check<'a>(alloc: Global) -> Result<Command<'a>, AllocError> {
     Command::new(alloc, "check")
         .arg(Arg::new(alloc, "A").required(true))?
-        .arg(Arg::new(alloc, "B").required(true))
+        .arg(Arg::new(alloc, "B").required(true))?
+        .arg(line_alone(alloc))
+}
+
+// `--line`, before or behind the files
+fn line_alone<'a>(alloc: Global) -> Arg<'a> {
+    Arg::new(alloc, "line").long("line").action(ArgAction::SetTrue)
 }
 
 // `show A`

@@ -8,7 +8,8 @@ pub mod WireLayers
 pub mod LayersPair
 pub mod CutLayers
 pub mod Seen
--- what a finding says of two captures
+-- what a judge takes the ends of a line for, and what a finding says of two captures
+pub mod Kind
 pub mod Verdict
 -- what ghost members alone name: there is nothing in it to believe
 pub mod inner

@@ -20,6 +20,7 @@ use Rattle.dna_node.specs.declared.finding.Finding.TheVariants as finding
 use Rattle.dna_node.specs.Layers.{LayersNode, LayersUnit, new_layers_node}
 use Rattle.dna_node.specs.LayersPair.{layers_pair, layers_start}
 use Rattle.dna_node.specs.inner.Tells.{layers_tell}
+use Rattle.dna_node.specs.Kind.{both_layers}
 use Rattle.dna_node.specs.Verdict.{IsVerdict}
 
 -- the heads of the rows: node 1.1 is side a, node 1.2 side b
@@ -105,12 +106,12 @@ module _ (head_a head_b : Head) where
 
   abbrev IsRight : (all_a all_b : List Record) → Course → Type 0
   IsRight all_a all_b (At w i j xs ys) = Reached all_a all_b w i j xs ys
-  IsRight all_a all_b (Found answer) = IsVerdict head_a head_b all_a all_b answer
+  IsRight all_a all_b (Found answer) = IsVerdict both_layers head_a head_b all_a all_b answer
   IsRight all_a all_b Blocked = Unit {0}
 
   -- all are made
   accepted : {all_a all_b made_a made_b : List Record} {w : Both} → IsRunTo w made_a made_b → made_a ++ [] ≡ all_a → made_b ++ [] ≡ all_b →
-      IsVerdict head_a head_b all_a all_b finding.Accepted
+      IsVerdict both_layers head_a head_b all_a all_b finding.Accepted
   accepted {all_a} {all_b} {made_a} {made_b} {w} run of_a of_b = (
     w,
     subst (λ (xs : List Record). IsRunTo w xs all_b) (sym (append-nil made_a) ∙ of_a)
@@ -120,7 +121,7 @@ module _ (head_a head_b : Head) where
   -- a record is refused behind these
   refused_behind_a : (made_a made_b xs ys : List Record) (w : Both) (x : Record) (refusal : StepRefusal) → IsRunTo w made_a made_b →
       advance layers_pair.node_a w.a w.b x ≡ Refused refusal →
-      IsVerdict head_a head_b (made_a ++ x ∷ xs) (made_b ++ ys) (finding.Refused A (length made_a) (Step refusal))
+      IsVerdict both_layers head_a head_b (made_a ++ x ∷ xs) (made_b ++ ys) (finding.Refused A (length made_a) (Step refusal))
   refused_behind_a made_a made_b xs ys w x refusal run refused = (
     λ whole. no_run_of_refused layers_pair (start head_a head_b) w made_a made_b xs ys x refusal run refused whole,
     next_offends layers_pair layers_tell (new_layers_node head_a) (new_layers_node head_b) w made_a made_b xs ys x refusal run refused,
@@ -128,7 +129,7 @@ module _ (head_a head_b : Head) where
 
   refused_behind_b : (made_a made_b xs ys : List Record) (w : Both) (y : Record) (refusal : StepRefusal) → IsRunTo w made_a made_b →
       advance layers_pair.node_b w.b w.a y ≡ Refused refusal →
-      IsVerdict head_a head_b (made_a ++ xs) (made_b ++ y ∷ ys) (finding.Refused B (length made_b) (Step refusal))
+      IsVerdict both_layers head_a head_b (made_a ++ xs) (made_b ++ y ∷ ys) (finding.Refused B (length made_b) (Step refusal))
   refused_behind_b made_a made_b xs ys w y refusal run refused = (
     λ whole. no_run_of_refused layers_pair (exchanged_world (start head_a head_b)) (exchanged_world w) made_b made_a ys xs y refusal
         (exchange layers_pair run) refused (exchange_run layers_pair (start head_a head_b) (made_a ++ xs) (made_b ++ y ∷ ys) whole),
@@ -138,11 +139,11 @@ module _ (head_a head_b : Head) where
 
   -- the same verdict, where the captures and the place are written otherwise
   same_verdict : {xs all_a ys all_b : List Record} {i j : ℕ} (side : Side) (cause : Cause) → xs ≡ all_a → ys ≡ all_b → i ≡ j →
-      IsVerdict head_a head_b xs ys (finding.Refused side i cause) → IsVerdict head_a head_b all_a all_b (finding.Refused side j cause)
+      IsVerdict both_layers head_a head_b xs ys (finding.Refused side i cause) → IsVerdict both_layers head_a head_b all_a all_b (finding.Refused side j cause)
   same_verdict {all_a = all_a} {ys = ys} {all_b = all_b} {i = i} side cause of_a of_b place is =
-      subst (λ (n : ℕ). IsVerdict head_a head_b all_a all_b (finding.Refused side n cause)) place
-      (subst (λ (bs : List Record). IsVerdict head_a head_b all_a bs (finding.Refused side i cause)) of_b
-      (subst (λ (as' : List Record). IsVerdict head_a head_b as' ys (finding.Refused side i cause)) of_a is))
+      subst (λ (n : ℕ). IsVerdict both_layers head_a head_b all_a all_b (finding.Refused side n cause)) place
+      (subst (λ (bs : List Record). IsVerdict both_layers head_a head_b all_a bs (finding.Refused side i cause)) of_b
+      (subst (λ (as' : List Record). IsVerdict both_layers head_a head_b as' ys (finding.Refused side i cause)) of_a is))
 
   module _ (all_a all_b : List Record) where
     abbrev Here : (w : Both) (i j : ℕ) (xs ys : List Record) → Type 0
@@ -196,9 +197,9 @@ module _ (head_a head_b : Head) where
     right_after (suc n) course right = right_after n (next course) (right_next course right)
 
     right_found : (course : Course) (answer : Finding) → IsRight all_a all_b course → found_in course ≡ Some answer →
-        IsVerdict head_a head_b all_a all_b answer
+        IsVerdict both_layers head_a head_b all_a all_b answer
     right_found (At w i j xs ys) answer right e = absurd cc
-    right_found (Found other) answer right e = subst (λ (f : Finding). IsVerdict head_a head_b all_a all_b f) (same_Some other answer e) right
+    right_found (Found other) answer right e = subst (λ (f : Finding). IsVerdict both_layers head_a head_b all_a all_b f) (same_Some other answer e) right
     right_found Blocked answer right e = absurd cc
 
   at_the_start : (xs ys : List Record) → Reached xs ys (start head_a head_b) 0 0 xs ys
@@ -206,7 +207,7 @@ module _ (head_a head_b : Head) where
 
 -- What the definitions say of two captures with these heads and records
 pub record VerdictOf (head_a head_b : Head) (of_a of_b : List Record) (answer : Finding) : Type 0 where
-  pub is_verdict : IsVerdict head_a head_b of_a of_b answer
+  pub is_verdict : IsVerdict both_layers head_a head_b of_a of_b answer
 
 abbrev pub Verdict : (of_a of_b : List Record) → Finding → Type 0
 Verdict of_a of_b answer = VerdictOf head_1 head_2 of_a of_b answer

@@ -22,7 +22,7 @@ use Rattle.pair_judge.specs.inner.Receipts.{IsReceived, came, node_at, node_of, 
 use Rattle.pair_judge.specs.inner.Steps.{IsSent, IsNotSent}
 use Rattle.pair_judge.specs.inner.Making.{IsMade, StandsFor, move}
 use Rattle.pair_judge.specs.Summary.{counted}
-use Rattle.pair_judge.specs.inner.Wire.{JudgeHalf, judge_hears, judge_machine, judge_receives, judge_sent_step, judge_step}
+use Rattle.pair_judge.specs.inner.Wire.{JudgeHalf, judge_hears, judge_receives, judge_sent_step, judge_step, JudgeTop}
 
 -- the state of the half
 pub state_is : (own : End) (incoming : Line) (mine : JudgeHalf) → StandsFor own incoming mine → mine.state ≡ node_of own.head own.layers incoming
@@ -47,120 +47,121 @@ same_line before after sent same shows = record {
   rest = ap held same ∙ shows.rest ∙ ap (λ (l : Line). drop l.gone sent) (sym same);
 }
 
--- ---- a sending
+module _ (top : JudgeTop) where
+  -- ---- a sending
 
-pub sending_made : (old new : End) (incoming : Line) (bytes : List ℕ) (mine theirs : JudgeHalf) → StandsFor old incoming mine →
-    Shows incoming theirs.sent → IsSent old.layers new.layers old.line new.line bytes → new.line.gone ≡ old.line.gone → new.head ≡ old.head →
-    new.counts ≡ counted old.counts (Sent bytes) → load new.layers.station ≤ load old.layers.station →
-    IsMade (move old new incoming incoming) (Sent bytes) mine theirs
-sending_made old new incoming bytes mine theirs stands shows sent gone head counts loaded = record {
-  next = stepped_sending mine (node_of old.head new.layers incoming) sent.unit;
-  step_is =
-      ap (λ (n : WireLayersNode). answered mine theirs (judge_sent_step n bytes (reading bytes))) (state_is old incoming mine stands)
-      ∙ ap (answered mine theirs) (sent.step old.head incoming.gone);
-  stands = record {
-    head = sym head;
-    layers = refl;
-    front = refl;
-    sent = pushed old.line new.line mine.sent sent.unit stands.sent gone sent.units;
-  };
-  incoming = shows;
-  same_head = head;
-  same_front = gone;
-  counts = counts;
-  load = omega (arith, loaded);
-}
-
-pub sending_refused : (old : End) (incoming : Line) (bytes : List ℕ) (mine theirs : JudgeHalf) (refusal : StepRefusal) → StandsFor old incoming mine →
-    IsNotSent old.layers bytes refusal → advance judge_step mine theirs (Sent bytes) ≡ Refused refusal
-sending_refused old incoming bytes mine theirs refusal stands refuses =
-    ap (λ (n : WireLayersNode). answered mine theirs (judge_sent_step n bytes (reading bytes))) (state_is old incoming mine stands)
-    ∙ ap (answered mine theirs) (refuses old.head incoming.gone)
-
--- ---- a record that only its layers go by: an event of the user, or noise
-
-module _ (r : Record) (goes_by : WireLayers → Result WireLayers StepRefusal)
-    (step_is : (n : WireLayersNode) → judge_step n r ≡ does {K = LayersTag} n (goes_by n.station)) where
-  went : (old : End) (incoming : Line) (mine theirs : JudgeHalf) (o : Result WireLayers StepRefusal) → StandsFor old incoming mine →
-      goes_by old.layers ≡ o → advance judge_step mine theirs r ≡ answered mine theirs (does {K = LayersTag} (node_of old.head old.layers incoming) o)
-  went old incoming mine theirs o stands goes =
-      ap (λ (n : WireLayersNode). answered mine theirs (judge_step n r)) (state_is old incoming mine stands)
-      ∙ ap (answered mine theirs) (step_is (node_of old.head old.layers incoming))
-      ∙ ap (λ (x : Result WireLayers StepRefusal). answered mine theirs (does {K = LayersTag} (node_of old.head old.layers incoming) x)) goes
-
-  went_made : (old new : End) (incoming : Line) (mine theirs : JudgeHalf) → StandsFor old incoming mine → Shows incoming theirs.sent →
-      goes_by old.layers ≡ Ok new.layers → new.line ≡ old.line → new.head ≡ old.head → new.counts ≡ counted old.counts r →
-      load new.layers.station ≤ load old.layers.station + 1 → IsMade (move old new incoming incoming) r mine theirs
-  went_made old new incoming mine theirs stands shows goes line head counts loaded = record {
-    next = stepped mine (node_of old.head new.layers incoming);
-    step_is = went old incoming mine theirs (Ok new.layers) stands goes;
-    stands = record { head = sym head; layers = refl; front = refl; sent = same_line old.line new.line mine.sent line stands.sent };
+  pub sending_made : (old new : End) (incoming : Line) (bytes : List ℕ) (mine theirs : JudgeHalf) → StandsFor old incoming mine →
+      Shows incoming theirs.sent → IsSent top old.layers new.layers old.line new.line bytes → new.line.gone ≡ old.line.gone → new.head ≡ old.head →
+      new.counts ≡ counted old.counts (Sent bytes) → load new.layers.station ≤ load old.layers.station →
+      IsMade top (move old new incoming incoming) (Sent bytes) mine theirs
+  sending_made old new incoming bytes mine theirs stands shows sent gone head counts loaded = record {
+    next = stepped_sending mine (node_of old.head new.layers incoming) sent.unit;
+    step_is =
+        ap (λ (n : WireLayersNode). answered mine theirs (judge_sent_step top n bytes (reading bytes))) (state_is old incoming mine stands)
+        ∙ ap (answered mine theirs) (sent.step old.head incoming.gone);
+    stands = record {
+      head = sym head;
+      layers = refl;
+      front = refl;
+      sent = pushed old.line new.line mine.sent sent.unit stands.sent gone sent.units;
+    };
     incoming = shows;
+    same_head = head;
+    same_front = gone;
+    counts = counts;
+    load = omega (arith, loaded);
+  }
+
+  pub sending_refused : (old : End) (incoming : Line) (bytes : List ℕ) (mine theirs : JudgeHalf) (refusal : StepRefusal) → StandsFor old incoming mine →
+      IsNotSent top old.layers bytes refusal → advance (judge_step top) mine theirs (Sent bytes) ≡ Refused refusal
+  sending_refused old incoming bytes mine theirs refusal stands refuses =
+      ap (λ (n : WireLayersNode). answered mine theirs (judge_sent_step top n bytes (reading bytes))) (state_is old incoming mine stands)
+      ∙ ap (answered mine theirs) (refuses old.head incoming.gone)
+
+  -- ---- a record that only its layers go by: an event of the user, or noise
+
+  module _ (r : Record) (goes_by : WireLayers → Result WireLayers StepRefusal)
+      (step_is : (n : WireLayersNode) → judge_step top n r ≡ does {K = LayersTag} n (goes_by n.station)) where
+    went : (old : End) (incoming : Line) (mine theirs : JudgeHalf) (o : Result WireLayers StepRefusal) → StandsFor old incoming mine →
+        goes_by old.layers ≡ o → advance (judge_step top) mine theirs r ≡ answered mine theirs (does {K = LayersTag} (node_of old.head old.layers incoming) o)
+    went old incoming mine theirs o stands goes =
+        ap (λ (n : WireLayersNode). answered mine theirs (judge_step top n r)) (state_is old incoming mine stands)
+        ∙ ap (answered mine theirs) (step_is (node_of old.head old.layers incoming))
+        ∙ ap (λ (x : Result WireLayers StepRefusal). answered mine theirs (does {K = LayersTag} (node_of old.head old.layers incoming) x)) goes
+
+    went_made : (old new : End) (incoming : Line) (mine theirs : JudgeHalf) → StandsFor old incoming mine → Shows incoming theirs.sent →
+        goes_by old.layers ≡ Ok new.layers → new.line ≡ old.line → new.head ≡ old.head → new.counts ≡ counted old.counts r →
+        load new.layers.station ≤ load old.layers.station + 1 → IsMade top (move old new incoming incoming) r mine theirs
+    went_made old new incoming mine theirs stands shows goes line head counts loaded = record {
+      next = stepped mine (node_of old.head new.layers incoming);
+      step_is = went old incoming mine theirs (Ok new.layers) stands goes;
+      stands = record { head = sym head; layers = refl; front = refl; sent = same_line old.line new.line mine.sent line stands.sent };
+      incoming = shows;
+      same_head = head;
+      same_front = ap (λ (l : Line). l.gone) line;
+      counts = counts;
+      load = loaded;
+    }
+
+    went_refused : (old : End) (incoming : Line) (mine theirs : JudgeHalf) (refusal : StepRefusal) → StandsFor old incoming mine →
+        goes_by old.layers ≡ Err refusal → advance (judge_step top) mine theirs r ≡ Refused refusal
+    went_refused old incoming mine theirs refusal stands refuses = went old incoming mine theirs (Err refusal) stands refuses
+
+  pub event_made : (old new : End) (incoming : Line) (event : Event) (mine theirs : JudgeHalf) → StandsFor old incoming mine →
+      Shows incoming theirs.sent → top.machine.user old.layers event ≡ Ok new.layers → new.line ≡ old.line → new.head ≡ old.head →
+      new.counts ≡ counted old.counts (User event) → load new.layers.station ≤ load old.layers.station + 1 →
+      IsMade top (move old new incoming incoming) (User event) mine theirs
+  event_made old new incoming event = went_made (User event) (λ (s : WireLayers). top.machine.user s event) (λ n. refl) old new incoming
+
+  pub event_refused : (old : End) (incoming : Line) (event : Event) (mine theirs : JudgeHalf) (refusal : StepRefusal) → StandsFor old incoming mine →
+      top.machine.user old.layers event ≡ Err refusal → advance (judge_step top) mine theirs (User event) ≡ Refused refusal
+  event_refused old incoming event = went_refused (User event) (λ (s : WireLayers). top.machine.user s event) (λ n. refl) old incoming
+
+  pub noise_made : (old new : End) (incoming : Line) (bytes : List ℕ) (mine theirs : JudgeHalf) → StandsFor old incoming mine →
+      Shows incoming theirs.sent → judge_hears top old.layers (reading bytes) ≡ Ok new.layers → new.line ≡ old.line → new.head ≡ old.head →
+      new.counts ≡ counted old.counts (Noise bytes) → load new.layers.station ≤ load old.layers.station + 1 →
+      IsMade top (move old new incoming incoming) (Noise bytes) mine theirs
+  noise_made old new incoming bytes = went_made (Noise bytes) (λ (s : WireLayers). judge_hears top s (reading bytes)) (λ n. refl) old new incoming
+
+  pub noise_refused : (old : End) (incoming : Line) (bytes : List ℕ) (mine theirs : JudgeHalf) (refusal : StepRefusal) → StandsFor old incoming mine →
+      judge_hears top old.layers (reading bytes) ≡ Err refusal → advance (judge_step top) mine theirs (Noise bytes) ≡ Refused refusal
+  noise_refused old incoming bytes = went_refused (Noise bytes) (λ (s : WireLayers). judge_hears top s (reading bytes)) (λ n. refl) old incoming
+
+  -- ---- a receipt
+
+  -- a receipt of a unit that was sent
+  reads_unit : (mine theirs : JudgeHalf) (n : WireLayersNode) (hint : ℕ) (kept : Bool) (bytes : List ℕ) (unit : WireLayersUnit)
+      (r : Result WireLayersNode StepRefusal) → mine.state ≡ n → slice_get theirs.sent hint ≡ Some unit → judge_receives top n hint kept bytes unit ≡ r →
+      advance (judge_step top) mine theirs (Received hint kept bytes) ≡ concluded mine r
+  reads_unit mine theirs n hint kept bytes unit r state was_sent receives_is =
+      ap (any.read mine (judge_receives top mine.state hint kept bytes)) was_sent
+      ∙ ap (λ (s : WireLayersNode). concluded mine (judge_receives top s hint kept bytes unit)) state
+      ∙ ap (concluded mine) receives_is
+
+  pub receipt_made : (old new : End) (before after : Line) (hint : ℕ) (kept : Bool) (bytes : List ℕ) (mine theirs : JudgeHalf) →
+      StandsFor old before mine → IsReceived top (layers_move old.layers new.layers before after) (came hint kept bytes) theirs.sent → new.line ≡ old.line →
+      new.head ≡ old.head → new.counts ≡ counted old.counts (Received hint kept bytes) → load new.layers.station ≤ load old.layers.station + 1 →
+      IsMade top (move old new before after) (Received hint kept bytes) mine theirs
+  receipt_made old new before after hint kept bytes mine theirs stands received line head counts loaded = record {
+    next = stepped mine (node_of old.head new.layers after);
+    step_is = reads_unit mine theirs (node_of old.head old.layers before) hint kept bytes received.unit (Ok (node_of old.head new.layers after))
+        (state_is old before mine stands) received.was_sent (received.step old.head);
+    stands = record { head = sym head; layers = refl; front = refl; sent = same_line old.line new.line mine.sent line stands.sent };
+    incoming = received.shows;
     same_head = head;
     same_front = ap (λ (l : Line). l.gone) line;
     counts = counts;
     load = loaded;
   }
 
-  went_refused : (old : End) (incoming : Line) (mine theirs : JudgeHalf) (refusal : StepRefusal) → StandsFor old incoming mine →
-      goes_by old.layers ≡ Err refusal → advance judge_step mine theirs r ≡ Refused refusal
-  went_refused old incoming mine theirs refusal stands refuses = went old incoming mine theirs (Err refusal) stands refuses
+  pub receipt_refused : (old : End) (before : Line) (hint : ℕ) (kept : Bool) (bytes : List ℕ) (mine theirs : JudgeHalf) (refusal : StepRefusal) →
+      StandsFor old before mine → (unit : WireLayersUnit) × (slice_get theirs.sent hint ≡ Some unit) ×
+      ((head : Head) → judge_receives top (node_of head old.layers before) hint kept bytes unit ≡ Err refusal) →
+      advance (judge_step top) mine theirs (Received hint kept bytes) ≡ Refused refusal
+  receipt_refused old before hint kept bytes mine theirs refusal stands fails =
+      reads_unit mine theirs (node_of old.head old.layers before) hint kept bytes fails.0 (Err refusal) (state_is old before mine stands) fails.1
+      (fails.2 old.head)
 
-pub event_made : (old new : End) (incoming : Line) (event : Event) (mine theirs : JudgeHalf) → StandsFor old incoming mine →
-    Shows incoming theirs.sent → judge_machine.user old.layers event ≡ Ok new.layers → new.line ≡ old.line → new.head ≡ old.head →
-    new.counts ≡ counted old.counts (User event) → load new.layers.station ≤ load old.layers.station + 1 →
-    IsMade (move old new incoming incoming) (User event) mine theirs
-event_made old new incoming event = went_made (User event) (λ (s : WireLayers). judge_machine.user s event) (λ n. refl) old new incoming
-
-pub event_refused : (old : End) (incoming : Line) (event : Event) (mine theirs : JudgeHalf) (refusal : StepRefusal) → StandsFor old incoming mine →
-    judge_machine.user old.layers event ≡ Err refusal → advance judge_step mine theirs (User event) ≡ Refused refusal
-event_refused old incoming event = went_refused (User event) (λ (s : WireLayers). judge_machine.user s event) (λ n. refl) old incoming
-
-pub noise_made : (old new : End) (incoming : Line) (bytes : List ℕ) (mine theirs : JudgeHalf) → StandsFor old incoming mine →
-    Shows incoming theirs.sent → judge_hears old.layers (reading bytes) ≡ Ok new.layers → new.line ≡ old.line → new.head ≡ old.head →
-    new.counts ≡ counted old.counts (Noise bytes) → load new.layers.station ≤ load old.layers.station + 1 →
-    IsMade (move old new incoming incoming) (Noise bytes) mine theirs
-noise_made old new incoming bytes = went_made (Noise bytes) (λ (s : WireLayers). judge_hears s (reading bytes)) (λ n. refl) old new incoming
-
-pub noise_refused : (old : End) (incoming : Line) (bytes : List ℕ) (mine theirs : JudgeHalf) (refusal : StepRefusal) → StandsFor old incoming mine →
-    judge_hears old.layers (reading bytes) ≡ Err refusal → advance judge_step mine theirs (Noise bytes) ≡ Refused refusal
-noise_refused old incoming bytes = went_refused (Noise bytes) (λ (s : WireLayers). judge_hears s (reading bytes)) (λ n. refl) old incoming
-
--- ---- a receipt
-
--- a receipt of a unit that was sent
-reads_unit : (mine theirs : JudgeHalf) (n : WireLayersNode) (hint : ℕ) (kept : Bool) (bytes : List ℕ) (unit : WireLayersUnit)
-    (r : Result WireLayersNode StepRefusal) → mine.state ≡ n → slice_get theirs.sent hint ≡ Some unit → judge_receives n hint kept bytes unit ≡ r →
-    advance judge_step mine theirs (Received hint kept bytes) ≡ concluded mine r
-reads_unit mine theirs n hint kept bytes unit r state was_sent receives_is =
-    ap (any.read mine (judge_receives mine.state hint kept bytes)) was_sent
-    ∙ ap (λ (s : WireLayersNode). concluded mine (judge_receives s hint kept bytes unit)) state
-    ∙ ap (concluded mine) receives_is
-
-pub receipt_made : (old new : End) (before after : Line) (hint : ℕ) (kept : Bool) (bytes : List ℕ) (mine theirs : JudgeHalf) →
-    StandsFor old before mine → IsReceived (layers_move old.layers new.layers before after) (came hint kept bytes) theirs.sent → new.line ≡ old.line →
-    new.head ≡ old.head → new.counts ≡ counted old.counts (Received hint kept bytes) → load new.layers.station ≤ load old.layers.station + 1 →
-    IsMade (move old new before after) (Received hint kept bytes) mine theirs
-receipt_made old new before after hint kept bytes mine theirs stands received line head counts loaded = record {
-  next = stepped mine (node_of old.head new.layers after);
-  step_is = reads_unit mine theirs (node_of old.head old.layers before) hint kept bytes received.unit (Ok (node_of old.head new.layers after))
-      (state_is old before mine stands) received.was_sent (received.step old.head);
-  stands = record { head = sym head; layers = refl; front = refl; sent = same_line old.line new.line mine.sent line stands.sent };
-  incoming = received.shows;
-  same_head = head;
-  same_front = ap (λ (l : Line). l.gone) line;
-  counts = counts;
-  load = loaded;
-}
-
-pub receipt_refused : (old : End) (before : Line) (hint : ℕ) (kept : Bool) (bytes : List ℕ) (mine theirs : JudgeHalf) (refusal : StepRefusal) →
-    StandsFor old before mine → (unit : WireLayersUnit) × (slice_get theirs.sent hint ≡ Some unit) ×
-    ((head : Head) → judge_receives (node_of head old.layers before) hint kept bytes unit ≡ Err refusal) →
-    advance judge_step mine theirs (Received hint kept bytes) ≡ Refused refusal
-receipt_refused old before hint kept bytes mine theirs refusal stands fails =
-    reads_unit mine theirs (node_of old.head old.layers before) hint kept bytes fails.0 (Err refusal) (state_is old before mine stands) fails.1
-    (fails.2 old.head)
-
-pub receipt_waits : (hint : ℕ) (kept : Bool) (bytes : List ℕ) (mine theirs : JudgeHalf) → slice_get theirs.sent hint ≡ None →
-    advance judge_step mine theirs (Received hint kept bytes) ≡ Waits
-receipt_waits hint kept bytes mine theirs not_sent = ap (any.read mine (judge_receives mine.state hint kept bytes)) not_sent
+  pub receipt_waits : (hint : ℕ) (kept : Bool) (bytes : List ℕ) (mine theirs : JudgeHalf) → slice_get theirs.sent hint ≡ None →
+      advance (judge_step top) mine theirs (Received hint kept bytes) ≡ Waits
+  receipt_waits hint kept bytes mine theirs not_sent = ap (any.read mine (judge_receives top mine.state hint kept bytes)) not_sent

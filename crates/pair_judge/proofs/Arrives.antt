@@ -17,7 +17,7 @@ use Rattle.pair_judge.specs.declared.step_fault.StepFault.TheVariants.{Refused, 
 use Rattle.pair_judge.specs.inner.Memory.{IfNoMemory, MayKeep}
 use Rattle.pair_judge.specs.inner.Receipts.{is_damage}
 use Rattle.pair_judge.specs.inner.Steps.{IfRefused, with_link}
-use Rattle.pair_judge.specs.inner.Wire.{judge_machine}
+use Rattle.pair_judge.specs.inner.Tops.{layers_run}
 
 -- a packet is taken only where it is kept
 taken_kept : (t k : Bool) (body packet : List ℕ) → cond (t && k) (Some body) None ≡ Some packet → (k ≡ true) × (body ≡ packet)
@@ -36,7 +36,7 @@ met_by_station s DataBad link kept = refl
 module _ (s : WireLayers) (link : Option LinkTag) (kept : Bool) where
   -- both layers go on from what the station made of it
   on_station : (arrival : ArrivalValue Tag) → wire_arrival_refusal judged.periods s.station arrival kept ≡ None →
-      judge_machine.arrives s (with_link link arrival) kept ≡ wire_meets_on judged s (with_link link arrival) kept
+      layers_run.arrives s (with_link link arrival) kept ≡ wire_meets_on judged s (with_link link arrival) kept
       (Ok (wire_after_arrival s.station arrival kept))
   on_station arrival free =
       ap (λ (a : ArrivalValue Tag). wire_meets_on judged s (with_link link arrival) kept
@@ -50,7 +50,7 @@ module _ (s : WireLayers) (link : Option LinkTag) (kept : Bool) where
       (r : Result WireLayers StepRefusal) → wire_arrival_refusal judged.periods s.station arrival kept ≡ None →
       wire_taken s.station arrival kept ≡ Some packet
       → after ≡ wire_after_arrival s.station arrival kept → tag ≡ tag_or_none link → wire_keeps_packet judged (record s { station = after }) tag
-      (content packet) ≡ r → judge_machine.arrives s (with_link link arrival) kept ≡ r
+      (content packet) ≡ r → layers_run.arrives s (with_link link arrival) kept ≡ r
   arrives_kept (Sound m of_station) packet after tag r free taken after_is tag_is keeps =
       let both = taken_kept (takes_by wire_book s.station m of_station) kept (body_of m) packet taken in
       let next = record s { station = wire_after_arrival s.station (Sound m of_station) kept } in

@@ -7,30 +7,31 @@ use Rattle.dna_station.specs.Book.{ArrivalValue}
 use Rattle.dna_station.specs.Line.{coming}
 use Rattle.dna_station.specs.Machine.{met, comes}
 use Rattle.dna_node.specs.WireLayers.{LayersTag, WireLayers, WireLayersNode, WireLayersUnit}
-use Rattle.pair_judge.specs.inner.Wire.{judge_machine, judge_receives}
+use Rattle.pair_judge.specs.inner.Wire.{judge_receives, JudgeTop}
 
 -- ---- what a node makes of it
 
--- the hint lies below the front
-pub receives_back : (n : WireLayersNode) (hint : ℕ) (kept : Bool) (bytes : List ℕ) (unit : WireLayersUnit) → hint < n.front →
-    judge_receives n hint kept bytes unit ≡ Err HintOrder
-receives_back n hint kept bytes unit below =
-    ap (λ b. cond b (Err HintOrder) (comes judge_machine n (hint + 1) kept (coming unit bytes))) (lt-ltb hint n.front below)
+module _ (top : JudgeTop) where
+  -- the hint lies below the front
+  pub receives_back : (n : WireLayersNode) (hint : ℕ) (kept : Bool) (bytes : List ℕ) (unit : WireLayersUnit) → hint < n.front →
+      judge_receives top n hint kept bytes unit ≡ Err HintOrder
+  receives_back n hint kept bytes unit below =
+      ap (λ b. cond b (Err HintOrder) (comes top.machine n (hint + 1) kept (coming unit bytes))) (lt-ltb hint n.front below)
 
--- at or above the front it goes by what comes
-pub receives_at : (n : WireLayersNode) (hint : ℕ) (kept : Bool) (bytes : List ℕ) (unit : WireLayersUnit) (came : Option (ArrivalValue LayersTag)) →
-    n.front ≤ hint → came ≡ coming unit bytes → judge_receives n hint kept bytes unit ≡ comes judge_machine n (hint + 1) kept came
-receives_at n hint kept bytes unit came at_least is =
-    ap (λ b. cond b (Err HintOrder) (comes judge_machine n (hint + 1) kept (coming unit bytes))) (le-ltb hint n.front at_least)
-    ∙ ap (comes judge_machine n (hint + 1) kept) (sym is)
+  -- at or above the front it goes by what comes
+  pub receives_at : (n : WireLayersNode) (hint : ℕ) (kept : Bool) (bytes : List ℕ) (unit : WireLayersUnit) (came : Option (ArrivalValue LayersTag)) →
+      n.front ≤ hint → came ≡ coming unit bytes → judge_receives top n hint kept bytes unit ≡ comes top.machine n (hint + 1) kept came
+  receives_at n hint kept bytes unit came at_least is =
+      ap (λ b. cond b (Err HintOrder) (comes top.machine n (hint + 1) kept (coming unit bytes))) (le-ltb hint n.front at_least)
+      ∙ ap (comes top.machine n (hint + 1) kept) (sym is)
 
--- both layers go by it
-pub comes_met : (n : WireLayersNode) (hint : ℕ) (kept : Bool) (arrival : ArrivalValue LayersTag) (after : WireLayers) →
-    judge_machine.arrives n.station arrival kept ≡ Ok after → comes judge_machine n (hint + 1) kept (Some arrival) ≡ Ok
-    (record n { station = after; front = hint + 1 })
-comes_met n hint kept arrival after goes = ap (met n (hint + 1)) goes
+  -- both layers go by it
+  pub comes_met : (n : WireLayersNode) (hint : ℕ) (kept : Bool) (arrival : ArrivalValue LayersTag) (after : WireLayers) →
+      top.machine.arrives n.station arrival kept ≡ Ok after → comes top.machine n (hint + 1) kept (Some arrival) ≡ Ok
+      (record n { station = after; front = hint + 1 })
+  comes_met n hint kept arrival after goes = ap (met n (hint + 1)) goes
 
--- one of them refuses
-pub comes_refused : (n : WireLayersNode) (hint : ℕ) (kept : Bool) (arrival : ArrivalValue LayersTag) (refusal : StepRefusal) →
-    judge_machine.arrives n.station arrival kept ≡ Err refusal → comes judge_machine n (hint + 1) kept (Some arrival) ≡ Err refusal
-comes_refused n hint kept arrival refusal refuses = ap (met n (hint + 1)) refuses
+  -- one of them refuses
+  pub comes_refused : (n : WireLayersNode) (hint : ℕ) (kept : Bool) (arrival : ArrivalValue LayersTag) (refusal : StepRefusal) →
+      top.machine.arrives n.station arrival kept ≡ Err refusal → comes top.machine n (hint + 1) kept (Some arrival) ≡ Err refusal
+  comes_refused n hint kept arrival refusal refuses = ap (met n (hint + 1)) refuses

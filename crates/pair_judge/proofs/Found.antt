@@ -17,12 +17,13 @@ use Rattle.pair_judge.specs.declared.course.Ahead.TheVariants.{Unread, Waits, En
 use Rattle.pair_judge.specs.inner.Course.{IsRead, Track, WaitsAt, behind, having_made, read_of, waiting, IsWaiting}
 use Rattle.pair_judge.specs.declared.course.Course.{Course}
 use Rattle.pair_judge.specs.declared.line.Line.{Line}
-use Rattle.dna_node.specs.Layers.{LayersNode}
+use Rattle.dna_node.specs.Kind.{NodeKind, KindNode}
 use Rattle.dna_node.specs.WireLayers.{WireLayers}
 use Rattle.pair_judge.specs.declared.end.End.{End}
 use Rattle.pair_judge.specs.declared.summary.SideSummary.{SideSummary}
-use Rattle.pair_judge.specs.inner.Reached.{HasReached, HasRun, IsFound, IsStopped}
+use Rattle.pair_judge.specs.inner.Reached.{HasReached, IsFound, IsShown, IsStopped}
 use Rattle.pair_judge.specs.Summary.{counts_of, summary_at, summary_of, summary_with}
+use Rattle.pair_judge.specs.inner.Wire.{JudgeTop}
 
 -- ---- what goes on behind what was read
 
@@ -64,170 +65,172 @@ module _ (t : Track) (made : List Record) (all : List Record) where
 at_the_end : (ahead : Ahead) (come : Option (List ℕ)) → ahead ≡ Ended → behind ahead come ≡ TheEnd
 at_the_end ahead come is = ap (λ (x : Ahead). behind x come) is
 
--- the same of the same heads
-pub at_heads : (head_a head_b head_a' head_b' : Head) (xs ys : List Record) (finding : Finding) → head_a' ≡ head_a → head_b' ≡ head_b →
-    IsFinding head_a head_b xs ys finding → IsFinding head_a' head_b' xs ys finding
-at_heads head_a head_b head_a' head_b' xs ys finding same_a same_b v =
-    subst (λ (h : Head). IsFinding h head_b' xs ys finding) (sym same_a) (subst (λ (h : Head). IsFinding head_a h xs ys finding) (sym same_b) v)
+module _ (kind : NodeKind) where
+  -- the same of the same heads
+  pub at_heads : (head_a head_b head_a' head_b' : Head) (xs ys : List Record) (finding : Finding) → head_a' ≡ head_a → head_b' ≡ head_b →
+      IsFinding kind head_a head_b xs ys finding → IsFinding kind head_a' head_b' xs ys finding
+  at_heads head_a head_b head_a' head_b' xs ys finding same_a same_b v =
+      subst (λ (h : Head). IsFinding kind h head_b' xs ys finding) (sym same_a) (subst (λ (h : Head). IsFinding kind head_a h xs ys finding) (sym same_b) v)
 
--- ---- the endings
+module _ (top : JudgeTop) where
+  -- ---- the endings
 
--- the two sides, and the heads and records of the run so far
-module _ (a b : Track) (head_a head_b : Head) (same_a : a.course.end.head ≡ head_a) (same_b : b.course.end.head ≡ head_b) (place : ℕ) where
-  finding_at : (all_a all_b xs ys : List Record) (finding : Finding) → all_a ≡ xs → all_b ≡ ys → IsFinding head_a head_b xs ys finding →
-      IsFinding a.course.end.head b.course.end.head all_a all_b finding
-  finding_at all_a all_b xs ys finding ea eb v =
-      at_heads head_a head_b a.course.end.head b.course.end.head all_a all_b finding same_a same_b
-      (subst (λ (of_a : List Record). IsFinding head_a head_b of_a all_b finding) (sym ea)
-      (subst (λ (of_b : List Record). IsFinding head_a head_b xs of_b finding) (sym eb) v))
+  -- the two sides, and the heads and records of the run so far
+  module _ (a b : Track) (head_a head_b : Head) (same_a : a.course.end.head ≡ head_a) (same_b : b.course.end.head ≡ head_b) (place : ℕ) where
+    finding_at : (all_a all_b xs ys : List Record) (finding : Finding) → all_a ≡ xs → all_b ≡ ys → IsFinding top.kind head_a head_b xs ys finding →
+        IsFinding top.kind a.course.end.head b.course.end.head all_a all_b finding
+    finding_at all_a all_b xs ys finding ea eb v =
+        at_heads top.kind head_a head_b a.course.end.head b.course.end.head all_a all_b finding same_a same_b
+        (subst (λ (of_a : List Record). IsFinding top.kind head_a head_b of_a all_b finding) (sym ea)
+        (subst (λ (of_b : List Record). IsFinding top.kind head_a head_b xs of_b finding) (sym eb) v))
 
-  -- a's next record is refused
-  pub a_fails : (refusal : StepRefusal) (r : Record) → IsRead (having_made a (a.made ++ r ∷ [])) → IsRead b →
-      ((rest_a rest_b : List Record) → IsFinding head_a head_b (a.made ++ r ∷ rest_a) (b.made ++ rest_b) (Refused A place (Step refusal))) →
-      IsFound a b (Refused A place (Step refusal))
-  a_fails refusal r read_a read_b law = record {
-    made_a = a.made ++ r ∷ [];
-    made_b = b.made;
-    read_a = read_a;
-    read_b = read_b;
-    is_finding = λ all_a all_b goes_a goes_b.
-        let x = goes_read a a.made all_a r goes_a in
-        let y = goes_any b b.made all_b goes_b in
-        finding_at all_a all_b (a.made ++ r ∷ x.0) (b.made ++ y.0) (Refused A place (Step refusal)) x.1 y.1 (law x.0 y.0);
-    ends = tt;
-    counts = λ e. cc;
-  }
+    -- a's next record is refused
+    pub a_fails : (refusal : StepRefusal) (r : Record) → IsRead (having_made a (a.made ++ r ∷ [])) → IsRead b →
+        ((rest_a rest_b : List Record) → IsFinding top.kind head_a head_b (a.made ++ r ∷ rest_a) (b.made ++ rest_b) (Refused A place (Step refusal))) →
+        IsFound top a b (Refused A place (Step refusal))
+    a_fails refusal r read_a read_b law = record {
+      made_a = a.made ++ r ∷ [];
+      made_b = b.made;
+      read_a = read_a;
+      read_b = read_b;
+      is_finding = λ all_a all_b goes_a goes_b.
+          let x = goes_read a a.made all_a r goes_a in
+          let y = goes_any b b.made all_b goes_b in
+          finding_at all_a all_b (a.made ++ r ∷ x.0) (b.made ++ y.0) (Refused A place (Step refusal)) x.1 y.1 (law x.0 y.0);
+      ends = tt;
+      counts = λ e. cc;
+    }
 
-  -- b's next record is refused, and a waits
-  pub b_fails_behind : (refusal : StepRefusal) (p r : Record) → IsRead a → IsRead (having_made b (b.made ++ r ∷ [])) →
-      IsWaiting a.course.capture.bytes a.course.ahead p
-      → ((rest_a rest_b : List Record) → IsFinding head_a head_b (a.made ++ p ∷ rest_a) (b.made ++ r ∷ rest_b) (Refused B place (Step refusal))) →
-      IsFound a b (Refused B place (Step refusal))
-  b_fails_behind refusal p r read_a read_b ahead_a law = record {
-    made_a = a.made;
-    made_b = b.made ++ r ∷ [];
-    read_a = read_a;
-    read_b = read_b;
-    is_finding = λ all_a all_b goes_a goes_b.
-        let x = goes_waits a a.made all_a p ahead_a goes_a in
-        let y = goes_read b b.made all_b r goes_b in
-        finding_at all_a all_b (a.made ++ p ∷ x.0) (b.made ++ r ∷ y.0) (Refused B place (Step refusal)) x.1 y.1 (law x.0 y.0);
-    ends = tt;
-    counts = λ e. cc;
-  }
+    -- b's next record is refused, and a waits
+    pub b_fails_behind : (refusal : StepRefusal) (p r : Record) → IsRead a → IsRead (having_made b (b.made ++ r ∷ [])) →
+        IsWaiting a.course.capture.bytes a.course.ahead p
+        → ((rest_a rest_b : List Record) → IsFinding top.kind head_a head_b (a.made ++ p ∷ rest_a) (b.made ++ r ∷ rest_b) (Refused B place (Step refusal))) →
+        IsFound top a b (Refused B place (Step refusal))
+    b_fails_behind refusal p r read_a read_b ahead_a law = record {
+      made_a = a.made;
+      made_b = b.made ++ r ∷ [];
+      read_a = read_a;
+      read_b = read_b;
+      is_finding = λ all_a all_b goes_a goes_b.
+          let x = goes_waits a a.made all_a p ahead_a goes_a in
+          let y = goes_read b b.made all_b r goes_b in
+          finding_at all_a all_b (a.made ++ p ∷ x.0) (b.made ++ r ∷ y.0) (Refused B place (Step refusal)) x.1 y.1 (law x.0 y.0);
+      ends = tt;
+      counts = λ e. cc;
+    }
 
-  -- or a has ended
-  pub b_fails_last : (refusal : StepRefusal) (r : Record) → IsRead a → IsRead (having_made b (b.made ++ r ∷ [])) → a.course.ahead ≡ Ended
-      → ((rest_b : List Record) → IsFinding head_a head_b a.made (b.made ++ r ∷ rest_b) (Refused B place (Step refusal))) →
-      IsFound a b (Refused B place (Step refusal))
-  b_fails_last refusal r read_a read_b ended law = record {
-    made_a = a.made;
-    made_b = b.made ++ r ∷ [];
-    read_a = read_a;
-    read_b = read_b;
-    is_finding = λ all_a all_b goes_a goes_b.
-        let y = goes_read b b.made all_b r goes_b in
-        finding_at all_a all_b a.made (b.made ++ r ∷ y.0) (Refused B place (Step refusal)) (goes_ended a a.made all_a ended goes_a) y.1 (law y.0);
-    ends = tt;
-    counts = λ e. cc;
-  }
+    -- or a has ended
+    pub b_fails_last : (refusal : StepRefusal) (r : Record) → IsRead a → IsRead (having_made b (b.made ++ r ∷ [])) → a.course.ahead ≡ Ended
+        → ((rest_b : List Record) → IsFinding top.kind head_a head_b a.made (b.made ++ r ∷ rest_b) (Refused B place (Step refusal))) →
+        IsFound top a b (Refused B place (Step refusal))
+    b_fails_last refusal r read_a read_b ended law = record {
+      made_a = a.made;
+      made_b = b.made ++ r ∷ [];
+      read_a = read_a;
+      read_b = read_b;
+      is_finding = λ all_a all_b goes_a goes_b.
+          let y = goes_read b b.made all_b r goes_b in
+          finding_at all_a all_b a.made (b.made ++ r ∷ y.0) (Refused B place (Step refusal)) (goes_ended a a.made all_a ended goes_a) y.1 (law y.0);
+      ends = tt;
+      counts = λ e. cc;
+    }
 
-  -- whichever it is, where a's course was this one before its line was released
-  pub b_fails : (refusal : StepRefusal) (r : Record) (waits : Bool) (own : Course) (incoming : Line) → own.capture ≡ a.course.capture →
-      own.ahead ≡ a.course.ahead → IsStopped waits own incoming
-      → IsRead a → IsRead (having_made b (b.made ++ r ∷ []))
-      → ((p : Record) (rest_a rest_b : List Record) → WaitsAt own.end incoming p → IsFinding head_a head_b (a.made ++ p ∷ rest_a)
-      (b.made ++ r ∷ rest_b) (Refused B place (Step refusal)))
-      → ((rest_b : List Record) → IsFinding head_a head_b a.made (b.made ++ r ∷ rest_b) (Refused B place (Step refusal)))
-      → IsFound a b (Refused B place (Step refusal))
-  b_fails refusal r true own incoming capture ahead held read_a read_b behind last =
-      b_fails_behind refusal held.next r read_a read_b (rw (sym capture, sym ahead) held.ahead)
-      (λ rest_a rest_b. behind held.next rest_a rest_b held.waits)
-  b_fails refusal r false own incoming capture ahead ended read_a read_b behind last = b_fails_last refusal r read_a read_b (sym ahead ∙ ended) last
+    -- whichever it is, where a's course was this one before its line was released
+    pub b_fails : (refusal : StepRefusal) (r : Record) (waits : Bool) (own : Course) (incoming : Line) → own.capture ≡ a.course.capture →
+        own.ahead ≡ a.course.ahead → IsStopped top waits own incoming
+        → IsRead a → IsRead (having_made b (b.made ++ r ∷ []))
+        → ((p : Record) (rest_a rest_b : List Record) → WaitsAt top own.end incoming p → IsFinding top.kind head_a head_b (a.made ++ p ∷ rest_a)
+        (b.made ++ r ∷ rest_b) (Refused B place (Step refusal)))
+        → ((rest_b : List Record) → IsFinding top.kind head_a head_b a.made (b.made ++ r ∷ rest_b) (Refused B place (Step refusal)))
+        → IsFound top a b (Refused B place (Step refusal))
+    b_fails refusal r true own incoming capture ahead held read_a read_b behind last =
+        b_fails_behind refusal held.next r read_a read_b (rw (sym capture, sym ahead) held.ahead)
+        (λ rest_a rest_b. behind held.next rest_a rest_b held.waits)
+    b_fails refusal r false own incoming capture ahead ended read_a read_b behind last = b_fails_last refusal r read_a read_b (sym ahead ∙ ended) last
 
-  -- both wait
-  pub both_wait : (r s : Record) → IsRead a → IsRead b → IsWaiting a.course.capture.bytes a.course.ahead r →
-      IsWaiting b.course.capture.bytes b.course.ahead s →
-      ((rest_a rest_b : List Record) → IsFinding head_a head_b (a.made ++ r ∷ rest_a) (b.made ++ s ∷ rest_b) (Refused A place NoOrder)) →
-      IsFound a b (Refused A place NoOrder)
-  both_wait r s read_a read_b ahead_a ahead_b law = record {
-    made_a = a.made;
-    made_b = b.made;
-    read_a = read_a;
-    read_b = read_b;
-    is_finding = λ all_a all_b goes_a goes_b.
-        let x = goes_waits a a.made all_a r ahead_a goes_a in
-        let y = goes_waits b b.made all_b s ahead_b goes_b in
-        finding_at all_a all_b (a.made ++ r ∷ x.0) (b.made ++ s ∷ y.0) (Refused A place NoOrder) x.1 y.1 (law x.0 y.0);
-    ends = tt;
-    counts = λ e. cc;
-  }
+    -- both wait
+    pub both_wait : (r s : Record) → IsRead a → IsRead b → IsWaiting a.course.capture.bytes a.course.ahead r →
+        IsWaiting b.course.capture.bytes b.course.ahead s →
+        ((rest_a rest_b : List Record) → IsFinding top.kind head_a head_b (a.made ++ r ∷ rest_a) (b.made ++ s ∷ rest_b) (Refused A place NoOrder)) →
+        IsFound top a b (Refused A place NoOrder)
+    both_wait r s read_a read_b ahead_a ahead_b law = record {
+      made_a = a.made;
+      made_b = b.made;
+      read_a = read_a;
+      read_b = read_b;
+      is_finding = λ all_a all_b goes_a goes_b.
+          let x = goes_waits a a.made all_a r ahead_a goes_a in
+          let y = goes_waits b b.made all_b s ahead_b goes_b in
+          finding_at all_a all_b (a.made ++ r ∷ x.0) (b.made ++ s ∷ y.0) (Refused A place NoOrder) x.1 y.1 (law x.0 y.0);
+      ends = tt;
+      counts = λ e. cc;
+    }
 
-  -- a waits and b has ended
-  pub a_waits : (r : Record) → IsRead a → IsRead b → IsWaiting a.course.capture.bytes a.course.ahead r → b.course.ahead ≡ Ended →
-      ((rest_a : List Record) → IsFinding head_a head_b (a.made ++ r ∷ rest_a) b.made (Refused A place NoSuchUnit)) →
-      IsFound a b (Refused A place NoSuchUnit)
-  a_waits r read_a read_b ahead_a ahead_b law = record {
-    made_a = a.made;
-    made_b = b.made;
-    read_a = read_a;
-    read_b = read_b;
-    is_finding = λ all_a all_b goes_a goes_b.
-        let x = goes_waits a a.made all_a r ahead_a goes_a in
-        finding_at all_a all_b (a.made ++ r ∷ x.0) b.made (Refused A place NoSuchUnit) x.1 (goes_ended b b.made all_b ahead_b goes_b) (law x.0);
-    ends = at_the_end b.course.ahead b.come ahead_b;
-    counts = λ e. cc;
-  }
+    -- a waits and b has ended
+    pub a_waits : (r : Record) → IsRead a → IsRead b → IsWaiting a.course.capture.bytes a.course.ahead r → b.course.ahead ≡ Ended →
+        ((rest_a : List Record) → IsFinding top.kind head_a head_b (a.made ++ r ∷ rest_a) b.made (Refused A place NoSuchUnit)) →
+        IsFound top a b (Refused A place NoSuchUnit)
+    a_waits r read_a read_b ahead_a ahead_b law = record {
+      made_a = a.made;
+      made_b = b.made;
+      read_a = read_a;
+      read_b = read_b;
+      is_finding = λ all_a all_b goes_a goes_b.
+          let x = goes_waits a a.made all_a r ahead_a goes_a in
+          finding_at all_a all_b (a.made ++ r ∷ x.0) b.made (Refused A place NoSuchUnit) x.1 (goes_ended b b.made all_b ahead_b goes_b) (law x.0);
+      ends = at_the_end b.course.ahead b.come ahead_b;
+      counts = λ e. cc;
+    }
 
-  -- b waits and a has ended
-  pub b_waits : (r : Record) → IsRead a → IsRead b → a.course.ahead ≡ Ended → IsWaiting b.course.capture.bytes b.course.ahead r →
-      ((rest_b : List Record) → IsFinding head_a head_b a.made (b.made ++ r ∷ rest_b) (Refused B place NoSuchUnit)) →
-      IsFound a b (Refused B place NoSuchUnit)
-  b_waits r read_a read_b ahead_a ahead_b law = record {
-    made_a = a.made;
-    made_b = b.made;
-    read_a = read_a;
-    read_b = read_b;
-    is_finding = λ all_a all_b goes_a goes_b.
-        let y = goes_waits b b.made all_b r ahead_b goes_b in
-        finding_at all_a all_b a.made (b.made ++ r ∷ y.0) (Refused B place NoSuchUnit) (goes_ended a a.made all_a ahead_a goes_a) y.1 (law y.0);
-    ends = at_the_end a.course.ahead a.come ahead_a;
-    counts = λ e. cc;
-  }
+    -- b waits and a has ended
+    pub b_waits : (r : Record) → IsRead a → IsRead b → a.course.ahead ≡ Ended → IsWaiting b.course.capture.bytes b.course.ahead r →
+        ((rest_b : List Record) → IsFinding top.kind head_a head_b a.made (b.made ++ r ∷ rest_b) (Refused B place NoSuchUnit)) →
+        IsFound top a b (Refused B place NoSuchUnit)
+    b_waits r read_a read_b ahead_a ahead_b law = record {
+      made_a = a.made;
+      made_b = b.made;
+      read_a = read_a;
+      read_b = read_b;
+      is_finding = λ all_a all_b goes_a goes_b.
+          let y = goes_waits b b.made all_b r ahead_b goes_b in
+          finding_at all_a all_b a.made (b.made ++ r ∷ y.0) (Refused B place NoSuchUnit) (goes_ended a a.made all_a ahead_a goes_a) y.1 (law y.0);
+      ends = at_the_end a.course.ahead a.come ahead_a;
+      counts = λ e. cc;
+    }
 
--- both have ended
-module _ (a b : Track) (reached : HasReached a.course.end b.course.end a.made b.made)
-    (law : HasRun a.course.end.head b.course.end.head reached.world a.made b.made) where
-  counted_at : (end : End) (n : LayersNode) (links : ℕ) (made : List Record) → end.counts ≡ counts_of made → length end.layers.links.links ≡ links →
-      links ≡ length n.station.links.links → summary_at end ≡ summary_of n made
-  counted_at end n links made counts there here =
-      ap (λ (s : SideSummary). record s { links = length end.layers.links.links }) counts ∙ ap (λ (k : ℕ). summary_with k made) (there ∙ here)
+  -- both have ended
+  module _ (a b : Track) (reached : HasReached top a.course.end b.course.end a.made b.made)
+      (law : IsShown top a.course.end.head b.course.end.head reached.world a.made b.made) where
+    counted_at : (end : End) (n : KindNode top.kind) (links : ℕ) (made : List Record) → end.counts ≡ counts_of made → top.links end.layers ≡ links →
+        links ≡ top.kind.links n.station → summary_at top.links end ≡ summary_of top.kind n made
+    counted_at end n links made counts there here =
+        ap (λ (s : SideSummary). record s { links = top.links end.layers }) counts ∙ ap (λ (k : ℕ). summary_with k made) (there ∙ here)
 
-  links_of : (l k : WireLayers) → l ≡ k → length k.links.links ≡ length l.links.links
-  links_of l k is = ap (λ (x : WireLayers). length x.links.links) (sym is)
+    links_of : (l k : WireLayers) → l ≡ k → top.links k ≡ top.links l
+    links_of l k is = ap (λ (x : WireLayers). top.links x) (sym is)
 
-  pub both_ended : IsRead a → IsRead b → a.course.ahead ≡ Ended → b.course.ahead ≡ Ended → IsFound a b Accepted
-  both_ended read_a read_b ahead_a ahead_b = record {
-    made_a = a.made;
-    made_b = b.made;
-    read_a = read_a;
-    read_b = read_b;
-    is_finding = λ all_a all_b goes_a goes_b.
-        subst (λ (of_a : List Record). IsFinding a.course.end.head b.course.end.head of_a all_b Accepted)
-        (sym (goes_ended a a.made all_a ahead_a goes_a))
-        (subst (λ (of_b : List Record). IsFinding a.course.end.head b.course.end.head a.made of_b Accepted)
-        (sym (goes_ended b b.made all_b ahead_b goes_b)) (record { verdict = law.run; first = tt }));
-    ends = (at_the_end a.course.ahead a.come ahead_a, at_the_end b.course.ahead b.come ahead_b);
-    counts = λ e. record {
-      run = law.run;
-      counts_a = counted_at a.course.end law.run.0.a.state (length reached.world.a.state.station.links.links) a.made reached.counts_a
-          (links_of _ _ reached.stands_a.layers) law.links_a;
-      counts_b = counted_at b.course.end law.run.0.b.state (length reached.world.b.state.station.links.links) b.made reached.counts_b
-          (links_of _ _ reached.stands_b.layers) law.links_b;
-    };
-  }
+    pub both_ended : IsRead a → IsRead b → a.course.ahead ≡ Ended → b.course.ahead ≡ Ended → IsFound top a b Accepted
+    both_ended read_a read_b ahead_a ahead_b = record {
+      made_a = a.made;
+      made_b = b.made;
+      read_a = read_a;
+      read_b = read_b;
+      is_finding = λ all_a all_b goes_a goes_b.
+          subst (λ (of_a : List Record). IsFinding top.kind a.course.end.head b.course.end.head of_a all_b Accepted)
+          (sym (goes_ended a a.made all_a ahead_a goes_a))
+          (subst (λ (of_b : List Record). IsFinding top.kind a.course.end.head b.course.end.head a.made of_b Accepted)
+          (sym (goes_ended b b.made all_b ahead_b goes_b)) (record { verdict = (law.world, law.run); first = tt }));
+      ends = (at_the_end a.course.ahead a.come ahead_a, at_the_end b.course.ahead b.come ahead_b);
+      counts = λ e. record {
+        run = (law.world, law.run);
+        counts_a = counted_at a.course.end law.world.a.state (top.links reached.world.a.state.station) a.made reached.counts_a
+            (links_of _ _ reached.stands_a.layers) law.links_a;
+        counts_b = counted_at b.course.end law.world.b.state (top.links reached.world.b.state.station) b.made reached.counts_b
+            (links_of _ _ reached.stands_b.layers) law.links_b;
+      };
+    }
 
--- the place that is named is this one
-pub at_place : (a b : Track) (side : Side) (cause : Cause) (named place : ℕ) → named ≡ place → IsFound a b (Refused side place cause) →
-    IsFound a b (Refused side named cause)
-at_place a b side cause named place is found = subst (λ (n : ℕ). IsFound a b (Refused side n cause)) (sym is) found
+  -- the place that is named is this one
+  pub at_place : (a b : Track) (side : Side) (cause : Cause) (named place : ℕ) → named ≡ place → IsFound top a b (Refused side place cause) →
+      IsFound top a b (Refused side named cause)
+  at_place a b side cause named place is found = subst (λ (n : ℕ). IsFound top a b (Refused side n cause)) (sym is) found

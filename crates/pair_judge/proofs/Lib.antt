@@ -15,3 +15,5 @@ pub mod Faults
 pub mod Clauses
 pub mod Alike
 pub mod Seen
+pub mod Alone
+pub mod LineToo

@@ -10,14 +10,14 @@ use Rattle.pair_judge.specs.declared.line.Line.{Line}
 use Rattle.pair_judge.specs.declared.end.End.{End}
 use Rattle.pair_judge.specs.declared.summary.SideSummary.{SideSummary}
 use Rattle.dna_station.specs.WireStation.{load}
-use Rattle.dna_node.specs.WireLayers.{WireLayers, wire_layers_pair, wire_layers_start}
+use Rattle.dna_node.specs.WireLayers.{WireLayers, wire_layers_start}
 use Rattle.pair_judge.specs.Counting.{is_received, is_damaged, is_kept, is_start, is_delivery, more_if}
 use Rattle.pair_judge.specs.Summary.{counts_of, counted}
 use Rattle.pair_judge.specs.inner.Making.{IsMade, StandsFor, move}
 use Rattle.pair_judge.specs.declared.course.Course.{Course}
 use Rattle.pair_judge.specs.inner.Course.{IsRead, along}
 use Rattle.pair_judge.specs.inner.Reached.{HasReached}
-use Rattle.pair_judge.specs.inner.Wire.{JudgeWorld, JudgeHalf}
+use Rattle.pair_judge.specs.inner.Wire.{JudgeWorld, JudgeHalf, JudgeTop, judge_pair}
 
 -- ---- counts
 
@@ -48,80 +48,9 @@ pub record IsSame (old new : End) (after : Line) : Type 0 where
   pub counts : new.counts ≡ old.counts
   pub line : new.line ≡ after
 
--- a run from the start with the heads of these ends
-started_so : (a b a' b' : End) {made_a made_b : List Record} {w : JudgeWorld} → a'.head ≡ a.head → b'.head ≡ b.head →
-    Run wire_layers_pair (wire_layers_start a.head b.head) made_a made_b w → Run wire_layers_pair (wire_layers_start a'.head b'.head) made_a made_b w
-started_so a b a' b' {made_a} {made_b} {w} same_a same_b run =
-    subst (λ (h : Head). Run wire_layers_pair (wire_layers_start h b'.head) made_a made_b w) (sym same_a)
-    (subst (λ (h : Head). Run wire_layers_pair (wire_layers_start a.head h) made_a made_b w) (sym same_b) run)
-
--- the other side stands for the same half
-pub stands_on : (own own' other other' : End) (after : Line) (r : Record) (mine theirs : JudgeHalf) → StandsFor other own.line theirs →
-    IsMade (move own own' other.line after) r mine theirs → IsSame other other' after → StandsFor other' own'.line theirs
-stands_on own own' other other' after r mine theirs stands made same = record {
-  head = stands.head ∙ sym same.head;
-  layers = stands.layers ∙ sym same.layers;
-  front = stands.front ∙ sym made.same_front;
-  sent = rw same.line made.incoming;
-}
-
-pub reached_by_a : (a a' b b' : End) (after : Line) (made_a made_b : List Record) (r : Record) → (h : HasReached a b made_a made_b) →
-    (m : IsMade (move a a' b.line after) r h.world.a h.world.b) → IsSame b b' after → Run wire_layers_pair (wire_layers_start a.head b.head)
-    (made_a ++ r ∷ []) made_b (record { a = m.next; b = h.world.b }) → HasReached a' b' (made_a ++ r ∷ []) made_b
-reached_by_a a a' b b' after made_a made_b r h m same run = record {
-  world = record { a = m.next; b = h.world.b };
-  run = started_so a b a' b' m.same_head same.head run;
-  stands_a = rw same.line m.stands;
-  stands_b = stands_on a a' b b' after r h.world.a h.world.b h.stands_b m same;
-  counts_a = m.counts ∙ ap (λ (s : SideSummary). counted s r) h.counts_a ∙ sym (counts_of-push made_a r);
-  counts_b = same.counts ∙ h.counts_b;
-  load_a = omega (arith, m.load, h.load_a, length-append made_a (r ∷ []));
-  load_b = subst (λ (l : WireLayers). load l.station ≤ length made_b) (sym same.layers) h.load_b;
-}
-
-pub reached_by_b : (a a' b b' : End) (after : Line) (made_a made_b : List Record) (r : Record) → (h : HasReached a b made_a made_b) →
-    (m : IsMade (move b b' a.line after) r h.world.b h.world.a) → IsSame a a' after → Run wire_layers_pair (wire_layers_start a.head b.head) made_a
-    (made_b ++ r ∷ []) (record { a = h.world.a; b = m.next }) → HasReached a' b' made_a (made_b ++ r ∷ [])
-reached_by_b a a' b b' after made_a made_b r h m same run = record {
-  world = record { a = h.world.a; b = m.next };
-  run = started_so a b a' b' same.head m.same_head run;
-  stands_a = stands_on b b' a a' after r h.world.b h.world.a h.stands_a m same;
-  stands_b = rw same.line m.stands;
-  counts_a = same.counts ∙ h.counts_a;
-  counts_b = m.counts ∙ ap (λ (s : SideSummary). counted s r) h.counts_b ∙ sym (counts_of-push made_b r);
-  load_a = subst (λ (l : WireLayers). load l.station ≤ length made_a) (sym same.layers) h.load_a;
-  load_b = omega (arith, m.load, h.load_b, length-append made_b (r ∷ []));
-}
-
 -- the number of the next record
 pub next_place : (s : SideSummary) (made : List Record) → s ≡ counts_of made → s.records ≡ length made
 next_place s made e = ap (λ (x : SideSummary). x.records) e
-
--- nothing was made
-pub reached_still : (a a' b b' : End) (made_a made_b : List Record) → HasReached a b made_a made_b → IsSame a a' a.line → IsSame b b' b.line →
-    HasReached a' b' made_a made_b
-reached_still a a' b b' made_a made_b h same_a same_b = record {
-  world = h.world;
-  run = started_so a b a' b' same_a.head same_b.head h.run;
-  stands_a = record {
-    head = h.stands_a.head ∙ sym same_a.head;
-    layers = h.stands_a.layers ∙ sym same_a.layers;
-    front =
-        h.stands_a.front ∙ ap (λ (l : Line). l.gone) (sym same_b.line);
-    sent = rw same_a.line h.stands_a.sent;
-  };
-  stands_b = record {
-    head = h.stands_b.head ∙ sym same_b.head;
-    layers = h.stands_b.layers ∙ sym same_b.layers;
-    front =
-        h.stands_b.front ∙ ap (λ (l : Line). l.gone) (sym same_a.line);
-    sent = rw same_b.line h.stands_b.sent;
-  };
-  counts_a = same_a.counts ∙ h.counts_a;
-  counts_b = same_b.counts ∙ h.counts_b;
-  load_a = subst (λ (l : WireLayers). load l.station ≤ length made_a) (sym same_a.layers) h.load_a;
-  load_b = subst (λ (l : WireLayers). load l.station ≤ length made_b) (sym same_b.layers) h.load_b;
-}
 
 -- an end that is the same
 pub same_end : (old new : End) → new ≡ old → IsSame old new old.line
@@ -140,3 +69,75 @@ same_read text old new come made capture ahead head h = record {
   count = rw (capture, ahead) h.count;
   head = head ∙ rw capture h.head;
 }
+
+module _ (top : JudgeTop) where
+  -- a run from the start with the heads of these ends
+  started_so : (a b a' b' : End) {made_a made_b : List Record} {w : JudgeWorld} → a'.head ≡ a.head → b'.head ≡ b.head →
+      Run (judge_pair top) (wire_layers_start a.head b.head) made_a made_b w → Run (judge_pair top) (wire_layers_start a'.head b'.head) made_a made_b w
+  started_so a b a' b' {made_a} {made_b} {w} same_a same_b run =
+      subst (λ (h : Head). Run (judge_pair top) (wire_layers_start h b'.head) made_a made_b w) (sym same_a)
+      (subst (λ (h : Head). Run (judge_pair top) (wire_layers_start a.head h) made_a made_b w) (sym same_b) run)
+
+  -- the other side stands for the same half
+  pub stands_on : (own own' other other' : End) (after : Line) (r : Record) (mine theirs : JudgeHalf) → StandsFor other own.line theirs →
+      IsMade top (move own own' other.line after) r mine theirs → IsSame other other' after → StandsFor other' own'.line theirs
+  stands_on own own' other other' after r mine theirs stands made same = record {
+    head = stands.head ∙ sym same.head;
+    layers = stands.layers ∙ sym same.layers;
+    front = stands.front ∙ sym made.same_front;
+    sent = rw same.line made.incoming;
+  }
+
+  pub reached_by_a : (a a' b b' : End) (after : Line) (made_a made_b : List Record) (r : Record) → (h : HasReached top a b made_a made_b) →
+      (m : IsMade top (move a a' b.line after) r h.world.a h.world.b) → IsSame b b' after → Run (judge_pair top) (wire_layers_start a.head b.head)
+      (made_a ++ r ∷ []) made_b (record { a = m.next; b = h.world.b }) → HasReached top a' b' (made_a ++ r ∷ []) made_b
+  reached_by_a a a' b b' after made_a made_b r h m same run = record {
+    world = record { a = m.next; b = h.world.b };
+    run = started_so a b a' b' m.same_head same.head run;
+    stands_a = rw same.line m.stands;
+    stands_b = stands_on a a' b b' after r h.world.a h.world.b h.stands_b m same;
+    counts_a = m.counts ∙ ap (λ (s : SideSummary). counted s r) h.counts_a ∙ sym (counts_of-push made_a r);
+    counts_b = same.counts ∙ h.counts_b;
+    load_a = omega (arith, m.load, h.load_a, length-append made_a (r ∷ []));
+    load_b = subst (λ (l : WireLayers). load l.station ≤ length made_b) (sym same.layers) h.load_b;
+  }
+
+  pub reached_by_b : (a a' b b' : End) (after : Line) (made_a made_b : List Record) (r : Record) → (h : HasReached top a b made_a made_b) →
+      (m : IsMade top (move b b' a.line after) r h.world.b h.world.a) → IsSame a a' after → Run (judge_pair top) (wire_layers_start a.head b.head) made_a
+      (made_b ++ r ∷ []) (record { a = h.world.a; b = m.next }) → HasReached top a' b' made_a (made_b ++ r ∷ [])
+  reached_by_b a a' b b' after made_a made_b r h m same run = record {
+    world = record { a = h.world.a; b = m.next };
+    run = started_so a b a' b' same.head m.same_head run;
+    stands_a = stands_on b b' a a' after r h.world.b h.world.a h.stands_a m same;
+    stands_b = rw same.line m.stands;
+    counts_a = same.counts ∙ h.counts_a;
+    counts_b = m.counts ∙ ap (λ (s : SideSummary). counted s r) h.counts_b ∙ sym (counts_of-push made_b r);
+    load_a = subst (λ (l : WireLayers). load l.station ≤ length made_a) (sym same.layers) h.load_a;
+    load_b = omega (arith, m.load, h.load_b, length-append made_b (r ∷ []));
+  }
+
+  -- nothing was made
+  pub reached_still : (a a' b b' : End) (made_a made_b : List Record) → HasReached top a b made_a made_b → IsSame a a' a.line → IsSame b b' b.line →
+      HasReached top a' b' made_a made_b
+  reached_still a a' b b' made_a made_b h same_a same_b = record {
+    world = h.world;
+    run = started_so a b a' b' same_a.head same_b.head h.run;
+    stands_a = record {
+      head = h.stands_a.head ∙ sym same_a.head;
+      layers = h.stands_a.layers ∙ sym same_a.layers;
+      front =
+          h.stands_a.front ∙ ap (λ (l : Line). l.gone) (sym same_b.line);
+      sent = rw same_a.line h.stands_a.sent;
+    };
+    stands_b = record {
+      head = h.stands_b.head ∙ sym same_b.head;
+      layers = h.stands_b.layers ∙ sym same_b.layers;
+      front =
+          h.stands_b.front ∙ ap (λ (l : Line). l.gone) (sym same_a.line);
+      sent = rw same_b.line h.stands_b.sent;
+    };
+    counts_a = same_a.counts ∙ h.counts_a;
+    counts_b = same_b.counts ∙ h.counts_b;
+    load_a = subst (λ (l : WireLayers). load l.station ≤ length made_a) (sym same_a.layers) h.load_a;
+    load_b = subst (λ (l : WireLayers). load l.station ≤ length made_b) (sym same_b.layers) h.load_b;
+  }

@@ -7,7 +7,7 @@ use Rattle.capture.specs.declared.fault.CaptureFault.TheVariants as capture
 use Rattle.capture.specs.declared.fault.Departure.{Departure}
 use Rattle.capture.specs.declared.record.Record.{Record}
 use Rattle.capture.specs.SoFar.{ReadSoFar, IsReadSoFar, DepartsBehind, HeadDepartsAt}
-use Rattle.dna_node.specs.LayersPair.{IsLayersRun}
+use Rattle.dna_node.specs.Kind.{NodeKind, IsRunOf}
 use Rattle.pair_judge.specs.declared.fault.JudgeFault.{JudgeFault}
 use Rattle.pair_judge.specs.declared.fault.JudgeFault.TheVariants.{Capture, OutOfMemory}
 use Rattle.pair_judge.specs.declared.fault.TextFault.{TextFault}
@@ -19,30 +19,31 @@ use Rattle.pair_judge.specs.Finding.{of_side}
 abbrev pub Begins : List Record → ReadSoFar → Type 0
 Begins made read = (rest : List Record) × (read.records ≡ made ++ rest)
 
--- So much was read of the two texts, and the line behind it departs in that of this side; all records of that side that
--- stand before it, with those of the other side that were made, are a run.
-pub record IsFaultyBehind (text_a text_b : Option (List ℕ)) (side : Side) (kind : Departure) (line : ℕ) : Type 0 where
-  pub read_a : ReadSoFar
-  pub read_b : ReadSoFar
-  pub from_a : IsReadSoFar text_a read_a
-  pub from_b : IsReadSoFar text_b read_b
-  pub departs : DepartsBehind (of_side side read_a read_b) kind line
-  pub made_a : List Record
-  pub made_b : List Record
-  pub begins_a : Begins made_a read_a
-  pub begins_b : Begins made_b read_b
-  pub all_before : of_side side made_a made_b ≡ (of_side side read_a read_b).records
-  pub run : IsLayersRun (head_of read_a) (head_of read_b) made_a made_b
+module _ (nodes : NodeKind) where
+  -- So much was read of the two texts, and the line behind it departs in that of this side; all records of that side that
+  -- stand before it, with those of the other side that were made, are a run.
+  pub record IsFaultyBehind (text_a text_b : Option (List ℕ)) (side : Side) (kind : Departure) (line : ℕ) : Type 0 where
+    pub read_a : ReadSoFar
+    pub read_b : ReadSoFar
+    pub from_a : IsReadSoFar text_a read_a
+    pub from_b : IsReadSoFar text_b read_b
+    pub departs : DepartsBehind (of_side side read_a read_b) kind line
+    pub made_a : List Record
+    pub made_b : List Record
+    pub begins_a : Begins made_a read_a
+    pub begins_b : Begins made_b read_b
+    pub all_before : of_side side made_a made_b ≡ (of_side side read_a read_b).records
+    pub run : IsRunOf nodes (head_of read_a) (head_of read_b) made_a made_b
 
--- the head's line departs, before any record; or the line behind the records that were read does
-abbrev pub IsFaultyText : Option (List ℕ) → Option (List ℕ) → Side → Departure → ℕ → Type 0
-IsFaultyText text_a text_b side kind line = HeadDepartsAt (of_side side text_a text_b) kind line ⊎ IsFaultyBehind text_a text_b side kind line
+  -- the head's line departs, before any record; or the line behind the records that were read does
+  abbrev pub IsFaultyText : Option (List ℕ) → Option (List ℕ) → Side → Departure → ℕ → Type 0
+  IsFaultyText text_a text_b side kind line = HeadDepartsAt (of_side side text_a text_b) kind line ⊎ IsFaultyBehind text_a text_b side kind line
 
-abbrev pub IsJudgeFault : Option (List ℕ) → Option (List ℕ) → JudgeFault → Type 0
-IsJudgeFault text_a text_b (Capture side (Departs kind line)) = IsFaultyText text_a text_b side kind line
--- of a failed read the reader's count tells
-IsJudgeFault text_a text_b (Capture side Read) = Unit {0}
-IsJudgeFault text_a text_b OutOfMemory = Unit {0}
+  abbrev pub IsJudgeFault : Option (List ℕ) → Option (List ℕ) → JudgeFault → Type 0
+  IsJudgeFault text_a text_b (Capture side (Departs kind line)) = IsFaultyText text_a text_b side kind line
+  -- of a failed read the reader's count tells
+  IsJudgeFault text_a text_b (Capture side Read) = Unit {0}
+  IsJudgeFault text_a text_b OutOfMemory = Unit {0}
 
 -- ---- one side
 

@@ -3,11 +3,7 @@ use Rattle.std.specs.Prelude.{◌≡◌, ℕ, List, Option, Result, Ok, Err, IfS
 use Rattle.capture.specs.declared.record.Record.{Record}
 use Rattle.capture.specs.Range.{IsText}
 use Rattle.dna_station.specs.declared.head.Head.{Head}
-use Rattle.dna_station.specs.Offered.{Delivers}
-use Rattle.dna_node.specs.Layers.{LayersNode}
-use Rattle.dna_node.specs.LayersPair.{IsLayersRun, link_events}
-use Rattle.dna_links.specs.Delivery.{DeliversLinks}
-use Rattle.dna_links.specs.Captures.{AreUpFrom}
+use Rattle.dna_node.specs.Kind.{NodeKind, IsRunOf}
 use Rattle.pair_judge.specs.declared.summary.Summary.{Summary}
 use Rattle.pair_judge.specs.declared.verdict.Verdict.{Verdict}
 use Rattle.pair_judge.specs.declared.verdict.Verdict.TheVariants.{Accepted, Refused}
@@ -18,31 +14,23 @@ use Rattle.pair_judge.specs.Faulty.{IsFaultyText}
 use Rattle.pair_judge.specs.Refusal.{IsRefusal}
 use Rattle.pair_judge.specs.Summary.{summary_of}
 
--- What was delivered to a node, beside what was given and handed in at the other one
-pub record HasDelivered (own other : LayersNode) (of_own of_other : List Record) : Type 0 where
-  -- packets: in every period a beginning of what the partner period was offered, and over all periods in order among all of that
-  pub packets : Delivers own.station.station of_own of_other
-  -- messages: on every link a beginning of what was handed in at its partner, and nothing without a partner
-  pub messages : DeliversLinks own.station.links other.station.links
-  -- the same, read off the two captures
-  pub captured : AreUpFrom (link_events of_own) (link_events of_other) own.station.links.links other.station.links.links
-
--- The bytes are the texts of two captures, all of whose records are one run of the two specified nodes; what was delivered to each is,
--- in order, of what the other side was offered and handed; and the summary counts the records and the links.
-pub record AreARun (text_a text_b : List ℕ) (summary : Summary) : Type 0 where
-  pub own_a : ℕ
-  pub peer_a : ℕ
-  pub of_a : List Record
-  pub own_b : ℕ
-  pub peer_b : ℕ
-  pub of_b : List Record
-  pub is_text_a : IsText own_a peer_a of_a text_a
-  pub is_text_b : IsText own_b peer_b of_b text_b
-  pub run : IsLayersRun (record { own = own_a; peer = peer_a }) (record { own = own_b; peer = peer_b }) of_a of_b
-  pub delivers_a : HasDelivered run.0.a.state run.0.b.state of_a of_b
-  pub delivers_b : HasDelivered run.0.b.state run.0.a.state of_b of_a
-  pub counts_a : summary.a ≡ summary_of run.0.a.state of_a
-  pub counts_b : summary.b ≡ summary_of run.0.b.state of_b
+module _ (nodes : NodeKind) where
+  -- The bytes are the texts of two captures, all of whose records are one run of two nodes of this kind; what was delivered to each is,
+  -- in order, of what the other side was offered and handed; and the summary counts the records and the links.
+  pub record AreARun (text_a text_b : List ℕ) (summary : Summary) : Type 0 where
+    pub own_a : ℕ
+    pub peer_a : ℕ
+    pub of_a : List Record
+    pub own_b : ℕ
+    pub peer_b : ℕ
+    pub of_b : List Record
+    pub is_text_a : IsText own_a peer_a of_a text_a
+    pub is_text_b : IsText own_b peer_b of_b text_b
+    pub run : IsRunOf nodes (record { own = own_a; peer = peer_a }) (record { own = own_b; peer = peer_b }) of_a of_b
+    pub delivers_a : nodes.Delivered run.0.a.state.station run.0.b.state.station of_a of_b
+    pub delivers_b : nodes.Delivered run.0.b.state.station run.0.a.state.station of_b of_a
+    pub counts_a : summary.a ≡ summary_of nodes run.0.a.state of_a
+    pub counts_b : summary.b ≡ summary_of nodes run.0.b.state of_b
 
 -- ---- the clauses of an answer
 
@@ -64,38 +52,47 @@ JudgesOrFails (Err (Capture side (Departs kind line))) = ⊥
 JudgesOrFails (Err (Capture side Read)) = Unit {0}
 JudgesOrFails (Err OutOfMemory) = Unit {0}
 
--- Exact: where these bytes are the texts of two captures that are a run, nothing else is answered.
-abbrev pub IsExact : List ℕ → List ℕ → Answer → Type 0
-IsExact bytes_a bytes_b answer =
-    (head_a head_b : Head) (of_a of_b : List Record) → IsText head_a.own head_a.peer of_a bytes_a → IsText head_b.own head_b.peer of_b bytes_b
-    → IsLayersRun head_a head_b of_a of_b → AcceptsOrFails answer
-
--- Accepted: the bytes are such texts.
-abbrev pub IsAcceptance : List ℕ → List ℕ → Answer → Type 0
-IsAcceptance bytes_a bytes_b (Ok (Accepted summary)) = AreARun bytes_a bytes_b summary
-IsAcceptance bytes_a bytes_b (Ok (Refused side place reason)) = Unit {0}
-IsAcceptance bytes_a bytes_b (Err fault) = Unit {0}
-
 -- where both readers tell their bytes
 abbrev pub IfTold : Option (List ℕ) → Option (List ℕ) → (List ℕ → List ℕ → Type 0) → Type 0
 IfTold text_a text_b says = IfSome text_a (λ bytes_a. IfSome text_b (λ bytes_b. says bytes_a bytes_b))
 
--- Refused: of whatever the readers tell.
-abbrev pub IsRefusalWhere : Option (List ℕ) → Option (List ℕ) → Answer → Type 0
-IsRefusalWhere text_a text_b (Ok (Accepted summary)) = Unit {0}
-IsRefusalWhere text_a text_b (Ok (Refused side place reason)) = IsRefusal text_a text_b side place reason
-IsRefusalWhere text_a text_b (Err fault) = Unit {0}
+-- a refusal, or such a fault
+abbrev pub RefusesOrFails : Answer → Type 0
+RefusesOrFails (Ok (Accepted summary)) = ⊥
+RefusesOrFails (Ok (Refused side place reason)) = Unit {0}
+RefusesOrFails (Err (Capture side (Departs kind line))) = ⊥
+RefusesOrFails (Err (Capture side Read)) = Unit {0}
+RefusesOrFails (Err OutOfMemory) = Unit {0}
 
--- Faulty text: likewise.
-abbrev pub IsFaultyWhere : Option (List ℕ) → Option (List ℕ) → Answer → Type 0
-IsFaultyWhere text_a text_b (Ok verdict) = Unit {0}
-IsFaultyWhere text_a text_b (Err (Capture side (Departs kind line))) = IsFaultyText text_a text_b side kind line
-IsFaultyWhere text_a text_b (Err (Capture side Read)) = Unit {0}
-IsFaultyWhere text_a text_b (Err OutOfMemory) = Unit {0}
+module _ (nodes : NodeKind) where
+  -- Exact: where these bytes are the texts of two captures that are a run, nothing else is answered.
+  abbrev pub IsExact : List ℕ → List ℕ → Answer → Type 0
+  IsExact bytes_a bytes_b answer =
+      (head_a head_b : Head) (of_a of_b : List Record) → IsText head_a.own head_a.peer of_a bytes_a → IsText head_b.own head_b.peer of_b bytes_b
+      → IsRunOf nodes head_a head_b of_a of_b → AcceptsOrFails answer
 
--- All that is said of an answer but for the readers' counts
-pub record IsAnswer (text_a text_b : Option (List ℕ)) (answer : Answer) : Type 0 where
-  pub exact : IfTold text_a text_b (λ bytes_a bytes_b. IsExact bytes_a bytes_b answer)
-  pub accepted : IfTold text_a text_b (λ bytes_a bytes_b. IsAcceptance bytes_a bytes_b answer)
-  pub refused : IsRefusalWhere text_a text_b answer
-  pub faulty : IsFaultyWhere text_a text_b answer
+  -- Accepted: the bytes are such texts.
+  abbrev pub IsAcceptance : List ℕ → List ℕ → Answer → Type 0
+  IsAcceptance bytes_a bytes_b (Ok (Accepted summary)) = AreARun nodes bytes_a bytes_b summary
+  IsAcceptance bytes_a bytes_b (Ok (Refused side place reason)) = Unit {0}
+  IsAcceptance bytes_a bytes_b (Err fault) = Unit {0}
+
+  -- Refused: of whatever the readers tell.
+  abbrev pub IsRefusalWhere : Option (List ℕ) → Option (List ℕ) → Answer → Type 0
+  IsRefusalWhere text_a text_b (Ok (Accepted summary)) = Unit {0}
+  IsRefusalWhere text_a text_b (Ok (Refused side place reason)) = IsRefusal nodes text_a text_b side place reason
+  IsRefusalWhere text_a text_b (Err fault) = Unit {0}
+
+  -- Faulty text: likewise.
+  abbrev pub IsFaultyWhere : Option (List ℕ) → Option (List ℕ) → Answer → Type 0
+  IsFaultyWhere text_a text_b (Ok verdict) = Unit {0}
+  IsFaultyWhere text_a text_b (Err (Capture side (Departs kind line))) = IsFaultyText nodes text_a text_b side kind line
+  IsFaultyWhere text_a text_b (Err (Capture side Read)) = Unit {0}
+  IsFaultyWhere text_a text_b (Err OutOfMemory) = Unit {0}
+
+  -- All that is said of an answer but for the readers' counts
+  pub record IsAnswer (text_a text_b : Option (List ℕ)) (answer : Answer) : Type 0 where
+    pub exact : IfTold text_a text_b (λ bytes_a bytes_b. IsExact bytes_a bytes_b answer)
+    pub accepted : IfTold text_a text_b (λ bytes_a bytes_b. IsAcceptance bytes_a bytes_b answer)
+    pub refused : IsRefusalWhere text_a text_b answer
+    pub faulty : IsFaultyWhere text_a text_b answer

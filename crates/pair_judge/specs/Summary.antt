@@ -2,7 +2,8 @@
 use Rattle.std.specs.Prelude.{ℕ, ◌+◌, ◌<◌, ◌^◌, List, length, count_by}
 use Rattle.capture.specs.declared.record.Record.{Record}
 use Rattle.dna_station.specs.Machine.{is_sent}
-use Rattle.dna_node.specs.Layers.{LayersNode}
+use Rattle.dna_node.specs.Kind.{NodeKind, KindNode}
+use Rattle.dna_node.specs.WireLayers.{WireLayers}
 use Rattle.dna_station.specs.WireStation.{load}
 use Rattle.pair_judge.specs.Counting.{is_received, is_damaged, is_kept, is_start, is_delivery, more_if}
 use Rattle.pair_judge.specs.declared.summary.SideSummary.{SideSummary}
@@ -22,17 +23,17 @@ summary_with links rs = record {
 }
 
 -- these records led to this node. How many links began is of the run: a CI that is kept begins one, or repeats an earlier one
-abbrev pub summary_of : LayersNode → List Record → SideSummary
-summary_of n rs = summary_with (length n.station.links.links) rs
+abbrev pub summary_of : (kind : NodeKind) → KindNode kind → List Record → SideSummary
+summary_of kind n rs = summary_with (kind.links n.station) rs
 
 -- ---- as the judge counts: all but the links record by record
 
 abbrev pub counts_of : List Record → SideSummary
 counts_of rs = summary_with 0 rs
 
--- with how many links began
-abbrev pub summary_at : End → SideSummary
-summary_at end = record end.counts { links = length end.layers.links.links }
+-- with how many links began, which are counted so
+abbrev pub summary_at : (links : WireLayers → ℕ) → End → SideSummary
+summary_at links end = record end.counts { links = links end.layers }
 
 -- one record more
 abbrev pub counted : SideSummary → Record → SideSummary

@@ -1,5 +1,6 @@
 -- What contracts of private functions speak of, with what the toolchain wants of a type or a test; no public claim rests on it
 pub mod Wire
+pub mod Tops
 pub mod Packets
 pub mod Unit
 pub mod Held

@@ -18,6 +18,7 @@ ghost use Rattle.pair_judge.specs.inner.Reached.{IsHeldUp};
 use crate::end::End;
 use crate::line::Line;
 use crate::making::{Made, make};
+use crate::top::Top;
 use capture::{CaptureFault, CaptureReader, Entry, text_read_on};
 use dna_station::StepRefusal;
 use std::alloc::AllocError;
@@ -63,7 +64,7 @@ impl Course {
     /// the packet or the
     /// piece that it sends, or for the link or the piece that it keeps. The course has no use after any of them.
     #[inline(always)]
-    pub fn advance<R: Read>(
+    pub fn advance<T: Top, R: Read>(
         &mut self,
         incoming: &mut Line,
         reader: &mut Tally<R>,
@@ -72,7 +73,7 @@ impl Course {
         requires room { HasRoom self.old.end }
         ensures advance { IfOk result (λ advance. (text : Option (List ℕ)) (made : List Record) →
             IsRead (along text self.old (to_come self.old.capture.unread (R.remaining (tally_lent reader.old))) made) →
-            AdvanceIs advance (move self.old.end self.new.end incoming.old incoming.new)
+            AdvanceIs T.top advance (move self.old.end self.new.end incoming.old incoming.new)
             (along text self.new (to_come self.new.capture.unread (R.remaining (tally_lent reader.new))) made)) }
         ensures may_read { IfOk result (λ _. MayRead self.new) }
         ensures head { self.new.end.head ≡ self.old.end.head }
@@ -83,7 +84,7 @@ impl Course {
         ensures reads { CountsReads (is_failed_read result) (tally_faults reader.old) (tally_faults reader.new) }
     {
         match self.next(reader) {
-            Ok(Some(entry)) => self.make(incoming, entry),
+            Ok(Some(entry)) => self.make::<T>(incoming, entry),
             Ok(None) => Ok(Advance::Ended),
             Err(fault) => Err(fault),
         }
@@ -91,8 +92,8 @@ impl Course {
 
     /// Whether a record was read and waits for a unit that is not sent yet: `advance` would find it blocked. `false` says nothing.
     #[inline(always)]
-    pub fn is_held_up(&self, incoming: &Line) -> bool
-        ensures { result ≡ true → IsHeldUp self.now incoming.now }
+    pub fn is_held_up<T: Top>(&self, incoming: &Line) -> bool
+        ensures { result ≡ true → IsHeldUp T.top self.now incoming.now }
     {
         let Ahead::Waits(entry) = self.ahead else {
             return false;
@@ -144,14 +145,14 @@ impl Course {
 
     // Makes the record of this entry, which was read, and of the bytes that the reader keeps.
     #[inline(always)]
-    fn make(&mut self, incoming: &mut Line, entry: Entry) -> Result<Advance, CaptureFault>
+    fn make<T: Top>(&mut self, incoming: &mut Line, entry: Entry) -> Result<Advance, CaptureFault>
         requires unread { self.old.ahead ≡ Ahead.Unread }
         requires reading { self.old.capture.phase ≡ Phase.Reading }
         requires numbers { NumbersFit (record_with entry self.old.capture.bytes) }
         requires room { HasRoom self.old.end }
         ensures advance { IfOk result (λ advance. (text come : Option (List ℕ)) (made : List Record) →
             IsRead (along text self.old come (made ++ record_with entry self.old.capture.bytes ∷ [])) →
-            AdvanceIs advance (move self.old.end self.new.end incoming.old incoming.new) (along text self.new come made)) }
+            AdvanceIs T.top advance (move self.old.end self.new.end incoming.old incoming.new) (along text self.new come made)) }
         ensures may_read { IfOk result (λ _. MayRead self.new) }
         ensures capture { self.new.capture ≡ self.old.capture }
         ensures head { self.new.end.head ≡ self.old.end.head }
@@ -159,7 +160,7 @@ impl Course {
         ensures memory { IfErr result (λ _. MayTakeMemory self.old.end.layers (record_with entry self.old.capture.bytes)) }
     {
         let alloc = self.capture.alloc();
-        match make(alloc, &mut self.end, incoming, entry, self.capture.bytes()) {
+        match make::<T>(alloc, &mut self.end, incoming, entry, self.capture.bytes()) {
             Ok(Made::Done) => Ok(Advance::Made),
             Ok(Made::Waits) => {
                 self.ahead = Ahead::Waits(entry);

@@ -5,6 +5,7 @@ ghost use Rattle.std.specs.Prelude.{◌≡◌};
 use crate::layers::Layers;
 use crate::line::Line;
 use crate::summary::SideSummary;
+use crate::top::Top;
 use dna_station::Head;
 
 /// One side: the head of its capture, its station with its links on top, the units that it sent and the other may still receive, and its
@@ -21,9 +22,9 @@ impl End {
     ghost use Rattle.pair_judge.specs.Summary.{summary_at};
 
     /// Its counts, with how many links began.
-    pub fn summary(&self) -> SideSummary
-        ensures { result ≡ summary_at self.now }
+    pub fn summary<T: Top>(&self) -> SideSummary
+        ensures { result ≡ summary_at T.top.links self.now }
     {
-        self.counts.with_links(self.layers.links_begun())
+        self.counts.with_links(T::links_begun(&self.layers))
     }
 }

@@ -2,21 +2,47 @@
 
 ghost use Rattle.std.specs.Prelude.{◌≡◌, ℕ, List, Some, Ok};
 ghost use Rattle.pair_judge.specs.declared.verdict.Verdict.{Verdict as Judgement};
-ghost use Rattle.pair_judge.specs.Judged.{Answer, IsAnswer, JudgesOrFails};
+ghost use Rattle.pair_judge.specs.declared.verdict.Verdict.TheVariants.{Accepted, Refused};
+ghost use Rattle.pair_judge.specs.declared.summary.Summary.{Summary};
+ghost use Rattle.pair_judge.specs.declared.reason.Reason.{Reason as Why};
+ghost use Rattle.wire_base.specs.declared.side.Side.{Side as Of};
+ghost use Rattle.dna_node.specs.Kind.{both_layers, stations_alone};
+ghost use Rattle.pair_judge.specs.Judged.{AcceptsOrFails, Answer, IsAnswer, JudgesOrFails, RefusesOrFails};
 ghost use Rattle.pair_judge.specs.Refusal.{AreTexts, WholeCapture};
 
 use capture::{one_head_and_list, whole_text};
+use dna_node::layers_run_as_stations;
 
 /// The same two captures are judged alike in whichever format their texts are, as of a capture and of what it was converted to. What `judge`
-/// answers of two such texts is a verdict, want of memory or a failed read; and all their verdicts are one: `Accepted` with the same
+/// (and `judge_line`) answers of two such texts is a verdict, want of memory or a failed read; and all their verdicts are one: `Accepted` with the same
 /// counts, or `Refused` with the same side, record and reason.
 pub fn judged_in_any_format()
     ensures alike { (a b : WholeCapture) (bytes_a bytes_b other_a other_b : List ℕ) (verdict other : Judgement) →
         AreTexts a b bytes_a bytes_b → AreTexts a b other_a other_b →
-        IsAnswer (Some bytes_a) (Some bytes_b) (Ok verdict) → IsAnswer (Some other_a) (Some other_b) (Ok other) → verdict ≡ other }
+        IsAnswer both_layers (Some bytes_a) (Some bytes_b) (Ok verdict) → IsAnswer both_layers (Some other_a) (Some other_b) (Ok other) → verdict ≡ other }
     ensures judged { (a b : WholeCapture) (bytes_a bytes_b : List ℕ) (answer : Answer) →
-        AreTexts a b bytes_a bytes_b → IsAnswer (Some bytes_a) (Some bytes_b) answer → JudgesOrFails answer }
+        AreTexts a b bytes_a bytes_b → IsAnswer both_layers (Some bytes_a) (Some bytes_b) answer → JudgesOrFails answer }
+    ensures line_alike { (a b : WholeCapture) (bytes_a bytes_b other_a other_b : List ℕ) (verdict other : Judgement) →
+        AreTexts a b bytes_a bytes_b → AreTexts a b other_a other_b →
+        IsAnswer stations_alone (Some bytes_a) (Some bytes_b) (Ok verdict) → IsAnswer stations_alone (Some other_a) (Some other_b) (Ok other) → verdict ≡ other }
+    ensures line_judged { (a b : WholeCapture) (bytes_a bytes_b : List ℕ) (answer : Answer) →
+        AreTexts a b bytes_a bytes_b → IsAnswer stations_alone (Some bytes_a) (Some bytes_b) answer → JudgesOrFails answer }
 {
     one_head_and_list();
+    whole_text();
+}
+
+/// What is judged of the nodes and what is judged of the line alone, of the same two texts. Where `judge` accepts them, `judge_line` does, but
+/// for want of memory and a failed read; so what `judge_line` refuses, `judge` never accepts, and of the texts of two captures it
+/// refuses them too, but for such a fault.
+pub fn line_is_judged_too()
+    ensures accepted { (bytes_a bytes_b : List ℕ) (summary : Summary) (line : Answer) →
+        IsAnswer both_layers (Some bytes_a) (Some bytes_b) (Ok (Accepted summary)) → IsAnswer stations_alone (Some bytes_a) (Some bytes_b) line →
+        AcceptsOrFails line }
+    ensures refused { (a b : WholeCapture) (bytes_a bytes_b : List ℕ) (side : Of) (place : ℕ) (reason : Why) (nodes : Answer) →
+        AreTexts a b bytes_a bytes_b → IsAnswer stations_alone (Some bytes_a) (Some bytes_b) (Ok (Refused side place reason)) →
+        IsAnswer both_layers (Some bytes_a) (Some bytes_b) nodes → RefusesOrFails nodes }
+{
+    layers_run_as_stations();
     whole_text();
 }

@@ -6,6 +6,7 @@ ghost use Rattle.wire_base.specs.Tally.{tally_faults, tally_lent};
 ghost use Rattle.wire_base.specs.declared.side.Side.{Side};
 ghost use Rattle.capture.specs.Faulty.{CountsReads};
 ghost use Rattle.capture.specs.Lines.{to_come};
+ghost use Rattle.dna_node.specs.Kind.{both_layers, stations_alone};
 ghost use Rattle.pair_judge.specs.inner.Answer.{verdict_of};
 ghost use Rattle.pair_judge.specs.Faulty.{IsJudgeFault, is_failed_read_of};
 ghost use Rattle.pair_judge.specs.Finding.{IsFoundIn, of_side};
@@ -19,6 +20,7 @@ use crate::layers::Layers;
 use crate::line::Line;
 use crate::reason::Reason;
 use crate::summary::{SideSummary, Summary};
+use crate::top::{LinksOnTop, NothingOnTop, Top};
 use crate::turn::{side_fault, turn};
 use crate::verdict::Verdict;
 use capture::{CaptureReader, MAX_RECORDS, text_read_on, whole_text};
@@ -68,11 +70,11 @@ pub fn judge<R: Read, S: Read>(
     b: &mut Tally<S>,
 ) -> Result<Verdict, JudgeFault>
     ensures exact { IfTold (R.remaining (tally_lent a.old)) (S.remaining (tally_lent b.old))
-        (λ bytes_a bytes_b. IsExact bytes_a bytes_b result) }
+        (λ bytes_a bytes_b. IsExact both_layers bytes_a bytes_b result) }
     ensures accepted { IfTold (R.remaining (tally_lent a.old)) (S.remaining (tally_lent b.old))
-        (λ bytes_a bytes_b. IsAcceptance bytes_a bytes_b result) }
-    ensures refused { IsRefusalWhere (R.remaining (tally_lent a.old)) (S.remaining (tally_lent b.old)) result }
-    ensures faulty { IsFaultyWhere (R.remaining (tally_lent a.old)) (S.remaining (tally_lent b.old)) result }
+        (λ bytes_a bytes_b. IsAcceptance both_layers bytes_a bytes_b result) }
+    ensures refused { IsRefusalWhere both_layers (R.remaining (tally_lent a.old)) (S.remaining (tally_lent b.old)) result }
+    ensures faulty { IsFaultyWhere both_layers (R.remaining (tally_lent a.old)) (S.remaining (tally_lent b.old)) result }
     ensures reads_a { CountsReads (is_failed_read_of Side.A result) (tally_faults a.old) (tally_faults a.new) }
     ensures reads_b { CountsReads (is_failed_read_of Side.B result) (tally_faults b.old) (tally_faults b.new) }
 {
@@ -80,8 +82,39 @@ pub fn judge<R: Read, S: Read>(
     captures_deliver_in_order();
     layers_run_as_stations();
     layers_deliver_in_order();
-    match find(alloc, a, b) {
+    match find::<LinksOnTop, R, S>(alloc, a, b) {
         Ok(found) => Ok(verdict(found)),
+        Err(fault) => Err(fault),
+    }
+}
+
+/// Decides the same of two stations alone: whether the two texts are captures that together are a run of two DDCMP stations over such a
+/// line. A packet is any bytes and is not read, so that it may be one of another layer or of a third node; and the events of the links,
+/// `u open` to `u up`, may stand anywhere and are not judged. The reasons are those of stations and line.
+///
+/// All that is said of `judge` holds, with "DDCMP stations" for "nodes": the same texts are read in the same order, and refused, faulty
+/// and want of memory mean the same. `Accepted`: what was delivered to each side is, in every period and in order, of the packets that
+/// the other was offered. In the summary `links` is 0, and `up` counts lines that were not judged.
+///
+/// Where `judge` accepts two texts, so does this; what this refuses, `judge` does not accept (`line_is_judged_too`).
+pub fn judge_line<R: Read, S: Read>(
+    alloc: Global,
+    a: &mut Tally<R>,
+    b: &mut Tally<S>,
+) -> Result<Verdict, JudgeFault>
+    ensures exact { IfTold (R.remaining (tally_lent a.old)) (S.remaining (tally_lent b.old))
+        (λ bytes_a bytes_b. IsExact stations_alone bytes_a bytes_b result) }
+    ensures accepted { IfTold (R.remaining (tally_lent a.old)) (S.remaining (tally_lent b.old))
+        (λ bytes_a bytes_b. IsAcceptance stations_alone bytes_a bytes_b result) }
+    ensures refused { IsRefusalWhere stations_alone (R.remaining (tally_lent a.old)) (S.remaining (tally_lent b.old)) result }
+    ensures faulty { IsFaultyWhere stations_alone (R.remaining (tally_lent a.old)) (S.remaining (tally_lent b.old)) result }
+    ensures reads_a { CountsReads (is_failed_read_of Side.A result) (tally_faults a.old) (tally_faults a.new) }
+    ensures reads_b { CountsReads (is_failed_read_of Side.B result) (tally_faults b.old) (tally_faults b.new) }
+{
+    whole_text();
+    captures_deliver_in_order();
+    match find::<NothingOnTop, R, S>(alloc, a, b) {
+        Ok(of_line) => Ok(verdict(of_line)),
         Err(fault) => Err(fault),
     }
 }
@@ -101,34 +134,34 @@ fn verdict(found: Found) -> Verdict
 }
 
 // Finds whether the two texts are a run, and if not, where and why. It reads and fails as `judge` does.
-fn find<R: Read, S: Read>(
+fn find<T: Top, R: Read, S: Read>(
     alloc: Global,
     a: &mut Tally<R>,
     b: &mut Tally<S>,
 ) -> Result<Found, JudgeFault>
-    ensures found { IfOk result (IsFoundIn (R.remaining (tally_lent a.old)) (S.remaining (tally_lent b.old))) }
-    ensures fault { IfErr result (IsJudgeFault (R.remaining (tally_lent a.old)) (S.remaining (tally_lent b.old))) }
+    ensures found { IfOk result (IsFoundIn T.top.kind (R.remaining (tally_lent a.old)) (S.remaining (tally_lent b.old))) }
+    ensures fault { IfErr result (IsJudgeFault T.top.kind (R.remaining (tally_lent a.old)) (S.remaining (tally_lent b.old))) }
     ensures reads_a { CountsReads (is_failed_read_of Side.A result) (tally_faults a.old) (tally_faults a.new) }
     ensures reads_b { CountsReads (is_failed_read_of Side.B result) (tally_faults b.old) (tally_faults b.new) }
 {
-    let mut course_a = match open(alloc, Side::A, a) {
+    let mut course_a = match open::<T, R>(alloc, Side::A, a) {
         Ok(course) => course,
         Err(fault) => return Err(fault),
     };
-    let mut course_b = match open(alloc, Side::B, b) {
+    let mut course_b = match open::<T, S>(alloc, Side::B, b) {
         Ok(course) => course,
         Err(fault) => return Err(fault),
     };
     let mut ending = Ok(Finding::Accepted);
     for _ in 0..MOST_TURNS {
-        if turn(&mut course_a, &mut course_b, a, b, &mut ending) {
+        if turn::<T, R, S>(&mut course_a, &mut course_b, a, b, &mut ending) {
             continue;
         }
         match ending {
             Ok(finding) => {
                 let summary = Summary {
-                    a: course_a.end.summary(),
-                    b: course_b.end.summary(),
+                    a: course_a.end.summary::<T>(),
+                    b: course_b.end.summary::<T>(),
                 };
                 return Ok(Found { finding, summary });
             }
@@ -139,11 +172,11 @@ fn find<R: Read, S: Read>(
 }
 
 // A side whose head was read.
-fn open<R: Read>(alloc: Global, side: Side, reader: &mut Tally<R>) -> Result<Course, JudgeFault>
+fn open<T: Top, R: Read>(alloc: Global, side: Side, reader: &mut Tally<R>) -> Result<Course, JudgeFault>
     ensures opens { IfOk result (λ course. OpensAt (R.remaining (tally_lent reader.old)) course
         (to_come course.capture.unread (R.remaining (tally_lent reader.new)))) }
     ensures fault { IfErr result (λ fault. (text_a text_b : Option (List ℕ)) →
-        of_side side text_a text_b ≡ R.remaining (tally_lent reader.old) → IsJudgeFault text_a text_b fault) }
+        of_side side text_a text_b ≡ R.remaining (tally_lent reader.old) → IsJudgeFault T.top.kind text_a text_b fault) }
     ensures reads { CountsReads (is_failed_read_of side result) (tally_faults reader.old) (tally_faults reader.new) }
     ensures other { is_failed_read_of (other_side side) result ≡ false }
 {

@@ -4,6 +4,7 @@ ghost use Rattle.std.specs.Prelude.{◌≡◌, length, IfOk};
 ghost use Rattle.dna_station.specs.WireStation.{new_wire_station};
 ghost use Rattle.dna_links.specs.WireLinks.{new_wire_links};
 
+mod alone;
 mod arriving;
 mod sending;
 mod user;

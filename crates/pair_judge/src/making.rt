@@ -22,6 +22,7 @@ use crate::noise::hear;
 use crate::receipt::{Receipt, receive};
 use crate::sending::send;
 use crate::step_fault::StepFault;
+use crate::top::Top;
 use capture::Entry;
 use ddcmp_station::StationEvent;
 use dna_station::StepRefusal;
@@ -43,7 +44,7 @@ pub enum Made {
 /// is no memory for the unit that the record sends, or for what the links keep of its packet or of its event. No other record takes
 /// any.
 #[inline(always)]
-pub fn make(
+pub fn make<T: Top>(
     alloc: Global,
     own: &mut End,
     incoming: &mut Line,
@@ -54,16 +55,16 @@ pub fn make(
     requires numbers { NumbersFit (record_with entry bytes.now) }
     ensures made { IfOk result (λ made. (mine theirs : JudgeHalf) →
         StandsFor own.old incoming.old mine → Shows incoming.old theirs.sent →
-        MadeIs made (move own.old own.new incoming.old incoming.new) (record_with entry bytes.now) mine theirs) }
+        MadeIs T.top made (move own.old own.new incoming.old incoming.new) (record_with entry bytes.now) mine theirs) }
     ensures waits { IfOk result (λ made. LeavesWaiting made (move own.old own.new incoming.old incoming.new)) }
     ensures counts { IfOk result (λ made. IfFails made (own.new.counts ≡ own.old.counts)) }
     ensures memory { IfErr result (λ _. MayTakeMemory own.old.layers (record_with entry bytes.now)) }
     ensures head { own.new.head ≡ own.old.head }
 {
     match entry {
-        Entry::Sent => make_sent(alloc, own, bytes),
-        Entry::Received { kept, hint } => make_received(own, incoming, hint, kept, bytes),
-        Entry::Noise => Ok(make_noise(own, bytes)),
+        Entry::Sent => make_sent::<T>(alloc, own, bytes),
+        Entry::Received { kept, hint } => make_received::<T>(own, incoming, hint, kept, bytes),
+        Entry::Noise => Ok(make_noise::<T>(own, bytes)),
         Entry::Start
         | Entry::Halt
         | Entry::Open { .. }
@@ -71,77 +72,77 @@ pub fn make(
         | Entry::Reject { .. }
         | Entry::In { .. }
         | Entry::Up { .. }
-        | Entry::Close { .. } => make_event_copied(own, entry, bytes),
+        | Entry::Close { .. } => make_event_copied::<T>(own, entry, bytes),
     }
 }
 
 // The same of an entry of its own, so that on the way of a unit the entry does not go through memory.
 #[inline(always)]
-fn make_event_copied(own: &mut End, entry: Entry, bytes: &[u8]) -> Result<Made, AllocError>
+fn make_event_copied<T: Top>(own: &mut End, entry: Entry, bytes: &[u8]) -> Result<Made, AllocError>
     requires room { HasRoom own.old }
     requires event { IsEvent entry }
     ensures made { IfOk result (λ made. (incoming : Line) (mine theirs : JudgeHalf) →
         StandsFor own.old incoming mine → Shows incoming theirs.sent →
-        MadeIs made (move own.old own.new incoming incoming) (record_with entry bytes.now) mine theirs) }
+        MadeIs T.top made (move own.old own.new incoming incoming) (record_with entry bytes.now) mine theirs) }
     ensures waits { IfOk result NeverWaits }
     ensures counts { IfOk result (λ made. IfFails made (own.new.counts ≡ own.old.counts)) }
     ensures memory { IfErr result (λ _. MayTakeMemory own.old.layers (record_with entry bytes.now)) }
     ensures head { own.new.head ≡ own.old.head }
 {
     let event = entry;
-    make_event(own, event, bytes)
+    make_event::<T>(own, event, bytes)
 }
 
 // An event of the user. What the events need has no place on the way of a unit.
 #[inline(never)]
-fn make_event(own: &mut End, entry: Entry, bytes: &[u8]) -> Result<Made, AllocError>
+fn make_event<T: Top>(own: &mut End, entry: Entry, bytes: &[u8]) -> Result<Made, AllocError>
     requires room { HasRoom own.old }
     requires event { IsEvent entry }
     ensures made { IfOk result (λ made. (incoming : Line) (mine theirs : JudgeHalf) →
         StandsFor own.old incoming mine → Shows incoming theirs.sent →
-        MadeIs made (move own.old own.new incoming incoming) (record_with entry bytes.now) mine theirs) }
+        MadeIs T.top made (move own.old own.new incoming incoming) (record_with entry bytes.now) mine theirs) }
     ensures waits { IfOk result NeverWaits }
     ensures counts { IfOk result (λ made. IfFails made (own.new.counts ≡ own.old.counts)) }
     ensures memory { IfErr result (λ _. MayTakeMemory own.old.layers (record_with entry bytes.now)) }
     ensures head { own.new.head ≡ own.old.head }
 {
     match entry {
-        Entry::Start => Ok(make_station_event(own, StationEvent::Start)),
-        Entry::Halt => Ok(make_station_event(own, StationEvent::Halt)),
-        Entry::Open { link } => make_link_event(own, LinkEvent::Open { link }),
-        Entry::Accept { partner, link } => make_link_event(
+        Entry::Start => Ok(make_station_event::<T>(own, StationEvent::Start)),
+        Entry::Halt => Ok(make_station_event::<T>(own, StationEvent::Halt)),
+        Entry::Open { link } => make_link_event::<T>(own, LinkEvent::Open { link }),
+        Entry::Accept { partner, link } => make_link_event::<T>(
             own,
             LinkEvent::Accept { partner, link },
         ),
-        Entry::Reject { partner, link } => make_link_event(
+        Entry::Reject { partner, link } => make_link_event::<T>(
             own,
             LinkEvent::Reject { partner, link },
         ),
         Entry::In { link } => {
             let message = bytes;
-            make_link_event(own, LinkEvent::In { link, message })
+            make_link_event::<T>(own, LinkEvent::In { link, message })
         }
         Entry::Up { link } => {
             let message = bytes;
-            make_link_event(own, LinkEvent::Up { link, message })
+            make_link_event::<T>(own, LinkEvent::Up { link, message })
         }
-        Entry::Close { link } => make_link_event(own, LinkEvent::Close { link }),
+        Entry::Close { link } => make_link_event::<T>(own, LinkEvent::Close { link }),
         Entry::Sent | Entry::Received { .. } | Entry::Noise => unreachable!(),
     }
 }
 
 #[inline(always)]
-fn make_sent(alloc: Global, own: &mut End, bytes: &[u8]) -> Result<Made, AllocError>
+fn make_sent<T: Top>(alloc: Global, own: &mut End, bytes: &[u8]) -> Result<Made, AllocError>
     requires { HasRoom own.old }
     ensures made { IfOk result (λ made. (incoming : Line) (mine theirs : JudgeHalf) →
         StandsFor own.old incoming mine → Shows incoming theirs.sent →
-        MadeIs made (move own.old own.new incoming incoming) (Record.Sent bytes.now) mine theirs) }
+        MadeIs T.top made (move own.old own.new incoming incoming) (Record.Sent bytes.now) mine theirs) }
     ensures waits { IfOk result NeverWaits }
     ensures counts { IfOk result (λ made. IfFails made (own.new.counts ≡ own.old.counts)) }
     ensures memory { IfErr result (λ _. MaySend own.old.layers (reading bytes.now)) }
     ensures head { own.new.head ≡ own.old.head }
 {
-    match send(alloc, &mut own.layers, &mut own.line, bytes) {
+    match send::<T>(alloc, &mut own.layers, &mut own.line, bytes) {
         Ok(()) => {
             own.counts = own.counts.with_sending();
             Ok(Made::Done)
@@ -154,7 +155,7 @@ fn make_sent(alloc: Global, own: &mut End, bytes: &[u8]) -> Result<Made, AllocEr
 }
 
 #[inline(always)]
-fn make_received(
+fn make_received<T: Top>(
     own: &mut End,
     incoming: &mut Line,
     hint: u64,
@@ -165,13 +166,13 @@ fn make_received(
     requires hint { hint ≤ MAX_HINT }
     ensures made { IfOk result (λ made. (mine theirs : JudgeHalf) →
         StandsFor own.old incoming.old mine → Shows incoming.old theirs.sent →
-        MadeIs made (move own.old own.new incoming.old incoming.new) (Record.Received hint kept bytes.now) mine theirs) }
+        MadeIs T.top made (move own.old own.new incoming.old incoming.new) (Record.Received hint kept bytes.now) mine theirs) }
     ensures waits { IfOk result (λ made. LeavesWaiting made (move own.old own.new incoming.old incoming.new)) }
     ensures counts { IfOk result (λ made. IfFails made (own.new.counts ≡ own.old.counts)) }
     ensures memory { IfErr result (λ _. MayKeep kept (shows_damage (reading bytes.now))) }
     ensures head { own.new.head ≡ own.old.head }
 {
-    match receive(&mut own.layers, incoming, hint, kept, bytes) {
+    match receive::<T>(&mut own.layers, incoming, hint, kept, bytes) {
         Ok(Receipt::Done { damaged }) => {
             own.counts = own.counts.with_receipt(damaged, kept);
             Ok(Made::Done)
@@ -184,16 +185,16 @@ fn make_received(
 
 // Bytes that nobody sent. What they need has no place on the way of a unit.
 #[inline(never)]
-fn make_noise(own: &mut End, bytes: &[u8]) -> Made
+fn make_noise<T: Top>(own: &mut End, bytes: &[u8]) -> Made
     requires { HasRoom own.old }
     ensures made { (incoming : Line) (mine theirs : JudgeHalf) →
         StandsFor own.old incoming mine → Shows incoming theirs.sent →
-        MadeIs result (move own.old own.new incoming incoming) (Record.Noise bytes.now) mine theirs }
+        MadeIs T.top result (move own.old own.new incoming incoming) (Record.Noise bytes.now) mine theirs }
     ensures waits { NeverWaits result }
     ensures counts { IfFails result (own.new.counts ≡ own.old.counts) }
     ensures head { own.new.head ≡ own.old.head }
 {
-    match hear(&mut own.layers, bytes) {
+    match hear::<T>(&mut own.layers, bytes) {
         Ok(()) => {
             own.counts = own.counts.with_receipt(true, false);
             Made::Done
@@ -203,16 +204,16 @@ fn make_noise(own: &mut End, bytes: &[u8]) -> Made
 }
 
 #[inline(always)]
-fn make_station_event(own: &mut End, event: StationEvent) -> Made
+fn make_station_event<T: Top>(own: &mut End, event: StationEvent) -> Made
     requires { HasRoom own.old }
     ensures made { (incoming : Line) (mine theirs : JudgeHalf) →
         StandsFor own.old incoming mine → Shows incoming theirs.sent →
-        MadeIs result (move own.old own.new incoming incoming) (Record.User (event_of_station event)) mine theirs }
+        MadeIs T.top result (move own.old own.new incoming incoming) (Record.User (event_of_station event)) mine theirs }
     ensures waits { NeverWaits result }
     ensures counts { IfFails result (own.new.counts ≡ own.old.counts) }
     ensures head { own.new.head ≡ own.old.head }
 {
-    match own.layers.start_or_halt(event) {
+    match T::start_or_halt(&mut own.layers, event) {
         Ok(()) => {
             own.counts = own.counts.with_station_event(event);
             Made::Done
@@ -222,18 +223,18 @@ fn make_station_event(own: &mut End, event: StationEvent) -> Made
 }
 
 #[inline(always)]
-fn make_link_event(own: &mut End, event: LinkEvent) -> Result<Made, AllocError>
+fn make_link_event<T: Top>(own: &mut End, event: LinkEvent) -> Result<Made, AllocError>
     requires { HasRoom own.old }
     ensures made { IfOk result (λ made. (incoming : Line) (mine theirs : JudgeHalf) →
         StandsFor own.old incoming mine → Shows incoming theirs.sent →
-        MadeIs made (move own.old own.new incoming incoming) (Record.User (event_of_links (view event.entry))) mine theirs) }
+        MadeIs T.top made (move own.old own.new incoming incoming) (Record.User (event_of_links (view event.entry))) mine theirs) }
     ensures waits { IfOk result NeverWaits }
     ensures counts { IfOk result (λ made. IfFails made (own.new.counts ≡ own.old.counts)) }
     ensures memory { IfErr result (λ _. MayEnter own.old.layers.links (view event.entry)) }
     ensures head { own.new.head ≡ own.old.head }
 {
     let delivers = is_delivery(&event);
-    match own.layers.at_links(event) {
+    match T::at_links(&mut own.layers, event) {
         Ok(()) => {
             own.counts = own.counts.with_link_event(delivers);
             Ok(Made::Done)

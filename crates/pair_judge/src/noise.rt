@@ -8,6 +8,7 @@ ghost use Rattle.pair_judge.specs.inner.Wire.{judge_hears};
 use crate::held_link::HeldLink;
 use crate::layers::Layers;
 use crate::step_fault::StepFault;
+use crate::top::Top;
 use ddcmp_msg::{Reading, read_unit};
 use ddcmp_station::Arrival;
 use dna_station::StepRefusal;
@@ -16,16 +17,16 @@ use dna_station::StepRefusal;
 /// line stays as it is.
 ///
 /// `NotNoise`: they show no damage, whether they read as a message or not. Takes no memory.
-pub fn hear(layers: &mut Layers, bytes: &[u8]) -> Result<(), StepRefusal>
+pub fn hear<T: Top>(layers: &mut Layers, bytes: &[u8]) -> Result<(), StepRefusal>
     requires { load layers.old.station < 2 ^ 63 }
-    ensures ok { OnOk result (judge_hears layers.old (reading bytes.now) ≡ Ok layers.new) }
-    ensures refused { IfErr result (λ refusal. judge_hears layers.old (reading bytes.now) ≡ Err refusal) }
+    ensures ok { OnOk result (judge_hears T.top layers.old (reading bytes.now) ≡ Ok layers.new) }
+    ensures refused { IfErr result (λ refusal. judge_hears T.top layers.old (reading bytes.now) ≡ Err refusal) }
     ensures load { load layers.new.station ≤ load layers.old.station + 1 }
 {
     let no_tag = HeldLink::new(&None);
     let heard = match read_unit(bytes) {
-        Reading::HeaderBad => layers.arrived(Arrival::HeaderBad, &no_tag, false),
-        Reading::DataBad => layers.arrived(Arrival::DataBad, &no_tag, false),
+        Reading::HeaderBad => T::arrived(layers, Arrival::HeaderBad, &no_tag, false),
+        Reading::DataBad => T::arrived(layers, Arrival::DataBad, &no_tag, false),
         Reading::Sound(_) => return Err(StepRefusal::NotNoise),
         Reading::Malformed(_) => return Err(StepRefusal::NotNoise),
     };

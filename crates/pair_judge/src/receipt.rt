@@ -17,6 +17,7 @@ use crate::layers::Layers;
 use crate::line::Line;
 use crate::line_unit::LineUnit;
 use crate::step_fault::StepFault;
+use crate::top::Top;
 use ddcmp_msg::{Reading, read_sound, read_unit};
 use ddcmp_station::Arrival;
 use dna_station::StepRefusal;
@@ -40,7 +41,7 @@ pub enum Receipt {
 /// `Undetected` where the bytes are not the unit's and show no damage; and as the station and the links refuse the arrival. An error: there is
 /// no memory for what the links keep of a packet, which shows no damage and was kept.
 #[inline(always)]
-pub fn receive(
+pub fn receive<T: Top>(
     layers: &mut Layers,
     line: &mut Line,
     hint: u64,
@@ -50,7 +51,7 @@ pub fn receive(
     requires hint { hint < 2 ^ 63 }
     requires load { load layers.old.station < 2 ^ 63 }
     ensures receipt { IfOk result (λ receipt. (sent : List WireLayersUnit) → Shows line.old sent →
-        ReceiptIs receipt (layers_move layers.old layers.new line.old line.new) (came hint kept bytes.now) sent) }
+        ReceiptIs T.top receipt (layers_move layers.old layers.new line.old line.new) (came hint kept bytes.now) sent) }
     ensures waits { result ≡ Ok Receipt.Waits → (layers.new ≡ layers.old) × (line.new ≡ line.old) }
     ensures memory { IfErr result (λ _. MayKeep kept (shows_damage (reading bytes.now))) }
     ensures load { load layers.new.station ≤ load layers.old.station + 1 }
@@ -64,7 +65,7 @@ pub fn receive(
             None => Ok(Receipt::Fails(StepRefusal::Undetected)),
             Some(arrival) => {
                 let damaged = is_damaged(&arrival);
-                match layers.arrived(arrival, unit.link(), kept) {
+                match T::arrived(layers, arrival, unit.link(), kept) {
                     Ok(()) => {
                         line.release(hint);
                         Ok(Receipt::Done { damaged })

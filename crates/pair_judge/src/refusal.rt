@@ -4,17 +4,21 @@ ghost use Rattle.std.specs.Prelude.{ℕ, List, Some};
 ghost use Rattle.wire_base.specs.declared.side.Side.{Side as Of};
 ghost use Rattle.capture.specs.Range.{IsText};
 ghost use Rattle.pair_judge.specs.declared.reason.Reason.{Reason as Why};
+ghost use Rattle.dna_node.specs.Kind.{both_layers, stations_alone};
 ghost use Rattle.pair_judge.specs.Refusal.{AreRefused, IsRefusal, WholeCapture};
 
 use capture::whole_text;
 
-/// Where the two readers' bytes are the texts of two captures, a refusal that `judge` answers of them says that the captures are
+/// Where the two readers' bytes are the texts of two captures, a refusal that `judge` (or `judge_line`) answers of them says that the captures are
 /// no run, and but for `NoSuchUnit` and `NoOrder` that the named record offends: all that it rests on can be made, and then the
 /// record can't, for the printed reason.
 pub fn refused_captures()
-    ensures { (a b : WholeCapture) (bytes_a bytes_b : List ℕ) (side : Of) (place : ℕ) (reason : Why) →
+    ensures nodes { (a b : WholeCapture) (bytes_a bytes_b : List ℕ) (side : Of) (place : ℕ) (reason : Why) →
         IsText a.head.own a.head.peer a.records bytes_a → IsText b.head.own b.head.peer b.records bytes_b →
-        IsRefusal (Some bytes_a) (Some bytes_b) side place reason → AreRefused a b side place reason }
+        IsRefusal both_layers (Some bytes_a) (Some bytes_b) side place reason → AreRefused both_layers a b side place reason }
+    ensures line { (a b : WholeCapture) (bytes_a bytes_b : List ℕ) (side : Of) (place : ℕ) (reason : Why) →
+        IsText a.head.own a.head.peer a.records bytes_a → IsText b.head.own b.head.peer b.records bytes_b →
+        IsRefusal stations_alone (Some bytes_a) (Some bytes_b) side place reason → AreRefused stations_alone a b side place reason }
 {
     whole_text();
 }

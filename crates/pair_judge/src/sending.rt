@@ -14,6 +14,7 @@ ghost use Rattle.pair_judge.specs.inner.Wire.{judge_sent_step};
 use crate::layers::Layers;
 use crate::line::Line;
 use crate::step_fault::StepFault;
+use crate::top::Top;
 use crate::unit_tag::UnitTag;
 use ddcmp_msg::{Reading, read_unit};
 use dna_station::StepRefusal;
@@ -26,19 +27,19 @@ use std::alloc::Global;
 /// piece in the links; the station may send the message then. After any of them the station may have gone on without its unit,
 /// so that no record can follow.
 #[inline(always)]
-pub fn send(
+pub fn send<T: Top>(
     alloc: Global,
     layers: &mut Layers,
     line: &mut Line,
     bytes: &[u8],
 ) -> Result<(), StepFault>
-    ensures ok { OnOk result (IsSent layers.old layers.new line.old line.new bytes.now) }
+    ensures ok { OnOk result (IsSent T.top layers.old layers.new line.old line.new bytes.now) }
     ensures gone { line.new.gone ≡ line.old.gone }
     ensures load { load layers.new.station ≤ load layers.old.station }
-    ensures err { IfErr result (IfRefused (IsNotSent layers.old bytes.now)) }
+    ensures err { IfErr result (IfRefused (IsNotSent T.top layers.old bytes.now)) }
     ensures memory { IfErr result (IfNoMemory (MaySend layers.old (reading bytes.now))) }
 {
-    let tag = match sent(layers, bytes) {
+    let tag = match sent::<T>(layers, bytes) {
         Ok(tag) => tag,
         Err(fault) => return Err(fault),
     };
@@ -48,17 +49,17 @@ pub fn send(
 
 // The node sends the unit: the tags that it goes with.
 #[inline(always)]
-fn sent(layers: &mut Layers, bytes: &[u8]) -> Result<UnitTag, StepFault>
+fn sent<T: Top>(layers: &mut Layers, bytes: &[u8]) -> Result<UnitTag, StepFault>
     ensures sound { OnOk result (IsSoundReading (reading bytes.now)) }
-    ensures ok { IfOk result (λ tag. (head : Head) (front : ℕ) → judge_sent_step (node_at head layers.old front) bytes.now (reading bytes.now)
+    ensures ok { IfOk result (λ tag. (head : Head) (front : ℕ) → judge_sent_step T.top (node_at head layers.old front) bytes.now (reading bytes.now)
         ≡ Sends (node_at head layers.new front) (unit_of bytes.now (tags_of tag))) }
     ensures load { load layers.new.station ≤ load layers.old.station }
-    ensures err { IfErr result (IfRefused (IsNotSent layers.old bytes.now)) }
+    ensures err { IfErr result (IfRefused (IsNotSent T.top layers.old bytes.now)) }
     ensures allowed { OnOk result (MaySend layers.old (reading bytes.now)) }
     ensures memory { IfErr result (IfNoMemory (MaySend layers.old (reading bytes.now))) }
 {
     match read_unit(bytes) {
-        Reading::Sound(message) => layers.sent(&message),
+        Reading::Sound(message) => T::sent(layers, &message),
         Reading::HeaderBad => Err(StepFault::Refused(StepRefusal::NotAMessage)),
         Reading::DataBad => Err(StepFault::Refused(StepRefusal::NotAMessage)),
         Reading::Malformed(_) => Err(StepFault::Refused(StepRefusal::NotAMessage)),

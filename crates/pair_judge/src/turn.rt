@@ -15,8 +15,10 @@ ghost use Rattle.pair_judge.specs.inner.Reached.{IsStopped, IsUnderWay, TurnIs, 
 use crate::captures::endings;
 use crate::course::{Advance, Course};
 use crate::fault::{JudgeFault, TextFault};
+use crate::judged_nodes::JudgedNodes;
+use crate::top::Top;
 use capture::CaptureFault;
-use dna_node::{Cause, Finding, WireLayersNodes};
+use dna_node::{Cause, Finding};
 use std::io::Read;
 use two_nodes::reading_on;
 use wire_base::{Side, Tally};
@@ -25,7 +27,7 @@ use wire_base::{Side, Tally};
 /// then, so that on the way of a record that is made no answer goes through memory.
 ///
 /// `Capture`: the next record of that side can't be read. `OutOfMemory`: there is no room for what the record sends, keeps or hands in.
-pub fn turn<R: Read, S: Read>(
+pub fn turn<T: Top, R: Read, S: Read>(
     a: &mut Course,
     b: &mut Course,
     reader_a: &mut Tally<R>,
@@ -37,31 +39,31 @@ pub fn turn<R: Read, S: Read>(
     requires room_a { HasRoom a.old.end }
     requires room_b { HasRoom b.old.end }
     ensures turn { IfOk (turned result ending.new) (λ turn. (text_a text_b : Option (List ℕ)) (made_a made_b : List Record) →
-        IsUnderWay (along text_a a.old (to_come a.old.capture.unread (R.remaining (tally_lent reader_a.old))) made_a)
+        IsUnderWay T.top (along text_a a.old (to_come a.old.capture.unread (R.remaining (tally_lent reader_a.old))) made_a)
         (along text_b b.old (to_come b.old.capture.unread (S.remaining (tally_lent reader_b.old))) made_b) →
-        TurnIs turn (along text_a a.new (to_come a.new.capture.unread (R.remaining (tally_lent reader_a.new))) made_a)
+        TurnIs T.top turn (along text_a a.new (to_come a.new.capture.unread (R.remaining (tally_lent reader_a.new))) made_a)
         (along text_b b.new (to_come b.new.capture.unread (S.remaining (tally_lent reader_b.new))) made_b)) }
     ensures may_read { IfOk (turned result ending.new) (λ _. MayRead a.new × MayRead b.new) }
     ensures fault { IfErr (turned result ending.new) (λ fault. (text_a text_b : Option (List ℕ)) (made_a made_b : List Record) →
-        IsUnderWay (along text_a a.old (to_come a.old.capture.unread (R.remaining (tally_lent reader_a.old))) made_a)
+        IsUnderWay T.top (along text_a a.old (to_come a.old.capture.unread (R.remaining (tally_lent reader_a.old))) made_a)
         (along text_b b.old (to_come b.old.capture.unread (S.remaining (tally_lent reader_b.old))) made_b) →
-        IsJudgeFault text_a text_b fault) }
+        IsJudgeFault T.top.kind text_a text_b fault) }
     ensures reads_a { CountsReads (is_failed_read_of Side.A (turned result ending.new)) (tally_faults reader_a.old) (tally_faults reader_a.new) }
     ensures reads_b { CountsReads (is_failed_read_of Side.B (turned result ending.new)) (tally_faults reader_b.old) (tally_faults reader_b.new) }
 {
-    endings();
-    reading_on::<WireLayersNodes>();
-    if a.is_held_up(&b.end.line) {
-        return turn_of_b(a, true, b, reader_b, ending);
+    endings::<T>();
+    reading_on::<JudgedNodes<T>>();
+    if a.is_held_up::<T>(&b.end.line) {
+        return turn_of_b::<T, S>(a, true, b, reader_b, ending);
     }
-    match a.advance(&mut b.end.line, reader_a) {
+    match a.advance::<T, R>(&mut b.end.line, reader_a) {
         Ok(Advance::Made) => true,
         Ok(Advance::Fails(refusal)) => {
             *ending = Ok(refused(Side::A, a, Cause::Step(refusal)));
             false
         }
-        Ok(Advance::Blocked) => turn_of_b(a, true, b, reader_b, ending),
-        Ok(Advance::Ended) => turn_of_b(a, false, b, reader_b, ending),
+        Ok(Advance::Blocked) => turn_of_b::<T, S>(a, true, b, reader_b, ending),
+        Ok(Advance::Ended) => turn_of_b::<T, S>(a, false, b, reader_b, ending),
         Err(fault) => {
             *ending = Err(side_fault(Side::A, fault));
             false
@@ -71,7 +73,7 @@ pub fn turn<R: Read, S: Read>(
 
 // Side b's turn, where side a waits or else has ended. If b can't go on either, the judge is at its end: nobody can go on, or
 // one side waits for a unit that the other, which has ended, never sends; or, where both have ended, the captures are a run.
-fn turn_of_b<S: Read>(
+fn turn_of_b<T: Top, S: Read>(
     a: &mut Course,
     a_waits: bool,
     b: &mut Course,
@@ -81,23 +83,23 @@ fn turn_of_b<S: Read>(
     requires may_read { MayRead b.old }
     requires room { HasRoom b.old.end }
     ensures turn { IfOk (turned result ending.new) (λ turn. (text_a text_b come_a : Option (List ℕ)) (made_a made_b : List Record) →
-        IsUnderWay (along text_a a.old come_a made_a)
+        IsUnderWay T.top (along text_a a.old come_a made_a)
         (along text_b b.old (to_come b.old.capture.unread (S.remaining (tally_lent reader_b.old))) made_b) →
-        IsStopped a_waits a.old b.old.end.line →
-        TurnIs turn (along text_a a.new come_a made_a)
+        IsStopped T.top a_waits a.old b.old.end.line →
+        TurnIs T.top turn (along text_a a.new come_a made_a)
         (along text_b b.new (to_come b.new.capture.unread (S.remaining (tally_lent reader_b.new))) made_b)) }
     ensures same { (a.new.capture ≡ a.old.capture) × (a.new.ahead ≡ a.old.ahead) }
     ensures may_read { IfOk (turned result ending.new) (λ _. MayRead b.new) }
     ensures fault { IfErr (turned result ending.new) (λ fault. (text_a text_b come_a : Option (List ℕ)) (made_a made_b : List Record) →
-        IsUnderWay (along text_a a.old come_a made_a)
+        IsUnderWay T.top (along text_a a.old come_a made_a)
         (along text_b b.old (to_come b.old.capture.unread (S.remaining (tally_lent reader_b.old))) made_b) →
-        IsJudgeFault text_a text_b fault) }
+        IsJudgeFault T.top.kind text_a text_b fault) }
     ensures reads { CountsReads (is_failed_read_of Side.B (turned result ending.new)) (tally_faults reader_b.old) (tally_faults reader_b.new) }
     ensures other { is_failed_read_of Side.A (turned result ending.new) ≡ false }
 {
-    endings();
-    reading_on::<WireLayersNodes>();
-    match b.advance(&mut a.end.line, reader_b) {
+    endings::<T>();
+    reading_on::<JudgedNodes<T>>();
+    match b.advance::<T, S>(&mut a.end.line, reader_b) {
         Ok(Advance::Made) => true,
         Ok(Advance::Fails(refusal)) => {
             *ending = Ok(refused(Side::B, b, Cause::Step(refusal)));

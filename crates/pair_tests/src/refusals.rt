@@ -4,6 +4,7 @@ ghost use Rattle.std.specs.Prelude.{◌≡◌, ℕ, List, IfSome, Some, Ok};
 ghost use Rattle.capture.specs.Range.{IsText};
 ghost use Rattle.pair_judge.specs.declared.verdict.Verdict.{Verdict as Judgement};
 ghost use Rattle.pair_judge.specs.declared.verdict.Verdict.TheVariants as verdicts;
+ghost use Rattle.dna_node.specs.Kind.{both_layers};
 ghost use Rattle.pair_judge.specs.Judged.{IsAnswer};
 ghost use Rattle.pair_judge.specs.Refusal.{AreRefused, AreTexts, WholeCapture};
 
@@ -23,9 +24,9 @@ const SENDS_IN_HALTED: &str = "ddcap 1 1.1 1.2\ns 0506c00000017595\n";
 fn refusal_of(alloc: Global, text_a: &[u8], text_b: &[u8]) -> Option<(Side, u64, Reason)>
     ensures told { (a b : WholeCapture) → IsText a.head.own a.head.peer a.records text_a.now →
         IsText b.head.own b.head.peer b.records text_b.now →
-        IfSome result (λ named. AreRefused a b named.0 named.1 named.2) }
+        IfSome result (λ named. AreRefused both_layers a b named.0 named.1 named.2) }
     ensures any_format { (a b : WholeCapture) (other_a other_b : List ℕ) (other : Judgement) → AreTexts a b text_a.now text_b.now →
-        AreTexts a b other_a other_b → IsAnswer (Some other_a) (Some other_b) (Ok other) →
+        AreTexts a b other_a other_b → IsAnswer both_layers (Some other_a) (Some other_b) (Ok other) →
         IfSome result (λ named. verdicts.Refused named.0 named.1 named.2 ≡ other) }
 {
     refused_captures();

@@ -21,7 +21,7 @@ use Rattle.pair_judge.specs.declared.course.Advance.{Advance}
 use Rattle.pair_judge.specs.declared.course.Advance.TheVariants as answers
 use Rattle.pair_judge.specs.Heads.{head_of}
 use Rattle.pair_judge.specs.inner.Lines.{Shows}
-use Rattle.pair_judge.specs.inner.Wire.{JudgeHalf, judge_step}
+use Rattle.pair_judge.specs.inner.Wire.{judge_step, JudgeHalf, JudgeTop}
 use Rattle.pair_judge.specs.inner.Making.{Move, StandsFor, IsMade}
 
 -- the reader has not failed, and has not come to the end unseen
@@ -97,42 +97,43 @@ pub record IsStill (m : Move) : Type 0 where
   pub same_end : m.new ≡ m.old
   pub same_line : m.after ≡ m.before
 
--- the record waits for its unit, whatever the halves are that the two sides stand for
-abbrev pub WaitsAt : End → Line → Record → Type 0
-WaitsAt own incoming r = (mine theirs : JudgeHalf) → StandsFor own incoming mine → Shows incoming theirs.sent →
-    advance judge_step mine theirs r ≡ any.Waits
-
--- the next record was made
-pub record IsAdvanced (m : Move) (t : Track) : Type 0 where
-  pub next : Record
-  pub read : IsRead (having_made t (t.made ++ next ∷ []))
-  pub unread : t.course.ahead ≡ Unread
-  pub made_it : (mine theirs : JudgeHalf) → StandsFor m.old m.before mine → Shows m.before theirs.sent → IsMade m next mine theirs
-
--- the next record waits
-pub record IsBlocked (m : Move) (t : Track) : Type 0 where
-  pub next : Record
-  pub read : IsRead t
-  pub ahead : IsWaiting t.course.capture.bytes t.course.ahead next
-  pub waits : WaitsAt m.old m.before next
-  pub still : IsStill m
-
 -- there is no next record
 pub record HasEnded (m : Move) (t : Track) : Type 0 where
   pub read : IsRead t
   pub ahead : t.course.ahead ≡ Ended
   pub still : IsStill m
 
--- the next record can't be made
-pub record IsRefused (m : Move) (t : Track) (refusal : StepRefusal) : Type 0 where
-  pub next : Record
-  pub read : IsRead (having_made t (t.made ++ next ∷ []))
-  pub counts : m.new.counts ≡ m.old.counts
-  pub refused : (mine theirs : JudgeHalf) → StandsFor m.old m.before mine → Shows m.before theirs.sent →
-      advance judge_step mine theirs next ≡ any.Refused refusal
+module _ (top : JudgeTop) where
+  -- the record waits for its unit, whatever the halves are that the two sides stand for
+  abbrev pub WaitsAt : End → Line → Record → Type 0
+  WaitsAt own incoming r = (mine theirs : JudgeHalf) → StandsFor own incoming mine → Shows incoming theirs.sent →
+      advance (judge_step top) mine theirs r ≡ any.Waits
 
-abbrev pub AdvanceIs : Advance → Move → Track → Type 0
-AdvanceIs answers.Made m t = IsAdvanced m t
-AdvanceIs answers.Blocked m t = IsBlocked m t
-AdvanceIs answers.Ended m t = HasEnded m t
-AdvanceIs (answers.Fails refusal) m t = IsRefused m t refusal
+  -- the next record was made
+  pub record IsAdvanced (m : Move) (t : Track) : Type 0 where
+    pub next : Record
+    pub read : IsRead (having_made t (t.made ++ next ∷ []))
+    pub unread : t.course.ahead ≡ Unread
+    pub made_it : (mine theirs : JudgeHalf) → StandsFor m.old m.before mine → Shows m.before theirs.sent → IsMade top m next mine theirs
+
+  -- the next record waits
+  pub record IsBlocked (m : Move) (t : Track) : Type 0 where
+    pub next : Record
+    pub read : IsRead t
+    pub ahead : IsWaiting t.course.capture.bytes t.course.ahead next
+    pub waits : WaitsAt m.old m.before next
+    pub still : IsStill m
+
+  -- the next record can't be made
+  pub record IsRefused (m : Move) (t : Track) (refusal : StepRefusal) : Type 0 where
+    pub next : Record
+    pub read : IsRead (having_made t (t.made ++ next ∷ []))
+    pub counts : m.new.counts ≡ m.old.counts
+    pub refused : (mine theirs : JudgeHalf) → StandsFor m.old m.before mine → Shows m.before theirs.sent →
+        advance (judge_step top) mine theirs next ≡ any.Refused refusal
+
+  abbrev pub AdvanceIs : Advance → Move → Track → Type 0
+  AdvanceIs answers.Made m t = IsAdvanced m t
+  AdvanceIs answers.Blocked m t = IsBlocked m t
+  AdvanceIs answers.Ended m t = HasEnded m t
+  AdvanceIs (answers.Fails refusal) m t = IsRefused m t refusal

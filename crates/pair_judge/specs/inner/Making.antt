@@ -12,7 +12,7 @@ use Rattle.pair_judge.specs.declared.making.Made.{Made}
 use Rattle.pair_judge.specs.declared.making.Made.TheVariants.{Done, Waits, Fails}
 use Rattle.pair_judge.specs.inner.Lines.{Shows}
 use Rattle.pair_judge.specs.Summary.{counted}
-use Rattle.pair_judge.specs.inner.Wire.{JudgeHalf, judge_step}
+use Rattle.pair_judge.specs.inner.Wire.{judge_step, JudgeHalf, JudgeTop}
 
 -- an entry of the user, and not of what was sent or came
 abbrev pub IsEvent : Entry → Type 0
@@ -38,22 +38,23 @@ pub record Move : Type 0 where
 abbrev pub move : End → End → Line → Line → Move
 move old new before after = record { old = old; new = new; before = before; after = after }
 
--- the record is made, and the end stands for the half after it
-pub record IsMade (m : Move) (r : Record) (own other : JudgeHalf) : Type 0 where
-  pub next : JudgeHalf
-  pub step_is : advance judge_step own other r ≡ any.Made next
-  pub stands : StandsFor m.new m.after next
-  pub incoming : Shows m.after other.sent
-  pub same_head : m.new.head ≡ m.old.head
-  pub same_front : m.new.line.gone ≡ m.old.line.gone
-  pub counts : m.new.counts ≡ counted m.old.counts r
-  pub load : load m.new.layers.station ≤ load m.old.layers.station + 1
+module _ (top : JudgeTop) where
+  -- the record is made, and the end stands for the half after it
+  pub record IsMade (m : Move) (r : Record) (own other : JudgeHalf) : Type 0 where
+    pub next : JudgeHalf
+    pub step_is : advance (judge_step top) own other r ≡ any.Made next
+    pub stands : StandsFor m.new m.after next
+    pub incoming : Shows m.after other.sent
+    pub same_head : m.new.head ≡ m.old.head
+    pub same_front : m.new.line.gone ≡ m.old.line.gone
+    pub counts : m.new.counts ≡ counted m.old.counts r
+    pub load : load m.new.layers.station ≤ load m.old.layers.station + 1
 
-abbrev pub MadeIs : Made → Move → Record → JudgeHalf → JudgeHalf → Type 0
-MadeIs Done m r own other = IsMade m r own other
--- the unit that the record names is not sent yet
-MadeIs Waits m r own other = advance judge_step own other r ≡ any.Waits
-MadeIs (Fails refusal) m r own other = advance judge_step own other r ≡ any.Refused refusal
+  abbrev pub MadeIs : Made → Move → Record → JudgeHalf → JudgeHalf → Type 0
+  MadeIs Done m r own other = IsMade m r own other
+  -- the unit that the record names is not sent yet
+  MadeIs Waits m r own other = advance (judge_step top) own other r ≡ any.Waits
+  MadeIs (Fails refusal) m r own other = advance (judge_step top) own other r ≡ any.Refused refusal
 
 -- a record that waits leaves all as it was
 abbrev pub LeavesWaiting : Made → Move → Type 0

@@ -1,11 +1,14 @@
 -- Both sides of the judge beside the world that the records made so far led to, and what a turn leads to.
 use Rattle.std.specs.Prelude.{◌≡◌, ◌+◌, ◌≤◌, Bool, true, false, List, length, Option, Some, None, Result, Ok, Err}
-use Rattle.two_nodes.specs.Nodes.{Run}
+use Rattle.two_nodes.specs.Nodes.{Run, World, advance}
+use Rattle.two_nodes.specs.Nodes.Outcome.{Waits, Refused}
 use Rattle.capture.specs.declared.record.Record.{Record}
 use Rattle.capture.specs.SoFar.{GoesOn}
 use Rattle.dna_station.specs.declared.head.Head.{Head}
+use Rattle.dna_station.specs.Machine.{step}
+use Rattle.dna_station.specs.declared.refusal.StepRefusal.{StepRefusal}
 use Rattle.dna_node.specs.declared.finding.Finding.{Finding}
-use Rattle.dna_node.specs.LayersPair.{IsLayersRun}
+use Rattle.dna_node.specs.Kind.{KindNode, KindUnit, kind_pair, kind_start}
 use Rattle.dna_node.specs.declared.finding.Finding.TheVariants.{Accepted}
 use Rattle.pair_judge.specs.declared.line.Line.{Line}
 use Rattle.pair_judge.specs.declared.end.End.{End}
@@ -13,66 +16,12 @@ use Rattle.pair_judge.specs.declared.course.Ahead.TheVariants.{Ended}
 use Rattle.pair_judge.specs.declared.course.Course.{Course}
 use Rattle.pair_judge.specs.declared.fault.JudgeFault.{JudgeFault}
 use Rattle.dna_station.specs.WireStation.{load}
-use Rattle.dna_node.specs.WireLayers.{wire_layers_pair, wire_layers_start}
-use Rattle.pair_judge.specs.inner.Wire.{JudgeWorld}
+use Rattle.dna_node.specs.WireLayers.{wire_layers_start}
+use Rattle.pair_judge.specs.inner.Wire.{judge_pair, judge_step, JudgeTop, JudgeWorld}
 use Rattle.pair_judge.specs.inner.Making.{StandsFor}
 use Rattle.pair_judge.specs.inner.Course.{IsRead, Track, WaitsAt, IsWaiting, having_made, read_of}
 use Rattle.pair_judge.specs.Finding.{EndsWhere, IsCounted, IsFinding}
 use Rattle.pair_judge.specs.Summary.{counts_of, summary_at}
-
--- these records, which led the wire nodes to this world, are a run, and as many links began there
-pub record HasRun (head_a head_b : Head) (w : JudgeWorld) (of_a of_b : List Record) : Type 0 where
-  pub run : IsLayersRun head_a head_b of_a of_b
-  pub links_a : length w.a.state.station.links.links ≡ length run.0.a.state.station.links.links
-  pub links_b : length w.b.state.station.links.links ≡ length run.0.b.state.station.links.links
-
--- some order of these records leads to a world that the two ends stand for
-pub record HasReached (a b : End) (made_a made_b : List Record) : Type 0 where
-  pub world : JudgeWorld
-  pub run : Run wire_layers_pair (wire_layers_start a.head b.head) made_a made_b world
-  pub stands_a : StandsFor a b.line world.a
-  pub stands_b : StandsFor b a.line world.b
-  pub counts_a : a.counts ≡ counts_of made_a
-  pub counts_b : b.counts ≡ counts_of made_b
-  pub load_a : load a.layers.station ≤ length made_a
-  pub load_b : load b.layers.station ≤ length made_b
-
--- of each text what was read is known, and what was made of it leads here
-pub record IsUnderWay (a b : Track) : Type 0 where
-  pub read_a : IsRead a
-  pub read_b : IsRead b
-  pub reached : HasReached a.course.end b.course.end a.made b.made
-
--- the next record of a side waits
-pub record IsHeldUp (own : Course) (incoming : Line) : Type 0 where
-  pub next : Record
-  pub ahead : IsWaiting own.capture.bytes own.ahead next
-  pub waits : WaitsAt own.end incoming next
-
--- a side can't go on: it waits, or it has ended
-abbrev pub IsStopped : (waits : Bool) → Course → Line → Type 0
-IsStopped true own incoming = IsHeldUp own incoming
-IsStopped false own incoming = own.ahead ≡ Ended
-
--- of sides that had made so much before: one record more was made
-pub record HasGoneOn (a b : Track) : Type 0 where
-  pub made_a : List Record
-  pub made_b : List Record
-  pub under_way : IsUnderWay (having_made a made_a) (having_made b made_b)
-  pub one_more : length made_a + length made_b ≡ length a.made + length b.made + 1
-
--- The finding is that of all captures that go on behind what was read; an acceptance comes with the counts of all
--- records.
-pub record IsFound (a b : Track) (finding : Finding) : Type 0 where
-  pub made_a : List Record
-  pub made_b : List Record
-  pub read_a : IsRead (having_made a made_a)
-  pub read_b : IsRead (having_made b made_b)
-  pub is_finding : (all_a all_b : List Record) → GoesOn (read_of (having_made a made_a)) all_a → GoesOn (read_of (having_made b made_b)) all_b
-      → IsFinding a.course.end.head b.course.end.head all_a all_b finding
-  pub ends : EndsWhere finding (read_of a).behind (read_of b).behind
-  pub counts : finding ≡ Accepted → IsCounted a.course.end.head b.course.end.head made_a made_b
-      (record { a = summary_at a.course.end; b = summary_at b.course.end })
 
 -- what a turn answers, with what it ends with
 abbrev pub turned : (goes_on : Bool) → Result Finding JudgeFault → Result (Option Finding) JudgeFault
@@ -80,6 +29,69 @@ turned true ending = Ok None
 turned false (Ok finding) = Ok (Some finding)
 turned false (Err fault) = Err fault
 
-abbrev pub TurnIs : Option Finding → Track → Track → Type 0
-TurnIs None a b = HasGoneOn a b
-TurnIs (Some finding) a b = IsFound a b finding
+module _ (top : JudgeTop) where
+  -- These records, which led the wire nodes to this world, lead nodes of the kind to one in which the same records are refused and wait, and as many
+  -- links began there.
+  pub record IsShown (head_a head_b : Head) (w : JudgeWorld) (of_a of_b : List Record) : Type 0 where
+    pub world : World (KindNode top.kind) (KindUnit top.kind)
+    pub run : Run (kind_pair top.kind) (kind_start top.kind head_a head_b) of_a of_b world
+    pub refused_a : (r : Record) (refusal : StepRefusal) → advance (judge_step top) w.a w.b r ≡ Refused refusal →
+        advance (step top.kind.machine) world.a world.b r ≡ Refused refusal
+    pub refused_b : (r : Record) (refusal : StepRefusal) → advance (judge_step top) w.b w.a r ≡ Refused refusal →
+        advance (step top.kind.machine) world.b world.a r ≡ Refused refusal
+    pub waits_a : (r : Record) → advance (judge_step top) w.a w.b r ≡ Waits → advance (step top.kind.machine) world.a world.b r ≡ Waits
+    pub waits_b : (r : Record) → advance (judge_step top) w.b w.a r ≡ Waits → advance (step top.kind.machine) world.b world.a r ≡ Waits
+    pub links_a : top.links w.a.state.station ≡ top.kind.links world.a.state.station
+    pub links_b : top.links w.b.state.station ≡ top.kind.links world.b.state.station
+
+  -- some order of these records leads to a world that the two ends stand for
+  pub record HasReached (a b : End) (made_a made_b : List Record) : Type 0 where
+    pub world : JudgeWorld
+    pub run : Run (judge_pair top) (wire_layers_start a.head b.head) made_a made_b world
+    pub stands_a : StandsFor a b.line world.a
+    pub stands_b : StandsFor b a.line world.b
+    pub counts_a : a.counts ≡ counts_of made_a
+    pub counts_b : b.counts ≡ counts_of made_b
+    pub load_a : load a.layers.station ≤ length made_a
+    pub load_b : load b.layers.station ≤ length made_b
+
+  -- of each text what was read is known, and what was made of it leads here
+  pub record IsUnderWay (a b : Track) : Type 0 where
+    pub read_a : IsRead a
+    pub read_b : IsRead b
+    pub reached : HasReached a.course.end b.course.end a.made b.made
+
+  -- the next record of a side waits
+  pub record IsHeldUp (own : Course) (incoming : Line) : Type 0 where
+    pub next : Record
+    pub ahead : IsWaiting own.capture.bytes own.ahead next
+    pub waits : WaitsAt top own.end incoming next
+
+  -- a side can't go on: it waits, or it has ended
+  abbrev pub IsStopped : (waits : Bool) → Course → Line → Type 0
+  IsStopped true own incoming = IsHeldUp own incoming
+  IsStopped false own incoming = own.ahead ≡ Ended
+
+  -- of sides that had made so much before: one record more was made
+  pub record HasGoneOn (a b : Track) : Type 0 where
+    pub made_a : List Record
+    pub made_b : List Record
+    pub under_way : IsUnderWay (having_made a made_a) (having_made b made_b)
+    pub one_more : length made_a + length made_b ≡ length a.made + length b.made + 1
+
+  -- The finding is that of all captures that go on behind what was read; an acceptance comes with the counts of all
+  -- records.
+  pub record IsFound (a b : Track) (finding : Finding) : Type 0 where
+    pub made_a : List Record
+    pub made_b : List Record
+    pub read_a : IsRead (having_made a made_a)
+    pub read_b : IsRead (having_made b made_b)
+    pub is_finding : (all_a all_b : List Record) → GoesOn (read_of (having_made a made_a)) all_a → GoesOn (read_of (having_made b made_b)) all_b
+        → IsFinding top.kind a.course.end.head b.course.end.head all_a all_b finding
+    pub ends : EndsWhere finding (read_of a).behind (read_of b).behind
+    pub counts : finding ≡ Accepted → IsCounted top.kind a.course.end.head b.course.end.head made_a made_b
+        (record { a = summary_at top.links a.course.end; b = summary_at top.links b.course.end })
+
+  abbrev pub TurnIs : Option Finding → Track → Track → Type 0
+  TurnIs None a b = HasGoneOn a b
+  TurnIs (Some finding) a b = IsFound a b finding

@@ -10,7 +10,7 @@ use Rattle.pair_judge.specs.declared.receipt.Receipt.{Receipt}
 use Rattle.pair_judge.specs.declared.receipt.Receipt.TheVariants.{Done, Waits, Fails}
 use Rattle.pair_judge.specs.inner.Lines.{Shows}
 use Rattle.pair_judge.specs.Counting.{shows_damage}
-use Rattle.pair_judge.specs.inner.Wire.{judge_receives}
+use Rattle.pair_judge.specs.inner.Wire.{judge_receives, JudgeTop}
 
 -- a node at this front
 abbrev pub node_at : Head → WireLayers → ℕ → WireLayersNode
@@ -45,17 +45,18 @@ pub record Came : Type 0 where
 abbrev pub came : ℕ → Bool → List ℕ → Came
 came hint kept bytes = record { hint = hint; kept = kept; bytes = bytes }
 
--- the unit of the hint was sent, and the node goes by it: to these layers and this line
-pub record IsReceived (m : LayersMove) (c : Came) (sent : List WireLayersUnit) : Type 0 where
-  pub unit : WireLayersUnit
-  pub was_sent : slice_get sent c.hint ≡ Some unit
-  pub step : (head : Head) → judge_receives (node_of head m.old m.before) c.hint c.kept c.bytes unit ≡ Ok (node_of head m.new m.after)
-  pub shows : Shows m.after sent
+module _ (top : JudgeTop) where
+  -- the unit of the hint was sent, and the node goes by it: to these layers and this line
+  pub record IsReceived (m : LayersMove) (c : Came) (sent : List WireLayersUnit) : Type 0 where
+    pub unit : WireLayersUnit
+    pub was_sent : slice_get sent c.hint ≡ Some unit
+    pub step : (head : Head) → judge_receives top (node_of head m.old m.before) c.hint c.kept c.bytes unit ≡ Ok (node_of head m.new m.after)
+    pub shows : Shows m.after sent
 
-abbrev pub ReceiptIs : Receipt → LayersMove → Came → List WireLayersUnit → Type 0
-ReceiptIs (Done damaged) m c sent = IsReceived m c sent × (damaged ≡ shows_damage (reading c.bytes))
--- the unit was not sent yet
-ReceiptIs Waits m c sent = slice_get sent c.hint ≡ None
-ReceiptIs (Fails refusal) m c sent =
-    (unit : WireLayersUnit) × (slice_get sent c.hint ≡ Some unit)
-    × ((head : Head) → judge_receives (node_of head m.old m.before) c.hint c.kept c.bytes unit ≡ Err refusal)
+  abbrev pub ReceiptIs : Receipt → LayersMove → Came → List WireLayersUnit → Type 0
+  ReceiptIs (Done damaged) m c sent = IsReceived m c sent × (damaged ≡ shows_damage (reading c.bytes))
+  -- the unit was not sent yet
+  ReceiptIs Waits m c sent = slice_get sent c.hint ≡ None
+  ReceiptIs (Fails refusal) m c sent =
+      (unit : WireLayersUnit) × (slice_get sent c.hint ≡ Some unit)
+      × ((head : Head) → judge_receives top (node_of head m.old m.before) c.hint c.kept c.bytes unit ≡ Err refusal)

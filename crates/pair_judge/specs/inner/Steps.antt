@@ -13,7 +13,7 @@ use Rattle.pair_judge.specs.declared.step_fault.StepFault.{StepFault}
 use Rattle.pair_judge.specs.declared.step_fault.StepFault.TheVariants.{Refused, OutOfMemory}
 use Rattle.pair_judge.specs.inner.Lines.{held}
 use Rattle.pair_judge.specs.inner.Receipts.{node_at}
-use Rattle.pair_judge.specs.inner.Wire.{judge_sent_step}
+use Rattle.pair_judge.specs.inner.Wire.{judge_sent_step, JudgeTop}
 
 -- a fact of the refusal, where a step was refused
 abbrev pub IfRefused : (StepRefusal → Type 0) → StepFault → Type 0
@@ -26,12 +26,13 @@ with_link link (Sound m tag) = Sound m (record { station = tag; link = link })
 with_link link HeaderBad = HeaderBad
 with_link link DataBad = DataBad
 
--- These bytes were sent: the node goes on from the old layers to the new ones, and its unit stands last on the line
-pub record IsSent (old new : WireLayers) (before after : Line) (bytes : List ℕ) : Type 0 where
-  pub unit : WireLayersUnit
-  pub step : (head : Head) (front : ℕ) → judge_sent_step (node_at head old front) bytes (reading bytes) ≡ Sends (node_at head new front) unit
-  pub units : held after ≡ held before ++ unit ∷ []
+module _ (top : JudgeTop) where
+  -- These bytes were sent: the node goes on from the old layers to the new ones, and its unit stands last on the line
+  pub record IsSent (old new : WireLayers) (before after : Line) (bytes : List ℕ) : Type 0 where
+    pub unit : WireLayersUnit
+    pub step : (head : Head) (front : ℕ) → judge_sent_step top (node_at head old front) bytes (reading bytes) ≡ Sends (node_at head new front) unit
+    pub units : held after ≡ held before ++ unit ∷ []
 
--- they can't be, for this reason
-abbrev pub IsNotSent : WireLayers → List ℕ → StepRefusal → Type 0
-IsNotSent old bytes refusal = (head : Head) (front : ℕ) → judge_sent_step (node_at head old front) bytes (reading bytes) ≡ Refuses refusal
+  -- they can't be, for this reason
+  abbrev pub IsNotSent : WireLayers → List ℕ → StepRefusal → Type 0
+  IsNotSent old bytes refusal = (head : Head) (front : ℕ) → judge_sent_step top (node_at head old front) bytes (reading bytes) ≡ Refuses refusal

@@ -1,13 +1,13 @@
--- The nodes that the judge runs: the wire nodes over both layers, as `dna_node` has them.
+-- The nodes that the judge runs: wire nodes, with or without their links, beside the kind of node that it takes the ends for.
 use Rattle.std.specs.Prelude.{ℕ, Bool, List, Result}
-use Rattle.two_nodes.specs.Nodes.{Answer, Half, World}
+use Rattle.two_nodes.specs.Nodes.{Answer, Half, Nodes, World}
 use Rattle.ddcmp_msg.specs.Reading.{ReadingValue}
 use Rattle.capture.specs.declared.record.Record.{Record}
 use Rattle.dna_station.specs.declared.refusal.StepRefusal.{StepRefusal}
-use Rattle.dna_node.specs.Rules.{judged}
 use Rattle.dna_station.specs.Line.{damage}
-use Rattle.dna_station.specs.Machine.{Machine, sent_step, receives, noise_comes, step}
-use Rattle.dna_node.specs.WireLayers.{WireLayers, LayersTag, WireLayersNode, WireLayersUnit, wire_layers_machine}
+use Rattle.dna_station.specs.Machine.{Machine, pair_of, sent_step, receives, noise_comes, step}
+use Rattle.dna_node.specs.Kind.{NodeKind}
+use Rattle.dna_node.specs.WireLayers.{WireLayers, LayersTag, WireLayersNode, WireLayersUnit}
 
 abbrev pub JudgeHalf : Type 0
 JudgeHalf = Half WireLayersNode WireLayersUnit
@@ -15,18 +15,26 @@ JudgeHalf = Half WireLayersNode WireLayersUnit
 abbrev pub JudgeWorld : Type 0
 JudgeWorld = World WireLayersNode WireLayersUnit
 
--- by the rules that a judge asks
-abbrev pub judge_machine : Machine WireLayers LayersTag
-judge_machine = wire_layers_machine judged
+-- What stands on top of the stations that the judge runs
+pub record JudgeTop : Type 1 where
+  -- the kind of node that it takes the ends for
+  pub kind : NodeKind
+  -- what it runs, and how many links began there
+  pub machine : Machine WireLayers LayersTag
+  pub links : WireLayers → ℕ
 
-abbrev pub judge_step : WireLayersNode → Record → Answer WireLayersNode WireLayersUnit StepRefusal
-judge_step n r = step judge_machine n r
+module _ (top : JudgeTop) where
+  abbrev pub judge_pair : Nodes WireLayersNode Record WireLayersUnit StepRefusal
+  judge_pair = pair_of top.machine
 
-abbrev pub judge_sent_step : WireLayersNode → List ℕ → ReadingValue → Answer WireLayersNode WireLayersUnit StepRefusal
-judge_sent_step n bytes read = sent_step judge_machine n bytes read
+  abbrev pub judge_step : WireLayersNode → Record → Answer WireLayersNode WireLayersUnit StepRefusal
+  judge_step n r = step top.machine n r
 
-abbrev pub judge_receives : WireLayersNode → ℕ → Bool → List ℕ → WireLayersUnit → Result WireLayersNode StepRefusal
-judge_receives n hint kept bytes unit = receives judge_machine n hint kept bytes unit
+  abbrev pub judge_sent_step : WireLayersNode → List ℕ → ReadingValue → Answer WireLayersNode WireLayersUnit StepRefusal
+  judge_sent_step n bytes read = sent_step top.machine n bytes read
 
-abbrev pub judge_hears : WireLayers → ReadingValue → Result WireLayers StepRefusal
-judge_hears s read = noise_comes judge_machine s (damage read)
+  abbrev pub judge_receives : WireLayersNode → ℕ → Bool → List ℕ → WireLayersUnit → Result WireLayersNode StepRefusal
+  judge_receives n hint kept bytes unit = receives top.machine n hint kept bytes unit
+
+  abbrev pub judge_hears : WireLayers → ReadingValue → Result WireLayers StepRefusal
+  judge_hears s read = noise_comes top.machine s (damage read)

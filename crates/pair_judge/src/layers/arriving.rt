@@ -10,7 +10,7 @@ ghost use Rattle.pair_judge.specs.inner.Packets.{lent_content};
 ghost use Rattle.pair_judge.specs.inner.Memory.{IfNoMemory, MayKeep};
 ghost use Rattle.pair_judge.specs.inner.Receipts.{is_damage};
 ghost use Rattle.pair_judge.specs.inner.Steps.{IfRefused, with_link};
-ghost use Rattle.pair_judge.specs.inner.Wire.{judge_machine};
+ghost use Rattle.pair_judge.specs.inner.Tops.{layers_run};
 
 use super::{Layers, OF_NO_LINK};
 use crate::held_link::HeldLink;
@@ -36,9 +36,9 @@ impl Layers {
         kept: bool,
     ) -> Result<(), StepFault>
         requires { load self.old.station < 2 ^ 63 }
-        ensures ok { OnOk result (judge_machine.arrives self.old (with_link link.now (arrival_view arrival.entry)) kept ≡ Ok self.new) }
+        ensures ok { OnOk result (layers_run.arrives self.old (with_link link.now (arrival_view arrival.entry)) kept ≡ Ok self.new) }
         ensures refused { IfErr result (IfRefused (λ refusal.
-            judge_machine.arrives self.old (with_link link.now (arrival_view arrival.entry)) kept ≡ Err refusal)) }
+            layers_run.arrives self.old (with_link link.now (arrival_view arrival.entry)) kept ≡ Err refusal)) }
         ensures memory { IfErr result (IfNoMemory (MayKeep kept (is_damage (arrival_view arrival.entry)))) }
         ensures load { load self.new.station ≤ load self.old.station + 1 }
     {

@@ -12,7 +12,7 @@ ghost use Rattle.pair_judge.specs.inner.Memory.{IfNoMemory};
 ghost use Rattle.pair_judge.specs.inner.Packets.{lent_content};
 ghost use Rattle.pair_judge.specs.inner.Steps.{IfRefused};
 ghost use Rattle.pair_judge.specs.inner.Unit.{tags_of};
-ghost use Rattle.pair_judge.specs.inner.Wire.{judge_machine};
+ghost use Rattle.pair_judge.specs.inner.Tops.{layers_run};
 
 use super::{Layers, OF_NO_LINK};
 use crate::packet::{Carried, content};
@@ -33,8 +33,8 @@ impl Layers {
     /// or for the piece of a message, was refused.
     #[inline(always)]
     pub fn sent(&mut self, message: &Message) -> Result<UnitTag, StepFault>
-        ensures ok { IfOk result (λ tag. judge_machine.sends self.old (view message.now) ≡ Ok (self.new, tags_of tag)) }
-        ensures refused { IfErr result (IfRefused (λ refusal. judge_machine.sends self.old (view message.now) ≡ Err refusal)) }
+        ensures ok { IfOk result (λ tag. layers_run.sends self.old (view message.now) ≡ Ok (self.new, tags_of tag)) }
+        ensures refused { IfErr result (IfRefused (λ refusal. layers_run.sends self.old (view message.now) ≡ Err refusal)) }
         ensures allowed { OnOk result (wire_sending_refusal self.old.station (view message.now) ≡ None) }
         ensures memory { IfErr result (IfNoMemory (wire_sending_refusal self.old.station (view message.now) ≡ None)) }
         ensures load { load self.new.station ≤ load self.old.station }

@@ -6,7 +6,7 @@ ghost use Rattle.dna_station.specs.WireStation.{load};
 ghost use Rattle.pair_judge.specs.Events.{event_of_station, event_of_links};
 ghost use Rattle.pair_judge.specs.inner.Memory.{IfNoMemory, MayEnter};
 ghost use Rattle.pair_judge.specs.inner.Steps.{IfRefused};
-ghost use Rattle.pair_judge.specs.inner.Wire.{judge_machine};
+ghost use Rattle.pair_judge.specs.inner.Tops.{layers_run};
 
 use super::Layers;
 use crate::step_fault::StepFault;
@@ -19,8 +19,8 @@ impl Layers {
     /// Takes no memory.
     pub fn start_or_halt(&mut self, event: StationEvent) -> Result<(), StepRefusal>
         requires { load self.old.station < 2 ^ 63 }
-        ensures ok { OnOk result (judge_machine.user self.old (event_of_station event) ≡ Ok self.new) }
-        ensures refused { IfErr result (λ refusal. judge_machine.user self.old (event_of_station event) ≡ Err refusal) }
+        ensures ok { OnOk result (layers_run.user self.old (event_of_station event) ≡ Ok self.new) }
+        ensures refused { IfErr result (λ refusal. layers_run.user self.old (event_of_station event) ≡ Err refusal) }
         ensures load { load self.new.station ≤ load self.old.station + 1 }
     {
         match self.station.user(event) {
@@ -33,8 +33,8 @@ impl Layers {
     /// The user of the links does this, and is refused as they refuse it. `OutOfMemory`: memory for a link, an address or a message was
     /// refused. `Up` and `Close` take none, nor does what is refused.
     pub fn at_links(&mut self, event: LinkEvent) -> Result<(), StepFault>
-        ensures ok { OnOk result (judge_machine.user self.old (event_of_links (view event.entry)) ≡ Ok self.new) }
-        ensures refused { IfErr result (IfRefused (λ refusal. judge_machine.user self.old (event_of_links (view event.entry)) ≡ Err refusal)) }
+        ensures ok { OnOk result (layers_run.user self.old (event_of_links (view event.entry)) ≡ Ok self.new) }
+        ensures refused { IfErr result (IfRefused (λ refusal. layers_run.user self.old (event_of_links (view event.entry)) ≡ Err refusal)) }
         ensures memory { IfErr result (IfNoMemory (MayEnter self.old.links (view event.entry))) }
         ensures station { self.new.station ≡ self.old.station }
     {

@@ -5,7 +5,7 @@ use Rattle.pair_judge.proofs.judging.find.Goals as goal
 
 pub loop-init : goal.loop-init
 loop-init g c = (
-  started _ _ c.in-Ok.course c.in-Ok-open.course _ _ c.in-Ok.ensures.opens c.in-Ok-open.ensures.opens,
+  started g.T.Top.top _ _ c.in-Ok.course c.in-Ok-open.course _ _ c.in-Ok.ensures.opens c.in-Ok-open.ensures.opens,
   c.in-Ok.ensures.reads,
   c.in-Ok-open.ensures.reads,
 )
@@ -22,7 +22,7 @@ pub returns-in-Ok-ending-clause-found : goal.returns-in-Ok-ending-clause-found
 returns-in-Ok-ending-clause-found g c =
     let h = c.loop.invariant.0 in
     let ended = rw c.in-Ok-ending.is at c.if-turn.ensures.turn in
-    found_in _ _ _ (ended (g.R.Read.remaining (tally_lent c.args.a.now)) (g.S.Read.remaining (tally_lent c.args.b.now)) h.made_a h.made_b h.under_way)
+    found_in g.T.Top.top _ _ _ (ended (g.R.Read.remaining (tally_lent c.args.a.now)) (g.S.Read.remaining (tally_lent c.args.b.now)) h.made_a h.made_b h.under_way)
     c.summary.ensures c.summary-in-Ok-ending.ensures
 
 pub loop-preserved : goal.loop-preserved

@@ -2,7 +2,7 @@
 use Rattle.pair_tests.proofs.refusals.refusal_of.Goals as goal
 
 pub returns-in-Ok-Refused-clause-told : goal.returns-in-Ok-Refused-clause-told
-returns-in-Ok-Refused-clause-told c = λ a b text_a text_b. c.refused_captures.ensures a b _ _ _ _ _ text_a text_b
+returns-in-Ok-Refused-clause-told c = λ a b text_a text_b. c.refused_captures.ensures.nodes a b _ _ _ _ _ text_a text_b
     (rw (c.in-Ok-Refused.field-0-is, c.new-a.ensures.lent, c.new-b.ensures.lent) at c.in-Ok-Refused.ensures.refused)
 
 pub returns-in-Ok-Refused-clause-any_format : goal.returns-in-Ok-Refused-clause-any_format

@@ -8,7 +8,7 @@ use Rattle.pair_judge.proofs.Advances.{receipt_waits}
 use Rattle.pair_judge.proofs.course.Course.is_held_up.Goals as goal
 
 pub returns : goal.returns
-returns c = λ _.
+returns g c = λ _.
     let bytes = c.args.self.now.capture.bytes in
     let hint = c.in-Received.hint in
     let line = c.args.incoming.now in
@@ -17,6 +17,6 @@ returns c = λ _.
     record {
       next = record_with c.in-Waits.entry bytes;
       ahead = record { entry = c.in-Waits.entry; ahead_is = c.in-Waits.is; is = refl };
-      waits = λ mine theirs stands shows. rw c.in-Received.is (receipt_waits hint _ bytes mine theirs
+      waits = λ mine theirs stands shows. rw c.in-Received.is (receipt_waits g.T.Top.top hint _ bytes mine theirs
           (sym (held_at line theirs.sent hint shows c.if-hint-incoming.false) ∙ none));
     }

@@ -7,7 +7,7 @@ use Rattle.pair_judge.proofs.Courses.{put_back}
 use Rattle.pair_judge.proofs.course.Course.make.Goals as goal
 
 pub returns-in-Ok-Done-clause-advance : goal.returns-in-Ok-Done-clause-advance
-returns-in-Ok-Done-clause-advance c = λ text come made read. record {
+returns-in-Ok-Done-clause-advance g c = λ text come made read. record {
   next = record_with c.args.entry c.args.self.now.capture.bytes;
   read = record { so_far = read.so_far; count = read.count; head = c.make.ensures.head ∙ read.head };
   unread = c.requires.unread;
@@ -15,7 +15,7 @@ returns-in-Ok-Done-clause-advance c = λ text come made read. record {
 }
 
 pub returns-in-Ok-Waits-clause-advance : goal.returns-in-Ok-Waits-clause-advance
-returns-in-Ok-Waits-clause-advance c = λ text come made read.
+returns-in-Ok-Waits-clause-advance g c = λ text come made read.
     let left = rw c.in-Ok-Waits.field-0-is at c.in-Ok-Waits.ensures.waits in
     let course = c.args.self.now in
     let back = put_back text course come made c.args.entry c.requires.unread read in
@@ -28,7 +28,7 @@ returns-in-Ok-Waits-clause-advance c = λ text come made read.
     }
 
 pub returns-in-Ok-Fails-clause-advance : goal.returns-in-Ok-Fails-clause-advance
-returns-in-Ok-Fails-clause-advance c = λ text come made read. record {
+returns-in-Ok-Fails-clause-advance g c = λ text come made read. record {
   next = record_with c.args.entry c.args.self.now.capture.bytes;
   read = record { so_far = read.so_far; count = read.count; head = c.make.ensures.head ∙ read.head };
   counts = rw c.in-Ok-Fails.field-0-is at c.in-Ok-Fails.ensures.counts;

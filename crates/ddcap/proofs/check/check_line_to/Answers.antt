@@ -1,0 +1,14 @@
+-- What is printed of a fault is told by `print_fault`; where there is no memory for the text of a verdict, the answer is `out of memory`.
+use Rattle.std.proofs.Common.{refl}
+use Rattle.dna_node.specs.Kind.{stations_alone}
+use Rattle.ddcap.specs.Printed.{line_verdict_text}
+use Rattle.ddcap.proofs.Answering.{answered_fault, checks_fault, checks_nothing}
+use Rattle.ddcap.proofs.check.check_line_to.Goals as goal
+
+pub returns-in-Err-line_verdict_text : goal.returns-in-Err-line_verdict_text
+returns-in-Err-line_verdict_text g c = checks_nothing stations_alone line_verdict_text _ _ _ _ _ c.in-Ok.ensures.reads_a c.in-Ok.ensures.reads_b c.print_out_of_memory.ensures refl
+
+pub returns-in-Err : goal.returns-in-Err
+returns-in-Err g c = checks_fault stations_alone line_verdict_text _ _ _ _ _ c.in-Err.fault
+    (answered_fault stations_alone _ _ c.in-Err.fault c.in-Err.ensures.exact c.in-Err.ensures.faulty) c.in-Err.ensures.reads_a c.in-Err.ensures.reads_b
+    c.print_fault.ensures refl

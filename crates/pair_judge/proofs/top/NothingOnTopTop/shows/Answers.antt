@@ -1,0 +1,6 @@
+use Rattle.pair_judge.proofs.Alone.{run_of_stations, shown_alone}
+use Rattle.pair_judge.proofs.top.NothingOnTopTop.shows.Goals as goal
+
+pub returns : goal.returns
+returns c = λ head_a head_b w of_a of_b run. shown_alone head_a head_b w of_a of_b
+    (c.wire_nodes_see_right.ensures.of_wire head_a head_b _ of_a of_b (run_of_stations head_a head_b w of_a of_b run))

@@ -1,0 +1,42 @@
+-- What may stand on top of the stations that the judge runs.
+use Rattle.std.specs.Prelude.{ℕ, Bool, None, Result, Ok, Err, length}
+use Rattle.ddcmp_msg.specs.Message.{MessageValue}
+use Rattle.capture.specs.declared.event.Event.{Event}
+use Rattle.dna_station.specs.declared.refusal.StepRefusal.{StepRefusal}
+use Rattle.dna_station.specs.declared.tag.Tag.{Tag}
+use Rattle.dna_links.specs.declared.tag.LinkTag.{LinkTag}
+use Rattle.dna_station.specs.Rules.{of_period}
+use Rattle.dna_station.specs.Book.{ArrivalValue}
+use Rattle.dna_station.specs.Machine.{Machine}
+use Rattle.dna_station.specs.WireStation.{WireStation}
+use Rattle.dna_station.specs.WireNode.{wire_machine}
+use Rattle.dna_node.specs.Kind.{both_layers, stations_alone}
+use Rattle.dna_node.specs.Rules.{judged}
+use Rattle.dna_node.specs.WireLayers.{WireLayers, LayersTag, to_wire_station, wire_layers_machine, with_wire_station}
+use Rattle.pair_judge.specs.inner.Wire.{JudgeTop}
+
+-- ---- the links
+
+abbrev pub layers_run : Machine WireLayers LayersTag
+layers_run = wire_layers_machine judged
+
+abbrev pub links_on_top : JudgeTop
+links_on_top = record { kind = both_layers; machine = layers_run; links = λ (s : WireLayers). length s.links.links }
+
+-- ---- nothing: the links stay as they were before any record
+
+-- no packet has a tag
+abbrev pub sent_alone : WireLayers → Result (WireStation LinkTag × Tag) StepRefusal → Result (WireLayers × LayersTag) StepRefusal
+sent_alone s (Ok after) = Ok (record s { station = after.0 }, record { station = after.1; link = None })
+sent_alone s (Err refusal) = Err refusal
+
+abbrev pub line_machine : Machine WireLayers LayersTag
+line_machine = record {
+  user = λ (s : WireLayers) (event : Event). with_wire_station s ((wire_machine of_period).user s.station event);
+  sends = λ (s : WireLayers) (m : MessageValue). sent_alone s ((wire_machine of_period).sends s.station m);
+  arrives = λ (s : WireLayers) (arrival : ArrivalValue LayersTag) (kept : Bool). with_wire_station s
+      ((wire_machine of_period).arrives s.station (to_wire_station arrival) kept);
+}
+
+abbrev pub nothing_on_top : JudgeTop
+nothing_on_top = record { kind = stations_alone; machine = line_machine; links = λ (s : WireLayers). 0 }
