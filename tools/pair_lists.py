@@ -6,8 +6,10 @@ import sys
 from program import TOP
 
 REFUSAL = re.compile(r'([ab]) (\d+): (\d+ \w+)')
-COUNTS = r' records (\d+) sent \d+ received \d+ damaged \d+ kept \d+ periods \d+ links \d+ up \d+'
-ACCEPTANCE = re.compile('accepted\n(a%s)\n(b%s)\n' % (COUNTS, COUNTS))
+COUNTS = r' records (\d+) sent \d+ received \d+ damaged \d+ kept \d+ periods \d+'
+LINKS = r' links \d+ up \d+'
+ACCEPTANCE = re.compile('accepted\n(a%s)\n(b%s)\n' % (COUNTS + LINKS, COUNTS + LINKS))
+LINE_ACCEPTANCE = re.compile('accepted\n(a%s)\n(b%s)\n' % (COUNTS, COUNTS))
 
 
 class Line:
@@ -40,8 +42,9 @@ def lines_below(name):
     return below
 
 
-def is_answer(answer, printed, status, records):
-    """Whether this is printed where that is the answer, with its status. The captures have so many records."""
+def is_answer(answer, printed, status, records, line_alone=False):
+    """Whether this is printed where that is the answer, with its status. The captures have so many records. Of the line alone no links are
+    counted."""
     refusal = REFUSAL.fullmatch(answer)
     if refusal:
         side, record, reason = refusal.groups()
@@ -49,8 +52,9 @@ def is_answer(answer, printed, status, records):
     word, *ends = answer.split('; ')
     if word != 'accepted' or len(ends) not in (0, 2):
         raise ValueError('what answer is %r?' % answer)
-    accepted = ACCEPTANCE.fullmatch(printed)
+    accepted = (LINE_ACCEPTANCE if line_alone else ACCEPTANCE).fullmatch(printed)
     if accepted is None or status != 0:
         return False
     line_a, records_a, line_b, records_b = accepted.groups()
+    ends = [re.sub(LINKS + '$', '', ' ' + end)[1:] if line_alone else end for end in ends]
     return [int(records_a), int(records_b)] == records and all(line.endswith(' ' + end) for line, end in zip((line_a, line_b), ends))
