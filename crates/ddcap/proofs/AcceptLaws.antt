@@ -69,7 +69,8 @@ all_played out err (Err OutOfMemory) (inl tells, same) = absurd (omega (arith, t
 all_played out err (Err OutOfMemory) (inr tells, same) = absurd (omega (arith, tells.2))
 
 -- the status of an acceptance, or of a fault of memory or of a device
-accepted_status : (out err : Moved) (answer : Answer) (status : ℕ) → AcceptsOrFails answer → Prints both_layers verdict_text out err answer status → IsAcceptedStatus status
+accepted_status : (out err : Moved) (answer : Answer) (status : ℕ) → AcceptsOrFails answer → Prints both_layers verdict_text out err answer status →
+    IsAcceptedStatus status
 accepted_status out err (Ok (Accepted summary)) status is (inl prints, same) = inl prints.2
 accepted_status out err (Ok (Accepted summary)) status is (inr prints, same) = inr prints.2
 accepted_status out err (Ok (Refused side place reason)) status is prints = absurd is

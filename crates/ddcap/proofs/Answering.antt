@@ -44,7 +44,8 @@ module _ (nodes : NodeKind) where
 
   module _ (text : Verdict → List ℕ) where
     -- no text was put together for want of memory
-    pub checks_nothing : (a b out err : Moved) (status : ℕ) → CountsReads (is_failed_read_of {X = Verdict} A (Err OutOfMemory)) a.old.faults a.new.faults →
+    pub checks_nothing : (a b out err : Moved) (status : ℕ) → CountsReads (is_failed_read_of {X = Verdict} A (Err OutOfMemory)) a.old.faults
+        a.new.faults →
         CountsReads (is_failed_read_of {X = Verdict} B (Err OutOfMemory)) b.old.faults b.new.faults → TellsFault err OutOfMemory status →
         out.new ≡ out.old → Checks nodes text a b out err status
     checks_nothing a b out err status reads_a reads_b told same = record {

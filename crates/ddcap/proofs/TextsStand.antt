@@ -25,7 +25,8 @@ module _ (r : Reached) (texts : AreTexts r) where
   text_of_b : (bytes : List ℕ) → Appends (Some []) (Some bytes) (text_b r) → IsText r.script.node_b r.script.node_a r.played.of_b bytes
   text_of_b bytes wrote = subst (IsText r.script.node_b r.script.node_a r.played.of_b) (sym wrote) texts.is_text_b
 
-  told : (a b : Option (List ℕ)) (answer : Answer) → Appends (Some []) a (text_a r) → Appends (Some []) b (text_b r) → IsFaultyWhere both_layers a b answer →
+  told : (a b : Option (List ℕ)) (answer : Answer) → Appends (Some []) a (text_a r) → Appends (Some []) b (text_b r) →
+      IsFaultyWhere both_layers a b answer →
       NamesNoText answer
   told None b answer of_a of_b faulty = absurd of_a
   told (Some a) None answer of_a of_b faulty = absurd of_b

@@ -5,7 +5,6 @@ pub const PROGRAM: &str = "\
 : checks recordings of a DDCMP line between two DECnet nodes
 
   ddcap check A B         judge the captures of both ends of a line
-  ddcap check --line A B  judge DDCMP alone, whatever its packets are
   ddcap show A            print what a capture says, a line a record
   ddcap play SCRIPT A B   write both captures of a script
   ddcap convert N IN OUT  write a capture in format N: 1 or 2
@@ -26,7 +25,7 @@ REASONS.md (why a pair is refused), SCRIPTS.md (what play reads).
 ";
 
 pub const CHECK: &str = "\
-ddcap check [--line] A B
+ddcap check A B
 
 Judges two captures of one DDCMP line, of the same time: A is the file of one
 end, B that of the other. An end's capture has what that end sent and received.
@@ -44,9 +43,9 @@ file, b the second; records are counted from 0. Then: ./ddcap explain 13
 
 A pair without a fault is accepted: that word, and a line of counts a side.
 
-With --line the stations and the line are judged alone. A packet is any bytes
-and is not read, events of links are not judged. Use it for a line that joins
-routers, or that carries what is no DECnet.
+With --line, before or behind the files, stations and line are judged alone: a
+packet is any bytes and is not read, and events of links are not judged. Use it
+for a line that joins routers, or that carries what is no DECnet.
 
 Status:
   0  accepted: some order of all records keeps to the protocols

@@ -147,12 +147,7 @@ pub fn line_verdict_text(alloc: Global, verdict: Verdict) -> Result<String, Allo
 }
 
 // What is printed of a refusal.
-fn refused_text(
-    alloc: Global,
-    side: Side,
-    place: u64,
-    reason: Reason,
-) -> Result<String, AllocError>
+fn refused_text(alloc: Global, side: Side, place: u64, reason: Reason) -> Result<String, AllocError>
     ensures { IfOk result (λ text. string_bytes text ≡ printed.refused_text side place reason) }
 {
     // Wide, since a record's number may be any u64.

@@ -177,7 +177,9 @@ fn check<'a>(alloc: Global) -> Result<Command<'a>, AllocError> {
 
 // `--line`, before or behind the files
 fn line_alone<'a>(alloc: Global) -> Arg<'a> {
-    Arg::new(alloc, "line").long("line").action(ArgAction::SetTrue)
+    Arg::new(alloc, "line")
+        .long("line")
+        .action(ArgAction::SetTrue)
 }
 
 // `show A`

@@ -139,7 +139,8 @@ module _ (head_a head_b : Head) where
 
   -- the same verdict, where the captures and the place are written otherwise
   same_verdict : {xs all_a ys all_b : List Record} {i j : ℕ} (side : Side) (cause : Cause) → xs ≡ all_a → ys ≡ all_b → i ≡ j →
-      IsVerdict both_layers head_a head_b xs ys (finding.Refused side i cause) → IsVerdict both_layers head_a head_b all_a all_b (finding.Refused side j cause)
+      IsVerdict both_layers head_a head_b xs ys (finding.Refused side i cause) → IsVerdict both_layers head_a head_b all_a all_b (finding.Refused
+          side j cause)
   same_verdict {all_a = all_a} {ys = ys} {all_b = all_b} {i = i} side cause of_a of_b place is =
       subst (λ (n : ℕ). IsVerdict both_layers head_a head_b all_a all_b (finding.Refused side n cause)) place
       (subst (λ (bs : List Record). IsVerdict both_layers head_a head_b all_a bs (finding.Refused side i cause)) of_b
@@ -199,7 +200,8 @@ module _ (head_a head_b : Head) where
     right_found : (course : Course) (answer : Finding) → IsRight all_a all_b course → found_in course ≡ Some answer →
         IsVerdict both_layers head_a head_b all_a all_b answer
     right_found (At w i j xs ys) answer right e = absurd cc
-    right_found (Found other) answer right e = subst (λ (f : Finding). IsVerdict both_layers head_a head_b all_a all_b f) (same_Some other answer e) right
+    right_found (Found other) answer right e = subst (λ (f : Finding). IsVerdict both_layers head_a head_b all_a all_b f) (same_Some other answer e)
+        right
     right_found Blocked answer right e = absurd cc
 
   at_the_start : (xs ys : List Record) → Reached xs ys (start head_a head_b) 0 0 xs ys

@@ -72,7 +72,8 @@ module _ (top : JudgeTop) where
     load = omega (arith, loaded);
   }
 
-  pub sending_refused : (old : End) (incoming : Line) (bytes : List ℕ) (mine theirs : JudgeHalf) (refusal : StepRefusal) → StandsFor old incoming mine →
+  pub sending_refused : (old : End) (incoming : Line) (bytes : List ℕ) (mine theirs : JudgeHalf) (refusal : StepRefusal) →
+      StandsFor old incoming mine →
       IsNotSent top old.layers bytes refusal → advance (judge_step top) mine theirs (Sent bytes) ≡ Refused refusal
   sending_refused old incoming bytes mine theirs refusal stands refuses =
       ap (λ (n : WireLayersNode). answered mine theirs (judge_sent_step top n bytes (reading bytes))) (state_is old incoming mine stands)
@@ -83,7 +84,8 @@ module _ (top : JudgeTop) where
   module _ (r : Record) (goes_by : WireLayers → Result WireLayers StepRefusal)
       (step_is : (n : WireLayersNode) → judge_step top n r ≡ does {K = LayersTag} n (goes_by n.station)) where
     went : (old : End) (incoming : Line) (mine theirs : JudgeHalf) (o : Result WireLayers StepRefusal) → StandsFor old incoming mine →
-        goes_by old.layers ≡ o → advance (judge_step top) mine theirs r ≡ answered mine theirs (does {K = LayersTag} (node_of old.head old.layers incoming) o)
+        goes_by old.layers ≡ o → advance (judge_step top) mine theirs r ≡ answered mine theirs (does {K = LayersTag} (node_of old.head old.layers
+        incoming) o)
     went old incoming mine theirs o stands goes =
         ap (λ (n : WireLayersNode). answered mine theirs (judge_step top n r)) (state_is old incoming mine stands)
         ∙ ap (answered mine theirs) (step_is (node_of old.head old.layers incoming))
@@ -131,7 +133,8 @@ module _ (top : JudgeTop) where
 
   -- a receipt of a unit that was sent
   reads_unit : (mine theirs : JudgeHalf) (n : WireLayersNode) (hint : ℕ) (kept : Bool) (bytes : List ℕ) (unit : WireLayersUnit)
-      (r : Result WireLayersNode StepRefusal) → mine.state ≡ n → slice_get theirs.sent hint ≡ Some unit → judge_receives top n hint kept bytes unit ≡ r →
+      (r : Result WireLayersNode StepRefusal) → mine.state ≡ n → slice_get theirs.sent hint ≡ Some unit →
+      judge_receives top n hint kept bytes unit ≡ r →
       advance (judge_step top) mine theirs (Received hint kept bytes) ≡ concluded mine r
   reads_unit mine theirs n hint kept bytes unit r state was_sent receives_is =
       ap (any.read mine (judge_receives top mine.state hint kept bytes)) was_sent
@@ -139,7 +142,8 @@ module _ (top : JudgeTop) where
       ∙ ap (concluded mine) receives_is
 
   pub receipt_made : (old new : End) (before after : Line) (hint : ℕ) (kept : Bool) (bytes : List ℕ) (mine theirs : JudgeHalf) →
-      StandsFor old before mine → IsReceived top (layers_move old.layers new.layers before after) (came hint kept bytes) theirs.sent → new.line ≡ old.line →
+      StandsFor old before mine → IsReceived top (layers_move old.layers new.layers before after) (came hint kept bytes) theirs.sent →
+      new.line ≡ old.line →
       new.head ≡ old.head → new.counts ≡ counted old.counts (Received hint kept bytes) → load new.layers.station ≤ load old.layers.station + 1 →
       IsMade top (move old new before after) (Received hint kept bytes) mine theirs
   receipt_made old new before after hint kept bytes mine theirs stands received line head counts loaded = record {

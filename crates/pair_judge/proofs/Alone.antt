@@ -1,5 +1,5 @@
 -- What the wire nodes with nothing on top show of stations on true numbers: without the links, which nothing meets, they are the wire stations.
-use Rattle.std.proofs.Common.{◌≡◌, ℕ, Bool, List, [], Some, None, Result, Ok, Err, refl, sym, ap, ◌∙◌}
+use Rattle.std.proofs.Common.{◌≡◌, List, [], Result, Ok, Err, refl, sym, ap, ◌∙◌}
 use Rattle.two_nodes.specs.Nodes.{Outcome, Run, advance}
 use Rattle.two_nodes.specs.Nodes.Outcome.{Waits, Refused}
 use Rattle.two_nodes.specs.Cutting.{Cut, Commutes, cut_half, cut_outcome, cut_world}

@@ -48,9 +48,11 @@ pub record WholeLaws : Type 0 where
 module _ (nodes : NodeKind) where
   -- the laws of what was delivered in a run
   pub record RunLaws : Type 0 where
-    pub of_a : (head_a head_b : Head) (w : World (KindNode nodes) (KindUnit nodes)) (of_a of_b : List Record) → Run (kind_pair nodes) (kind_start nodes head_a head_b) of_a
+    pub of_a : (head_a head_b : Head) (w : World (KindNode nodes) (KindUnit nodes)) (of_a of_b : List Record) →
+        Run (kind_pair nodes) (kind_start nodes head_a head_b) of_a
         of_b w → nodes.Delivered w.a.state.station w.b.state.station of_a of_b
-    pub of_b : (head_a head_b : Head) (w : World (KindNode nodes) (KindUnit nodes)) (of_a of_b : List Record) → Run (kind_pair nodes) (kind_start nodes head_a head_b) of_a
+    pub of_b : (head_a head_b : Head) (w : World (KindNode nodes) (KindUnit nodes)) (of_a of_b : List Record) →
+        Run (kind_pair nodes) (kind_start nodes head_a head_b) of_a
         of_b w → nodes.Delivered w.b.state.station w.a.state.station of_b of_a
 
   -- ---- of two known texts of captures
@@ -67,7 +69,8 @@ module _ (nodes : NodeKind) where
   finding_on laws bytes_a bytes_b head_a head_b of_a of_b read_a read_b finding is_a is_b from_a from_b behind =
       let x = laws.goes_on bytes_a head_a.own head_a.peer of_a read_a is_a from_a in
       let y = laws.goes_on bytes_b head_b.own head_b.peer of_b read_b is_b from_b in
-      at_heads nodes (head_of read_a) (head_of read_b) head_a head_b of_a of_b finding (same_head head_a read_a x.0 x.1) (same_head head_b read_b y.0 y.1)
+      at_heads nodes (head_of read_a) (head_of read_b) head_a head_b of_a of_b finding (same_head head_a read_a x.0 x.1) (same_head head_b read_b
+      y.0 y.1)
       (behind of_a of_b x.2 y.2)
 
   no_run : (head_a head_b : Head) (of_a of_b : List Record) (side : Side) (place : ℕ) (cause : Cause) →
@@ -93,7 +96,8 @@ module _ (nodes : NodeKind) where
   -- no line of such a text departs
   pub faults_nowhere : (laws : WholeLaws) (bytes_a bytes_b : List ℕ) (head_a head_b : Head) (of_a of_b : List Record) (side : Side) (kind : Departure)
       (line : ℕ)
-      → IsText head_a.own head_a.peer of_a bytes_a → IsText head_b.own head_b.peer of_b bytes_b → IsFaultyText nodes (Some bytes_a) (Some bytes_b) side kind
+      → IsText head_a.own head_a.peer of_a bytes_a → IsText head_b.own head_b.peer of_b bytes_b → IsFaultyText nodes (Some bytes_a) (Some bytes_b)
+      side kind
       line → ⊥
   faults_nowhere laws bytes_a bytes_b head_a head_b of_a of_b A kind line is_a is_b (inl head) =
       laws.head_stands bytes_a head_a.own head_a.peer of_a kind line is_a head
@@ -132,7 +136,8 @@ module _ (nodes : NodeKind) where
 
   module _ (laws : WholeLaws) (runs : RunLaws) (bytes_a bytes_b : List ℕ) (read_a read_b : ReadSoFar) (from_a : IsReadSoFar (Some bytes_a) read_a)
       (from_b : IsReadSoFar (Some bytes_b) read_b) where
-    are_a_run : (summary : Summary) → read_a.behind ≡ TheEnd → read_b.behind ≡ TheEnd → IsCounted nodes (head_of read_a) (head_of read_b) read_a.records
+    are_a_run : (summary : Summary) → read_a.behind ≡ TheEnd → read_b.behind ≡ TheEnd → IsCounted nodes (head_of read_a) (head_of read_b)
+        read_a.records
         read_b.records summary → AreARun nodes bytes_a bytes_b summary
     are_a_run summary end_a end_b counted = record {
       own_a = read_a.own;
@@ -156,7 +161,8 @@ module _ (nodes : NodeKind) where
     accepted_by findings.Accepted summary ends counts = are_a_run summary ends.0 ends.1 (counts refl)
     accepted_by (findings.Refused side place cause) summary ends counts = tt
 
-  pub accepted_of_found : (laws : WholeLaws) (runs : RunLaws) (text_a text_b : Option (List ℕ)) (found : Found) → IsFoundIn nodes text_a text_b found →
+  pub accepted_of_found : (laws : WholeLaws) (runs : RunLaws) (text_a text_b : Option (List ℕ)) (found : Found) →
+      IsFoundIn nodes text_a text_b found →
       IfTold text_a text_b (λ bytes_a bytes_b. IsAcceptance nodes bytes_a bytes_b (Ok (verdict_of found)))
   accepted_of_found laws runs None text_b found f = tt
   accepted_of_found laws runs (Some bytes_a) None found f = tt
@@ -166,7 +172,8 @@ module _ (nodes : NodeKind) where
   -- ---- refused
 
   -- the named record is there
-  is_wrong_within : (start : World (KindNode nodes) (KindUnit nodes)) (own other : List Record) (place : ℕ) (cause : Cause) → IsWrong nodes start own other place cause →
+  is_wrong_within : (start : World (KindNode nodes) (KindUnit nodes)) (own other : List Record) (place : ℕ) (cause : Cause) →
+      IsWrong nodes start own other place cause →
       place < length own
   is_wrong_within start own other place (Step refusal) w = slice_get_within own place w.offender w.place
   is_wrong_within start own other place NoSuchUnit w = slice_get_within own place w.missing.waiting w.missing.is_here
@@ -183,7 +190,8 @@ module _ (nodes : NodeKind) where
   named_within head_a head_b of_a of_b A place cause v = is_wrong_within (kind_start nodes head_a head_b) of_a of_b place cause v.1
   named_within head_a head_b of_a of_b B place cause v = is_wrong_within_b (kind_start nodes head_b head_a) of_b of_a place cause v.1
 
-  ends_for : (side : Side) (place : ℕ) (cause : Cause) (behind_a behind_b : Behind) → EndsWhere (findings.Refused side place cause) behind_a behind_b →
+  ends_for : (side : Side) (place : ℕ) (cause : Cause) (behind_a behind_b : Behind) → EndsWhere (findings.Refused side place cause) behind_a
+      behind_b →
       EndsFor cause (of_side (other_side side) behind_a behind_b)
   ends_for A place cause behind_a behind_b ends = ends
   ends_for B place cause behind_a behind_b ends = ends
@@ -220,7 +228,8 @@ module _ (nodes : NodeKind) where
   offends_for a b side place reason NoOrder is v unit order = absurd (order is)
 
   pub refused_captures : (laws : WholeLaws) (a b : WholeCapture) (bytes_a bytes_b : List ℕ) (side : Side) (place : ℕ) (reason : Reason)
-      → IsText a.head.own a.head.peer a.records bytes_a → IsText b.head.own b.head.peer b.records bytes_b → IsRefusal nodes (Some bytes_a) (Some bytes_b) side
+      → IsText a.head.own a.head.peer a.records bytes_a → IsText b.head.own b.head.peer b.records bytes_b →
+      IsRefusal nodes (Some bytes_a) (Some bytes_b) side
       place reason → AreRefused nodes a b side place reason
   refused_captures laws a b bytes_a bytes_b side place reason is_a is_b r =
       let f = finding_on laws bytes_a bytes_b a.head b.head a.records b.records r.read_a r.read_b (findings.Refused side place r.cause) is_a is_b

@@ -47,7 +47,8 @@ module _ (nodes : NodeKind) where
       run = run_of_heads a b read_a read_b run;
     })
 
-    pub faulty : (side : Side) (fault : CaptureFault) → IsFaultOf (of_side side a b) fault → IsJudgeFault nodes a.text b.text (side_fault_of side fault)
+    pub faulty : (side : Side) (fault : CaptureFault) → IsFaultOf (of_side side a b) fault → IsJudgeFault nodes a.text b.text (side_fault_of side
+        fault)
     faulty A (Departs kind line) is = departed A kind line is.1 (all_made a.course.capture.bytes a.course.ahead a.made is.0)
     faulty B (Departs kind line) is = departed B kind line is.1 (all_made b.course.capture.bytes b.course.ahead b.made is.0)
     faulty side Read is = tt

@@ -1,5 +1,5 @@
 -- How the judge ends: its finding is that of all captures that go on behind what was read.
-use Rattle.std.proofs.Common.{◌≡◌, ℕ, Bool, true, false, List, [], ◌∷◌, ◌++◌, length, Option, sym, ap, subst, ◌∙◌, append-nil, append_assoc}
+use Rattle.std.proofs.Common.{◌≡◌, ℕ, Bool, true, false, List, [], ◌∷◌, ◌++◌, Option, sym, ap, subst, ◌∙◌, append-nil, append_assoc}
 use Rattle.capture.specs.declared.record.Record.{Record}
 use Rattle.capture.specs.Entries.{record_with}
 use Rattle.capture.specs.SoFar.{TheEnd, GoesOn, GoesOnBy}
@@ -70,7 +70,8 @@ module _ (kind : NodeKind) where
   pub at_heads : (head_a head_b head_a' head_b' : Head) (xs ys : List Record) (finding : Finding) → head_a' ≡ head_a → head_b' ≡ head_b →
       IsFinding kind head_a head_b xs ys finding → IsFinding kind head_a' head_b' xs ys finding
   at_heads head_a head_b head_a' head_b' xs ys finding same_a same_b v =
-      subst (λ (h : Head). IsFinding kind h head_b' xs ys finding) (sym same_a) (subst (λ (h : Head). IsFinding kind head_a h xs ys finding) (sym same_b) v)
+      subst (λ (h : Head). IsFinding kind h head_b' xs ys finding) (sym same_a) (subst (λ (h : Head). IsFinding kind head_a h xs ys finding) (sym
+      same_b) v)
 
 module _ (top : JudgeTop) where
   -- ---- the endings
@@ -86,7 +87,8 @@ module _ (top : JudgeTop) where
 
     -- a's next record is refused
     pub a_fails : (refusal : StepRefusal) (r : Record) → IsRead (having_made a (a.made ++ r ∷ [])) → IsRead b →
-        ((rest_a rest_b : List Record) → IsFinding top.kind head_a head_b (a.made ++ r ∷ rest_a) (b.made ++ rest_b) (Refused A place (Step refusal))) →
+        ((rest_a rest_b : List Record) → IsFinding top.kind head_a head_b (a.made ++ r ∷ rest_a) (b.made ++ rest_b) (Refused A place (Step
+        refusal))) →
         IsFound top a b (Refused A place (Step refusal))
     a_fails refusal r read_a read_b law = record {
       made_a = a.made ++ r ∷ [];
@@ -104,7 +106,8 @@ module _ (top : JudgeTop) where
     -- b's next record is refused, and a waits
     pub b_fails_behind : (refusal : StepRefusal) (p r : Record) → IsRead a → IsRead (having_made b (b.made ++ r ∷ [])) →
         IsWaiting a.course.capture.bytes a.course.ahead p
-        → ((rest_a rest_b : List Record) → IsFinding top.kind head_a head_b (a.made ++ p ∷ rest_a) (b.made ++ r ∷ rest_b) (Refused B place (Step refusal))) →
+        → ((rest_a rest_b : List Record) → IsFinding top.kind head_a head_b (a.made ++ p ∷ rest_a) (b.made ++ r ∷ rest_b) (Refused B place (Step
+        refusal))) →
         IsFound top a b (Refused B place (Step refusal))
     b_fails_behind refusal p r read_a read_b ahead_a law = record {
       made_a = a.made;

@@ -20,7 +20,7 @@ use Rattle.dna_node.specs.declared.finding.Finding.TheVariants as findings
 use Rattle.dna_station.specs.declared.refusal.StepRefusal.{StepRefusal}
 use Rattle.dna_node.specs.Kind.{NodeKind, KindNode, KindUnit, first_node, kind_pair, kind_start, IsRunOf}
 use Rattle.dna_station.specs.inner.Tells.{machine_tells}
-use Rattle.dna_node.specs.Verdict.{IsVerdict, IsWrong, IsWrongOfB}
+use Rattle.dna_node.specs.Verdict.{IsWrong, IsWrongOfB}
 use Rattle.pair_judge.specs.Finding.{IsFinding, IsFirst}
 use Rattle.pair_judge.proofs.Halting.{Reaches, more_sent, all_sent, not_past_missing, not_past_offender, not_past_stuck, named_is_sent}
 
@@ -113,11 +113,13 @@ module _ (kind : NodeKind) where
         let down = (p.past.least n o.of_other o.past.holds).1 in
         let same : p.of_other ≡ o.of_other = omega arith in
         let world : o.world ≡ p.world =
-        one_end (kind_pair kind) o.run (subst (λ (k : ℕ). Run (kind_pair kind) (kind_start kind head_own head_other) (take n own) (take k other) p.world)
+        one_end (kind_pair kind) o.run (subst (λ (k : ℕ). Run (kind_pair kind) (kind_start kind head_own head_other) (take n own) (take k other)
+        p.world)
         same p.run) in
         let offender : o.offender ≡ p.offender = cc (o.place, p.place) in
         by_outcome refusal other_refusal
-        (sym o.refused ∙ ap₂ (λ (w : World (KindNode kind) (KindUnit kind)) (r : Record). advance (kind_pair kind).node_a w.a w.b r) world offender ∙ p.refused)
+        (sym o.refused ∙ ap₂ (λ (w : World (KindNode kind) (KindUnit kind)) (r : Record). advance (kind_pair kind).node_a w.a w.b r) world offender
+        ∙ p.refused)
       where
         by_outcome : (z z' : StepRefusal) → ◌≡◌ {A = Outcome (KindNode kind) (KindUnit kind) StepRefusal} (Refused z) (Refused z') → z ≡ z'
         by_outcome z z' e = cc
@@ -134,9 +136,11 @@ module _ (kind : NodeKind) where
     stuck_other_past : (n j : ℕ) → Stuck head_own head_other own other n j → (i' j' : ℕ) → Gets head_own head_other own other i' j' → j' ≤ j
     stuck_other_past n j s i' j' run = stuck_past head_other head_own other own j n (other_stuck n j s) j' i' (other_gets i' j' run)
 
-    offends_or_lacks : (n : ℕ) (refusal : StepRefusal) → Offending head_own head_other own other n refusal → Lacking head_own head_other own other n → ⊥
+    offends_or_lacks : (n : ℕ) (refusal : StepRefusal) → Offending head_own head_other own other n refusal →
+        Lacking head_own head_other own other n → ⊥
     offends_or_lacks n refusal o l =
-        offends_unmissed head_own head_other own other n (sent_by (kind_pair kind) other) refusal o l.missing (all_sent (kind_pair kind) other o.of_other)
+        offends_unmissed head_own head_other own other n (sent_by (kind_pair kind) other) refusal o l.missing (all_sent (kind_pair kind) other
+        o.of_other)
 
     offends_or_sticks : (n j : ℕ) (refusal : StepRefusal) → Offending head_own head_other own other n refusal →
         Stuck head_own head_other own other n j → ⊥
@@ -150,7 +154,8 @@ module _ (kind : NodeKind) where
         let all = stuck_other_past n j s m (length other) (gets_all head_own head_other own other m l.run) in
         omega arith
 
-    same_cause : (n : ℕ) (cause other_cause : Cause) → Wrong head_own head_other own other n cause → Wrong head_own head_other own other n other_cause →
+    same_cause : (n : ℕ) (cause other_cause : Cause) → Wrong head_own head_other own other n cause →
+        Wrong head_own head_other own other n other_cause →
         cause ≡ other_cause
     same_cause n (Step refusal) (Step other_refusal) w v = ap Step (same_refusal head_own head_other own other n refusal other_refusal w v)
     same_cause n (Step refusal) NoSuchUnit w v = absurd (offends_or_lacks n refusal w v)
@@ -181,7 +186,8 @@ module _ (kind : NodeKind) where
         omega arith
 
     -- nobody can go on, and one of b is to blame
-    sticks_of_a : (n j m : ℕ) (cause : Cause) → Stuck head_a head_b of_a of_b n j → IsWrongOfB kind (kind_start kind head_b head_a) of_b of_a m cause → ⊥
+    sticks_of_a : (n j m : ℕ) (cause : Cause) → Stuck head_a head_b of_a of_b n j → IsWrongOfB kind (kind_start kind head_b head_a) of_b of_a m
+        cause → ⊥
     sticks_of_a n j m (Step refusal) s w =
         let same = same_place head_b head_a of_b of_a m j (Step refusal) NoOrder w (n, other_stuck head_a head_b of_a of_b n j s) in
         offends_or_sticks head_b head_a of_b of_a j n refusal (subst (λ (k : ℕ). Offending head_b head_a of_b of_a k refusal) same w)
@@ -190,13 +196,15 @@ module _ (kind : NodeKind) where
     sticks_of_a n j m NoOrder s w = absurd w
 
     -- a record of each side is wrong only where both offend
-    not_both : (n m place : ℕ) (cause other_cause : Cause) → Wrong head_a head_b of_a of_b n cause → IsWrongOfB kind (kind_start kind head_b head_a) of_b of_a m
+    not_both : (n m place : ℕ) (cause other_cause : Cause) → Wrong head_a head_b of_a of_b n cause →
+        IsWrongOfB kind (kind_start kind head_b head_a) of_b of_a m
         other_cause → IsFirst kind head_a head_b of_a of_b (findings.Refused B place other_cause) → ⊥
     not_both n m place (Step refusal) other_cause w v first = first n refusal w
     not_both n m place NoSuchUnit other_cause w v first = lacks_of_a n m other_cause w (of_b_wrong m other_cause v)
     not_both n m place NoOrder other_cause w v first = sticks_of_a n w.0 m other_cause w.1 v
 
-    refused_same : (side : Side) (n m : ℕ) (cause other_cause : Cause) → n ≡ m → cause ≡ other_cause → findings.Refused side n cause ≡ findings.Refused
+    refused_same : (side : Side) (n m : ℕ) (cause other_cause : Cause) → n ≡ m → cause ≡ other_cause →
+        findings.Refused side n cause ≡ findings.Refused
         side m other_cause
     refused_same side n m cause other_cause place is = ap₂ (λ (k : ℕ) (c : Cause). findings.Refused side k c) place is
 
@@ -253,7 +261,8 @@ module _ (kind : NodeKind) where
         let missing : NamesBeyond (kind_pair kind) (slice_get of_a p) (sent_by (kind_pair kind) (take j of_b)) = rw is m in
         elim (cases_lt p n) [
           | inl further ↦
-              let named = named_is_sent (kind_pair kind) (machine_tells kind.machine) (first_node kind head_a) (first_node kind head_b) of_a of_b p n o.of_other missing.unit
+              let named = named_is_sent (kind_pair kind) (machine_tells kind.machine) (first_node kind head_a) (first_node kind head_b) of_a of_b p
+              n o.of_other missing.unit
               missing.waiting further missing.is_here missing.names (o.world, o.run) in
               let beyond = missing.beyond in
               omega arith

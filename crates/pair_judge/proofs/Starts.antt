@@ -54,7 +54,8 @@ module _ (top : JudgeTop) where
   no_load : (course : Course) → course.end.layers ≡ (new_wire_layers_node course.end.head).station → load course.end.layers.station ≤ 0
   no_load course is = subst (λ (l : WireLayers). load l.station ≤ 0) (sym is) (omega arith)
 
-  pub started : (text_a text_b : Option (List ℕ)) (a b : Course) (come_a come_b : Option (List ℕ)) → OpensAt text_a a come_a → OpensAt text_b b come_b →
+  pub started : (text_a text_b : Option (List ℕ)) (a b : Course) (come_a come_b : Option (List ℕ)) → OpensAt text_a a come_a →
+      OpensAt text_b b come_b →
       HasTaken (along text_a a come_a []) (along text_b b come_b []) 0
   started text_a text_b a b come_a come_b o p = record {
     made_a = [];
@@ -113,7 +114,8 @@ module _ (top : JudgeTop) where
           by_ahead (Waits entry) e = absurd (cc)
           by_ahead Ended e = sym (append-nil made)
 
-      counted : found.finding ≡ Accepted → EndsWhere found.finding (read_of a).behind (read_of b).behind → IsCounted top.kind a.course.end.head b.course.end.head
+      counted : found.finding ≡ Accepted → EndsWhere found.finding (read_of a).behind (read_of b).behind →
+          IsCounted top.kind a.course.end.head b.course.end.head
           f.made_a f.made_b (record { a = summary_at top.links a.course.end; b = summary_at top.links b.course.end })
           → IsCounted top.kind (head_of (read_of (having_made a f.made_a))) (head_of (read_of (having_made b f.made_b)))
           (f.made_a ++ waiting a.course.capture.bytes a.course.ahead) (f.made_b ++ waiting b.course.capture.bytes b.course.ahead) found.summary

@@ -73,7 +73,8 @@ same_read text old new come made capture ahead head h = record {
 module _ (top : JudgeTop) where
   -- a run from the start with the heads of these ends
   started_so : (a b a' b' : End) {made_a made_b : List Record} {w : JudgeWorld} → a'.head ≡ a.head → b'.head ≡ b.head →
-      Run (judge_pair top) (wire_layers_start a.head b.head) made_a made_b w → Run (judge_pair top) (wire_layers_start a'.head b'.head) made_a made_b w
+      Run (judge_pair top) (wire_layers_start a.head b.head) made_a made_b w → Run (judge_pair top) (wire_layers_start a'.head b'.head) made_a
+      made_b w
   started_so a b a' b' {made_a} {made_b} {w} same_a same_b run =
       subst (λ (h : Head). Run (judge_pair top) (wire_layers_start h b'.head) made_a made_b w) (sym same_a)
       (subst (λ (h : Head). Run (judge_pair top) (wire_layers_start a.head h) made_a made_b w) (sym same_b) run)
@@ -103,7 +104,8 @@ module _ (top : JudgeTop) where
   }
 
   pub reached_by_b : (a a' b b' : End) (after : Line) (made_a made_b : List Record) (r : Record) → (h : HasReached top a b made_a made_b) →
-      (m : IsMade top (move b b' a.line after) r h.world.b h.world.a) → IsSame a a' after → Run (judge_pair top) (wire_layers_start a.head b.head) made_a
+      (m : IsMade top (move b b' a.line after) r h.world.b h.world.a) → IsSame a a' after → Run (judge_pair top) (wire_layers_start a.head b.head)
+      made_a
       (made_b ++ r ∷ []) (record { a = h.world.a; b = m.next }) → HasReached top a' b' made_a (made_b ++ r ∷ [])
   reached_by_b a a' b b' after made_a made_b r h m same run = record {
     world = record { a = h.world.a; b = m.next };

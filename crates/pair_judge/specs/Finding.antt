@@ -39,8 +39,8 @@ module _ (kind : NodeKind) where
   abbrev pub IsFirst : (head_a head_b : Head) → (of_a of_b : List Record) → Finding → Type 0
   IsFirst head_a head_b of_a of_b Accepted = Unit {0}
   IsFirst head_a head_b of_a of_b (Refused A place cause) = Unit {0}
-  IsFirst head_a head_b of_a of_b (Refused B place cause) = (n : ℕ) (refusal : StepRefusal) → ¬ Offends (kind_pair kind) (kind_start kind head_a head_b) of_a
-      of_b n refusal
+  IsFirst head_a head_b of_a of_b (Refused B place cause) =
+      (n : ℕ) (refusal : StepRefusal) → ¬ Offends (kind_pair kind) (kind_start kind head_a head_b) of_a of_b n refusal
 
   -- The finding of two captures. There is just one: two verdicts differ only where a record of each side offends
   pub record IsFinding (head_a head_b : Head) (of_a of_b : List Record) (finding : Finding) : Type 0 where

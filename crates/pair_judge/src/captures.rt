@@ -25,13 +25,15 @@ pub fn endings<T: Top>()
     ensures a_refused { (head_a head_b : Head) (w : JudgeWorld) (done_a rest_a done_b rest_b : List Record) (r : Record) (refusal : StepRefusal)
         → Run (judge_pair T.top) (wire_layers_start head_a head_b) done_a done_b w
         → advance (judge_pair T.top).node_a w.a w.b r ≡ any.Refused refusal
-        → IsFinding T.top.kind head_a head_b (done_a ++ r ∷ rest_a) (done_b ++ rest_b) (findings.Refused Side.A (length done_a) (causes.Step refusal)) }
+        → IsFinding T.top.kind head_a head_b (done_a ++ r ∷ rest_a) (done_b ++ rest_b) (findings.Refused Side.A (length done_a) (causes.Step
+        refusal)) }
     ensures b_refused_behind { (head_a head_b : Head) (w : JudgeWorld) (done_a rest_a done_b rest_b : List Record) (p r : Record)
         (refusal : StepRefusal)
         → Run (judge_pair T.top) (wire_layers_start head_a head_b) done_a done_b w
         → advance (judge_pair T.top).node_a w.a w.b p ≡ any.Waits
         → advance (judge_pair T.top).node_b w.b w.a r ≡ any.Refused refusal
-        → IsFinding T.top.kind head_a head_b (done_a ++ p ∷ rest_a) (done_b ++ r ∷ rest_b) (findings.Refused Side.B (length done_b) (causes.Step refusal)) }
+        → IsFinding T.top.kind head_a head_b (done_a ++ p ∷ rest_a) (done_b ++ r ∷ rest_b) (findings.Refused Side.B (length done_b) (causes.Step
+        refusal)) }
     ensures b_refused_last { (head_a head_b : Head) (w : JudgeWorld) (all_a done_b rest_b : List Record) (r : Record) (refusal : StepRefusal)
         → Run (judge_pair T.top) (wire_layers_start head_a head_b) all_a done_b w
         → advance (judge_pair T.top).node_b w.b w.a r ≡ any.Refused refusal

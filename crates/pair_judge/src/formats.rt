@@ -19,12 +19,14 @@ use dna_node::layers_run_as_stations;
 pub fn judged_in_any_format()
     ensures alike { (a b : WholeCapture) (bytes_a bytes_b other_a other_b : List ℕ) (verdict other : Judgement) →
         AreTexts a b bytes_a bytes_b → AreTexts a b other_a other_b →
-        IsAnswer both_layers (Some bytes_a) (Some bytes_b) (Ok verdict) → IsAnswer both_layers (Some other_a) (Some other_b) (Ok other) → verdict ≡ other }
+        IsAnswer both_layers (Some bytes_a) (Some bytes_b) (Ok verdict) → IsAnswer both_layers (Some other_a) (Some other_b) (Ok other) →
+        verdict ≡ other }
     ensures judged { (a b : WholeCapture) (bytes_a bytes_b : List ℕ) (answer : Answer) →
         AreTexts a b bytes_a bytes_b → IsAnswer both_layers (Some bytes_a) (Some bytes_b) answer → JudgesOrFails answer }
     ensures line_alike { (a b : WholeCapture) (bytes_a bytes_b other_a other_b : List ℕ) (verdict other : Judgement) →
         AreTexts a b bytes_a bytes_b → AreTexts a b other_a other_b →
-        IsAnswer stations_alone (Some bytes_a) (Some bytes_b) (Ok verdict) → IsAnswer stations_alone (Some other_a) (Some other_b) (Ok other) → verdict ≡ other }
+        IsAnswer stations_alone (Some bytes_a) (Some bytes_b) (Ok verdict) → IsAnswer stations_alone (Some other_a) (Some other_b) (Ok other) →
+        verdict ≡ other }
     ensures line_judged { (a b : WholeCapture) (bytes_a bytes_b : List ℕ) (answer : Answer) →
         AreTexts a b bytes_a bytes_b → IsAnswer stations_alone (Some bytes_a) (Some bytes_b) answer → JudgesOrFails answer }
 {

@@ -172,7 +172,11 @@ fn find<T: Top, R: Read, S: Read>(
 }
 
 // A side whose head was read.
-fn open<T: Top, R: Read>(alloc: Global, side: Side, reader: &mut Tally<R>) -> Result<Course, JudgeFault>
+fn open<T: Top, R: Read>(
+    alloc: Global,
+    side: Side,
+    reader: &mut Tally<R>,
+) -> Result<Course, JudgeFault>
     ensures opens { IfOk result (λ course. OpensAt (R.remaining (tally_lent reader.old)) course
         (to_come course.capture.unread (R.remaining (tally_lent reader.new)))) }
     ensures fault { IfErr result (λ fault. (text_a text_b : Option (List ℕ)) →

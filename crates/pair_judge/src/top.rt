@@ -1,6 +1,6 @@
 //! What stands on top of the stations that the judge runs: their links, or nothing.
 
-ghost use Rattle.std.specs.Prelude.{◌≡◌, ◌+◌, ◌^◌, ◌<◌, ◌≤◌, Ok, Err, List, None, OnOk, IfOk, IfErr, length};
+ghost use Rattle.std.specs.Prelude.{◌≡◌, ◌+◌, ◌^◌, ◌<◌, ◌≤◌, Ok, Err, List, None, OnOk, IfOk, IfErr};
 ghost use Rattle.two_nodes.specs.Nodes.{Run};
 ghost use Rattle.ddcmp_msg.specs.Message.{view};
 ghost use Rattle.ddcmp_station.specs.Arrival.{arrival_view};
@@ -25,9 +25,9 @@ use crate::step_fault::StepFault;
 use crate::unit_tag::UnitTag;
 use ddcmp_msg::Message;
 use ddcmp_station::{Arrival, StationEvent};
+use dna_links::LinkTag;
 use dna_node::wire_layers_see_right;
 use dna_station::{StepRefusal, wire_nodes_see_right};
-use dna_links::LinkTag;
 use nsp_link::LinkEvent;
 
 /// What a judge's stations have on top. It is chosen when the program is made, so that no record asks which it is.

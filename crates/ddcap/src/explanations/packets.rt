@@ -36,7 +36,8 @@ any packet between the two.",
   or the first one that the other side kept
 - area and number that were put together wrongly (area times 1,024 plus number,
   low byte first)
-- a node that passes on packets of others, which is no end node",
+- a node that passes on packets of others, which is no end node: `check --line`
+  judges its line, and reads no packet",
 };
 
 pub const BAD_NSP: Explanation = Explanation {

@@ -1,5 +1,5 @@
 -- What may stand on top of the stations that the judge runs.
-use Rattle.std.specs.Prelude.{ℕ, Bool, None, Result, Ok, Err, length}
+use Rattle.std.specs.Prelude.{Bool, None, Result, Ok, Err, length}
 use Rattle.ddcmp_msg.specs.Message.{MessageValue}
 use Rattle.capture.specs.declared.event.Event.{Event}
 use Rattle.dna_station.specs.declared.refusal.StepRefusal.{StepRefusal}

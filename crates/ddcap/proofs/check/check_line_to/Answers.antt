@@ -6,9 +6,11 @@ use Rattle.ddcap.proofs.Answering.{answered_fault, checks_fault, checks_nothing}
 use Rattle.ddcap.proofs.check.check_line_to.Goals as goal
 
 pub returns-in-Err-line_verdict_text : goal.returns-in-Err-line_verdict_text
-returns-in-Err-line_verdict_text g c = checks_nothing stations_alone line_verdict_text _ _ _ _ _ c.in-Ok.ensures.reads_a c.in-Ok.ensures.reads_b c.print_out_of_memory.ensures refl
+returns-in-Err-line_verdict_text g c = checks_nothing stations_alone line_verdict_text _ _ _ _ _ c.in-Ok.ensures.reads_a c.in-Ok.ensures.reads_b
+    c.print_out_of_memory.ensures refl
 
 pub returns-in-Err : goal.returns-in-Err
 returns-in-Err g c = checks_fault stations_alone line_verdict_text _ _ _ _ _ c.in-Err.fault
-    (answered_fault stations_alone _ _ c.in-Err.fault c.in-Err.ensures.exact c.in-Err.ensures.faulty) c.in-Err.ensures.reads_a c.in-Err.ensures.reads_b
+    (answered_fault stations_alone _ _ c.in-Err.fault c.in-Err.ensures.exact c.in-Err.ensures.faulty) c.in-Err.ensures.reads_a
+    c.in-Err.ensures.reads_b
     c.print_fault.ensures refl

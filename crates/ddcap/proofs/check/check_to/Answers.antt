@@ -6,7 +6,8 @@ use Rattle.ddcap.proofs.Answering.{answered_fault, checks_fault, checks_nothing}
 use Rattle.ddcap.proofs.check.check_to.Goals as goal
 
 pub returns-in-Err-verdict_text : goal.returns-in-Err-verdict_text
-returns-in-Err-verdict_text g c = checks_nothing both_layers verdict_text _ _ _ _ _ c.in-Ok.ensures.reads_a c.in-Ok.ensures.reads_b c.print_out_of_memory.ensures refl
+returns-in-Err-verdict_text g c = checks_nothing both_layers verdict_text _ _ _ _ _ c.in-Ok.ensures.reads_a c.in-Ok.ensures.reads_b
+    c.print_out_of_memory.ensures refl
 
 pub returns-in-Err : goal.returns-in-Err
 returns-in-Err g c = checks_fault both_layers verdict_text _ _ _ _ _ c.in-Err.fault

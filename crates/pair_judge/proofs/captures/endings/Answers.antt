@@ -15,7 +15,8 @@ returns-clause-a_refused g c = λ head_a head_b w done_a rest_a done_b rest_b r 
     record {
       verdict = (
         c.refused_record.ensures.a_ends (kind_start g.T.Top.top.kind head_a head_b) s.world r refusal done_a rest_a done_b rest_b s.run there,
-        c.refused_record.ensures.a_offends (first_node g.T.Top.top.kind head_a) (first_node g.T.Top.top.kind head_b) s.world r refusal done_a rest_a done_b rest_b s.run
+        c.refused_record.ensures.a_offends (first_node g.T.Top.top.kind head_a) (first_node g.T.Top.top.kind head_b) s.world r refusal done_a rest_a
+            done_b rest_b s.run
             there,
       );
       first = tt;
@@ -26,15 +27,18 @@ returns-clause-b_refused_behind g c = λ head_a head_b w done_a rest_a done_b re
     let s = c.shows.ensures head_a head_b w done_a done_b run in
     let there = s.refused_b r refusal refused in
     let waits_too = s.waits_a p waits in
-    let lacks = c.one_waiting.ensures.a_lacks (first_node g.T.Top.top.kind head_a) (first_node g.T.Top.top.kind head_b) s.world p done_a rest_a done_b s.run waits_too in
-    let offends = c.refused_record.ensures.b_offends (first_node g.T.Top.top.kind head_a) (first_node g.T.Top.top.kind head_b) s.world r refusal done_a (p ∷ rest_a) done_b
+    let lacks = c.one_waiting.ensures.a_lacks (first_node g.T.Top.top.kind head_a) (first_node g.T.Top.top.kind head_b) s.world p done_a rest_a
+    done_b s.run waits_too in
+    let offends = c.refused_record.ensures.b_offends (first_node g.T.Top.top.kind head_a) (first_node g.T.Top.top.kind head_b) s.world r refusal
+    done_a (p ∷ rest_a) done_b
     rest_b s.run there in
     record {
       verdict = (
         c.refused_record.ensures.b_ends (kind_start g.T.Top.top.kind head_a head_b) s.world r refusal done_a (p ∷ rest_a) done_b rest_b s.run there,
         offends,
       );
-      first = first_of_waiting g.T.Top.top.kind head_a head_b (done_a ++ p ∷ rest_a) (done_b ++ r ∷ rest_b) done_b (length done_a) (length done_b) refusal
+      first = first_of_waiting g.T.Top.top.kind head_a head_b (done_a ++ p ∷ rest_a) (done_b ++ r ∷ rest_b) done_b (length done_a) (length done_b)
+          refusal
           (take-append_seam done_b (r ∷ rest_b)) lacks offends;
     }
 
@@ -43,7 +47,8 @@ returns-clause-b_refused_last g c = λ head_a head_b w all_a done_b rest_b r ref
     let s = c.shows.ensures head_a head_b w all_a done_b run in
     let there = s.refused_b r refusal refused in
     let ends = c.refused_record.ensures.b_ends (kind_start g.T.Top.top.kind head_a head_b) s.world r refusal all_a [] done_b rest_b s.run there in
-    let offends = c.refused_record.ensures.b_offends (first_node g.T.Top.top.kind head_a) (first_node g.T.Top.top.kind head_b) s.world r refusal all_a [] done_b rest_b s.run
+    let offends = c.refused_record.ensures.b_offends (first_node g.T.Top.top.kind head_a) (first_node g.T.Top.top.kind head_b) s.world r refusal
+    all_a [] done_b rest_b s.run
     there in
     record {
       verdict = rw (sym (append-nil all_a)) (ends, offends);
@@ -56,11 +61,13 @@ returns-clause-stuck g c = λ head_a head_b w done_a rest_a done_b rest_b r s ru
     let v = c.shows.ensures head_a head_b w done_a done_b run in
     let there_a = v.waits_a r waits_a in
     let there_b = v.waits_b s waits_b in
-    let stuck = c.both_waiting.ensures.stuck (first_node g.T.Top.top.kind head_a) (first_node g.T.Top.top.kind head_b) v.world r s done_a rest_a done_b rest_b v.run there_a
+    let stuck = c.both_waiting.ensures.stuck (first_node g.T.Top.top.kind head_a) (first_node g.T.Top.top.kind head_b) v.world r s done_a rest_a
+    done_b rest_b v.run there_a
     there_b in
     record {
       verdict = (
-        c.both_waiting.ensures.no_run (first_node g.T.Top.top.kind head_a) (first_node g.T.Top.top.kind head_b) (done_a ++ r ∷ rest_a) (done_b ++ s ∷ rest_b)
+        c.both_waiting.ensures.no_run (first_node g.T.Top.top.kind head_a) (first_node g.T.Top.top.kind head_b) (done_a ++ r ∷ rest_a) (done_b ++ s
+            ∷ rest_b)
             (length done_a) (length done_b) stuck,
         (length done_b, stuck),
       );
@@ -71,10 +78,12 @@ pub returns-clause-a_lacks : goal.returns-clause-a_lacks
 returns-clause-a_lacks g c = λ head_a head_b w done_a rest_a all_b r run waits.
     let s = c.shows.ensures head_a head_b w done_a all_b run in
     let there = s.waits_a r waits in
-    let lacks = c.one_waiting.ensures.a_lacks (first_node g.T.Top.top.kind head_a) (first_node g.T.Top.top.kind head_b) s.world r done_a rest_a all_b s.run there in
+    let lacks = c.one_waiting.ensures.a_lacks (first_node g.T.Top.top.kind head_a) (first_node g.T.Top.top.kind head_b) s.world r done_a rest_a
+    all_b s.run there in
     record {
       verdict = (
-        c.one_waiting.ensures.a_ends (first_node g.T.Top.top.kind head_a) (first_node g.T.Top.top.kind head_b) (done_a ++ r ∷ rest_a) all_b (length done_a) lacks,
+        c.one_waiting.ensures.a_ends (first_node g.T.Top.top.kind head_a) (first_node g.T.Top.top.kind head_b) (done_a ++ r ∷ rest_a) all_b (length
+            done_a) lacks,
         lacks,
       );
       first = tt;
@@ -84,10 +93,12 @@ pub returns-clause-b_lacks : goal.returns-clause-b_lacks
 returns-clause-b_lacks g c = λ head_a head_b w all_a done_b rest_b r run waits.
     let s = c.shows.ensures head_a head_b w all_a done_b run in
     let there = s.waits_b r waits in
-    let lacks = c.one_waiting.ensures.b_lacks (first_node g.T.Top.top.kind head_a) (first_node g.T.Top.top.kind head_b) s.world r all_a done_b rest_b s.run there in
+    let lacks = c.one_waiting.ensures.b_lacks (first_node g.T.Top.top.kind head_a) (first_node g.T.Top.top.kind head_b) s.world r all_a done_b
+    rest_b s.run there in
     record {
       verdict = (
-        c.one_waiting.ensures.b_ends (first_node g.T.Top.top.kind head_a) (first_node g.T.Top.top.kind head_b) all_a (done_b ++ r ∷ rest_b) (length done_b) lacks,
+        c.one_waiting.ensures.b_ends (first_node g.T.Top.top.kind head_a) (first_node g.T.Top.top.kind head_b) all_a (done_b ++ r ∷ rest_b) (length
+            done_b) lacks,
         lacks,
       );
       first = first_of_ended g.T.Top.top.kind head_a head_b all_a (done_b ++ r ∷ rest_b) done_b (length done_b) (take-append_seam done_b (r ∷ rest_b))

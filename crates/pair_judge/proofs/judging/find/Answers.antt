@@ -22,7 +22,8 @@ pub returns-in-Ok-ending-clause-found : goal.returns-in-Ok-ending-clause-found
 returns-in-Ok-ending-clause-found g c =
     let h = c.loop.invariant.0 in
     let ended = rw c.in-Ok-ending.is at c.if-turn.ensures.turn in
-    found_in g.T.Top.top _ _ _ (ended (g.R.Read.remaining (tally_lent c.args.a.now)) (g.S.Read.remaining (tally_lent c.args.b.now)) h.made_a h.made_b h.under_way)
+    found_in g.T.Top.top _ _ _ (ended (g.R.Read.remaining (tally_lent c.args.a.now)) (g.S.Read.remaining (tally_lent c.args.b.now)) h.made_a
+    h.made_b h.under_way)
     c.summary.ensures c.summary-in-Ok-ending.ensures
 
 pub loop-preserved : goal.loop-preserved

@@ -18,5 +18,6 @@ returns-in-Ok-clause-made g c = λ incoming mine theirs stands shows.
     (omega (arith, loaded))
 
 pub returns-in-Err-Refused-clause-made : goal.returns-in-Err-Refused-clause-made
-returns-in-Err-Refused-clause-made g c = λ incoming mine theirs stands shows. event_refused g.T.Top.top c.args.own.now incoming (event_of_links (view c.args.event))
+returns-in-Err-Refused-clause-made g c = λ incoming mine theirs stands shows. event_refused g.T.Top.top c.args.own.now incoming (event_of_links
+    (view c.args.event))
     mine theirs c.in-Err-Refused.refusal stands (rw c.in-Err-Refused.field-0-is at c.in-Err-Refused.ensures.refused)

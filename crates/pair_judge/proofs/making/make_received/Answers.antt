@@ -21,10 +21,12 @@ returns-in-Ok-Done-clause-made g c = λ mine theirs stands shows.
       kept =
           more_if c.args.kept old.kept;
     }) damaged in
-    receipt_made g.T.Top.top c.args.own.now _ c.args.incoming.now c.receive.new.line c.args.hint c.args.kept bytes mine theirs stands came.0 refl refl counts
+    receipt_made g.T.Top.top c.args.own.now _ c.args.incoming.now c.receive.new.line c.args.hint c.args.kept bytes mine theirs stands came.0 refl
+    refl counts
     c.receive.ensures.load
 
 pub returns-in-Ok-Fails-clause-made : goal.returns-in-Ok-Fails-clause-made
 returns-in-Ok-Fails-clause-made g c = λ mine theirs stands shows.
     let fails = (rw c.in-Ok-Fails.field-0-is at c.in-Ok-Fails.ensures.receipt) theirs.sent shows in
-    receipt_refused g.T.Top.top c.args.own.now c.args.incoming.now c.args.hint c.args.kept c.args.bytes.now mine theirs c.in-Ok-Fails.refusal stands fails
+    receipt_refused g.T.Top.top c.args.own.now c.args.incoming.now c.args.hint c.args.kept c.args.bytes.now mine theirs c.in-Ok-Fails.refusal stands
+    fails

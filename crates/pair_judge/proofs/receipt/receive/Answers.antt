@@ -37,7 +37,8 @@ returns-in-None-coming-clause-receipt g c = λ sent shows.
     let unit = c.in-Some.unit in (
       unit,
       sym (sym c.in-Some.is ∙ c.unit.ensures ∙ held_at c.args.line.now sent c.args.hint shows c.if-hint-line.false),
-      λ head. receives_at g.T.Top.top (node_of head c.args.layers.now c.args.line.now) c.args.hint c.args.kept c.args.bytes.now unit None c.if-hint-line.false
+      λ head. receives_at g.T.Top.top (node_of head c.args.layers.now c.args.line.now) c.args.hint c.args.kept c.args.bytes.now unit None
+          c.if-hint-line.false
           (ap (option_map (λ arrival. with_link unit.known.link (arrival_view arrival))) (sym c.in-None-coming.is) ∙ c.coming.ensures.coming),
     )
 

@@ -23,7 +23,8 @@ returns-in-Ok-Made-clause-turn g c = λ text_a text_b made_a made_b under.
       under_way = record {
         read_a = m.read;
         read_b = same_read text_b c.args.b.now _ _ made_b refl refl refl under.read_b;
-        reached = reached_by_a g.T.Top.top c.args.a.now.end c.advance.new.self.end c.args.b.now.end _ c.advance.new.incoming made_a made_b m.next h made
+        reached = reached_by_a g.T.Top.top c.args.a.now.end c.advance.new.self.end c.args.b.now.end _ c.advance.new.incoming made_a made_b m.next h
+            made
             (record { head = refl; layers = refl; counts = refl; line = refl }) run;
       };
       one_more = omega (arith, length-append made_a (m.next ∷ []));
@@ -39,7 +40,8 @@ returns-in-Ok-Fails-clause-turn g c = λ text_a text_b made_a made_b under.
     next_place c.advance.new.self.end.counts made_a (f.counts ∙ h.counts_a) in
     rw c.refused.ensures
     (at_place g.T.Top.top _ _ A (Step c.in-Ok-Fails.refusal) _ _ place
-    (a_fails g.T.Top.top _ _ c.args.a.now.end.head c.args.b.now.end.head c.advance.ensures.head refl (length made_a) c.in-Ok-Fails.refusal f.next f.read
+    (a_fails g.T.Top.top _ _ c.args.a.now.end.head c.args.b.now.end.head c.advance.ensures.head refl (length made_a) c.in-Ok-Fails.refusal f.next
+    f.read
     (same_read text_b c.args.b.now _ _ made_b refl refl refl under.read_b)
     (λ rest_a rest_b. c.endings.ensures.a_refused _ _ h.world made_a rest_a made_b rest_b f.next c.in-Ok-Fails.refusal h.run refused)))
 
@@ -48,4 +50,5 @@ returns-in-Err-clause-fault g c = λ text_a text_b made_a made_b under.
     let h = under.reached in
     let shown = c.endings.ensures.accepted _ _ h.world made_a made_b h.run in
     subst (λ (fault : JudgeFault). IsJudgeFault g.T.Top.top.kind text_a text_b fault) (sym c.side_fault.ensures)
-    (faulty g.T.Top.top.kind _ _ under.read_a under.read_b (shown.world, shown.run) A c.in-Err.fault (c.in-Err.ensures.fault text_a made_a under.read_a))
+    (faulty g.T.Top.top.kind _ _ under.read_a under.read_b (shown.world, shown.run) A c.in-Err.fault (c.in-Err.ensures.fault text_a made_a
+    under.read_a))

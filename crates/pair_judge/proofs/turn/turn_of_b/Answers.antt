@@ -25,7 +25,8 @@ returns-in-Ok-Made-clause-turn g c = λ text_a text_b come_a made_a made_b under
       under_way = record {
         read_a = same_read text_a c.args.a.now _ come_a made_a refl refl refl under.read_a;
         read_b = m.read;
-        reached = reached_by_b g.T.Top.top c.args.a.now.end _ c.args.b.now.end c.advance.new.self.end c.advance.new.incoming made_a made_b m.next h made
+        reached = reached_by_b g.T.Top.top c.args.a.now.end _ c.args.b.now.end c.advance.new.self.end c.advance.new.incoming made_a made_b m.next h
+            made
             (record { head = refl; layers = refl; counts = refl; line = refl }) run;
       };
       one_more = omega (arith, length-append made_b (m.next ∷ []));
@@ -40,7 +41,8 @@ returns-in-Ok-Fails-clause-turn g c = λ text_a text_b come_a made_a made_b unde
     let place : c.advance.new.self.end.counts.records ≡ length made_b =
     next_place c.advance.new.self.end.counts made_b (f.counts ∙ h.counts_b) in
     rw c.refused.ensures (at_place g.T.Top.top _ _ B (Step c.in-Ok-Fails.refusal) _ _ place
-    (b_fails g.T.Top.top _ _ c.args.a.now.end.head c.args.b.now.end.head refl c.advance.ensures.head (length made_b) c.in-Ok-Fails.refusal f.next c.args.a_waits
+    (b_fails g.T.Top.top _ _ c.args.a.now.end.head c.args.b.now.end.head refl c.advance.ensures.head (length made_b) c.in-Ok-Fails.refusal f.next
+    c.args.a_waits
     c.args.a.now c.args.b.now.end.line
     refl refl stopped
     (same_read text_a c.args.a.now _ come_a made_a refl refl refl under.read_a) f.read
@@ -69,7 +71,8 @@ returns-in-Ok-Blocked-2-clause-turn g c = λ text_a text_b come_a made_a made_b 
     let blocked = rw c.in-Ok-Blocked.field-0-is at c.in-Ok-Blocked.ensures.advance in
     let m = blocked text_b made_b under.read_b in
     let h = under.reached in
-    let ended : c.args.a.now.ahead ≡ Ended = subst (λ (w : Bool). IsStopped g.T.Top.top w c.args.a.now c.args.b.now.end.line) c.if-a_waits.false stopped in
+    let ended : c.args.a.now.ahead ≡ Ended = subst (λ (w : Bool). IsStopped g.T.Top.top w c.args.a.now c.args.b.now.end.line) c.if-a_waits.false
+    stopped in
     let waits_b = m.waits h.world.b h.world.a h.stands_b h.stands_a.sent in
     let place : c.advance.new.self.end.counts.records ≡ length made_b =
     next_place c.advance.new.self.end.counts made_b ((same_end _ _ m.still.same_end).counts ∙ h.counts_b) in
@@ -84,7 +87,8 @@ returns-in-Ok-Ended-clause-turn g c = λ text_a text_b come_a made_a made_b unde
     let ended = rw c.in-Ok-Ended.field-0-is at c.in-Ok-Ended.ensures.advance in
     let m = ended text_b made_b under.read_b in
     let h = under.reached in
-    let held : IsHeldUp g.T.Top.top c.args.a.now c.args.b.now.end.line = subst (λ (w : Bool). IsStopped g.T.Top.top w c.args.a.now c.args.b.now.end.line) c.if-a_waits-2.true
+    let held : IsHeldUp g.T.Top.top c.args.a.now c.args.b.now.end.line = subst (λ (w : Bool). IsStopped g.T.Top.top w c.args.a.now
+    c.args.b.now.end.line) c.if-a_waits-2.true
     stopped in
     let waits_a = held.waits h.world.a h.world.b h.stands_a h.stands_b.sent in
     let place : c.args.a.now.end.counts.records ≡ length made_a = next_place c.args.a.now.end.counts made_a h.counts_a in
@@ -99,7 +103,8 @@ returns-in-Ok-Ended-2-clause-turn g c = λ text_a text_b come_a made_a made_b un
     let over = rw c.in-Ok-Ended.field-0-is at c.in-Ok-Ended.ensures.advance in
     let m = over text_b made_b under.read_b in
     let h = under.reached in
-    let ended : c.args.a.now.ahead ≡ Ended = subst (λ (w : Bool). IsStopped g.T.Top.top w c.args.a.now c.args.b.now.end.line) c.if-a_waits-2.false stopped in
+    let ended : c.args.a.now.ahead ≡ Ended = subst (λ (w : Bool). IsStopped g.T.Top.top w c.args.a.now c.args.b.now.end.line) c.if-a_waits-2.false
+    stopped in
     let now = reached_still g.T.Top.top c.args.a.now.end _ c.args.b.now.end c.advance.new.self.end made_a made_b h
     (record { head = refl; layers = refl; counts = refl; line = m.still.same_line })
     (same_end c.args.b.now.end c.advance.new.self.end m.still.same_end) in
@@ -111,4 +116,5 @@ returns-in-Err-clause-fault g c = λ text_a text_b come_a made_a made_b under.
     let h = under.reached in
     let shown = c.endings.ensures.accepted _ _ h.world made_a made_b h.run in
     subst (λ (fault : JudgeFault). IsJudgeFault g.T.Top.top.kind text_a text_b fault) (sym c.side_fault.ensures)
-    (faulty g.T.Top.top.kind _ _ under.read_a under.read_b (shown.world, shown.run) B c.in-Err.fault (c.in-Err.ensures.fault text_b made_b under.read_b))
+    (faulty g.T.Top.top.kind _ _ under.read_a under.read_b (shown.world, shown.run) B c.in-Err.fault (c.in-Err.ensures.fault text_b made_b
+    under.read_b))
