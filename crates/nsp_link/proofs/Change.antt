@@ -1,5 +1,5 @@
 -- What a link that changes in its place makes of the links.
-use Rattle.std.proofs.Common.{◌≡◌, ℕ, ◌<◌, Bool, true, false, cond, Option, Some, None, Result, Ok, Err, OnOk, IfErr, List, length, get_or, set, refl}
+use Rattle.std.proofs.Common.{◌≡◌, ℕ, suc, ◌<◌, Bool, true, false, ◌&&◌, not, eqb, cond, Option, Some, None, Result, Ok, Err, OnOk, IfErr, List, length, get_or, set, refl}
 use Rattle.std.proofs.Common.{sym, subst, ap, ◌∙◌}
 use Rattle.std.specs.Prelude.{slice_get}
 use Rattle.std.proofs.lemmas.List.{set-get_or}
@@ -11,12 +11,21 @@ use Rattle.dna_links.specs.Sending.{carries, truth_of}
 use Rattle.nsp_link.specs.declared.fault.LinkFault.{LinkFault}
 use Rattle.nsp_link.specs.Fault.{IsFault}
 use Rattle.std.proofs.lemmas.Option.{slice_get_read}
-use Rattle.dna_links.specs.LookUps.{is_live}
-use Rattle.dna_links.specs.Links.{LinkOf, changed, with_flow}
+use Rattle.dna_links.specs.LookUps.{is_live, is_at}
+use Rattle.dna_links.specs.Links.{LinkOf, changed, with_flow, ended}
+use Rattle.dna_links.specs.Arriving.{of_partner, confirmed}
+use Rattle.dna_links.specs.declared.tag.LinkTag.{LinkTag}
 use Rattle.dna_links.specs.WireFlow.{WireFlow, wire_flows, sending, delivers}
 use Rattle.dna_links.specs.WireLinks.{WireLinks}
-use Rattle.nsp_link.specs.inner.Index.{IsIndexed, without}
-use Rattle.nsp_link.proofs.Index.{indexed_change, indexed_end}
+use Rattle.dna_links.specs.declared.port.Phase.{Phase}
+use Rattle.dna_links.specs.declared.port.Port.{Port}
+use Rattle.dna_links.specs.LookUps.{is_called, is_calling}
+use Rattle.nsp_link.specs.inner.Index.{IsIndexed, Stays, lives_to}
+use Rattle.nsp_link.proofs.Indexed.{indexed_change, indexed_confirm, indexed_end, no_more, stays_same, stays_moved}
+
+and_false : (b : Bool) → (b && false) ≡ false
+and_false true = refl
+and_false false = refl
 
 module _ (node peer : ℕ) (items : List (LinkOf WireFlow)) (s : WireLinks) (is : record { node = node; peer = peer; links = items } ≡ s) (n : ℕ)
     (l : LinkOf WireFlow) (within : n < length s.links) (there : l ≡ get_or items n l) where
@@ -29,12 +38,51 @@ module _ (node peer : ℕ) (items : List (LinkOf WireFlow)) (s : WireLinks) (is 
   pub link_found : slice_get s.links n ≡ Some l
   link_found = ap (λ (t : WireLinks). slice_get t.links n) (sym is) ∙ link_there
 
-  -- the index stays where the address does and the link lives on
-  pub change_indexed : (numbers : List ℕ) (holder : ℕ → Option ℕ) (m : LinkOf WireFlow) → IsIndexed items numbers holder →
-      ((k : LinkOf WireFlow) → slice_get s.links n ≡ Some k → is_live k.port.phase ≡ true) → is_live m.port.phase ≡ true → m.port.own ≡ l.port.own →
-      IsIndexed (set items n m) numbers holder
-  change_indexed numbers holder m index live lives own = indexed_change items numbers holder n l m index link_there (lives ∙ sym (live l link_found))
-      own
+  -- the index stays where it is found as before
+  pub change_indexed : (h c : ℕ → Option ℕ) (r : ℕ → ℕ) (w : ℕ) (m : LinkOf WireFlow) → IsIndexed items h c r w → Stays l m →
+      IsIndexed (set items n m) h c r w
+  change_indexed h c r w m index stays = indexed_change items h c r w index n l m link_there stays
+
+  -- where its port stays the same
+  pub kept_indexed : (h c : ℕ → Option ℕ) (r : ℕ → ℕ) (w : ℕ) (m : LinkOf WireFlow) → IsIndexed items h c r w → m.port ≡ l.port →
+      IsIndexed (set items n m) h c r w
+  kept_indexed h c r w m index same = change_indexed h c r w m index (stays_same l m same)
+
+  pub lives_there : ((k : LinkOf WireFlow) → slice_get s.links n ≡ Some k → is_live k.port.phase ≡ true) → is_live l.port.phase ≡ true
+  lives_there lives = lives l link_found
+
+  -- where it goes to another phase
+  pub moved_indexed : (h c : ℕ → Option ℕ) (r : ℕ → ℕ) (w : ℕ) (phase : Phase) (m : LinkOf WireFlow) → IsIndexed items h c r w →
+      ((k : LinkOf WireFlow) → slice_get s.links n ≡ Some k → is_live k.port.phase ≡ true) → m.port ≡ record l.port { phase = phase } →
+      is_live phase ≡ true → is_called phase ≡ false → is_calling phase ≡ false → IsIndexed (set items n m) h c r w
+  moved_indexed h c r w phase m index lives is live called calling =
+      change_indexed h c r w m index (stays_moved phase l m is live called calling (lives_there lives))
+
+  -- a CC confirms it: it gets to know an address of the other side
+  module _ (h c h' c' : ℕ → Option ℕ) (r r' : ℕ → ℕ) (w w' : ℕ) (index : IsIndexed items h c r w) (holders : (q : ℕ) → h' q ≡ h q)
+      (callers : (q : ℕ) → c' q ≡ c q) where
+    pub confirmed_index : (far segsize : ℕ) (tag : LinkTag) (m : LinkOf WireFlow) → is_calling l.port.phase ≡ true →
+        (l.port.opened ≡ true) × (l.port.far ≡ None) → m ≡ confirmed wire_flows of_partner far segsize tag l → suc w' ≡ w →
+        ((q : ℕ) → r' q ≡ cond (eqb far q) (suc (r q)) (r q)) → IsIndexed (set items n m) h' c' r' w'
+    confirmed_index far segsize tag m calling known made wait counts =
+        indexed_confirm items h c r w index n l m link_there h' c' r' w' holders callers (ap (λ (k : LinkOf WireFlow). k.port.own) made)
+        (λ q. no_more m q (ap (λ (k : LinkOf WireFlow). is_called k.port.phase) made)
+        (ap (λ (k : LinkOf WireFlow). is_live k.port.phase && not k.port.opened) made ∙ ap not known.0))
+        far calling
+        (λ q. ap (λ (f : Option ℕ). is_live l.port.phase && is_at f q) known.1 ∙ and_false (is_live l.port.phase))
+        (ap (λ (k : LinkOf WireFlow). is_calling k.port.phase) made) (λ q. ap (lives_to q) made) wait counts
+
+    -- it ends
+    pub ended_index : (port : Port) (m : LinkOf WireFlow) → port ≡ l.port → is_live l.port.phase ≡ true → m ≡ ended wire_flows l →
+        cond (is_calling port.phase) (suc w') w' ≡ w → ((q : ℕ) → cond (is_at port.far q) (suc (r' q)) (r' q) ≡ r q) →
+        IsIndexed (set items n m) h' c' r' w'
+    ended_index port m is lived made wait counts =
+        indexed_end items h c r w index n l m link_there h' c' r' w' holders callers (ap (λ (k : LinkOf WireFlow). k.port.own) made)
+        (λ q. no_more m q (ap (λ (k : LinkOf WireFlow). is_called k.port.phase) made)
+        (ap (λ (k : LinkOf WireFlow). is_live k.port.phase && not k.port.opened) made))
+        lived (ap (λ (k : LinkOf WireFlow). is_live k.port.phase) made) (ap (λ (k : LinkOf WireFlow). is_calling k.port.phase) made)
+        (sym (ap (λ (p : Port). cond (is_calling p.phase) (suc w') w') is) ∙ wait)
+        (λ q. sym (ap (λ (p : Port). cond (is_at p.far q) (suc (r' q)) (r' q)) is) ∙ counts q)
 
   same_link : (link : LinkOf WireFlow) → slice_get s.links n ≡ Some link → l ≡ link
   same_link link e = let both : Some l ≡ Some link = sym link_found ∙ e in cc
@@ -50,11 +98,6 @@ module _ (node peer : ℕ) (items : List (LinkOf WireFlow)) (s : WireLinks) (is 
   pub change_none : (m : LinkOf WireFlow) → m ≡ l → record { node = node; peer = peer; links = set items n m } ≡ s
   change_none m e = ap (λ (xs : List (LinkOf WireFlow)). record { node = node; peer = peer; links = xs })
       (ap (λ (k : LinkOf WireFlow). set items n k) (e ∙ there) ∙ set-get_or items n l) ∙ is
-
-  -- one that ends
-  pub end_indexed : (numbers : List ℕ) (holder : ℕ → Option ℕ) (m : LinkOf WireFlow) → IsIndexed items numbers holder → is_live m.port.phase ≡ false →
-      m.port.own ≡ l.port.own → IsIndexed (set items n m) (without n numbers) holder
-  end_indexed numbers holder m index dead own = indexed_end items numbers holder n l m index link_there dead own
 
   -- a message that is sent
   pub carry_made : (step : LinkOf WireFlow → Result (Sending WireFlow (Unit {0})) LinkRefusal) (m : LinkOf WireFlow) → m ≡ with_flow m.flow l →

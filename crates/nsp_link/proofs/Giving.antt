@@ -1,18 +1,23 @@
 -- An own address that is given: to a link that begins, or to one that is answered; the ended link that had it loses it.
-use Rattle.std.proofs.Common.{◌≡◌, ℕ, zero, suc, ◌<◌, Bool, true, false, cond, Option, Some, None, List, [], ◌∷◌, ◌++◌, length, get_or, set, refl}
-use Rattle.std.proofs.Common.{sym, ap, ◌∙◌, arith, eqb}
+use Rattle.std.proofs.Common.{◌≡◌, ℕ, zero, suc, ◌+◌, ◌<◌, ◌≤◌, Bool, true, false, ◌&&◌, ◌||◌, not, cond, Option, Some, None, List, [], ◌∷◌, ◌++◌, length, get_or, set, refl}
+use Rattle.std.proofs.Common.{sym, subst, ap, ◌∙◌, arith, eqb}
 use Rattle.std.specs.Prelude.{slice_get, position}
 use Rattle.std.proofs.lemmas.Option.{slice_get_within, slice_get_read}
 use Rattle.std.proofs.lemmas.Bool.{eqb-true, eqb-false, eq-eqb, ne_eqb}
-use Rattle.dna_links.specs.LookUps.{is_live, is_at}
+use Rattle.dna_links.specs.LookUps.{is_live, is_at, is_called, is_calling}
 use Rattle.dna_links.specs.declared.port.LinkTest.TheVariants.{HasAddress}
 use Rattle.dna_links.specs.Links.{LinkOf, number_of, at_number, on_link, begun, changed, forgotten, freed}
 use Rattle.dna_links.specs.User.{opened, answered}
+use Rattle.dna_links.specs.Arriving.{of_partner, called}
+use Rattle.dna_links.specs.declared.tag.LinkTag.{LinkTag}
 use Rattle.dna_links.specs.declared.port.Phase.{Phase}
 use Rattle.dna_links.specs.WireFlow.{WireFlow, wire_flows}
 use Rattle.dna_links.specs.WireLinks.{WireLinks}
-use Rattle.nsp_link.proofs.Index.{live_set, live_push, indexed_same, indexed_begin}
-use Rattle.nsp_link.specs.inner.Index.{live_numbers, own_of, own_at, IsIndexed, forgotten_found, forgotten_at}
+use Rattle.nsp_link.specs.inner.Index.{IsIndexed, forgotten_found, forgotten_at, look_in, look_at, own_of, begun_from, lives_to, waits, counted}
+use Rattle.nsp_link.specs.inner.Index.{is_begun}
+use Rattle.nsp_link.proofs.Counting.{bit, bit_true, bit_false, bit_less, counted_set, counted_some, counted_push}
+use Rattle.nsp_link.proofs.LookUps.{called_lives, both_true, eq-is_at}
+use Rattle.nsp_link.proofs.Indexed.{look_set, look_less, length_set, indexed_same, no_more, begun_less}
 
 -- ---- holders, as functions
 
@@ -86,58 +91,73 @@ module _ (f h f' h' : ℕ → Option ℕ) (own n : ℕ)
 
 -- ---- links
 
-own_set_same : (links : List (LinkOf WireFlow)) (n : ℕ) (m : LinkOf WireFlow) → n < length links → own_at (set links n m) n ≡ m.port.own
-own_set_same [] n m h = absurd (omega arith)
-own_set_same (x ∷ links) zero m h = refl
-own_set_same (x ∷ links) (suc n) m h = own_set_same links n m (omega arith)
+module _ (look : LinkOf WireFlow → Option ℕ) where
+  set_same : (links : List (LinkOf WireFlow)) (n : ℕ) (m : LinkOf WireFlow) → n < length links → look_at look (set links n m) n ≡ look m
+  set_same [] n m h = absurd (omega arith)
+  set_same (x ∷ links) zero m h = refl
+  set_same (x ∷ links) (suc n) m h = set_same links n m (omega arith)
 
-own_set_other : (links : List (LinkOf WireFlow)) (n k : ℕ) (m : LinkOf WireFlow) → (k ≡ n → ⊥) → own_at (set links n m) k ≡ own_at links k
-own_set_other [] n k m apart = refl
-own_set_other (x ∷ links) zero zero m apart = absurd (apart refl)
-own_set_other (x ∷ links) zero (suc k) m apart = refl
-own_set_other (x ∷ links) (suc n) zero m apart = refl
-own_set_other (x ∷ links) (suc n) (suc k) m apart = own_set_other links n k m (λ e. apart (ap suc e))
+  set_other : (links : List (LinkOf WireFlow)) (n k : ℕ) (m : LinkOf WireFlow) → (k ≡ n → ⊥) → look_at look (set links n m) k ≡ look_at look links k
+  set_other [] n k m apart = refl
+  set_other (x ∷ links) zero zero m apart = absurd (apart refl)
+  set_other (x ∷ links) zero (suc k) m apart = refl
+  set_other (x ∷ links) (suc n) zero m apart = refl
+  set_other (x ∷ links) (suc n) (suc k) m apart = set_other links n k m (λ e. apart (ap suc e))
 
-length_set : (links : List (LinkOf WireFlow)) (n : ℕ) (m : LinkOf WireFlow) → length (set links n m) ≡ length links
-length_set [] n m = refl
-length_set (x ∷ links) zero m = refl
-length_set (x ∷ links) (suc n) m = ap suc (length_set links n m)
+  push_here : (links : List (LinkOf WireFlow)) (m : LinkOf WireFlow) → look_at look (links ++ m ∷ []) (length links) ≡ look m
+  push_here [] m = refl
+  push_here (x ∷ links) m = push_here links m
 
-own_push_here : (links : List (LinkOf WireFlow)) (m : LinkOf WireFlow) → own_at (links ++ m ∷ []) (length links) ≡ m.port.own
-own_push_here [] m = refl
-own_push_here (x ∷ links) m = own_push_here links m
+  push_other : (links : List (LinkOf WireFlow)) (m : LinkOf WireFlow) (k : ℕ) → (k ≡ length links → ⊥) → look_at look (links ++ m ∷ []) k ≡
+      look_at look links k
+  push_other [] m zero apart = absurd (apart refl)
+  push_other [] m (suc k) apart = refl
+  push_other (x ∷ links) m zero apart = refl
+  push_other (x ∷ links) m (suc k) apart = push_other links m k (λ e. apart (ap suc e))
 
-own_push_other : (links : List (LinkOf WireFlow)) (m : LinkOf WireFlow) (k : ℕ) → (k ≡ length links → ⊥) → own_at (links ++ m ∷ []) k ≡ own_at links k
-own_push_other [] m zero apart = absurd (apart refl)
-own_push_other [] m (suc k) apart = refl
-own_push_other (x ∷ links) m zero apart = refl
-own_push_other (x ∷ links) m (suc k) apart = own_push_other links m k (λ e. apart (ap suc e))
+  past : (links : List (LinkOf WireFlow)) → look_at look links (length links) ≡ None
+  past [] = refl
+  past (x ∷ links) = past links
 
-own_past : (links : List (LinkOf WireFlow)) → own_at links (length links) ≡ None
-own_past [] = refl
-own_past (x ∷ links) = own_past links
+length_push : (links : List (LinkOf WireFlow)) (m : LinkOf WireFlow) → length (links ++ m ∷ []) ≡ suc (length links)
+length_push [] m = refl
+length_push (x ∷ links) m = ap suc (length_push links m)
 
 own_forgotten_by : (links : List (LinkOf WireFlow)) (m k : ℕ) (o : Option (LinkOf WireFlow)) (b : Bool) → slice_get links m ≡ o → eqb m k ≡ b →
-    own_at (forgotten_found m o links) k ≡ cond b None (own_at links k)
-own_forgotten_by links m k None true is same = sym (ap (λ (n : ℕ). own_at links n) (eqb-true m k same)) ∙ ap own_of is
+    look_at own_of (forgotten_found m o links) k ≡ cond b None (look_at own_of links k)
+own_forgotten_by links m k None true is same = sym (ap (λ (n : ℕ). look_at own_of links n) (eqb-true m k same)) ∙ ap (look_in own_of) is
 own_forgotten_by links m k None false is apart = refl
 own_forgotten_by links m k (Some l) true is same =
-    sym (ap (λ (n : ℕ). own_at (set links m (forgotten wire_flows l)) n) (eqb-true m k same))
-    ∙ own_set_same links m (forgotten wire_flows l) (slice_get_within links m l is)
-own_forgotten_by links m k (Some l) false is apart = own_set_other links m k (forgotten wire_flows l) (λ e. eqb-false m k apart (sym e))
+    sym (ap (λ (n : ℕ). look_at own_of (set links m (forgotten wire_flows l)) n) (eqb-true m k same))
+    ∙ set_same own_of links m (forgotten wire_flows l) (slice_get_within links m l is)
+own_forgotten_by links m k (Some l) false is apart = set_other own_of links m k (forgotten wire_flows l) (λ e. eqb-false m k apart (sym e))
 
-own_forgotten : (links : List (LinkOf WireFlow)) (holder : Option ℕ) (k : ℕ) → own_at (forgotten_at holder links) k ≡ lost holder k (own_at links k)
+own_forgotten : (links : List (LinkOf WireFlow)) (holder : Option ℕ) (k : ℕ) → look_at own_of (forgotten_at holder links) k ≡ lost holder k (look_at own_of links k)
 own_forgotten links None k = refl
 own_forgotten links (Some m) k = own_forgotten_by links m k (slice_get links m) (eqb m k) refl refl
 
-live_forgotten_by : (links : List (LinkOf WireFlow)) (m : ℕ) (o : Option (LinkOf WireFlow)) → slice_get links m ≡ o →
-    live_numbers (forgotten_found m o links) ≡ live_numbers links
-live_forgotten_by links m None is = refl
-live_forgotten_by links m (Some l) is = live_set links m l (forgotten wire_flows l) is refl
+begun_forgotten_by : (links : List (LinkOf WireFlow)) (m k : ℕ) (o : Option (LinkOf WireFlow)) → slice_get links m ≡ o →
+    look_at begun_from (forgotten_found m o links) k ≡ look_at begun_from links k
+begun_forgotten_by links m k None is = refl
+begun_forgotten_by links m k (Some l) is = look_set begun_from links m k l (forgotten wire_flows l) is refl
 
-live_forgotten : (links : List (LinkOf WireFlow)) (holder : Option ℕ) → live_numbers (forgotten_at holder links) ≡ live_numbers links
-live_forgotten links None = refl
-live_forgotten links (Some m) = live_forgotten_by links m (slice_get links m) refl
+begun_forgotten : (links : List (LinkOf WireFlow)) (holder : Option ℕ) (k : ℕ) → look_at begun_from (forgotten_at holder links) k ≡
+    look_at begun_from links k
+begun_forgotten links None k = refl
+begun_forgotten links (Some m) k = begun_forgotten_by links m k (slice_get links m) refl
+
+module _ (p : LinkOf WireFlow → Bool) (same : (l : LinkOf WireFlow) → p (forgotten wire_flows l) ≡ p l) where
+  counted_forgotten_by : (links : List (LinkOf WireFlow)) (m : ℕ) (o : Option (LinkOf WireFlow)) → slice_get links m ≡ o →
+      counted p (forgotten_found m o links) ≡ counted p links
+  counted_forgotten_by links m None is = refl
+  counted_forgotten_by links m (Some l) is =
+      let counts = counted_set p links m l (forgotten wire_flows l) is in
+      let bits = ap bit (same l) in
+      omega arith
+
+  counted_forgotten : (links : List (LinkOf WireFlow)) (holder : Option ℕ) → counted p (forgotten_at holder links) ≡ counted p links
+  counted_forgotten links None = refl
+  counted_forgotten links (Some m) = counted_forgotten_by links m (slice_get links m) refl
 
 length_forgotten_by : (links : List (LinkOf WireFlow)) (m : ℕ) (o : Option (LinkOf WireFlow)) → length (forgotten_found m o links) ≡ length links
 length_forgotten_by links m None = refl
@@ -162,37 +182,149 @@ pub freed_is : (own : ℕ) (s : WireLinks) (r : Option ℕ) → number_of (HasAd
     freed wire_flows own s ≡ record s { links = forgotten_at r s.links }
 freed_is own s r e = ap (λ (o : Option ℕ). at_number s.links o s (λ n l. changed n (forgotten wire_flows l) s)) e ∙ freed_with s r refl
 
--- ---- the two ways to give one
+-- ---- a link that a CI begins
 
-module _ (links : List (LinkOf WireFlow)) (numbers : List ℕ) (h h' : ℕ → Option ℕ) (index : IsIndexed links numbers h) (own : ℕ) (m : LinkOf WireFlow)
-    (owns : m.port.own ≡ Some own) (lives : is_live m.port.phase ≡ true) where
-  pub indexed_open : ((q : ℕ) → h' q ≡ cond (eqb own q) (Some (length links)) (h q)) → IsIndexed (forgotten_at (h own) links ++ m ∷ [])
-      (numbers ++ length links ∷ []) h'
-  indexed_open given =
-      record {
-        live = live;
-        has = gives_has (own_at links) h f' h' own n index.has index.holds (own_past links) here others given;
-        holds =
-            gives_holds (own_at links) h f' h' own n index.has index.holds (own_past links) here others given;
-      } where
-        n : ℕ
-        n = length links
+begun_by : (c v o : Bool) (f : Option ℕ) (q : ℕ) → (c ≡ true → v ≡ true) → cond (c || (v && o)) f None ≡ Some q → (v && is_at f q) ≡ true
+begun_by true v o f q lives e = both_true v (is_at f q) (lives refl) (eq-is_at f q e)
+begun_by false true true f q lives e = eq-is_at f q e
+begun_by false true false f q lives e = absurd (cc)
+begun_by false false o f q lives e = absurd (cc)
 
-        f' : ℕ → Option ℕ
-        f' k = own_at (forgotten_at (h own) links ++ m ∷ []) k
+begun_lives : (l : LinkOf WireFlow) (q : ℕ) → begun_from l ≡ Some q → lives_to q l ≡ true
+begun_lives l q e = begun_by (is_called l.port.phase) (is_live l.port.phase) (not l.port.opened) l.port.far q (called_lives l.port.phase) e
 
-        here : own_at (forgotten_at (h own) links ++ m ∷ []) (length links) ≡ Some own
-        here = ap (λ (k : ℕ). own_at (forgotten_at (h own) links ++ m ∷ []) k) (sym (length_forgotten links (h own))) ∙
-            own_push_here (forgotten_at (h own) links) m ∙ owns
+module _ (links : List (LinkOf WireFlow)) (h c : ℕ → Option ℕ) (r : ℕ → ℕ) (w : ℕ) (index : IsIndexed links h c r w) (far : ℕ) (m : LinkOf WireFlow)
+    (unowned : m.port.own ≡ None) (begun : begun_from m ≡ Some far) (known : (q : ℕ) → lives_to q m ≡ eqb far q)
+    (calling : is_calling m.port.phase ≡ false) (free : counted (lives_to far) links ≡ 0) where
+  knows : (n : ℕ) (o : Option (LinkOf WireFlow)) → slice_get links n ≡ o → look_in begun_from o ≡ Some far → ⊥
+  knows n None is e = absurd (cc)
+  knows n (Some l) is e = let some = counted_some (lives_to far) links n l is (begun_lives l far e) in absurd (omega arith)
 
-        others : (k : ℕ) → (k ≡ length links → ⊥) → own_at (forgotten_at (h own) links ++ m ∷ []) k ≡ lost (h own) k (own_at links k)
-        others k apart = own_push_other (forgotten_at (h own) links) m k (λ e. apart (e ∙ length_forgotten links (h own))) ∙
-            own_forgotten links (h own) k
+  own_push : (k : ℕ) → look_at own_of (links ++ m ∷ []) k ≡ look_at own_of links k
+  own_push k = by_number (eqb k (length links)) refl where
+    by_number : (b : Bool) → eqb k (length links) ≡ b → look_at own_of (links ++ m ∷ []) k ≡ look_at own_of links k
+    by_number true e =
+        let at = eqb-true k (length links) e in
+        ap (look_at own_of (links ++ m ∷ [])) at ∙ push_here own_of links m ∙ unowned ∙ sym (past own_of links) ∙ ap (look_at own_of links) (sym at)
+    by_number false e = push_other own_of links m k (eqb-false k (length links) e)
 
-        live : numbers ++ length links ∷ [] ≡ live_numbers (forgotten_at (h own) links ++ m ∷ [])
-        live = sym (live_push (forgotten_at (h own) links) m lives
-            ∙ ap (λ (ns : List ℕ). ns ++ length (forgotten_at (h own) links) ∷ []) (live_forgotten links (h own) ∙ sym index.live)
-            ∙ ap (λ (k : ℕ). numbers ++ k ∷ []) (length_forgotten links (h own)))
+  module _ (h' c' : ℕ → Option ℕ) (r' : ℕ → ℕ) (w' : ℕ) (holders : (q : ℕ) → h' q ≡ h q)
+      (given : (q : ℕ) → c' q ≡ cond (eqb far q) (Some (length links)) (c q))
+      (counts : (q : ℕ) → r' q ≡ cond (eqb far q) (suc (r q)) (r q)) (wait : w' ≡ w) where
+    calls : (k q : ℕ) → look_at begun_from (links ++ m ∷ []) k ≡ Some q → c' q ≡ Some k
+    calls k q e = by_number (eqb k (length links)) refl where
+      others : (b : Bool) → eqb far q ≡ b → look_at begun_from links k ≡ Some q → c' q ≡ Some k
+      others true same there = absurd (knows k (slice_get links k) refl (there ∙ ap Some (sym (eqb-true far q same))))
+      others false apart there = given q ∙ ap (λ (b : Bool). cond b (Some (length links)) (c q)) apart ∙ index.calls k q there
+
+      by_number : (b : Bool) → eqb k (length links) ≡ b → c' q ≡ Some k
+      by_number true is =
+          let at = eqb-true k (length links) is in
+          let here : Some far ≡ Some q = sym (ap (look_at begun_from (links ++ m ∷ [])) at ∙ push_here begun_from links m ∙ begun) ∙ e in
+          let same : far ≡ q = cc in
+          given q ∙ ap (λ (b : Bool). cond b (Some (length links)) (c q)) (eq-eqb far q same) ∙ ap Some (sym at)
+      by_number false is = others (eqb far q) refl (sym (push_other begun_from links m k (eqb-false k (length links) is)) ∙ e)
+
+    pub indexed_call : IsIndexed (links ++ m ∷ []) h' c' r' w'
+    indexed_call = record {
+      has = λ number q e. holders q ∙ index.has number q (sym (own_push number) ∙ e);
+      holds = λ q number e. own_push number ∙ index.holds q number (sym (holders q) ∙ e);
+      calls = calls;
+      reaches = reaches;
+      waits = few_wait;
+      few = few_all;
+    } where
+      by : (b : Bool) (k q : ℕ) → cond b (suc k) k ≡ q → q ≡ k + bit b
+      by true k q e = omega arith
+      by false k q e = omega arith
+
+      reaches : (q : ℕ) → r' q ≡ counted (lives_to q) (links ++ m ∷ [])
+      reaches q =
+          let pushed = counted_push (lives_to q) links m in
+          let bits = ap bit (known q) in
+          let before = index.reaches q in
+          let after = by (eqb far q) (r q) (r' q) (sym (counts q)) in
+          omega arith
+
+      few_wait : counted waits (links ++ m ∷ []) ≤ w'
+      few_wait =
+          let pushed = counted_push waits links m in
+          let none = bit_false (waits m) calling in
+          let before = index.waits in
+          omega arith
+
+      few_all : w' ≤ length (links ++ m ∷ [])
+      few_all = let longer = length_push links m in let before = index.few in omega arith
+
+-- ---- the two ways to give an own address
+
+module _ (links : List (LinkOf WireFlow)) (h c : ℕ → Option ℕ) (r : ℕ → ℕ) (w : ℕ) (index : IsIndexed links h c r w) (own : ℕ) (m : LinkOf WireFlow)
+    (owns : m.port.own ≡ Some own) where
+  module _ (h' c' : ℕ → Option ℕ) (r' : ℕ → ℕ) (w' : ℕ) (callers : (q : ℕ) → c' q ≡ c q) (counts : (q : ℕ) → r' q ≡ r q) where
+    pub indexed_open : (begun : (q : ℕ) → begun_from m ≡ Some q → ⊥) → ((q : ℕ) → lives_to q m ≡ false) → w' ≡ suc w →
+        ((q : ℕ) → h' q ≡ cond (eqb own q) (Some (length links)) (h q)) → IsIndexed (forgotten_at (h own) links ++ m ∷ []) h' c' r' w'
+    indexed_open begun unknown wait given =
+        record {
+          has = gives_has (look_at own_of links) h f' h' own n index.has index.holds (past own_of links) here others given;
+          holds = gives_holds (look_at own_of links) h f' h' own n index.has index.holds (past own_of links) here others given;
+          calls = calls;
+          reaches = reaches;
+          waits = few_wait;
+          few = few_all;
+        } where
+          n : ℕ
+          n = length links
+
+          left : List (LinkOf WireFlow)
+          left = forgotten_at (h own) links
+
+          f' : ℕ → Option ℕ
+          f' k = look_at own_of (forgotten_at (h own) links ++ m ∷ []) k
+
+          here : look_at own_of (forgotten_at (h own) links ++ m ∷ []) (length links) ≡ Some own
+          here = ap (λ (k : ℕ). look_at own_of (forgotten_at (h own) links ++ m ∷ []) k) (sym (length_forgotten links (h own))) ∙
+              push_here own_of (forgotten_at (h own) links) m ∙ owns
+
+          others : (k : ℕ) → (k ≡ length links → ⊥) → look_at own_of (forgotten_at (h own) links ++ m ∷ []) k ≡ lost (h own) k (look_at own_of links k)
+          others k apart = push_other own_of (forgotten_at (h own) links) m k (λ e. apart (e ∙ length_forgotten links (h own))) ∙
+              own_forgotten links (h own) k
+
+          calls : (k q : ℕ) → look_at begun_from (forgotten_at (h own) links ++ m ∷ []) k ≡ Some q → c' q ≡ Some k
+          calls k q e = by_number (eqb k (length left)) refl where
+            by_number : (b : Bool) → eqb k (length left) ≡ b → c' q ≡ Some k
+            by_number true is =
+                let at = eqb-true k (length left) is in
+                absurd (begun q (sym (ap (look_at begun_from (left ++ m ∷ [])) at ∙ push_here begun_from left m) ∙ e))
+            by_number false is =
+                callers q ∙ index.calls k q (sym (push_other begun_from left m k (eqb-false k (length left) is) ∙ begun_forgotten links (h own) k) ∙ e)
+
+          reaches : (q : ℕ) → r' q ≡ counted (lives_to q) (forgotten_at (h own) links ++ m ∷ [])
+          reaches q =
+              let pushed = counted_push (lives_to q) left m in
+              let before = counted_forgotten (lives_to q) (λ l. refl) links (h own) in
+              let none = bit_false (lives_to q m) (unknown q) in
+              let was = index.reaches q in
+              let same = counts q in
+              omega arith
+
+          few_one : (b : Bool) → bit b ≤ 1
+          few_one true = omega arith
+          few_one false = omega arith
+
+          few_wait : counted waits (forgotten_at (h own) links ++ m ∷ []) ≤ w'
+          few_wait =
+              let pushed = counted_push waits left m in
+              let before = counted_forgotten waits (λ l. refl) links (h own) in
+              let one = few_one (waits m) in
+              let was = index.waits in
+              omega arith
+
+          few_all : w' ≤ length (forgotten_at (h own) links ++ m ∷ [])
+          few_all =
+              let longer = length_push left m in
+              let before = length_forgotten links (h own) in
+              let was = index.few in
+              omega arith
 
   slice_set_other : (xs : List (LinkOf WireFlow)) (k n : ℕ) (x : LinkOf WireFlow) → (n ≡ k → ⊥) → slice_get (set xs k x) n ≡ slice_get xs n
   slice_set_other [] k n x apart = refl
@@ -208,8 +340,8 @@ module _ (links : List (LinkOf WireFlow)) (numbers : List ℕ) (h h' : ℕ → O
   module _ (n : ℕ) (l : LinkOf WireFlow) (there : slice_get links n ≡ Some l) (unowned : l.port.own ≡ None) where
     not_holder : (k : ℕ) → h own ≡ Some k → n ≡ k → ⊥
     not_holder k held same =
-        let mine : own_at links n ≡ Some own = ap (own_at links) same ∙ index.holds own k held in
-        let none : own_at links n ≡ None = ap own_of there ∙ unowned in
+        let mine : look_at own_of links n ≡ Some own = ap (look_at own_of links) same ∙ index.holds own k held in
+        let none : look_at own_of links n ≡ None = ap (look_in own_of) there ∙ unowned in
         let both : None ≡ Some own = sym none ∙ mine in
         absurd (cc)
 
@@ -220,56 +352,103 @@ module _ (links : List (LinkOf WireFlow)) (numbers : List ℕ) (h h' : ℕ → O
     pub still_there : slice_get (forgotten_at (h own) links) n ≡ Some l
     still_there = still (h own) refl
 
-    pub indexed_answer : is_live l.port.phase ≡ true → ((q : ℕ) → h' q ≡ cond (eqb own q) (Some n) (h q)) →
-        IsIndexed (set (forgotten_at (h own) links) n m) numbers h'
-    indexed_answer lived given =
+    pub indexed_answer : (h' c' : ℕ → Option ℕ) (r' : ℕ → ℕ) (w' : ℕ) → ((q : ℕ) → c' q ≡ c q) → ((q : ℕ) → r' q ≡ r q) → w' ≡ w →
+        ((q : ℕ) → begun_from m ≡ Some q → begun_from l ≡ Some q) → ((q : ℕ) → lives_to q m ≡ lives_to q l) → is_calling m.port.phase ≡ false →
+        ((q : ℕ) → h' q ≡ cond (eqb own q) (Some n) (h q)) → IsIndexed (set (forgotten_at (h own) links) n m) h' c' r' w'
+    indexed_answer h' c' r' w' callers counts wait begun known calling given =
         record {
-          live = live;
-          has = gives_has (own_at links) h f' h' own n index.has index.holds fresh here others given;
-          holds =
-              gives_holds (own_at links) h f' h' own n index.has index.holds fresh here others given;
+          has = gives_has (look_at own_of links) h f' h' own n index.has index.holds fresh here others given;
+          holds = gives_holds (look_at own_of links) h f' h' own n index.has index.holds fresh here others given;
+          calls = calls;
+          reaches = reaches;
+          waits = few_wait;
+          few = few_all;
         } where
+          left : List (LinkOf WireFlow)
+          left = forgotten_at (h own) links
+
           f' : ℕ → Option ℕ
-          f' k = own_at (set (forgotten_at (h own) links) n m) k
+          f' k = look_at own_of (set (forgotten_at (h own) links) n m) k
 
-          fresh : own_at links n ≡ None
-          fresh = ap own_of there ∙ unowned
+          fresh : look_at own_of links n ≡ None
+          fresh = ap (look_in own_of) there ∙ unowned
 
-          here : own_at (set (forgotten_at (h own) links) n m) n ≡ Some own
-          here = own_set_same (forgotten_at (h own) links) n m (slice_get_within (forgotten_at (h own) links) n l still_there) ∙ owns
+          here : look_at own_of (set (forgotten_at (h own) links) n m) n ≡ Some own
+          here = set_same own_of (forgotten_at (h own) links) n m (slice_get_within (forgotten_at (h own) links) n l still_there) ∙ owns
 
-          others : (k : ℕ) → (k ≡ n → ⊥) → own_at (set (forgotten_at (h own) links) n m) k ≡ lost (h own) k (own_at links k)
-          others k apart = own_set_other (forgotten_at (h own) links) n k m apart ∙ own_forgotten links (h own) k
+          others : (k : ℕ) → (k ≡ n → ⊥) → look_at own_of (set (forgotten_at (h own) links) n m) k ≡ lost (h own) k (look_at own_of links k)
+          others k apart = set_other own_of (forgotten_at (h own) links) n k m apart ∙ own_forgotten links (h own) k
 
-          live : numbers ≡ live_numbers (set (forgotten_at (h own) links) n m)
-          live = index.live ∙ sym (live_forgotten links (h own)) ∙ sym (live_set (forgotten_at (h own) links) n l m still_there (lives ∙ sym lived))
+          calls : (k q : ℕ) → look_at begun_from (set (forgotten_at (h own) links) n m) k ≡ Some q → c' q ≡ Some k
+          calls k q e =
+              callers q ∙ index.calls k q (sym (begun_forgotten links (h own) k) ∙ look_less begun_from q left n k l m still_there (begun q) e)
+
+          reaches : (q : ℕ) → r' q ≡ counted (lives_to q) (set (forgotten_at (h own) links) n m)
+          reaches q =
+              let changed = counted_set (lives_to q) left n l m still_there in
+              let before = counted_forgotten (lives_to q) (λ k. refl) links (h own) in
+              let bits = ap bit (known q) in
+              let was = index.reaches q in
+              let same = counts q in
+              omega arith
+
+          few_wait : counted waits (set (forgotten_at (h own) links) n m) ≤ w'
+          few_wait =
+              let changed = counted_set waits left n l m still_there in
+              let before = counted_forgotten waits (λ k. refl) links (h own) in
+              let none = bit_false (waits m) calling in
+              let was = index.waits in
+              omega arith
+
+          few_all : w' ≤ length (set (forgotten_at (h own) links) n m)
+          few_all =
+              let same = length_set left n m in
+              let before = length_forgotten links (h own) in
+              let was = index.few in
+              omega arith
 
 -- ---- the same, by what the calls tell
 
-pub called_index : (links ys : List (LinkOf WireFlow)) (numbers ms : List ℕ) (h : ℕ → Option ℕ) (m : LinkOf WireFlow) (n : ℕ) →
-    IsIndexed links numbers h → is_live m.port.phase ≡ true → m.port.own ≡ None → ys ≡ links ++ m ∷ [] → ms ≡ numbers ++ n ∷ [] → n ≡ length links →
-    IsIndexed ys ms h
-called_index links ys numbers ms h m n index lives none is are number =
-    indexed_same (links ++ m ∷ []) ys (numbers ++ length links ∷ []) ms h h (indexed_begin links numbers h m index lives none) is
-    (are ∙ ap (λ (k : ℕ). numbers ++ k ∷ []) number) (λ q. refl)
+pub answered_index : (phase : Phase) (own n : ℕ) (l m : LinkOf WireFlow) (items ys : List (LinkOf WireFlow)) (h c h' c' : ℕ → Option ℕ)
+    (r r' : ℕ → ℕ) (w w' : ℕ) → IsIndexed items h c r w → slice_get items n ≡ Some l → is_called l.port.phase ≡ true → l.port.own ≡ None →
+    m ≡ answered wire_flows phase own l → is_live phase ≡ true → is_called phase ≡ false → is_calling phase ≡ false →
+    ys ≡ set (forgotten_at (h own) items) n m → ((q : ℕ) → c' q ≡ c q) → ((q : ℕ) → r' q ≡ r q) → w' ≡ w →
+    ((q : ℕ) → h' q ≡ cond (eqb own q) (Some n) (h q)) → IsIndexed ys h' c' r' w'
+answered_index phase own n l m items ys h c h' c' r r' w w' index there was unowned is live answers known same callers counts wait given =
+    subst (λ (xs : List (LinkOf WireFlow)). IsIndexed xs h' c' r' w') (sym same)
+    (indexed_answer items h c r w index own m (ap (λ (k : LinkOf WireFlow). k.port.own) is) n l there unowned h' c' r' w' callers counts wait begun lives
+    (ap (λ (k : LinkOf WireFlow). is_calling k.port.phase) is ∙ known) given) where
+      both : is_live phase ≡ is_live l.port.phase
+      both = live ∙ sym (called_lives l.port.phase was)
 
-pub open_index : (links ys : List (LinkOf WireFlow)) (numbers ms : List ℕ) (h h' : ℕ → Option ℕ) (own n : ℕ) (m : LinkOf WireFlow) →
-    IsIndexed links numbers h → m.port.own ≡ Some own → is_live m.port.phase ≡ true → ys ≡ forgotten_at (h own) links ++ m ∷ [] →
-    ms ≡ numbers ++ n ∷ [] → n ≡ length links → ((q : ℕ) → h' q ≡ cond (eqb own q) (Some n) (h q)) → IsIndexed ys ms h'
-open_index links ys numbers ms h h' own n m index owns lives is are number given =
-    indexed_same (forgotten_at (h own) links ++ m ∷ []) ys (numbers ++ length links ∷ []) ms h' h'
-    (indexed_open links numbers h h' index own m owns lives (λ q. given q ∙ ap (λ (k : ℕ). cond (eqb own q) (Some k) (h q)) number))
-    is (are ∙ ap (λ (k : ℕ). numbers ++ k ∷ []) number) (λ q. refl)
+      begun : (q : ℕ) → begun_from m ≡ Some q → begun_from l ≡ Some q
+      begun q e =
+          begun_less (is_called phase) (is_called l.port.phase) (is_live phase && not l.port.opened) (is_live l.port.phase && not l.port.opened)
+          l.port.far l.port.far q (λ _. was) (ap (λ (b : Bool). b && not l.port.opened) both) refl (sym (ap begun_from is) ∙ e)
 
-pub answer_index : (links ys : List (LinkOf WireFlow)) (numbers : List ℕ) (h h' : ℕ → Option ℕ) (own n : ℕ) (l m : LinkOf WireFlow) →
-    IsIndexed links numbers h → slice_get links n ≡ Some l → l.port.own ≡ None → is_live l.port.phase ≡ true → m.port.own ≡ Some own →
-    is_live m.port.phase ≡ true → ys ≡ set (forgotten_at (h own) links) n m → ((q : ℕ) → h' q ≡ cond (eqb own q) (Some n) (h q)) →
-    IsIndexed ys numbers h'
-answer_index links ys numbers h h' own n l m index there unowned lived owns lives is given =
-    indexed_same (set (forgotten_at (h own) links) n m) ys numbers numbers h' h'
-    (indexed_answer links numbers h h' index own m owns lives n l there unowned lived given) is refl (λ q. refl)
+      lives : (q : ℕ) → lives_to q m ≡ lives_to q l
+      lives q = ap (lives_to q) is ∙ ap (λ (b : Bool). b && is_at l.port.far q) both
 
-pub ruleset indexes = (indexed_same, called_index, open_index)
+pub called_index : (far segsize : ℕ) (tag : LinkTag) (m : LinkOf WireFlow) (items ys : List (LinkOf WireFlow)) (h c h' c' : ℕ → Option ℕ)
+    (r r' : ℕ → ℕ) (w w' : ℕ) → IsIndexed items h c r w → counted (lives_to far) items ≡ 0 → m ≡ called wire_flows of_partner far segsize tag →
+    ys ≡ items ++ m ∷ [] → ((q : ℕ) → h' q ≡ h q) → ((q : ℕ) → c' q ≡ cond (eqb far q) (Some (length items)) (c q)) →
+    ((q : ℕ) → r' q ≡ cond (eqb far q) (suc (r q)) (r q)) → w' ≡ w → IsIndexed ys h' c' r' w'
+called_index far segsize tag m items ys h c h' c' r r' w w' index free is same holders given counts wait =
+    subst (λ (xs : List (LinkOf WireFlow)). IsIndexed xs h' c' r' w') (sym same)
+    (indexed_call items h c r w index far m (ap (λ (k : LinkOf WireFlow). k.port.own) is) (ap begun_from is) (λ q. ap (lives_to q) is)
+    (ap (λ (k : LinkOf WireFlow). is_calling k.port.phase) is) free h' c' r' w' holders given counts wait)
+
+pub opened_index : (own : ℕ) (m : LinkOf WireFlow) (items ys : List (LinkOf WireFlow)) (h c h' c' : ℕ → Option ℕ) (r r' : ℕ → ℕ) (w w' : ℕ) →
+    IsIndexed items h c r w → m ≡ opened wire_flows own → ys ≡ forgotten_at (h own) items ++ m ∷ [] → ((q : ℕ) → c' q ≡ c q) →
+    ((q : ℕ) → r' q ≡ r q) → w' ≡ suc w → ((q : ℕ) → h' q ≡ cond (eqb own q) (Some (length items)) (h q)) → IsIndexed ys h' c' r' w'
+opened_index own m items ys h c h' c' r r' w w' index is same callers counts wait given =
+    subst (λ (xs : List (LinkOf WireFlow)). IsIndexed xs h' c' r' w') (sym same)
+    (indexed_open items h c r w index own m (ap (λ (k : LinkOf WireFlow). k.port.own) is) h' c' r' w' callers counts
+    (λ q. no_more m q (ap (λ (k : LinkOf WireFlow). is_called k.port.phase) is)
+    (ap (λ (k : LinkOf WireFlow). is_live k.port.phase && not k.port.opened) is))
+    (λ q. ap (lives_to q) is) wait given)
+
+pub ruleset indexes = (indexed_same)
 
 -- ---- what the definitions make of it
 
@@ -295,9 +474,9 @@ module _ (node peer : ℕ) (items : List (LinkOf WireFlow)) (s : WireLinks) (is 
 pub link_at : (xs : List (LinkOf WireFlow)) (n : ℕ) (l : LinkOf WireFlow) → n < length xs → l ≡ get_or xs n l → slice_get xs n ≡ Some l
 link_at xs n l within there = slice_get_read xs (length xs) n l refl within there
 
-pub still_here : (links : List (LinkOf WireFlow)) (numbers : List ℕ) (h : ℕ → Option ℕ) → IsIndexed links numbers h →
+pub still_here : (links : List (LinkOf WireFlow)) (h c : ℕ → Option ℕ) (r : ℕ → ℕ) (w : ℕ) → IsIndexed links h c r w →
     (own n : ℕ) (l : LinkOf WireFlow) → slice_get links n ≡ Some l → l.port.own ≡ None → slice_get (forgotten_at (h own) links) n ≡ Some l
-still_here links numbers h index own n l there unowned = still_there links numbers h (λ q. h q) index own (owned own) refl refl n l there unowned
+still_here links h c r w index own n l there unowned = still_there links h c r w index own (owned own) refl n l there unowned
   where
     owned : ℕ → LinkOf WireFlow
     owned address = opened wire_flows address

@@ -2,7 +2,9 @@ mod Words
 mod Delivery
 mod Acknowledged
 mod Holding
-mod Index
+mod Counting
+mod LookUps
+mod Indexed
 mod Change
 mod Giving
 mod Ended

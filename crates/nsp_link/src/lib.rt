@@ -5,6 +5,7 @@
 
 mod fault;
 mod flow;
+mod index;
 mod last_sent;
 mod link;
 mod links;

@@ -4,7 +4,7 @@ ghost use Rattle.std.specs.Prelude.{◌≡◌, ◌<◌, ◌&&◌, Ok, Err, None,
 ghost use Rattle.std.specs.List.{AllByRecursion};
 ghost use Rattle.dna_packet.specs.AckWord.{IsAckWord};
 ghost use Rattle.dna_packet.specs.Nsp.{segment_view};
-ghost use Rattle.dna_links.specs.LookUps.{is_live, is_called};
+ghost use Rattle.dna_links.specs.LookUps.{is_live, is_called, is_calling};
 ghost use Rattle.dna_links.specs.Links.{in_phase, with_flow};
 ghost use Rattle.dna_links.specs.Links as links;
 ghost use Rattle.dna_links.specs.User as user;
@@ -15,6 +15,7 @@ ghost use Rattle.dna_links.specs.WireFlow.{wire_flows, hands_in, delivers, sends
 ghost use Rattle.dna_links.specs.WireFlow as spec;
 ghost use Rattle.nsp_link.specs.Fault.{IsFault};
 ghost use Rattle.nsp_link.specs.Flow.{is_held};
+ghost use Rattle.nsp_link.specs.inner.Index.{Stays};
 
 use crate::flow::Flow;
 use crate::{LinkFault, LinkRefusal, LinkTag, Piece};
@@ -39,7 +40,7 @@ pub struct Link<W: Window<Piece, 4096> + Drop> {
 impl<W: Window<Piece, 4096> + Drop> Model for Link<W> {
     ghost use Rattle.std.specs.Prelude.{◌≡◌, true, None, IsSome};
     ghost use Rattle.dna_links.specs.Links.{LinkOf};
-    ghost use Rattle.dna_links.specs.LookUps.{is_live, is_called};
+    ghost use Rattle.dna_links.specs.LookUps.{is_live, is_called, is_calling};
     ghost use Rattle.dna_links.specs.WireFlow.{WireFlow};
     ghost use Rattle.nsp_link.specs.inner.Link.{flow_in};
 
@@ -52,7 +53,8 @@ impl<W: Window<Piece, 4096> + Drop> Model for Link<W> {
       flow = flow_in (λ b. b.value) l.flow;
     } };
 
-    ghost invariant = { λ l. (is_called l.port.phase ≡ true → l.port.own ≡ None) × (is_live l.port.phase ≡ true → IsSome l.flow) };
+    ghost invariant = { λ l. (is_called l.port.phase ≡ true → l.port.own ≡ None) × (is_live l.port.phase ≡ true → IsSome l.flow)
+        × (is_calling l.port.phase ≡ true → (l.port.opened ≡ true) × (l.port.far ≡ None)) };
 }
 
 impl<W: Window<Piece, 4096> + Drop> Link<W> {
@@ -100,6 +102,7 @@ impl<W: Window<Piece, 4096> + Drop> Link<W> {
     pub fn port(&self) -> Port
         ensures port { result ≡ self.now.port }
         ensures called { is_called self.now.port.phase ≡ true → self.now.port.own ≡ None }
+        ensures calling { is_calling self.now.port.phase ≡ true → (self.now.port.opened ≡ true) × (self.now.port.far ≡ None) }
     {
         self.port
     }
@@ -150,6 +153,7 @@ impl<W: Window<Piece, 4096> + Drop> Link<W> {
     pub fn answer(&mut self, phase: Phase, own: u16)
         requires live { is_live self.old.port.phase ≡ true }
         requires phase { is_called phase ≡ false }
+        requires known { is_calling phase ≡ false }
         ensures { self.new ≡ user.answered wire_flows phase own self.old }
     {
         self.port.phase = phase;
@@ -243,8 +247,7 @@ impl<W: Window<Piece, 4096> + Drop> Link<W> {
         requires acks { AllByRecursion IsAckWord segment.now.acks.items }
         requires number { segment.now.number < 4096 }
         ensures ok { OnOk result (self.new ≡ running wire_flows of_partner (λ link. takes_segment (segment_view segment.now) tt link.flow) self.old) }
-        ensures lives { is_live self.new.port.phase ≡ true }
-        ensures own { self.new.port.own ≡ self.old.port.own }
+        ensures stays { Stays self.old self.new }
         ensures held { IfErr result (λ e. is_held (segment_view segment.now) self.old.flow.kept ≡ true) }
         ensures err { OnErr result (self.new ≡ self.old) }
     {

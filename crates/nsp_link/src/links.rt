@@ -1,13 +1,11 @@
 //! The links of a node, and how they are found.
 
-ghost use Rattle.std.specs.Prelude.{◌≡◌, ◌<◌, true, None, Some, length, slice_get, position, option_copied, OnOk, OnErr, IfOk, IfErr, IfSome};
+ghost use Rattle.std.specs.Prelude.{◌≡◌, ◌<◌, true, None, Some, length, slice_get, is_some, option_copied, OnOk, OnErr, IfOk, IfErr, IfSome};
 ghost use Rattle.dna_links.specs.LookUps as tests;
 ghost use Rattle.dna_links.specs.Links.{number_of};
 ghost use Rattle.dna_links.specs.WireLinks.{new_wire_links};
-ghost use Rattle.std.specs.Ordering.{nat_cmp};
-ghost use Rattle.std.specs.BTreeMap.{get};
-ghost use Rattle.nsp_link.specs.inner.Index.{is_of_live};
-ghost use Rattle.nsp_link.specs.inner.Index as index;
+ghost use Rattle.nsp_link.specs.inner.Index.{is_of_one};
+ghost use Rattle.nsp_link.specs.inner.Index as words;
 
 mod arriving;
 mod begin;
@@ -15,12 +13,12 @@ mod change;
 mod sending;
 mod user;
 
+use crate::index::Index;
 use crate::link::Link;
 use crate::{LinkFault, LinkRefusal, Piece};
 use dna_links::LinkTest;
 use link_segments::passes;
 use std::alloc::Global;
-use std::collections::BTreeMap;
 use std::marker::Model;
 use wire_base::Window;
 
@@ -40,24 +38,24 @@ pub struct Links<W: Window<Piece, 4096> + Drop> {
     peer: u16,
     // all that ever were, in the order in which they began
     links: Vec<Link<W>>,
-    // the numbers of those that live, rising
-    live: Vec<usize>,
-    // the number of the link that got an own address last
-    holders: BTreeMap<u16, usize>,
+    index: Index,
     alloc: Global,
 }
 
 impl<W: Window<Piece, 4096> + Drop> Model for Links<W> {
+    ghost use Rattle.std.specs.Prelude.{nat_eq};
     ghost use Rattle.std.specs.Ordering.{nat_cmp};
     ghost use Rattle.std.specs.BTreeMap.{get};
+    ghost use Rattle.std.specs.HashMap as hashed;
     ghost use Rattle.dna_links.specs.WireLinks.{WireLinks};
-    ghost use Rattle.nsp_link.specs.inner.Index.{IsIndexed};
+    ghost use Rattle.nsp_link.specs.inner.Index.{IsIndexed, times};
 
     ghost Value = { WireLinks };
 
     ghost view = { λ l. record { node = l.node; peer = l.peer; links = l.links.items } };
 
-    ghost invariant = { λ l. IsIndexed l.links.items l.live.items (λ own. get nat_cmp l.holders own) };
+    ghost invariant = { λ l. IsIndexed l.links.items (λ q. get nat_cmp l.index.holders q) (λ q. get nat_cmp l.index.callers q)
+        (λ q. times (hashed.get nat_eq l.index.reached q)) l.index.waiting };
 }
 
 impl<W: Window<Piece, 4096> + Drop> Links<W> {
@@ -69,8 +67,7 @@ impl<W: Window<Piece, 4096> + Drop> Links<W> {
             node: own,
             peer,
             links: Vec::new(alloc),
-            live: Vec::new(alloc),
-            holders: BTreeMap::new(alloc),
+            index: Index::new(alloc),
             alloc,
         }
     }
@@ -82,22 +79,21 @@ impl<W: Window<Piece, 4096> + Drop> Links<W> {
         self.links.len() as u64
     }
 
-    // The number of the first link that passes a test which only a live link passes.
+    // The number of the first link that passes a test which at most one passes.
     #[inline(always)]
     fn find(&self, test: LinkTest) -> Option<usize>
-        requires { is_of_live test ≡ true }
+        requires { is_of_one test ≡ true }
         ensures number { result ≡ number_of test self.now }
         ensures within { IfSome result (λ number. number < length self.now.links) }
     {
-        first_of(&self.links, &self.live, test)
+        passing(&self.links, test, self.index.candidate(test))
     }
 
-    // The number of the link that got this own address last.
-    fn holder(&self, own: u16) -> Option<usize>
-        ensures number { result ≡ number_of (LinkTest.HasAddress own) self.now }
-        ensures within { IfSome result (λ number. number < length self.now.links) }
+    // Whether a live link has this far address.
+    fn is_live_to(&self, far: u16) -> bool
+        ensures { result ≡ is_some (number_of (LinkTest.LiveTo far) self.now) }
     {
-        holder_of(&self.holders, own)
+        self.index.times(far) != 0
     }
 
     // The link with this number.
@@ -108,27 +104,20 @@ impl<W: Window<Piece, 4096> + Drop> Links<W> {
     }
 }
 
-// The number of the link that got this own address last.
-fn holder_of(holders: &BTreeMap<u16, usize>, own: u16) -> Option<usize>
-    ensures { result ≡ get nat_cmp holders.now own }
-{
-    holders.get(&own).copied()
-}
-
-// The first of these numbers whose link passes.
-#[tactic(auto, using(crate::proofs::Index::searches))]
+// This number, if its link passes.
 #[inline(always)]
-fn first_of<W: Window<Piece, 4096> + Drop>(
+fn passing<W: Window<Piece, 4096> + Drop>(
     links: &Vec<Link<W>>,
-    numbers: &[usize],
     test: LinkTest,
+    number: Option<usize>,
 ) -> Option<usize>
-    ensures { result ≡ index.first_of (λ link. tests.passes test link.port) links.now.items numbers.now }
+    ensures { result ≡ words.passing (λ link. tests.passes test link.port) links.now.items number }
 {
-    for number in numbers {
-        if passes_at(links, test, *number) {
-            return Some(*number);
-        }
+    let Some(number) = number else {
+        return None;
+    };
+    if passes_at(links, test, number) {
+        return Some(number);
     }
     None
 }
@@ -140,7 +129,7 @@ fn passes_at<W: Window<Piece, 4096> + Drop>(
     test: LinkTest,
     number: usize,
 ) -> bool
-    ensures { result ≡ index.passes_at (λ link. tests.passes test link.port) links.now.items number }
+    ensures { result ≡ words.passes_at (λ link. tests.passes test link.port) links.now.items number }
 {
     match links.get(number) {
         Some(link) => passes(test, link.port()),

@@ -1,13 +1,14 @@
--- How the links of a node are found without a look at all that ever were: by the list of those that live, and by the last holder of
--- each own address.
-use Rattle.std.specs.Prelude.{◌≡◌, ◌==◌, ℕ, suc, Bool, false, Option, Some, None, List, [], ◌∷◌, map, slice_get, slice_set, if◌then◌else◌, true}
+-- How the links of a node are found without a look at all that ever were: by the last holder of each own address, by the last link that
+-- a CI from each address of the other side began, and by how many live links know each of these.
+use Rattle.std.specs.Prelude.{◌≡◌, ◌≤◌, ◌||◌, ◌&&◌, not, ℕ, suc, Bool, false, Option, Some, None, List, [], ◌∷◌, length, slice_get, slice_set, if◌then◌else◌, true}
+use Rattle.dna_links.specs.declared.port.Port.{Port}
 use Rattle.dna_links.specs.declared.port.LinkTest.{LinkTest}
-use Rattle.dna_links.specs.declared.port.LinkTest.TheVariants.{HasAddress}
-use Rattle.dna_links.specs.LookUps.{is_live}
+use Rattle.dna_links.specs.declared.port.LinkTest.TheVariants.{HasAddress, LiveAt, TheLink, LiveTo, OpenedAt, CallingAt, CalledBy, BegunBy, ActedOn}
+use Rattle.dna_links.specs.LookUps.{is_live, is_called, is_calling, passes}
 use Rattle.dna_links.specs.Links.{LinkOf, forgotten}
 use Rattle.dna_links.specs.WireFlow.{WireFlow, wire_flows}
 
--- ---- a search among some numbers
+-- ---- a number that is looked at
 
 module _ {X : Type 0} (p : X → Bool) where
   abbrev pub passes_in : Option X → Bool
@@ -17,42 +18,86 @@ module _ {X : Type 0} (p : X → Bool) where
   abbrev pub passes_at : List X → ℕ → Bool
   passes_at xs number = passes_in (slice_get xs number)
 
-  -- the first of these numbers at which one passes
-  abbrev pub first_of : List X → List ℕ → Option ℕ
-  first_of xs [] = None
-  first_of xs (number ∷ numbers) = if passes_at xs number then Some number else first_of xs numbers
+  -- this number, if what stands there passes
+  abbrev pub passing : List X → Option ℕ → Option ℕ
+  passing xs None = None
+  passing xs (Some number) = if passes_at xs number then Some number else None
 
--- the numbers without the first that is this one
-abbrev pub without : ℕ → List ℕ → List ℕ
-without number [] = []
-without number (other ∷ numbers) = if other == number then numbers else other ∷ without number numbers
+  -- how many pass
+  abbrev pub counted : List X → ℕ
+  counted [] = 0
+  counted (x ∷ xs) = if p x then suc (counted xs) else counted xs
 
--- a test that only a live link passes
-abbrev pub is_of_live : LinkTest → Bool
-is_of_live (HasAddress own) = false
-is_of_live test = true
+module _ {X : Type 0} (look : X → Option ℕ) where
+  abbrev pub look_in : Option X → Option ℕ
+  look_in None = None
+  look_in (Some x) = look x
 
--- ---- the two
+  -- what is seen at this number
+  abbrev pub look_at : List X → ℕ → Option ℕ
+  look_at xs number = look_in (slice_get xs number)
+
+-- ---- where a look-up looks: at the holder of an own address, or at the last link that a CI from an address began
+
+-- not this one: many links may pass it
+abbrev pub is_of_one : LinkTest → Bool
+is_of_one (LiveTo far) = false
+is_of_one test = true
+
+abbrev pub candidate : LinkTest → (holder caller : ℕ → Option ℕ) → Option ℕ
+candidate (HasAddress own) holder caller = holder own
+candidate (LiveAt own) holder caller = holder own
+candidate (TheLink own far) holder caller = holder own
+candidate (OpenedAt own) holder caller = holder own
+candidate (CallingAt own) holder caller = holder own
+candidate (ActedOn own far) holder caller = holder own
+candidate (CalledBy far) holder caller = caller far
+candidate (BegunBy far) holder caller = caller far
+candidate (LiveTo far) holder caller = None
+
+-- a count that is not kept is zero
+abbrev pub times : Option ℕ → ℕ
+times None = 0
+times (Some count) = count
+
+-- in Called, or another live link that was not opened here
+abbrev pub is_begun : Port → Bool
+is_begun port = is_called port.phase || (is_live port.phase && not port.opened)
 
 module _ {D : Type 0} where
-  -- the numbers of the links that live, rising
-  abbrev pub live_numbers : List (LinkOf D) → List ℕ
-  live_numbers [] = []
-  live_numbers (link ∷ links) = if is_live link.port.phase then 0 ∷ map suc (live_numbers links) else map suc (live_numbers links)
+  abbrev pub own_of : LinkOf D → Option ℕ
+  own_of link = link.port.own
 
-  abbrev pub own_of : Option (LinkOf D) → Option ℕ
-  own_of None = None
-  own_of (Some link) = link.port.own
+  -- the address of the other side that its CI came from
+  abbrev pub begun_from : LinkOf D → Option ℕ
+  begun_from link = if is_begun link.port then link.port.far else None
 
-  -- the own address of the link with this number
-  abbrev pub own_at : List (LinkOf D) → ℕ → Option ℕ
-  own_at links number = own_of (slice_get links number)
+  abbrev pub lives_to : ℕ → LinkOf D → Bool
+  lives_to far link = passes (LiveTo far) link.port
 
-  pub record IsIndexed (links : List (LinkOf D)) (numbers : List ℕ) (holder : ℕ → Option ℕ) : Type 0 where
-    pub live : numbers ≡ live_numbers links
+  abbrev pub waits : LinkOf D → Bool
+  waits link = is_calling link.port.phase
+
+  pub record IsIndexed (links : List (LinkOf D)) (holder caller : ℕ → Option ℕ) (reached : ℕ → ℕ) (waiting : ℕ) : Type 0 where
     -- each link that has an own address is the holder of it
-    pub has : (number own : ℕ) → own_at links number ≡ Some own → holder own ≡ Some number
-    pub holds : (own number : ℕ) → holder own ≡ Some number → own_at links number ≡ Some own
+    pub has : (number own : ℕ) → look_at own_of links number ≡ Some own → holder own ≡ Some number
+    pub holds : (own number : ℕ) → holder own ≡ Some number → look_at own_of links number ≡ Some own
+    -- each live link that a CI began is the last one that a CI from its far address began
+    pub calls : (number far : ℕ) → look_at begun_from links number ≡ Some far → caller far ≡ Some number
+    -- how many live links know an address of the other side
+    pub reaches : (far : ℕ) → reached far ≡ counted (lives_to far) links
+    -- those that may still get to know one
+    pub waits : counted waits links ≤ waiting
+    pub few : waiting ≤ length links
+
+  -- a link that changes so is found as before
+  pub record Stays (l m : LinkOf D) : Type 0 where
+    pub own : m.port.own ≡ l.port.own
+    pub opened : m.port.opened ≡ l.port.opened
+    pub far : m.port.far ≡ l.port.far
+    pub lives : is_live m.port.phase ≡ is_live l.port.phase
+    pub called : is_called m.port.phase ≡ true → is_called l.port.phase ≡ true
+    pub calling : is_calling m.port.phase ≡ true → is_calling l.port.phase ≡ true
 
 -- ---- an own address that is given again: the holder, which has ended, loses it
 

@@ -1,40 +1,43 @@
 //! How a link begins, and how it gets its own address.
 
-ghost use Rattle.std.specs.Prelude.{◌≡◌, ◌<◌, ◌+◌, ◌++◌, ◌∷◌, [], ℕ, Option, Some, None, true, false, eqb, length, slice_get, slice_set};
-ghost use Rattle.std.specs.Prelude.{OnOk, OnErr, IfOk, IfErr, if◌then◌else◌};
+ghost use Rattle.std.specs.Prelude.{◌≡◌, ◌<◌, ◌+◌, ◌^◌, ◌++◌, ◌∷◌, [], ℕ, Option, Some, None, true, false, nat_eq, length, slice_get, slice_set};
+ghost use Rattle.std.specs.Prelude.{OnOk, OnErr, IfOk, IfErr};
 ghost use Rattle.std.specs.Vec.{vec_len, vec_capacity};
 ghost use Rattle.std.specs.Ordering.{nat_cmp};
 ghost use Rattle.std.specs.BTreeMap.{get};
-ghost use Rattle.dna_links.specs.LookUps.{is_live, is_called};
+ghost use Rattle.std.specs.HashMap.{spare};
+ghost use Rattle.std.specs.HashMap as hashed;
+ghost use Rattle.dna_links.specs.LookUps.{is_live, is_called, is_calling};
 ghost use Rattle.dna_links.specs.Links.{LinkOf, begun, changed, freed, forgotten, number_of};
 ghost use Rattle.dna_links.specs.User.{opened, answered};
 ghost use Rattle.dna_links.specs.Arriving.{of_partner, called};
 ghost use Rattle.dna_links.specs.WireFlow.{WireFlow, wire_flows};
-ghost use Rattle.nsp_link.specs.inner.Index.{IsIndexed, forgotten_at};
+ghost use Rattle.nsp_link.specs.inner.Index.{IsIndexed, forgotten_at, times, counted, lives_to};
 
-use super::{Links, holder_of};
+use super::Links;
+use crate::index::Index;
 use crate::link::Link;
 use crate::{LinkTag, Piece};
 use dna_links::{LinkTest, Phase};
 use std::alloc::{AllocError, Global};
-use std::collections::BTreeMap;
 use wire_base::Window;
 
 impl<W: Window<Piece, 4096> + Drop> Links<W> {
-    // A CI begins a link. Where memory is refused, nothing changes.
+    // A CI begins a link, from an address that no live link knows. Where memory is refused, nothing changes.
     pub(super) fn begin_called(
         &mut self,
         far: u16,
         segsize: u16,
         tag: LinkTag,
     ) -> Result<(), AllocError>
+        requires { number_of (LinkTest.LiveTo far) self.old ≡ None }
         ensures ok { OnOk result (self.new ≡ begun (called wire_flows of_partner far segsize tag) self.old) }
         ensures err { OnErr result (self.new ≡ self.old) }
     {
         called_at(
             self.alloc,
             &mut self.links,
-            &mut self.live,
+            &mut self.index,
             far,
             segsize,
             tag,
@@ -47,13 +50,7 @@ impl<W: Window<Piece, 4096> + Drop> Links<W> {
         ensures ok { OnOk result (self.new ≡ begun (opened wire_flows own) (freed wire_flows own self.old)) }
         ensures err { OnErr result (self.new ≡ self.old) }
     {
-        opened_at(
-            self.alloc,
-            &mut self.links,
-            &mut self.live,
-            &mut self.holders,
-            own,
-        )
+        opened_at(self.alloc, &mut self.links, &mut self.index, own)
     }
 
     // The link with this number, in Called, is answered: it gets this phase, and an own address that no live link has. Where memory is
@@ -69,80 +66,58 @@ impl<W: Window<Piece, 4096> + Drop> Links<W> {
         requires called { (link : LinkOf WireFlow) → slice_get self.old.links number ≡ Some link → is_called link.port.phase ≡ true }
         requires live { is_live phase ≡ true }
         requires answers { is_called phase ≡ false }
+        requires known { is_calling phase ≡ false }
         ensures ok { (link : LinkOf WireFlow) → slice_get self.old.links number ≡ Some link
             → OnOk result (self.new ≡ changed number (answered wire_flows phase own link) (freed wire_flows own self.old)) }
         ensures err { OnErr result (self.new ≡ self.old) }
     {
-        answered_at(
-            &mut self.links,
-            &self.live,
-            &mut self.holders,
-            number,
-            phase,
-            own,
-        )
+        answered_at(&mut self.links, &mut self.index, number, phase, own)
     }
 }
 
 // There is room for one more link. No list changes.
 fn make_room<W: Window<Piece, 4096> + Drop>(
     links: &mut Vec<Link<W>>,
-    live: &mut Vec<usize>,
+    index: &mut Index,
 ) -> Result<(), AllocError>
+    requires { index.old.waiting < 2 ^ 63 }
     ensures links { links.new.items ≡ links.old.items }
-    ensures live { live.new.items ≡ live.old.items }
     ensures ok { OnOk result (vec_len links.new < vec_capacity links.new) }
-    ensures room { OnOk result (vec_len live.new < vec_capacity live.new) }
+    ensures room { OnOk result (index.new.waiting < spare index.new.reached) }
+    ensures reached { (q : ℕ) → times (hashed.get nat_eq index.new.reached q) ≡ times (hashed.get nat_eq index.old.reached q) }
+    ensures holders { index.new.holders ≡ index.old.holders }
+    ensures callers { index.new.callers ≡ index.old.callers }
+    ensures waiting { index.new.waiting ≡ index.old.waiting }
 {
     links.reserve(1)?;
-    live.reserve(1)?;
+    index.reserve()?;
     Ok(())
 }
 
-// A link that a CI begins is put behind the others. Where memory is refused, nothing changes.
+// A link that a CI begins is put behind the others; no live one knows its far address. Where memory is refused, nothing changes.
 #[tactic(auto, using(crate::proofs::Giving::indexes))]
 fn called_at<W: Window<Piece, 4096> + Drop>(
     alloc: Global,
     links: &mut Vec<Link<W>>,
-    live: &mut Vec<usize>,
+    index: &mut Index,
     far: u16,
     segsize: u16,
     tag: LinkTag,
 ) -> Result<(), AllocError>
-    ensures index { (h : ℕ → Option ℕ) → IsIndexed links.old.items live.old.items h → IsIndexed links.new.items live.new.items h }
+    requires index { IsIndexed links.old.items (λ q. get nat_cmp index.old.holders q) (λ q. get nat_cmp index.old.callers q)
+        (λ q. times (hashed.get nat_eq index.old.reached q)) index.old.waiting }
+    requires free { counted (lives_to far) links.old.items ≡ 0 }
+    ensures index { IsIndexed links.new.items (λ q. get nat_cmp index.new.holders q) (λ q. get nat_cmp index.new.callers q)
+        (λ q. times (hashed.get nat_eq index.new.reached q)) index.new.waiting }
     ensures ok { OnOk result (links.new.items ≡ links.old.items ++ called wire_flows of_partner far segsize tag ∷ []) }
     ensures err { OnErr result (links.new.items ≡ links.old.items) }
 {
     let link = Link::called(alloc, far, segsize, tag)?;
-    make_room(links, live)?;
-    put(links, live, link);
-    Ok(())
-}
-
-// A link is put behind the others, for which there is room.
-fn put<W: Window<Piece, 4096> + Drop>(
-    links: &mut Vec<Link<W>>,
-    live: &mut Vec<usize>,
-    link: Link<W>,
-)
-    requires room { vec_len links.old < vec_capacity links.old }
-    requires live { vec_len live.old < vec_capacity live.old }
-    ensures links { links.new.items ≡ links.old.items ++ link ∷ [] }
-    ensures live { live.new.items ≡ live.old.items ++ length links.old.items ∷ [] }
-{
-    live.push_reserved(links.len());
+    make_room(links, index)?;
+    index.call(far, links.len())?;
+    index.reach(far);
     links.push_reserved(link);
-}
-
-// The link with this number is from now on the holder of an own address. Where memory is refused, nothing changes.
-fn give(holders: &mut BTreeMap<u16, usize>, own: u16, number: usize) -> Result<(), AllocError>
-    ensures ok { (q : ℕ) → OnOk result (get nat_cmp holders.new q ≡ (if eqb own q then Some number else get nat_cmp holders.old q)) }
-    ensures err { (q : ℕ) → OnErr result (get nat_cmp holders.new q ≡ get nat_cmp holders.old q) }
-{
-    match holders.insert(own, number) {
-        Ok(_) => Ok(()),
-        Err(_) => Err(AllocError),
-    }
+    Ok(())
 }
 
 // The ended link that held an own address, if there is one, loses it.
@@ -167,40 +142,38 @@ fn free<W: Window<Piece, 4096> + Drop>(links: &mut Vec<Link<W>>, holder: Option<
 fn opened_at<W: Window<Piece, 4096> + Drop>(
     alloc: Global,
     links: &mut Vec<Link<W>>,
-    live: &mut Vec<usize>,
-    holders: &mut BTreeMap<u16, usize>,
+    index: &mut Index,
     own: u16,
 ) -> Result<(), AllocError>
-    requires index { IsIndexed links.old.items live.old.items (λ q. get nat_cmp holders.old q) }
-    requires dead { (number : ℕ) (link : LinkOf WireFlow) → get nat_cmp holders.old own ≡ Some number
+    requires index { IsIndexed links.old.items (λ q. get nat_cmp index.old.holders q) (λ q. get nat_cmp index.old.callers q)
+        (λ q. times (hashed.get nat_eq index.old.reached q)) index.old.waiting }
+    requires dead { (number : ℕ) (link : LinkOf WireFlow) → get nat_cmp index.old.holders own ≡ Some number
         → slice_get links.old.items number ≡ Some link → is_live link.port.phase ≡ false }
-    ensures index { IsIndexed links.new.items live.new.items (λ q. get nat_cmp holders.new q) }
-    ensures ok { OnOk result (links.new.items ≡ forgotten_at (get nat_cmp holders.old own) links.old.items ++ opened wire_flows own ∷ []) }
+    ensures index { IsIndexed links.new.items (λ q. get nat_cmp index.new.holders q) (λ q. get nat_cmp index.new.callers q)
+        (λ q. times (hashed.get nat_eq index.new.reached q)) index.new.waiting }
+    ensures ok { OnOk result (links.new.items ≡ forgotten_at (get nat_cmp index.old.holders own) links.old.items ++ opened wire_flows own ∷ []) }
     ensures err { OnErr result (links.new.items ≡ links.old.items) }
 {
     let link = Link::opened(alloc, own)?;
-    make_room(links, live)?;
-    let holder = holder_of(holders, own);
-    give(holders, own, links.len())?;
-    put_opened(links, live, holder, link);
+    make_room(links, index)?;
+    let holder = index.holder(own);
+    index.give(own, links.len())?;
+    index.wait();
+    put_opened(links, holder, link);
     Ok(())
 }
 
 // A link that is opened here is put behind the others; the ended link that held its address loses it.
 fn put_opened<W: Window<Piece, 4096> + Drop>(
     links: &mut Vec<Link<W>>,
-    live: &mut Vec<usize>,
     holder: Option<usize>,
     link: Link<W>,
 )
     requires room { vec_len links.old < vec_capacity links.old }
-    requires live { vec_len live.old < vec_capacity live.old }
     requires dead { (number : ℕ) (link : LinkOf WireFlow) → holder ≡ Some number → slice_get links.old.items number ≡ Some link
         → is_live link.port.phase ≡ false }
-    ensures links { links.new.items ≡ forgotten_at holder links.old.items ++ link ∷ [] }
-    ensures live { live.new.items ≡ live.old.items ++ length links.old.items ∷ [] }
+    ensures { links.new.items ≡ forgotten_at holder links.old.items ++ link ∷ [] }
 {
-    live.push_reserved(links.len());
     free(links, holder);
     links.push_reserved(link);
 }
@@ -209,28 +182,30 @@ fn put_opened<W: Window<Piece, 4096> + Drop>(
 #[tactic(auto, using(crate::proofs::Giving::indexes))]
 fn answered_at<W: Window<Piece, 4096> + Drop>(
     links: &mut Vec<Link<W>>,
-    live: &Vec<usize>,
-    holders: &mut BTreeMap<u16, usize>,
+    index: &mut Index,
     number: usize,
     phase: Phase,
     own: u16,
 ) -> Result<(), AllocError>
-    requires index { IsIndexed links.old.items live.now.items (λ q. get nat_cmp holders.old q) }
-    requires dead { (number : ℕ) (link : LinkOf WireFlow) → get nat_cmp holders.old own ≡ Some number
+    requires index { IsIndexed links.old.items (λ q. get nat_cmp index.old.holders q) (λ q. get nat_cmp index.old.callers q)
+        (λ q. times (hashed.get nat_eq index.old.reached q)) index.old.waiting }
+    requires dead { (number : ℕ) (link : LinkOf WireFlow) → get nat_cmp index.old.holders own ≡ Some number
         → slice_get links.old.items number ≡ Some link → is_live link.port.phase ≡ false }
     requires within { number < length links.old.items }
     requires called { (link : LinkOf WireFlow) → slice_get links.old.items number ≡ Some link → is_called link.port.phase ≡ true }
     requires live { is_live phase ≡ true }
     requires answers { is_called phase ≡ false }
-    ensures index { IsIndexed links.new.items live.now.items (λ q. get nat_cmp holders.new q) }
+    requires known { is_calling phase ≡ false }
+    ensures index { IsIndexed links.new.items (λ q. get nat_cmp index.new.holders q) (λ q. get nat_cmp index.new.callers q)
+        (λ q. times (hashed.get nat_eq index.new.reached q)) index.new.waiting }
     ensures ok { (link : LinkOf WireFlow) → slice_get links.old.items number ≡ Some link
-        → OnOk result (links.new.items ≡ slice_set (forgotten_at (get nat_cmp holders.old own) links.old.items) number
+        → OnOk result (links.new.items ≡ slice_set (forgotten_at (get nat_cmp index.old.holders own) links.old.items) number
         (answered wire_flows phase own link)) }
     ensures err { OnErr result (links.new.items ≡ links.old.items) }
 {
     let _port = links[number].port();
-    let holder = holder_of(holders, own);
-    give(holders, own, number)?;
+    let holder = index.holder(own);
+    index.give(own, number)?;
     free(links, holder);
     links[number].answer(phase, own);
     Ok(())

@@ -1,23 +1,25 @@
 //! How one of the links changes in its place.
 
-ghost use Rattle.std.specs.Prelude.{◌≡◌, ◌<◌, Ok, Err, None, Some, true, false, length, slice_get, OnOk, OnErr, IfOk, IfErr, IfSome};
-ghost use Rattle.std.specs.Prelude.{if◌then◌else◌, position, eqb};
-ghost use Rattle.nsp_link.specs.inner.Index.{without};
+ghost use Rattle.std.specs.Prelude.{◌≡◌, ◌<◌, Ok, Err, None, Some, true, false, length, slice_get, OnOk, OnErr, IfOk, IfErr};
+ghost use Rattle.std.specs.Prelude.{if◌then◌else◌, ℕ, suc, nat_eq};
+ghost use Rattle.std.specs.HashMap as hashed;
 ghost use Rattle.std.specs.List.{AllByRecursion};
 ghost use Rattle.dna_packet.specs.AckWord.{IsAckWord};
 ghost use Rattle.dna_packet.specs.Nsp.{segment_view};
 ghost use Rattle.dna_links.specs.Links.{LinkOf, changed, in_phase, with_flow, ended};
-ghost use Rattle.dna_links.specs.LookUps.{is_live};
+ghost use Rattle.dna_links.specs.LookUps.{is_live, is_calling, is_at};
 ghost use Rattle.dna_links.specs.User.{delivered};
 ghost use Rattle.dna_links.specs.Sending.{carries, segment_of, truth_of};
 ghost use Rattle.dna_links.specs.Arriving.{of_partner, confirmed, running};
 ghost use Rattle.dna_links.specs.WireFlow.{WireFlow, wire_flows, hands_in, delivers, is_new, sends_acks, takes_acks, takes_segment};
 ghost use Rattle.nsp_link.specs.Fault.{IsFault};
 ghost use Rattle.nsp_link.specs.Flow.{is_held};
+ghost use Rattle.nsp_link.specs.inner.Index.{times};
 
 use super::Links;
+use crate::index::Index;
 use crate::{LinkFault, LinkRefusal, LinkTag, Piece};
-use dna_links::Phase;
+use dna_links::{Phase, Port};
 use dna_packet::{AckWord, Segment};
 use std::alloc::AllocError;
 use wire_base::Window;
@@ -95,14 +97,17 @@ impl<W: Window<Piece, 4096> + Drop> Links<W> {
         self.links[number].send_acks(words)
     }
 
-    // A CC confirms the link with this number.
+    // A CC confirms the link with this number, which is in Calling.
     pub(super) fn confirm_at(&mut self, number: usize, far: u16, segsize: u16, tag: LinkTag)
         requires within { number < length self.old.links }
-        requires live { (link : LinkOf WireFlow) → slice_get self.old.links number ≡ Some link → is_live link.port.phase ≡ true }
+        requires calling { (link : LinkOf WireFlow) → slice_get self.old.links number ≡ Some link → is_calling link.port.phase ≡ true }
         ensures { (link : LinkOf WireFlow) → slice_get self.old.links number ≡ Some link
             → self.new ≡ changed number (confirmed wire_flows of_partner far segsize tag link) self.old }
     {
+        let _port = self.links[number].port();
         self.links[number].confirm(far, segsize, tag);
+        self.index.stop_waiting();
+        self.index.reach(far);
     }
 
     // The link with this number runs.
@@ -153,25 +158,26 @@ impl<W: Window<Piece, 4096> + Drop> Links<W> {
         ensures { (link : LinkOf WireFlow) → slice_get self.old.links number ≡ Some link
             → self.new ≡ changed number (ended wire_flows link) self.old }
     {
+        let port = self.links[number].port();
         self.links[number].end(self.alloc);
-        take_away(&mut self.live, number);
+        forget(&mut self.index, port);
     }
 }
 
-// Takes a number away from a list of numbers, at the first place where it stands.
-#[tactic(auto, using(crate::proofs::Index::taking_away))]
-fn take_away(numbers: &mut Vec<usize>, number: usize)
-    ensures { numbers.new.items ≡ without number numbers.old.items }
+// A link with this port, which lived, is over.
+fn forget(index: &mut Index, port: Port)
+    requires waits { is_calling port.phase ≡ true → 0 < index.old.waiting }
+    requires reaches { (far : ℕ) → port.far ≡ Some far → 0 < times (hashed.get nat_eq index.old.reached far) }
+    ensures waiting { (if is_calling port.phase then suc index.new.waiting else index.new.waiting) ≡ index.old.waiting }
+    ensures reached { (q : ℕ) → (if is_at port.far q then suc (times (hashed.get nat_eq index.new.reached q))
+        else times (hashed.get nat_eq index.new.reached q)) ≡ times (hashed.get nat_eq index.old.reached q) }
+    ensures holders { index.new.holders ≡ index.old.holders }
+    ensures callers { index.new.callers ≡ index.old.callers }
 {
-    let Some(place) = place_of(numbers, number) else {
-        return;
-    };
-    numbers.remove(place);
-}
-
-fn place_of(numbers: &[usize], number: usize) -> Option<usize>
-    ensures place { result ≡ position (λ other. eqb other number) numbers.now }
-    ensures within { IfSome result (λ place. place < length numbers.now) }
-{
-    numbers.iter().position(|other| *other == number)
+    if matches!(port.phase, Phase::Calling) {
+        index.stop_waiting();
+    }
+    if let Some(far) = port.far {
+        index.leave(far);
+    }
 }

@@ -5,7 +5,7 @@ ghost use Rattle.dna_links.specs.User as user;
 ghost use Rattle.dna_links.specs.WireLinks.{wire_links_user};
 ghost use Rattle.nsp_link.specs.Fault.{IsFault};
 ghost use Rattle.dna_links.specs.Links.{LinkOf, changed, in_phase};
-ghost use Rattle.dna_links.specs.LookUps.{is_live, is_called};
+ghost use Rattle.dna_links.specs.LookUps.{is_live, is_called, is_calling};
 ghost use Rattle.dna_links.specs.WireFlow.{WireFlow, wire_flows};
 ghost use Rattle.nsp_link.specs.Phases.{event_takes_memory};
 
@@ -45,7 +45,7 @@ impl<W: Window<Piece, 4096> + Drop> Links<W> {
     }
 
     // A link is closed from here.
-    #[tactic(auto, using(crate::proofs::Index::found_links))]
+    #[tactic(auto, using(crate::proofs::LookUps::found_links))]
     fn close(&mut self, own: u16) -> Result<(), LinkFault>
         ensures ok { OnOk result (wire_links_user self.old (user.Close own) ≡ Ok self.new) }
         ensures refused { IfErr result (λ fault. IsFault (wire_links_user self.old (user.Close own)) false fault) }
@@ -65,7 +65,7 @@ impl<W: Window<Piece, 4096> + Drop> Links<W> {
     }
 
     // A message is handed in.
-    #[tactic(auto, using(crate::proofs::Index::found_links))]
+    #[tactic(auto, using(crate::proofs::LookUps::found_links))]
     fn hand_in(&mut self, own: u16, message: &[u8]) -> Result<(), LinkFault>
         ensures ok { OnOk result (wire_links_user self.old (user.In own message.now) ≡ Ok self.new) }
         ensures refused { IfErr result (λ fault. IsFault (wire_links_user self.old (user.In own message.now)) true fault) }
@@ -87,13 +87,13 @@ impl<W: Window<Piece, 4096> + Drop> Links<W> {
     }
 
     // A message is delivered.
-    #[tactic(auto, using(crate::proofs::Index::found_links))]
+    #[tactic(auto, using(crate::proofs::LookUps::found_links))]
     fn deliver(&mut self, own: u16, message: &[u8]) -> Result<(), LinkFault>
         ensures ok { OnOk result (wire_links_user self.old (user.Up own message.now) ≡ Ok self.new) }
         ensures refused { IfErr result (λ fault. IsFault (wire_links_user self.old (user.Up own message.now)) false fault) }
         ensures err { OnErr result (self.new ≡ self.old) }
     {
-        let Some(number) = self.holder(own) else {
+        let Some(number) = self.find(LinkTest::HasAddress { own }) else {
             return Err(LinkFault::Refused(LinkRefusal::NoLink));
         };
         let Some(_link) = self.link(number) else {
@@ -106,7 +106,7 @@ impl<W: Window<Piece, 4096> + Drop> Links<W> {
     }
 
     // A link is opened from here.
-    #[tactic(auto, using(crate::proofs::Index::found_links))]
+    #[tactic(auto, using(crate::proofs::LookUps::found_links))]
     fn open(&mut self, own: u16) -> Result<(), LinkFault>
         ensures ok { OnOk result (wire_links_user self.old (user.Open own) ≡ Ok self.new) }
         ensures refused { IfErr result (λ fault. IsFault (wire_links_user self.old (user.Open own)) true fault) }
@@ -125,10 +125,11 @@ impl<W: Window<Piece, 4096> + Drop> Links<W> {
     }
 
     // A call is answered: the link goes to this phase.
-    #[tactic(auto, using(crate::proofs::Index::found_links))]
+    #[tactic(auto, using(crate::proofs::LookUps::found_links))]
     fn answer(&mut self, partner: u16, own: u16, phase: Phase) -> Result<(), LinkFault>
         requires live { is_live phase ≡ true }
         requires answers { is_called phase ≡ false }
+        requires known { is_calling phase ≡ false }
         ensures ok { OnOk result (user.answers wire_flows phase partner own self.old ≡ Ok self.new) }
         ensures refused { IfErr result (λ fault. IsFault (user.answers wire_flows phase partner own self.old) true fault) }
         ensures err { OnErr result (self.new ≡ self.old) }

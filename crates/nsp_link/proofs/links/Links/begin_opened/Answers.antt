@@ -1,7 +1,7 @@
 use Rattle.std.proofs.Common.{ap, ◌∙◌}
 use Rattle.dna_links.specs.declared.port.LinkTest.TheVariants.{LiveAt}
 use Rattle.dna_links.specs.Links.{number_of}
-use Rattle.nsp_link.proofs.Index.{dead_holder, address_found}
+use Rattle.nsp_link.proofs.LookUps.{dead_holder, address_found}
 use Rattle.nsp_link.proofs.Giving.{opened_made}
 use Rattle.nsp_link.proofs.Change.{map_ok}
 use Rattle.nsp_link.proofs.links.Links.begin_opened.Goals as goal
@@ -9,7 +9,7 @@ use Rattle.nsp_link.proofs.links.Links.begin_opened.Goals as goal
 pub opened_at-requires-clause-dead : goal.opened_at-requires-clause-dead
 opened_at-requires-clause-dead g c = λ n l held there.
     let i = c.self.inside in
-    dead_holder c.args.own i.links.items i.live.items _ c.self.invariant (ap (number_of (LiveAt c.args.own)) c.self.view_is ∙ c.requires) n l held
+    dead_holder c.args.own i.links.items _ _ _ _ c.self.invariant (ap (number_of (LiveAt c.args.own)) c.self.view_is ∙ c.requires) n l held
     there
 
 pub returns-clause-ok : goal.returns-clause-ok
@@ -17,4 +17,4 @@ returns-clause-ok g c =
     let l = c.self.inside in
     map_ok c.opened_at.result
     (λ e. opened_made l.node l.peer l.links.items c.args.self.now c.self.view_is c.args.own _
-    (address_found l.links.items l.live.items _ c.self.invariant c.args.own) c.opened_at.new.links.items e) c.opened_at.ensures.ok
+    (address_found l.links.items _ _ _ _ c.self.invariant c.args.own) c.opened_at.new.links.items e) c.opened_at.ensures.ok

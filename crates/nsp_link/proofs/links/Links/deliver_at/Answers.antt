@@ -1,18 +1,15 @@
 use Rattle.std.proofs.Common.{ap}
-use Rattle.dna_links.specs.LookUps.{is_live}
 use Rattle.dna_links.specs.Links.{LinkOf}
 use Rattle.dna_links.specs.WireFlow.{WireFlow}
-use Rattle.nsp_link.proofs.Index.{indexed_change}
-use Rattle.nsp_link.proofs.Change.{link_there, change_none, told_made}
+use Rattle.nsp_link.proofs.Change.{kept_indexed, change_none, told_made}
 use Rattle.nsp_link.proofs.links.Links.deliver_at.Goals as goal
 
 pub invariant_of-self : goal.invariant_of-self
 invariant_of-self g c =
     let l = c.self.inside in
-    indexed_change l.links.items l.live.items _ c.args.number c.index_mut.result.now c.deliver.new.self c.self.invariant
-    (link_there l.node l.peer l.links.items c.args.self.now c.self.view_is c.args.number c.index_mut.result.now c.requires.within
-    c.index_mut.ensures.value)
-    (ap (λ (m : LinkOf WireFlow). is_live m.port.phase) c.deliver.ensures.rest) (ap (λ (m : LinkOf WireFlow). m.port.own) c.deliver.ensures.rest)
+    kept_indexed l.node l.peer l.links.items c.args.self.now c.self.view_is c.args.number c.index_mut.result.now c.requires.within
+    c.index_mut.ensures.value _ _ _ _ c.deliver.new.self c.self.invariant
+    (ap (λ (m : LinkOf WireFlow). m.port) c.deliver.ensures.rest)
 
 pub returns-clause-told : goal.returns-clause-told
 returns-clause-told g c = λ link there.

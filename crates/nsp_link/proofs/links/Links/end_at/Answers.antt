@@ -1,22 +1,49 @@
-use Rattle.std.proofs.Common.{ap, refl}
-use Rattle.dna_links.specs.LookUps.{is_live}
+use Rattle.std.proofs.Common.{◌≡◌, ℕ, refl, sym, ap, ◌∙◌, nat_cmp}
+use Rattle.std.specs.BTreeMap.{BTreeMap, get}
+use Rattle.dna_links.specs.declared.port.Port.{Port}
+use Rattle.dna_links.specs.LookUps.{is_calling}
 use Rattle.dna_links.specs.Links.{LinkOf, ended}
 use Rattle.dna_links.specs.WireFlow.{WireFlow, wire_flows}
-use Rattle.nsp_link.proofs.Index.{indexed_same}
-use Rattle.nsp_link.proofs.Change.{end_indexed, change_made}
+use Rattle.nsp_link.proofs.LookUps.{eq-is_at}
+use Rattle.nsp_link.proofs.Indexed.{some_wait, some_reached}
+use Rattle.nsp_link.proofs.Giving.{one_link}
+use Rattle.nsp_link.proofs.Change.{link_there, link_found, ended_index, change_made}
 use Rattle.nsp_link.proofs.links.Links.end_at.Goals as goal
+
+pub forget-requires-clause-waits : goal.forget-requires-clause-waits
+forget-requires-clause-waits g c = λ calling.
+    let l = c.self.inside in
+    let k = c.index.result.now in
+    some_wait l.links.items _ _ _ _ c.self.invariant c.args.number k k
+    (link_there l.node l.peer l.links.items c.args.self.now c.self.view_is c.args.number c.index.result.now c.requires.within c.index.ensures)
+    (sym (ap (λ (p : Port). is_calling p.phase) c.port-port.ensures.port) ∙ calling)
+
+pub forget-requires-clause-reaches : goal.forget-requires-clause-reaches
+forget-requires-clause-reaches g c = λ far known.
+    let l = c.self.inside in
+    let k = c.index.result.now in
+    some_reached l.links.items _ _ _ _ c.self.invariant c.args.number k k
+    (link_there l.node l.peer l.links.items c.args.self.now c.self.view_is c.args.number c.index.result.now c.requires.within c.index.ensures)
+    far (c.requires.live k (link_found l.node l.peer l.links.items c.args.self.now c.self.view_is c.args.number c.index.result.now c.requires.within c.index.ensures))
+    (eq-is_at k.port.far far (sym (ap (λ (p : Port). p.far) c.port-port.ensures.port) ∙ known))
+
+pub invariant_of-self : goal.invariant_of-self
+invariant_of-self g c =
+    let l = c.self.inside in
+    let k = c.index.result.now in
+    let there = link_there l.node l.peer l.links.items c.args.self.now c.self.view_is c.args.number c.index.result.now c.requires.within c.index.ensures in
+    let lives = c.requires.live k (link_found l.node l.peer l.links.items c.args.self.now c.self.view_is c.args.number c.index.result.now c.requires.within c.index.ensures) in
+    let same : c.index_mut.result.now ≡ k =
+    one_link l.links.items l.links.items c.args.number c.index_mut.result.now k k refl c.index_mut.ensures.value there refl in
+    ended_index l.node l.peer l.links.items c.args.self.now c.self.view_is c.args.number c.index.result.now c.requires.within c.index.ensures
+    _ _ _ _ _ _ _ _ c.self.invariant
+    (λ q. ap (λ (m : BTreeMap ℕ ℕ). get nat_cmp m q) c.forget.ensures.holders)
+    (λ q. ap (λ (m : BTreeMap ℕ ℕ). get nat_cmp m q) c.forget.ensures.callers)
+    c.port-port.result c.end.new.self c.port-port.ensures.port lives (c.end.ensures ∙ ap (ended wire_flows) same)
+    c.forget.ensures.waiting c.forget.ensures.reached
 
 pub returns : goal.returns
 returns g c =
     let l = c.self.inside in
     change_made l.node l.peer l.links.items c.args.self.now c.self.view_is c.args.number c.index_mut.result.now c.requires.within
     c.index_mut.ensures.value (ended wire_flows) c.end.new.self c.end.ensures
-
-pub invariant_of-self : goal.invariant_of-self
-invariant_of-self g c =
-    let l = c.self.inside in
-    let dead = ap (λ (m : LinkOf WireFlow). is_live m.port.phase) c.end.ensures in
-    let own = ap (λ (m : LinkOf WireFlow). m.port.own) c.end.ensures in
-    indexed_same _ _ _ _ _ _
-    (end_indexed l.node l.peer l.links.items c.args.self.now c.self.view_is c.args.number c.index_mut.result.now c.requires.within
-    c.index_mut.ensures.value l.live.items _ c.end.new.self c.self.invariant dead own) refl c.take_away.ensures (λ q. refl)

@@ -1,11 +1,17 @@
-use Rattle.std.proofs.Common.{sym, ◌∙◌}
-use Rattle.nsp_link.proofs.Index.{live_found, found_number}
+use Rattle.std.proofs.Common.{ℕ, Option, sym, ap, ◌∙◌}
+use Rattle.dna_links.specs.LookUps.{passes}
+use Rattle.dna_links.specs.Links.{LinkOf}
+use Rattle.dna_links.specs.WireFlow.{WireFlow}
+use Rattle.nsp_link.specs.inner.Index.{passing}
+use Rattle.nsp_link.proofs.LookUps.{one_found, found_number}
 use Rattle.nsp_link.proofs.links.Links.find.Goals as goal
 
 pub returns-clause-number : goal.returns-clause-number
 returns-clause-number g c =
-    rw (← c.self.view_is) (c.first_of.ensures ∙
-    sym (live_found c.args.test c.self.inside.links.items c.deref.result.now c.requires (c.deref.ensures.value ∙ c.self.invariant.live)))
+    let l = c.self.inside in
+    rw (← c.self.view_is) (c.passing.ensures
+    ∙ ap (λ (o : Option ℕ). passing (λ (k : LinkOf WireFlow). passes c.args.test k.port) l.links.items o) c.candidate.ensures
+    ∙ sym (one_found l.links.items _ _ _ _ c.self.invariant c.args.test c.requires))
 
 pub returns-clause-within : goal.returns-clause-within
-returns-clause-within g c = found_number c.args.test c.args.self.now c.first_of.result (returns-clause-number g c)
+returns-clause-within g c = found_number c.args.test c.args.self.now c.passing.result (returns-clause-number g c)

@@ -1,18 +1,15 @@
-use Rattle.std.proofs.Common.{ap, ◌∙◌}
-use Rattle.dna_links.specs.LookUps.{is_live}
+use Rattle.std.proofs.Common.{ap}
 use Rattle.dna_links.specs.Links.{LinkOf, with_flow}
 use Rattle.dna_links.specs.WireFlow.{WireFlow, hands_in}
-use Rattle.nsp_link.proofs.Change.{link_found, change_indexed, change_made, map_ok}
+use Rattle.nsp_link.proofs.Change.{kept_indexed, change_made, map_ok}
 use Rattle.nsp_link.proofs.links.Links.hand_in_at.Goals as goal
 
 pub invariant_of-self : goal.invariant_of-self
 invariant_of-self g c =
     let l = c.self.inside in
-    change_indexed l.node l.peer l.links.items c.args.self.now c.self.view_is c.args.number c.index_mut.result.now c.requires.within
-    c.index_mut.ensures.value l.live.items _ c.hand_in.new.self c.self.invariant c.requires.live
-    (ap (λ (m : LinkOf WireFlow). is_live m.port.phase) c.hand_in.ensures.rest ∙ c.requires.live c.index_mut.result.now
-    (link_found l.node l.peer l.links.items c.args.self.now c.self.view_is c.args.number c.index_mut.result.now c.requires.within
-    c.index_mut.ensures.value)) (ap (λ (m : LinkOf WireFlow). m.port.own) c.hand_in.ensures.rest)
+    kept_indexed l.node l.peer l.links.items c.args.self.now c.self.view_is c.args.number c.index_mut.result.now c.requires.within
+    c.index_mut.ensures.value _ _ _ _ c.hand_in.new.self c.self.invariant
+    (ap (λ (m : LinkOf WireFlow). m.port) c.hand_in.ensures.rest)
 
 pub returns-clause-ok : goal.returns-clause-ok
 returns-clause-ok g c = λ link there.

@@ -10,8 +10,7 @@ pub invariant_of-self : goal.invariant_of-self
 invariant_of-self g c =
     let l = c.self.inside in
     change_indexed l.node l.peer l.links.items c.args.self.now c.self.view_is c.args.number c.index_mut.result.now c.requires.within
-    c.index_mut.ensures.value l.live.items _ c.take_segment.new.self c.self.invariant c.requires.live
-    (c.take_segment.ensures.lives) (c.take_segment.ensures.own)
+    c.index_mut.ensures.value _ _ _ _ c.take_segment.new.self c.self.invariant c.take_segment.ensures.stays
 
 pub returns-clause-ok : goal.returns-clause-ok
 returns-clause-ok g c = λ link there.
