@@ -3,3 +3,6 @@ pub mod Links
 pub mod Station
 pub mod Layers
 pub mod Steps
+pub mod Acks
+pub mod Right
+pub mod Runs

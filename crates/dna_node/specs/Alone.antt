@@ -138,6 +138,7 @@ judged_alone head records = ends_from layers_end (new_wire_layers_node head) 0 r
 
 -- ---- what is said of it
 
+-- all of them are made
 abbrev pub Passes : Head → List Record → Type 0
 Passes head records = (node : WireLayersNode) × (judged_alone head records ≡ Passed node)
 
