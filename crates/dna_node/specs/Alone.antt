@@ -11,7 +11,7 @@ use Rattle.dna_station.specs.declared.refusal.StationRefusal.TheVariants.{Crosse
 use Rattle.dna_station.specs.declared.refusal.StepRefusal.{StepRefusal}
 use Rattle.dna_station.specs.declared.refusal.StepRefusal.TheVariants.{NotAMessage, HintOrder, Undetected, Station as OfStation, Links as OfLinks}
 use Rattle.dna_station.specs.declared.link_refusal.LinkRefusal.TheVariants.{CrossedLink}
-use Rattle.dna_station.specs.Book.{ArrivalValue, Sound, HeaderBad, DataBad}
+use Rattle.dna_station.specs.Book.{Sound, HeaderBad, DataBad}
 use Rattle.dna_station.specs.Line.{damage}
 use Rattle.dna_station.specs.Machine.{Machine, NodeOf, noise_comes}
 use Rattle.dna_links.specs.Arriving.{of_anyone}

@@ -1,10 +1,10 @@
 -- What a right partner acknowledges is never wrong: the numbers that its words have lie near those of the link that acts on them, and none above the
 -- highest given.
-use Rattle.std.proofs.Common.{◌≡◌, ℕ, ◌+◌, ◌-◌, ◌<◌, ◌≤◌, ◌⊎◌, inl, inr, Bool, true, false, ◌&&◌, ◌||◌, not, eqb, ltb, leb, cond, Option, Some, None, List}
-use Rattle.std.proofs.Common.{[], ◌∷◌, map, length, drop, Result, Ok, Err, refl, sym, ap, ap₂, ◌∙◌, subst, arith, option_map, le-leb, length-drop}
+use Rattle.std.proofs.Common.{◌≡◌, ℕ, ◌-◌, ◌<◌, ◌≤◌, ◌⊎◌, inl, inr, Bool, true, false, ◌&&◌, ◌||◌, not, eqb, ltb, leb, cond, Option, Some, None}
+use Rattle.std.proofs.Common.{List}
+use Rattle.std.proofs.Common.{[], ◌∷◌, map, length, drop, Result, Ok, refl, sym, ap, ap₂, ◌∙◌, arith, le-leb, length-drop}
 use Rattle.std.specs.Prelude.{slice_get}
-use Rattle.std.proofs.lemmas.Bool.{cases_lt, lt-leb, and_parts}
-use Rattle.std.proofs.lemmas.Option.{slice_get-map}
+use Rattle.std.proofs.lemmas.Bool.{cases_lt, and_parts}
 use Rattle.dna_packet.specs.declared.ack_word.AckWord.{AckWord}
 use Rattle.dna_packet.specs.Nsp.{NspValue, DataSegment, LinkService, DataAck, OtherDataAck, ConnectAck, NoOperation, ConnectInitiate, ConnectConfirm}
 use Rattle.dna_packet.specs.Nsp.{DisconnectInitiate, DisconnectConfirm}
@@ -12,7 +12,6 @@ use Rattle.dna_station.specs.declared.link_refusal.LinkRefusal.{LinkRefusal}
 use Rattle.dna_station.specs.declared.link_refusal.LinkRefusal.TheVariants.{WrongNode, WrongAck, CrossedLink}
 use Rattle.dna_station.specs.declared.refusal.StepRefusal.{StepRefusal}
 use Rattle.dna_station.specs.declared.refusal.StepRefusal.TheVariants.{Links as OfLinks}
-use Rattle.dna_links.specs.declared.tag.LinkTag.{LinkTag}
 use Rattle.dna_links.specs.declared.port.LinkTest.{LinkTest}
 use Rattle.dna_links.specs.declared.port.LinkTest.TheVariants.{ActedOn}
 use Rattle.dna_links.specs.Pieces.{Piece}
@@ -20,7 +19,7 @@ use Rattle.dna_links.specs.declared.port.Phase.{Phase}
 use Rattle.dna_links.specs.declared.port.Phase.TheVariants.{Calling, Called, Confirming, Running, Disconnecting, Ended}
 use Rattle.dna_links.specs.LookUps.{passes, is_live, is_connected, has_both}
 use Rattle.dna_links.specs.Flow.{REACH, wire, distance, is_of_data}
-use Rattle.dna_links.specs.Links.{LinkOf, LinksOf, Carried, LinkTruth, check, number_of, on_link, at_number, with_link, changed}
+use Rattle.dna_links.specs.Links.{LinkOf, Carried, LinkTruth, check, number_of, on_link, at_number, with_link, changed}
 use Rattle.dna_links.specs.Arriving.{of_partner, is_of_pair, running, acted_on, message_arrived}
 use Rattle.dna_links.specs.TrueFlow.{TrueFlow, Numbers, highest_given, acknowledged_through, numbers_of}
 use Rattle.dna_links.specs.TrueLinks.{Links}
@@ -156,7 +155,8 @@ words_right : (many : Bool) (words : List AckWord) (f : TrueFlow) (numbers : Lis
     many ≡ (cut f).gave_many → may_acknowledge_all many words (cut f).kept ≡ true
 words_right many [] f numbers ordered spells near same = refl
 words_right many (word ∷ words) f numbers ordered spells near same =
-    by_word word words many (λ g ns o sp ne sa. words_right many words g ns o sp ne sa) f ordered same (is_of_data word.qualifier) refl numbers spells near
+    by_word word words many (λ g ns o sp ne sa. words_right many words g ns o sp ne sa) f ordered same (is_of_data word.qualifier) refl
+    numbers spells near
 
 -- ---- the link that acts on them
 
@@ -215,7 +215,8 @@ module _ (s : Links) (ordered : AreOrdered s) (truth : LinkTruth Numbers) where
       Follows (acted_on wire_flows of_partner own far truth.tag takes (cut_links s)) (wrong_acks own far acks (cut_links s))
   acks_right own far acks takes near =
       λ links e. with_each Same (ActedOn own far) (cut_links s) (Ok (cut_links s)) None None
-      (λ n l. check (of_partner (is_of_pair n l.partner truth.tag)) CrossedLink (Ok (changed n (running wire_flows of_partner takes l) (cut_links s))))
+      (λ n l. check (of_partner (is_of_pair n l.partner truth.tag)) CrossedLink
+      (Ok (changed n (running wire_flows of_partner takes l) (cut_links s))))
       (λ n l. wrong_words acks l.flow) (asked acks) (λ links e. refl)
       (λ n l. by_partner (is_of_pair n l.partner truth.tag) (changed n (running wire_flows of_partner takes l) (cut_links s))
       (wrong_words acks l.flow)) links e

@@ -1,6 +1,6 @@
 -- The node of one end alone is the wire node of the pair with the partner period, the partners of links and those in labels forgotten: what its user
 -- does, what it sends and what comes go along, but for what only the two rules refuse.
-use Rattle.std.proofs.Common.{◌≡◌, ℕ, Bool, true, false, cond, Option, Some, None, Result, Ok, Err, List, refl, sym, ap, ◌∙◌, subst}
+use Rattle.std.proofs.Common.{◌≡◌, Bool, true, false, cond, Option, Some, None, Result, Ok, Err, refl, sym, ap, ◌∙◌, subst}
 use Rattle.ddcmp_msg.specs.Message.{MessageValue}
 use Rattle.capture.specs.declared.event.Event.{Event}
 use Rattle.capture.specs.declared.event.Event.TheVariants as events
@@ -13,7 +13,7 @@ use Rattle.dna_station.specs.declared.refusal.StationRefusal.TheVariants.{Crosse
 use Rattle.dna_station.specs.declared.refusal.StepRefusal.{StepRefusal}
 use Rattle.dna_station.specs.declared.link_refusal.LinkRefusal.{LinkRefusal}
 use Rattle.dna_station.specs.Table.{user_refusal}
-use Rattle.dna_station.specs.Book.{ArrivalValue, Sound, HeaderBad, DataBad, body_of, meets_by, takes_by, keep_refusal}
+use Rattle.dna_station.specs.Book.{Sound, HeaderBad, DataBad, body_of, meets_by, takes_by, keep_refusal}
 use Rattle.dna_station.specs.WireStation.{WireStation, wire_after_event, wire_after_label}
 use Rattle.dna_station.specs.WireBook.{wire_book, wire_tag, wire_after_sending, wire_sending_refusal, wire_after_arrival, gives_new}
 use Rattle.dna_station.specs.Rules.{of_period}
@@ -26,13 +26,14 @@ use Rattle.dna_links.specs.WireFlow.{WireFlow, wire_flows}
 use Rattle.dna_links.specs.WireLinks.{WireLinks, wire_links_user, wire_links_sent, wire_links_arrived}
 use Rattle.dna_node.specs.Rules.{judged}
 use Rattle.dna_node.specs.Content.{content}
-use Rattle.dna_node.specs.WireLayers.{WireLayers, LayersTag, of_no_link, with_wire_station, with_wire_links, first_tagged, with_tag, wire_sends_first}
+use Rattle.dna_node.specs.WireLayers.{WireLayers, LayersTag, of_no_link, with_wire_station, with_wire_links, first_tagged, with_tag}
+use Rattle.dna_node.specs.WireLayers.{wire_sends_first}
 use Rattle.dna_node.specs.WireLayers.{wire_sends_again, wire_sends_on, tag_or_none, wire_keeps_packet, wire_meets_on, wire_layers_machine}
 use Rattle.dna_node.specs.Alone.{alone, unknown_tag, is_seen_alone}
 use Rattle.dna_node.proofs.Alone.Links.{forget_tag, forget_links, forget_result, forget_sent, user_along as links_user_along}
 use Rattle.dna_node.proofs.Alone.Links.{sent_along as links_sent_along, arrived_along as links_arrived_along}
 use Rattle.dna_node.proofs.Alone.Links as of_links
-use Rattle.dna_node.proofs.Alone.Station.{forget_station, event_along, sending_refusal_along, sending_along, first_along, label_along, no_tag}
+use Rattle.dna_node.proofs.Alone.Station.{forget_station, sending_refusal_along, sending_along, first_along, label_along, no_tag}
 use Rattle.dna_node.proofs.Alone.Station.{arrival_along, header_along, data_bad_along}
 
 abbrev pub forget_layers : WireLayers → WireLayers
@@ -109,7 +110,8 @@ module _ (s : WireLayers) (m : MessageValue) where
   by_content : (r : Result (Option Carried) StepRefusal) →
       GoAlong (wire_sends_first s after r) (wire_sends_first (forget_layers s) after_alone r)
   by_content (Ok (Some packet)) =
-      ap (λ (o : Result (Sent WireFlow (Unit {0})) LinkRefusal). left_sent (with_tag after_alone o)) (sym (links_sent_along wire_flows s.links packet))
+      ap (λ (o : Result (Sent WireFlow (Unit {0})) LinkRefusal). left_sent (with_tag after_alone o))
+      (sym (links_sent_along wire_flows s.links packet))
       ∙ by_message (wire_links_sent s.links packet)
   by_content (Ok None) = tagged_along s.links of_no_link
   by_content (Err refusal) = refl

@@ -1,12 +1,12 @@
 -- The links of one end alone are those of a node of the pair without their partners: all that may happen to them goes along, whatever a link
 -- keeps of its segments, but for what only the rule on partners refuses.
-use Rattle.std.proofs.Common.{◌≡◌, ℕ, Bool, true, false, ◌&&◌, eqb, not, ltb, cond, Option, Some, None, List, [], ◌∷◌, map, length, Result, Ok, Err}
+use Rattle.std.proofs.Common.{◌≡◌, ℕ, Bool, true, false, ◌&&◌, eqb, not, ltb, cond, Option, Some, None, List, [], ◌∷◌, map, Result, Ok, Err}
 use Rattle.std.proofs.Common.{◌+◌, refl, sym, ap, ap₂, ◌∙◌, subst, option_map}
 use Rattle.std.specs.Prelude.{slice_get, position}
 use Rattle.std.specs.List.{prefix_len}
 use Rattle.std.proofs.lemmas.List.{length-map, map-append, map-set}
 use Rattle.std.proofs.lemmas.Option.{slice_get-map}
-use Rattle.dna_packet.specs.Nsp.{SegmentValue, NspValue, DataSegment, LinkService, DataAck, OtherDataAck, ConnectAck, NoOperation, ConnectInitiate}
+use Rattle.dna_packet.specs.Nsp.{NspValue, DataSegment, LinkService, DataAck, OtherDataAck, ConnectAck, NoOperation, ConnectInitiate}
 use Rattle.dna_packet.specs.Nsp.{ConnectConfirm, DisconnectInitiate, DisconnectConfirm}
 use Rattle.dna_station.specs.declared.link_refusal.LinkRefusal.{LinkRefusal}
 use Rattle.dna_station.specs.declared.link_refusal.LinkRefusal.TheVariants.{WrongNode, CrossedLink, NoLink, LinkState, AddressInUse}
@@ -21,7 +21,8 @@ use Rattle.dna_links.specs.Flow.{Flows, Sending}
 use Rattle.dna_links.specs.Links.{LinkOf, LinksOf, Carried, LinkTruth, check, number_of, on_link, at_number, with_link, begun, changed, in_phase}
 use Rattle.dna_links.specs.Links.{with_flow, ended, forgotten, freed}
 use Rattle.dna_links.specs.User.{LinkEventValue, Open, Accept, Reject, In, Up, Close, opened, answered, gives, answers, delivered, user_step}
-use Rattle.dna_links.specs.Sending.{Sent, of_no_link, unchanged, ending, in_its_phase, confirms_end, carries, in_run, segment_of, message_sent, sent_step}
+use Rattle.dna_links.specs.Sending.{Sent, of_no_link, unchanged, ending, in_its_phase, confirms_end, carries, in_run, segment_of, message_sent}
+use Rattle.dna_links.specs.Sending.{sent_step}
 use Rattle.dna_links.specs.Arriving.{of_partner, of_anyone, is_for, is_of_pair, called, confirmed, ends_link, running, acted_on, message_arrived}
 use Rattle.dna_links.specs.Arriving.{arrived_step}
 use Rattle.dna_node.specs.WireLayers as layers
@@ -130,8 +131,8 @@ module _ {D K : Type 0} (flows : Flows D K) where
         (changed_along n (with_flow (flows.hands_in message l.flow) l) s))
     user_along (Up own message) =
         with_both (λ (x y : Result (LinksOf D) LinkRefusal). forget_result x ≡ y) (HasAddress own) s (Err NoLink) (Err NoLink)
-        (λ n l. delivered flows n l s (flows.delivers message l.flow)) (λ n l. delivered flows n l (forget_links s) (flows.delivers message l.flow)) refl
-        (λ n l. delivered_along n l (flows.delivers message l.flow))
+        (λ n l. delivered flows n l s (flows.delivers message l.flow)) (λ n l. delivered flows n l (forget_links s) (flows.delivers message l.flow))
+        refl (λ n l. delivered_along n l (flows.delivers message l.flow))
     user_along (Close own) =
         with_both (λ (x y : Result (LinksOf D) LinkRefusal). forget_result x ≡ y) (LiveAt own) s (Err NoLink) (Err NoLink)
         (λ n l. check (is_connected l.port.phase) LinkState (Ok (changed n (in_phase Disconnecting l) s)))
@@ -202,8 +203,8 @@ module _ {D K : Type 0} (flows : Flows D K) where
     message_along : (m : NspValue) → forget_sent (message_sent flows s m) ≡ message_sent flows (forget_links s) m
     message_along (ConnectInitiate retransmitted src services info segsize user_data) = in_its_phase_along (OpenedAt src) is_calling
     message_along (ConnectAck dst) =
-        with_both Goes (BegunBy dst) s (Err NoLink) (Err NoLink) (λ n l. Ok (unchanged flows s n l)) (λ n l. Ok (unchanged flows (forget_links s) n l))
-        refl (λ n l. refl)
+        with_both Goes (BegunBy dst) s (Err NoLink) (Err NoLink) (λ n l. Ok (unchanged flows s n l))
+        (λ n l. Ok (unchanged flows (forget_links s) n l)) refl (λ n l. refl)
     message_along (ConnectConfirm dst src services info segsize user_data) = in_its_phase_along (TheLink src dst) is_confirming
     message_along (DisconnectInitiate dst src reason user_data) = in_its_phase_along (TheLink src dst) is_disconnecting
     message_along (DisconnectConfirm dst src reason) =

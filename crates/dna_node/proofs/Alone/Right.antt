@@ -1,10 +1,9 @@
 -- In every run each unit that the other side sent, and that may still come, is one of a right end.
-use Rattle.std.proofs.Common.{◌≡◌, ℕ, ◌+◌, ◌-◌, ◌≤◌, Bool, true, false, cond, leb, Option, Some, None, Result, Ok, Err, List, map, length, drop, refl}
+use Rattle.std.proofs.Common.{◌≡◌, ℕ, ◌-◌, ◌≤◌, Bool, true, cond, Option, Some, None, Result, Ok, Err, List, map, length, drop, refl}
 use Rattle.std.proofs.Common.{sym, ap, ap₂, ◌∙◌, subst, arith, option_map, le-leb}
 use Rattle.std.specs.Prelude.{slice_get}
 use Rattle.std.proofs.lemmas.Option.{same_Some, slice_get-map}
 use Rattle.two_nodes.specs.Nodes.{Half, World}
-use Rattle.two_nodes.specs.Cutting.{cut_half}
 use Rattle.ddcmp_msg.specs.Message.{MessageValue, Data, Ack, Nak, Rep, Strt, Stack}
 use Rattle.capture.specs.declared.record.Record.{Record}
 use Rattle.dna_station.specs.declared.head.Head.{Head}
@@ -17,11 +16,11 @@ use Rattle.dna_station.specs.declared.refusal.StepRefusal.TheVariants.{Station a
 use Rattle.dna_station.specs.declared.link_refusal.LinkRefusal.{LinkRefusal}
 use Rattle.dna_links.specs.declared.tag.LinkTag.{LinkTag}
 use Rattle.dna_station.specs.Table.{Change, row, change_of}
-use Rattle.dna_station.specs.Station.{Station, given, wire, all_given}
+use Rattle.dna_station.specs.Station.{Station, wire, all_given}
 use Rattle.dna_station.specs.Truth.{Truth}
 use Rattle.dna_station.specs.Book.{Sound, body_of, resp_of}
 use Rattle.dna_station.specs.StationBook.{meets_needs, arrival_refusal}
-use Rattle.dna_station.specs.WireStation.{HeldPacket, WireStation, StationVariables}
+use Rattle.dna_station.specs.WireStation.{HeldPacket, WireStation}
 use Rattle.dna_station.specs.WireBook.{acknowledges, wire_arrival_refusal, wire_after_arrival}
 use Rattle.dna_station.specs.Bounds.{IsOrdered, ResponseIsNear, AreNear, IsWithin}
 use Rattle.dna_station.specs.Cut.{AreLabelled, cut}
@@ -34,8 +33,8 @@ use Rattle.dna_links.specs.CutLinks.{cut_links}
 use Rattle.dna_links.specs.WireLinks.{WireLinks, wire_links_arrived}
 use Rattle.dna_node.specs.Rules.{judged}
 use Rattle.dna_node.specs.Content.{content}
-use Rattle.dna_node.specs.Layers.{Layers, LayersNode, LayersUnit, unit_of_station, stations}
-use Rattle.dna_node.specs.WireLayers.{WireLayers, WireLayersUnit, LayersTag, with_wire_links, tag_or_none, wire_keeps_packet, wire_meets_on}
+use Rattle.dna_node.specs.Layers.{Layers, LayersNode, LayersUnit, unit_of_station}
+use Rattle.dna_node.specs.WireLayers.{WireLayers, WireLayersUnit, with_wire_links, tag_or_none, wire_keeps_packet, wire_meets_on}
 use Rattle.dna_node.specs.WireLayers.{wire_layers_machine}
 use Rattle.dna_node.specs.LayersPair.{side_of}
 use Rattle.dna_node.specs.CutLayers.{tag_of_packet, tagged_packets, cut_layers, tag_by, cut_truth, cut_layers_node, cut_layers_unit}
@@ -82,7 +81,8 @@ module _ (s : Layers) (ordered : IsOrdered s.station) where
       (is_data m ≡ true → content (body_of m) ≡ Ok (packet_in carried)) → wrong_unit (cut_layers s) m ≡ None
   unit_right (Data flags resp num body) u carried within reads =
       ap₂ or_else
-      (response_right (tagged_packets s) s.station (layers_labelled s) ordered (Data flags resp num body) u within (λ near. near.0) s.station.state refl)
+      (response_right (tagged_packets s) s.station (layers_labelled s) ordered (Data flags resp num body) u within
+      (λ near. near.0) s.station.state refl)
       (ap wrong_content (reads refl))
   unit_right (Ack flags resp) u carried within reads =
       response_right (tagged_packets s) s.station (layers_labelled s) ordered (Ack flags resp) u within (λ near. near.0) s.station.state refl
@@ -167,7 +167,8 @@ module _ (head_a head_b : Head) (w : World LayersNode LayersUnit) (of_a of_b : L
         spelled = (order.of_b.sound.told hint (unit_of_station unit) low).reads;
         sent = λ met. unit_right w.a.state.station b.station.ordered unit.message unit.known.station unit.known.carried
             (within w.a w.b c.joined.joined.front_a c.joined.joined.front_b b l hint unit there ahead met)
-            (λ d. body_read unit.message unit.known.station w.b.state.station.messages (all_given w.b.state.station.station) unit.known.carried c.b_read d
+            (λ d. body_read unit.message unit.known.station w.b.state.station.messages (all_given w.b.state.station.station)
+            unit.known.carried c.b_read d
             (order.of_b.places hint (unit_of_station unit) low) (c.joined.b_told.told hint unit there d));
         taken = taken_right w.a w.b c.joined.joined.front_a c.joined.joined.front_b b l hint unit there ahead;
       }

@@ -1,5 +1,5 @@
 -- In every run the end alone makes each record of its side; and where a record offends, it makes those before it and refuses this one.
-use Rattle.std.proofs.Common.{◌≡◌, ℕ, zero, suc, ◌+◌, true, arith, Option, Some, List, [], ◌∷◌, ◌++◌, take, refl, sym, ap, ◌∙◌, subst}
+use Rattle.std.proofs.Common.{◌≡◌, ℕ, zero, suc, ◌+◌, true, arith, Some, List, [], ◌∷◌, ◌++◌, take, refl, sym, ap, ◌∙◌, subst}
 use Rattle.std.specs.Prelude.{slice_get}
 use Rattle.std.proofs.lemmas.Option.{same_Some}
 use Rattle.two_nodes.specs.Nodes.{Half, World, Outcome, Run, advance, exchanged_world}
@@ -15,7 +15,8 @@ use Rattle.dna_node.specs.Layers.{LayersNode, LayersUnit}
 use Rattle.dna_node.specs.LayersPair.{layers_pair, layers_start, IsLayersRun}
 use Rattle.dna_node.specs.WireLayers.{WireLayers, WireLayersNode, WireLayersUnit, new_wire_layers_node}
 use Rattle.dna_node.specs.CutLayers.{cut_layers_node, layers_seen}
-use Rattle.dna_node.specs.Alone.{StepAlone, Makes, Refuses, Accused, accused_of, EndingAlone, Passed, Refused as RefusedAt, step_alone, goes_on, ends_from}
+use Rattle.dna_node.specs.Alone.{StepAlone, Makes, Refuses, Accused, accused_of, EndingAlone, Passed, Refused as RefusedAt, step_alone, goes_on}
+use Rattle.dna_node.specs.Alone.{ends_from}
 use Rattle.dna_node.specs.Alone.{layers_end, judged_alone, Passes, is_seen_alone}
 use Rattle.dna_node.proofs.LayersRead.{start_read}
 use Rattle.dna_node.proofs.LayersBounds.{layers_property, layers_kept, a_same}
@@ -38,7 +39,8 @@ module _ (w : World LayersNode LayersUnit) (made_a made_b : List Record) (c : la
   made_alone : (h : Half LayersNode LayersUnit) → advance layers_pair.node_a w.a w.b r ≡ Made h →
       step_alone layers_end (alone_at w) r ≡ Makes (alone_at (record { a = h; b = w.b }))
   made_alone h made =
-      subst (λ (o : Outcome LayersNode LayersUnit StepRefusal). Agrees r (cut_outcome layers_seen o) (step_alone layers_end (alone_at w) r)) made agrees_a
+      subst (λ (o : Outcome LayersNode LayersUnit StepRefusal). Agrees r (cut_outcome layers_seen o) (step_alone layers_end (alone_at w) r)) made
+      agrees_a
 
   refused_alone : (reason : StepRefusal) → advance layers_pair.node_a w.a w.b r ≡ Refused reason → is_seen_alone reason ≡ true →
       step_alone layers_end (alone_at w) r ≡ Refuses (accused_of r reason) reason
@@ -75,7 +77,8 @@ passes_b head_a head_b of_a of_b run = passes_a head_b head_a of_b of_a (exchang
 -- ---- what was refused stays refused
 
 goes_on_further : (x : StepAlone WireLayers) (place at : ℕ) (accused : Accused) (reason : StepRefusal)
-    (later further : WireLayersNode → EndingAlone WireLayers) → ((n : WireLayersNode) → later n ≡ RefusedAt at accused reason → further n ≡ RefusedAt at accused reason) →
+    (later further : WireLayersNode → EndingAlone WireLayers) →
+    ((n : WireLayersNode) → later n ≡ RefusedAt at accused reason → further n ≡ RefusedAt at accused reason) →
     goes_on x place later ≡ RefusedAt at accused reason → goes_on x place further ≡ RefusedAt at accused reason
 goes_on_further (Makes n) place at accused reason later further same e = same n e
 goes_on_further (Refuses a z) place at accused reason later further same e = e

@@ -1,7 +1,7 @@
--- The station of one end alone is that of a node of the pair without its partner period, and with other labels beside its packets: all that may happen
--- goes along, but for what only the rule on periods refuses.
-use Rattle.std.proofs.Common.{◌≡◌, ℕ, ◌+◌, ◌-◌, Bool, true, false, ◌&&◌, not, eqb, ltb, leb, cond, Option, Some, None, List, [], ◌∷◌, ◌++◌, map, fold}
-use Rattle.std.proofs.Common.{length, drop, refl, sym, ap, ap₂, ◌∙◌, option_map}
+-- The station of one end alone is that of a node of the pair without its partner period, and with other labels beside its packets: all that may
+-- happen goes along, but for what only the rule on periods refuses.
+use Rattle.std.proofs.Common.{◌≡◌, ℕ, ◌+◌, ◌-◌, Bool, true, false, ◌&&◌, not, eqb, ltb, leb, cond, Option, Some, None, List, [], ◌∷◌, map, fold}
+use Rattle.std.proofs.Common.{length, refl, sym, ap, ap₂, ◌∙◌, option_map}
 use Rattle.std.specs.Prelude.{slice_get, slice_set}
 use Rattle.std.proofs.lemmas.List.{length-map, map-append, map-set, drop-map}
 use Rattle.std.proofs.lemmas.Option.{slice_get-map}
@@ -17,9 +17,10 @@ use Rattle.dna_station.specs.Table.{AsFirstGiven, Change, Nothing, UseCause, Sen
 use Rattle.dna_station.specs.Table.{TakePacket, AnswerRep, row, counts_damage}
 use Rattle.dna_station.specs.Station.{wire}
 use Rattle.dna_station.specs.Book.{num_of, resp_of, body_of, first_failed, failed, Sound, HeaderBad, DataBad}
-use Rattle.dna_station.specs.WireStation.{HeldPacket, StationVariables, WireStation, wire_after_event, with_new, labelled, with_label, wire_after_label}
-use Rattle.dna_station.specs.WireBook.{wire_is_new, is_held_packet, wire_passes, sends_packet, wire_sends, acknowledges, wire_acknowledged_by}
-use Rattle.dna_station.specs.WireBook.{wire_responded, wire_is_next, with_next, variables_after, wire_does, wire_book, wire_sending_refusal}
+use Rattle.dna_station.specs.WireStation.{HeldPacket, StationVariables, WireStation, wire_after_event, with_new, labelled, with_label}
+use Rattle.dna_station.specs.WireStation.{wire_after_label}
+use Rattle.dna_station.specs.WireBook.{wire_is_new, is_held_packet, wire_passes, wire_sends, acknowledges, wire_acknowledged_by}
+use Rattle.dna_station.specs.WireBook.{wire_responded, wire_is_next, with_next, wire_does, wire_book, wire_sending_refusal}
 use Rattle.dna_station.specs.WireBook.{wire_after_sending, wire_after_arrival, gives_by, gives_new}
 
 -- checks that are answered alike refuse alike
@@ -66,7 +67,8 @@ module _ {L : Type 0} (forget_label : L → L) where
 
   -- ---- the user
 
-  pub event_along : (w : WireStation L) (event : StationEvent) → wire_after_event (forget_station w) event ≡ forget_station (wire_after_event w event)
+  pub event_along : (w : WireStation L) (event : StationEvent) →
+      wire_after_event (forget_station w) event ≡ forget_station (wire_after_event w event)
   event_along w Start = refl
   event_along w Halt = refl
 
@@ -136,7 +138,8 @@ module _ {L : Type 0} (forget_label : L → L) where
   with_label_along held label =
       ap (λ (n : ℕ). labelled (map forget_packet held) (slice_get (map forget_packet held) (n - 1)) (forget_label label))
       (length-map held forget_packet)
-      ∙ ap (λ (o : Option (HeldPacket L)). labelled (map forget_packet held) o (forget_label label)) (slice_get-map forget_packet held (length held - 1))
+      ∙ ap (λ (o : Option (HeldPacket L)). labelled (map forget_packet held) o (forget_label label))
+      (slice_get-map forget_packet held (length held - 1))
       ∙ labelled_along held (slice_get held (length held - 1)) label
 
   pub label_along : (w : WireStation L) (label : L) →
@@ -164,7 +167,8 @@ module _ {L : Type 0} (forget_label : L → L) where
   next_along false k = refl
 
   module _ (m : MessageValue) (tag : Tag) (kept : Bool) where
-    does_along : (w : WireStation L) (effect : Effect) → wire_does m no_tag kept (forget_station w) effect ≡ forget_station (wire_does m tag kept w effect)
+    does_along : (w : WireStation L) (effect : Effect) →
+        wire_does m no_tag kept (forget_station w) effect ≡ forget_station (wire_does m tag kept w effect)
     does_along w (GoTo state) = refl
     does_along w TakePartner = refl
     does_along w Respond =
@@ -179,7 +183,8 @@ module _ {L : Type 0} (forget_label : L → L) where
         fold (wire_does m no_tag kept) (forget_station w) effects ≡ forget_station (fold (wire_does m tag kept) w effects)
     all_along [] w = refl
     all_along (effect ∷ effects) w =
-        ap (λ (v : WireStation L). fold (wire_does m no_tag kept) v effects) (does_along w effect) ∙ all_along effects (wire_does m tag kept w effect)
+        ap (λ (v : WireStation L). fold (wire_does m no_tag kept) v effects) (does_along w effect)
+        ∙ all_along effects (wire_does m tag kept w effect)
 
     pub arrival_along : (w : WireStation L) →
         wire_after_arrival (forget_station w) (Sound m no_tag) kept ≡ forget_station (wire_after_arrival w (Sound m tag) kept)

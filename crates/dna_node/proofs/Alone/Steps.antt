@@ -1,6 +1,6 @@
 -- Where the other end's units are right, the end alone makes of a record what its node makes in the pair, but for what only the rules on periods and
 -- partners, and the unit that was sent, refuse.
-use Rattle.std.proofs.Common.{◌≡◌, ℕ, ◌+◌, ◌≤◌, Bool, true, false, cond, nat_lt, leb, Option, Some, None, Result, Ok, Err, List, length, refl, sym, ap}
+use Rattle.std.proofs.Common.{◌≡◌, ℕ, ◌+◌, ◌≤◌, Bool, true, false, cond, nat_lt, leb, Option, Some, None, Result, Ok, Err, List, refl, sym, ap}
 use Rattle.std.proofs.Common.{◌∙◌, subst}
 use Rattle.std.specs.Prelude.{slice_get, bytes_eq}
 use Rattle.std.proofs.lemmas.Bool.{ltb-false}
@@ -18,7 +18,6 @@ use Rattle.capture.specs.declared.record.Record.TheVariants.{Sent, Received, Noi
 use Rattle.capture.specs.declared.event.Event.{Event}
 use Rattle.dna_station.specs.declared.state.State.{State}
 use Rattle.dna_station.specs.declared.state.State.TheVariants.{Halted, Istrt, Astrt, Running}
-use Rattle.dna_station.specs.declared.refusal.StationRefusal.{StationRefusal}
 use Rattle.dna_station.specs.declared.refusal.StationRefusal.TheVariants.{WrongResponse, CrossedPeriod}
 use Rattle.dna_station.specs.declared.refusal.StepRefusal.{StepRefusal}
 use Rattle.dna_station.specs.declared.refusal.StepRefusal.TheVariants.{HintOrder, Station as OfStation}
@@ -35,7 +34,7 @@ use Rattle.dna_links.specs.WireLinks.{WireLinks}
 use Rattle.dna_node.specs.Rules.{judged}
 use Rattle.dna_node.specs.Content.{content}
 use Rattle.dna_node.specs.WireLayers.{WireLayers, LayersTag, WireLayersNode, WireLayersUnit, wire_meets_on, wire_layers_machine}
-use Rattle.dna_node.specs.Accusing.{wrong_response_in, wrong_response, wrong_content, or_else, wrong_unit, wrong_words, wrong_acks, wrong_message}
+use Rattle.dna_node.specs.Accusing.{wrong_response_in, wrong_content, or_else, wrong_unit, wrong_words, wrong_acks, wrong_message}
 use Rattle.dna_node.specs.Accusing.{wrong_carried, wrong_taken}
 use Rattle.dna_node.specs.Alone.{StepAlone, Makes, Refuses, accused_of, unless_wrong, then_unless_wrong, if_kept, sent_alone, comes_alone}
 use Rattle.dna_node.specs.Alone.{receives_alone, step_alone, alone, unknown_tag, layers_end, is_seen_alone}
@@ -73,8 +72,8 @@ wrong_unit_along s (Stack flags) = refl
 
 wrong_acks_along : (own far : ℕ) (acks : List AckWord) (s : WireLinks) → wrong_acks own far acks s ≡ wrong_acks own far acks (forget_links s)
 wrong_acks_along own far acks s =
-    with_both (λ (x y : Option StepRefusal). x ≡ y) (ActedOn own far) s None None (λ n l. wrong_words acks l.flow) (λ n l. wrong_words acks l.flow) refl
-    (λ n l. refl)
+    with_both (λ (x y : Option StepRefusal). x ≡ y) (ActedOn own far) s None None (λ n l. wrong_words acks l.flow) (λ n l. wrong_words acks l.flow)
+    refl (λ n l. refl)
 
 wrong_message_along : (s : WireLinks) (m : NspValue) → wrong_message s m ≡ wrong_message (forget_links s) m
 wrong_message_along s (DataSegment segment) = wrong_acks_along segment.dstaddr segment.srcaddr segment.acks s
