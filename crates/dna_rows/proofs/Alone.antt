@@ -3,15 +3,15 @@ use Rattle.std.proofs.Common.{◌≡◌, ℕ, Bool, true, false, List, [], ◌�
 use Rattle.wire_base.specs.BlockCheck.{is_good, check_of, after_byte, shift}
 use Rattle.ddcmp_msg.specs.Reading.{reading}
 use Rattle.capture.specs.declared.record.Record.{Record}
-use Rattle.capture.specs.declared.record.Record.TheVariants.{Sent, Received, Noise, User}
-use Rattle.capture.specs.declared.event.Event.TheVariants.{Start, Halt, Open, Accept, In, Close}
+use Rattle.capture.specs.declared.record.Record.TheVariants.{Sent, Received, User}
+use Rattle.capture.specs.declared.event.Event.TheVariants.{Start, In}
 use Rattle.dna_station.specs.declared.refusal.StationRefusal.TheVariants.{WrongState, WrongResponse, WrongKeep}
 use Rattle.dna_station.specs.declared.refusal.StepRefusal.{StepRefusal}
 use Rattle.dna_station.specs.declared.refusal.StepRefusal.TheVariants.{NotAMessage, HintOrder, BadPacket, BadNsp, Station as OfStation, Links as OfLinks}
 use Rattle.dna_station.specs.declared.link_refusal.LinkRefusal.TheVariants.{WrongNode, WrongAck}
 use Rattle.dna_node.specs.Alone.{Accused, ThisEnd, OtherEnd, EndingAlone, Passed, Refused, judged_alone}
 use Rattle.dna_node.specs.WireLayers.{WireLayers}
-use Rattle.dna_rows.proofs.Units.{control, STRT, STACK, ACK, NAK, REP, data_of, from_a, from_b, behind_a, CI, CC, DI, DATA_ACK, ack, nak, other_ack, SEGMENT}
+use Rattle.dna_rows.proofs.Units.{control, STRT, STACK, ACK, NAK, REP, data_of, from_a, from_b, CI, DI, DATA_ACK, ack, nak, other_ack, SEGMENT}
 use Rattle.dna_rows.proofs.Units.{carries}
 use Rattle.dna_rows.proofs.Captures.{started, confirmed_a}
 use Rattle.dna_rows.proofs.Verdicts.{head_1}
