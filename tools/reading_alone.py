@@ -1,9 +1,6 @@
 """The second reading of one end alone: the node of a pair with the rules on periods and on partners left out, over a line that gives what stands in
 each receipt; and what no right other end can have sent. `judged_alone(a)` is the answer to one capture. A part of tools/reading.py, which judges
 pairs apart from the program."""
-import sys
-
-sys.path.insert(0, __file__.rsplit('/', 1)[0])
 from reading import NAMES, RULES, Side
 from reading_flow import distance
 from reading_links import NO_TAG

@@ -14,8 +14,7 @@ use Rattle.dna_station.specs.declared.link_refusal.LinkRefusal.TheVariants.{Cros
 use Rattle.dna_station.specs.Book.{Sound, HeaderBad, DataBad}
 use Rattle.dna_station.specs.Line.{damage}
 use Rattle.dna_station.specs.Machine.{Machine, NodeOf, noise_comes}
-use Rattle.dna_links.specs.Arriving.{of_anyone}
-use Rattle.dna_node.specs.Rules.{Rules}
+use Rattle.dna_node.specs.Rules.{by_bytes}
 use Rattle.dna_node.specs.WireLayers.{WireLayers, LayersTag, WireLayersNode, of_no_link, wire_layers_machine, new_wire_layers_node}
 use Rattle.dna_node.specs.Accusing.{wrong_unit, wrong_taken}
 
@@ -121,16 +120,12 @@ ends_from one n place (r ∷ records) = goes_on (step_alone one n r) place (λ n
 
 -- ---- the end over both layers
 
--- none of the two rules is asked
-abbrev pub alone : Rules
-alone = record { periods = of_anyone; partners = of_anyone }
-
 -- of a unit that comes no period and no link is known
 abbrev pub unknown_tag : LayersTag
 unknown_tag = record { station = record { period = 0; partner = None }; link = Some of_no_link }
 
 abbrev pub layers_end : EndOf WireLayers LayersTag
-layers_end = record { machine = wire_layers_machine alone; unknown = unknown_tag; wrong_unit = wrong_unit; wrong_taken = wrong_taken }
+layers_end = record { machine = wire_layers_machine by_bytes; unknown = unknown_tag; wrong_unit = wrong_unit; wrong_taken = wrong_taken }
 
 -- the capture with this head and these records
 abbrev pub judged_alone : Head → List Record → EndingAlone WireLayers

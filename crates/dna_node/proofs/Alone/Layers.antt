@@ -24,12 +24,12 @@ use Rattle.dna_links.specs.Sending.{Sent}
 use Rattle.dna_links.specs.Arriving.{of_partner, of_anyone}
 use Rattle.dna_links.specs.WireFlow.{WireFlow, wire_flows}
 use Rattle.dna_links.specs.WireLinks.{WireLinks, wire_links_user, wire_links_sent, wire_links_arrived}
-use Rattle.dna_node.specs.Rules.{judged}
+use Rattle.dna_node.specs.Rules.{judged, by_bytes}
 use Rattle.dna_node.specs.Content.{content}
 use Rattle.dna_node.specs.WireLayers.{WireLayers, LayersTag, of_no_link, with_wire_station, with_wire_links, first_tagged, with_tag}
 use Rattle.dna_node.specs.WireLayers.{wire_sends_first}
 use Rattle.dna_node.specs.WireLayers.{wire_sends_again, wire_sends_on, tag_or_none, wire_keeps_packet, wire_meets_on, wire_layers_machine}
-use Rattle.dna_node.specs.Alone.{alone, unknown_tag, is_seen_alone}
+use Rattle.dna_node.specs.Alone.{unknown_tag, is_seen_alone}
 use Rattle.dna_node.proofs.Alone.Links.{forget_tag, forget_links, forget_result, forget_sent, user_along as links_user_along}
 use Rattle.dna_node.proofs.Alone.Links.{sent_along as links_sent_along, arrived_along as links_arrived_along}
 use Rattle.dna_node.proofs.Alone.Links as of_links
@@ -66,7 +66,7 @@ module _ (s : WireLayers) where
   link_along event =
       ap (with_wire_links (forget_layers s)) (sym (links_user_along wire_flows s.links event)) ∙ by_links (wire_links_user s.links event)
 
-  pub user_along : (event : Event) → (wire_layers_machine alone).user (forget_layers s) event
+  pub user_along : (event : Event) → (wire_layers_machine by_bytes).user (forget_layers s) event
       ≡ forget_layers_result ((wire_layers_machine judged).user s event)
   user_along events.Start = by_station Start (user_refusal s.station.variables.state Start)
   user_along events.Halt = by_station Halt (user_refusal s.station.variables.state Halt)
@@ -132,7 +132,7 @@ module _ (s : WireLayers) (m : MessageValue) where
       ∙ by_number (gives_new s.station m)
   by_refusal (Some refusal) = refl
 
-  pub sends_along : left_sent ((wire_layers_machine alone).sends (forget_layers s) m)
+  pub sends_along : left_sent ((wire_layers_machine by_bytes).sends (forget_layers s) m)
       ≡ forget_layers_result (left_sent ((wire_layers_machine judged).sends s m))
   sends_along =
       ap (λ (o : Option StationRefusal). left_sent (wire_sends_on (forget_layers s) m (unless_refused o after_alone)))
@@ -153,7 +153,7 @@ module _ (s : WireLayers) where
   by_links_result t (Err refusal) o' same = λ seen. ap (with_wire_links (forget_layers t)) (same seen)
 
   keeps_along : (t : WireLayers) (tag : LinkTag) (r : Result (Option Carried) StepRefusal) →
-      Along (wire_keeps_packet judged t tag r) (wire_keeps_packet alone (forget_layers t) of_no_link r)
+      Along (wire_keeps_packet judged t tag r) (wire_keeps_packet by_bytes (forget_layers t) of_no_link r)
   keeps_along t tag (Ok (Some packet)) =
       by_links_result t (wire_links_arrived of_partner t.links packet tag) (wire_links_arrived of_anyone (forget_links t.links) packet of_no_link)
       (links_arrived_along wire_flows t.links (record { tag = tag; known = tt }) packet)
@@ -167,16 +167,16 @@ module _ (s : WireLayers) where
     -- the packets that are kept
     by_kept : (k : Bool) (station : WireStation LinkTag) →
         Along (wire_meets_on judged s (Sound m known) k (Ok station))
-        (wire_meets_on alone (forget_layers s) (Sound m unknown_tag) k (Ok (forget_station forget_tag station)))
+        (wire_meets_on by_bytes (forget_layers s) (Sound m unknown_tag) k (Ok (forget_station forget_tag station)))
     by_kept true station = keeps_along (record s { station = station }) (tag_or_none known.link) (content (body_of m))
     by_kept false station = refl
 
     by_taking : (o : Option StationRefusal) →
         Along (wire_meets_on judged s (Sound m known) kept (unless_refused o (wire_after_arrival s.station (Sound m known.station) kept)))
-        (wire_meets_on alone (forget_layers s) (Sound m unknown_tag) kept (unless_refused o (wire_after_arrival w (Sound m no_tag) kept)))
+        (wire_meets_on by_bytes (forget_layers s) (Sound m unknown_tag) kept (unless_refused o (wire_after_arrival w (Sound m no_tag) kept)))
     by_taking None =
         subst (λ (t : WireStation LinkTag). Along (wire_meets_on judged s (Sound m known) kept
-        (Ok (wire_after_arrival s.station (Sound m known.station) kept))) (wire_meets_on alone (forget_layers s) (Sound m unknown_tag) kept (Ok t)))
+        (Ok (wire_after_arrival s.station (Sound m known.station) kept))) (wire_meets_on by_bytes (forget_layers s) (Sound m unknown_tag) kept (Ok t)))
         (sym (arrival_along forget_tag m known.station kept s.station)) (by_kept kept (wire_after_arrival s.station (Sound m known.station) kept))
     by_taking (Some refusal) = λ seen. refl
 
@@ -184,20 +184,20 @@ module _ (s : WireLayers) where
         Along (wire_meets_on judged s (Sound m known) kept (unless_refused
         (cond met (keep_refusal (takes_by wire_book s.station m known.station) kept) (Some CrossedPeriod))
         (wire_after_arrival s.station (Sound m known.station) kept)))
-        ((wire_layers_machine alone).arrives (forget_layers s) (Sound m unknown_tag) kept)
+        ((wire_layers_machine by_bytes).arrives (forget_layers s) (Sound m unknown_tag) kept)
     by_period true = by_taking (keep_refusal (takes_by wire_book s.station m known.station) kept)
     by_period false = λ seen. absurd cc
 
     pub sound_along : Along ((wire_layers_machine judged).arrives s (Sound m known) kept)
-        ((wire_layers_machine alone).arrives (forget_layers s) (Sound m unknown_tag) kept)
+        ((wire_layers_machine by_bytes).arrives (forget_layers s) (Sound m unknown_tag) kept)
     sound_along = by_period (meets_by wire_book of_period s.station m known.station)
 
-  pub unit_header_bad_along : (kept : Bool) → (wire_layers_machine alone).arrives (forget_layers s) HeaderBad kept
+  pub unit_header_bad_along : (kept : Bool) → (wire_layers_machine by_bytes).arrives (forget_layers s) HeaderBad kept
       ≡ forget_layers_result ((wire_layers_machine judged).arrives s HeaderBad kept)
   unit_header_bad_along true = refl
   unit_header_bad_along false = ap (left (forget_links s.links)) (header_along forget_tag s.station false)
 
-  pub unit_data_bad_along : (kept : Bool) → (wire_layers_machine alone).arrives (forget_layers s) DataBad kept
+  pub unit_data_bad_along : (kept : Bool) → (wire_layers_machine by_bytes).arrives (forget_layers s) DataBad kept
       ≡ forget_layers_result ((wire_layers_machine judged).arrives s DataBad kept)
   unit_data_bad_along true = refl
   unit_data_bad_along false = ap (left (forget_links s.links)) (data_bad_along forget_tag s.station false)

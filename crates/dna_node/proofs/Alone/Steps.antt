@@ -31,13 +31,13 @@ use Rattle.dna_links.specs.declared.tag.LinkTag.{LinkTag}
 use Rattle.dna_links.specs.declared.port.LinkTest.TheVariants.{ActedOn}
 use Rattle.dna_links.specs.Links.{Carried}
 use Rattle.dna_links.specs.WireLinks.{WireLinks}
-use Rattle.dna_node.specs.Rules.{judged}
+use Rattle.dna_node.specs.Rules.{judged, by_bytes}
 use Rattle.dna_node.specs.Content.{content}
 use Rattle.dna_node.specs.WireLayers.{WireLayers, LayersTag, WireLayersNode, WireLayersUnit, wire_meets_on, wire_layers_machine}
 use Rattle.dna_node.specs.Accusing.{wrong_response_in, wrong_content, or_else, wrong_unit, wrong_words, wrong_acks, wrong_message}
 use Rattle.dna_node.specs.Accusing.{wrong_carried, wrong_taken}
 use Rattle.dna_node.specs.Alone.{StepAlone, Makes, Refuses, accused_of, unless_wrong, then_unless_wrong, if_kept, sent_alone, comes_alone}
-use Rattle.dna_node.specs.Alone.{receives_alone, step_alone, alone, unknown_tag, layers_end, is_seen_alone}
+use Rattle.dna_node.specs.Alone.{receives_alone, step_alone, unknown_tag, layers_end, is_seen_alone}
 use Rattle.dna_node.specs.Alone as end
 use Rattle.dna_node.proofs.Alone.Links.{forget_tag, forget_links, with_both}
 use Rattle.dna_node.proofs.Alone.Station.{forget_variables, as_many}
@@ -138,7 +138,7 @@ module _ (own other : Half WireLayersNode WireLayersUnit) where
       Agrees (Sent bytes) (answered own other (sent_step (wire_layers_machine judged) n bytes r)) (sent_alone layers_end v r)
   sent_agrees bytes (read_as.Sound m) =
       subst (Agrees (Sent bytes) (answered own other (sends n bytes m ((wire_layers_machine judged).sends n.station m))))
-      (ap (end.does v) (sym (sends_along n.station m)) ∙ sends_left v ((wire_layers_machine alone).sends v.station m))
+      (ap (end.does v) (sym (sends_along n.station m)) ∙ sends_left v ((wire_layers_machine by_bytes).sends v.station m))
       (sends_agree bytes m ((wire_layers_machine judged).sends n.station m))
   sent_agrees bytes read_as.HeaderBad = λ seen. refl
   sent_agrees bytes read_as.DataBad = λ seen. refl
@@ -151,7 +151,7 @@ module _ (own other : Half WireLayersNode WireLayersUnit) where
 
   noise_agrees : (bytes : List ℕ) (r : ReadingValue) →
       Agrees (Noise bytes) (answered own other (noise_step (wire_layers_machine judged) n r))
-      (end.does v (noise_comes (wire_layers_machine alone) v.station (damage r)))
+      (end.does v (noise_comes (wire_layers_machine by_bytes) v.station (damage r)))
   noise_agrees bytes read_as.HeaderBad =
       subst (λ (o : Result WireLayers StepRefusal). Agrees (Noise bytes)
       (answered own other (does n ((wire_layers_machine judged).arrives n.station HeaderBad false))) (end.does v o))
@@ -201,9 +201,9 @@ module _ (own other : Half WireLayersNode WireLayersUnit) where
       met_agrees true e =
           subst (λ (x : Option StepRefusal). AgreesHere (arrives_by true kept) (unless_wrong x
           (then_unless_wrong (if_kept kept (wrong_taken v.station unit.message))
-          (end.meets v (hint + 1) ((wire_layers_machine alone).arrives v.station (Sound unit.message unknown_tag) kept)))))
+          (end.meets v (hint + 1) ((wire_layers_machine by_bytes).arrives v.station (Sound unit.message unknown_tag) kept)))))
           (sym (wrong_unit_along n.station unit.message ∙ right.sent e))
-          (by_outcome (arrives_by true kept) ((wire_layers_machine alone).arrives v.station (Sound unit.message unknown_tag) kept)
+          (by_outcome (arrives_by true kept) ((wire_layers_machine by_bytes).arrives v.station (Sound unit.message unknown_tag) kept)
           (wrong_taken v.station unit.message)
           (λ t made k. sym (wrong_taken_along n.station unit.message)
           ∙ right.taken t (ap (λ (b : Bool). arrives_by b true) e ∙ ap (arrives_by true) (sym k) ∙ made))
