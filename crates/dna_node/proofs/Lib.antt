@@ -9,3 +9,5 @@ pub mod ReadInRange
 -- within the bounds the same becomes of what a program keeps, and every run is within them
 pub mod CutLayersNode
 pub mod LayersBounds
+-- one end alone, beside the pair
+pub mod Alone

@@ -11,5 +11,8 @@ pub mod Seen
 -- what a judge takes the ends of a line for, and what a finding says of two captures
 pub mod Kind
 pub mod Verdict
+-- one end alone: what a right other end can have sent, and what this end makes of its capture
+pub mod Accusing
+pub mod Alone
 -- what ghost members alone name: there is nothing in it to believe
 pub mod inner

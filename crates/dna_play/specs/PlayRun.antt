@@ -8,10 +8,10 @@ use Rattle.capture.specs.declared.record.Record.{Record}
 use Rattle.capture.specs.Range.{IsRecord}
 use Rattle.dna_station.specs.declared.refusal.StepRefusal.{StepRefusal}
 use Rattle.dna_station.specs.Machine.{pair_of}
+use Rattle.dna_node.specs.Rules.{by_bytes}
 use Rattle.dna_node.specs.Layers.{LayersNode, LayersUnit, layers_machine}
 use Rattle.dna_node.specs.LayersPair.{layers_start}
 use Rattle.dna_play.specs.Script.{StepValue, ScriptStep, Script, Start}
-use Rattle.dna_play.specs.Player.{by_bytes}
 use Rattle.dna_play.specs.Played.{Played, head_a, head_b}
 
 abbrev pub player_pair : Nodes LayersNode Record LayersUnit StepRefusal

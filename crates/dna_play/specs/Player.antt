@@ -5,8 +5,7 @@ use Rattle.two_nodes.specs.Nodes.{Answer, Half, Outcome, Made, Waits, Refused, a
 use Rattle.capture.specs.declared.record.Record.{Record}
 use Rattle.dna_station.specs.declared.head.Head.{Head}
 use Rattle.dna_station.specs.declared.refusal.StepRefusal.{StepRefusal}
-use Rattle.dna_node.specs.Rules.{Rules}
-use Rattle.dna_links.specs.Arriving.{of_anyone}
+use Rattle.dna_node.specs.Rules.{by_bytes}
 use Rattle.dna_station.specs.Station.{Station}
 use Rattle.dna_station.specs.Cut.{cut}
 use Rattle.dna_station.specs.WireStation.{StationVariables}
@@ -19,13 +18,6 @@ use Rattle.dna_play.specs.Owed.{Owed, still_owed}
 use Rattle.dna_play.specs.Owed as owing
 use Rattle.dna_play.specs.LinkOwed.{LinksOwed, no_links_owe, all_still_owed}
 use Rattle.dna_play.specs.NextSent.{LinkEnd, link_ends}
-
-abbrev pub of_any_period : Bool → Bool
-of_any_period met = true
-
--- no rule on tags
-abbrev pub by_bytes : Rules
-by_bytes = record { periods = of_any_period; partners = of_anyone }
 
 -- what a node of the player makes of a record
 unfoldable pub end_step : LayersNode → Record → Answer LayersNode LayersUnit StepRefusal

@@ -9,6 +9,7 @@ mod Line
 mod Links
 mod Layers
 mod Packets
+mod Alone
 mod NotJudged
 mod Player
 mod Limits

@@ -24,3 +24,7 @@ PeriodRule = Bool → Bool
 -- a station of a pair that is judged goes by it
 abbrev pub of_period : PeriodRule
 of_period met = met
+
+-- one that goes by bytes alone does not
+abbrev pub of_any_period : PeriodRule
+of_any_period met = true

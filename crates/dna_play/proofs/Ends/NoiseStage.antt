@@ -10,10 +10,11 @@ use Rattle.dna_station.specs.StationBook.{after_arrival}
 use Rattle.dna_links.specs.Links.{LinkOf}
 use Rattle.dna_links.specs.TrueFlow.{TrueFlow}
 use Rattle.dna_links.specs.CutFlow.{IsOrdered}
+use Rattle.dna_node.specs.Rules.{by_bytes}
 use Rattle.dna_node.specs.Layers.{LayersTruth, to_station, layers_machine}
 use Rattle.dna_station.specs.Machine.{noise_step}
 use Rattle.dna_play.specs.HasLine.{has_line}
-use Rattle.dna_play.specs.Player.{End, by_bytes, end_step, made_half, makes, station_of, links_of, after_record}
+use Rattle.dna_play.specs.Player.{End, end_step, made_half, makes, station_of, links_of, after_record}
 use Rattle.dna_play.specs.Receipt.{heard, hears}
 use Rattle.dna_play.specs.StepRule.{IsNoise}
 use Rattle.dna_station.proofs.Cut.Node.{arrival_packets}

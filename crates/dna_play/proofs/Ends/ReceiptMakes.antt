@@ -34,10 +34,11 @@ use Rattle.dna_links.specs.Arriving.{of_anyone, message_arrived}
 use Rattle.dna_links.specs.TrueFlow.{TrueFlow, Numbers, true_flows}
 use Rattle.dna_links.specs.TrueLinks.{Links, links_arrived}
 use Rattle.dna_links.specs.Runs.{SentMessage}
+use Rattle.dna_node.specs.Rules.{by_bytes}
 use Rattle.dna_node.specs.Layers.{Layers, LayersTruth, LayersNode, LayersUnit, with_links, to_station, keeps, meets_on, layers_machine, stations}
 use Rattle.dna_node.specs.Layers.{unit_of_station}
 use Rattle.dna_play.specs.Owed.{can_take}
-use Rattle.dna_play.specs.Player.{by_bytes, end_step, variables_of}
+use Rattle.dna_play.specs.Player.{end_step, variables_of}
 use Rattle.dna_station.proofs.Cut.Arriving.{arrival_refusal_same}
 use Rattle.dna_node.proofs.OnTop.{IsMet, NotKept, KeptNone, KeptOne}
 use Rattle.dna_play.proofs.Played.Steps.{PlayHalf}

@@ -20,11 +20,12 @@ use Rattle.dna_links.specs.TrueFlow.{TrueFlow, Numbers, true_flows}
 use Rattle.dna_links.specs.TrueLinks.{Links, links_arrived}
 use Rattle.dna_links.specs.CutFlow.{IsOrdered}
 use Rattle.dna_links.specs.Runs.{SentMessage}
+use Rattle.dna_node.specs.Rules.{by_bytes}
 use Rattle.dna_node.specs.Content.{content}
 use Rattle.dna_node.specs.Layers.{LayersUnit}
 use Rattle.dna_play.specs.LinkOwed.{NoDebt, Owes, OwesConfirm, EndConfirm, DataAckTurn, ConnectAckTurn, repeated_call_debt, confirm_debt}
 use Rattle.dna_play.specs.LinkOwed.{message_debt, with_debt}
-use Rattle.dna_play.specs.Player.{End, by_bytes, station_of, links_of, after_record}
+use Rattle.dna_play.specs.Player.{End, station_of, links_of, after_record}
 use Rattle.dna_play.specs.Receipt.{carried_in, carried, carried_debt, after_receipt}
 use Rattle.dna_station.proofs.Cut.Node.{arrival_packets}
 use Rattle.dna_station.proofs.Bounds.Numbers.{is_data}

@@ -26,11 +26,12 @@ use Rattle.dna_links.specs.Sending as links_sending
 use Rattle.dna_links.specs.Sending.{message_sent}
 use Rattle.dna_links.specs.TrueFlow.{TrueFlow, Numbers, true_flows}
 use Rattle.dna_links.specs.TrueLinks.{links_sent}
+use Rattle.dna_node.specs.Rules.{by_bytes}
 use Rattle.dna_node.specs.Content.{content}
 use Rattle.dna_node.specs.Layers.{Layers, LayersTruth, first_sent, with_message, sends_first, sends_again, sends_on, layers_machine}
 use Rattle.dna_play.specs.NextSent.{LinkEnd, LinkChoice, Choice, SendStrt, SendStack, SendNak, SendRep, SendAgain, SendNew, SendAck}
 use Rattle.dna_play.specs.Compose.{data_with, packet_again, new_data, packet_with, link_message, message_of}
-use Rattle.dna_play.specs.Player.{by_bytes, end_step, made_half, makes}
+use Rattle.dna_play.specs.Player.{end_step, made_half, makes}
 use Rattle.two_nodes.proofs.NumberedSteps.{slice_get-drop}
 use Rattle.dna_node.proofs.OnTop.{sent_by, sent_with}
 use Rattle.dna_play.proofs.Played.Steps.{PlayHalf}

@@ -19,10 +19,11 @@ use Rattle.dna_links.specs.User as users
 use Rattle.dna_links.specs.TrueFlow.{TrueFlow, true_flows}
 use Rattle.dna_links.specs.TrueLinks.{Links, links_user}
 use Rattle.dna_station.specs.Machine.{does}
+use Rattle.dna_node.specs.Rules.{by_bytes}
 use Rattle.dna_node.specs.Content.{link_event}
 use Rattle.dna_node.specs.Layers.{with_links, user_on}
 use Rattle.dna_play.specs.HasLine.{has_line}
-use Rattle.dna_play.specs.Player.{by_bytes, end_step, made_half, makes, links_of}
+use Rattle.dna_play.specs.Player.{end_step, made_half, makes, links_of}
 use Rattle.dna_play.proofs.Played.PlayLines.{line_tested}
 use Rattle.dna_play.proofs.Played.Steps.{PlayHalf}
 use Rattle.dna_links.proofs.Tables.Outcomes.{IsFound}

@@ -23,7 +23,7 @@ use Rattle.dna_station.specs.declared.refusal.StationRefusal.TheVariants.{Crosse
 use Rattle.dna_station.specs.declared.refusal.StepRefusal.TheVariants.{HintOrder}
 use Rattle.dna_station.specs.Table.{row, Row, ignored}
 use Rattle.dna_station.specs.Rules.{meets}
-use Rattle.dna_node.specs.Rules.{judged}
+use Rattle.dna_node.specs.Rules.{judged, by_bytes}
 use Rattle.dna_station.specs.Station.{Station}
 use Rattle.dna_station.specs.Truth.{tag_of}
 use Rattle.dna_station.specs.Book.{Sound, has_packet, keep_refusal}
@@ -34,7 +34,6 @@ use Rattle.dna_links.specs.TrueLinks.{Links, links_arrived}
 use Rattle.dna_links.specs.Runs.{SentMessage}
 use Rattle.dna_node.specs.Layers.{Layers, LayersNode, LayersUnit, with_links, keeps, meets_on, layers_machine, stations, unit_of_station}
 use Rattle.dna_node.specs.LayersPair.{layers_pair, layers_start, link_event_in, link_events, side_of}
-use Rattle.dna_play.specs.Player.{by_bytes}
 use Rattle.dna_play.proofs.Once.Orderly.{AddressesRise, starts, IsOrderly}
 use Rattle.dna_play.specs.PlayRun.{player_pair}
 use Rattle.dna_station.proofs.Bounds.Numbers.{is_data}

@@ -19,6 +19,7 @@ use Rattle.dna_station.specs.Truth.{Truth}
 use Rattle.dna_station.specs.Line.{damage, coming}
 use Rattle.dna_station.specs.Machine as machines
 use Rattle.dna_station.specs.Node.{station_machine}
+use Rattle.dna_node.specs.Rules.{by_bytes}
 use Rattle.dna_node.specs.Content.{content, link_event}
 use Rattle.dna_links.specs.Links.{Carried}
 use Rattle.dna_links.specs.User.{LinkEventValue}
@@ -31,7 +32,7 @@ use Rattle.dna_links.specs.TrueFlow.{TrueFlow, Numbers, true_flows}
 use Rattle.dna_links.specs.TrueLinks.{Links, links_sent, links_arrived}
 use Rattle.dna_node.specs.Layers.{Layers, LayersTruth, LayersNode, LayersUnit, layers_machine, with_links, with_message, sends_first, sends_again}
 use Rattle.dna_node.specs.Layers.{sends_on, to_station, carried_by, keeps, meets_on}
-use Rattle.dna_play.specs.Player.{by_bytes, end_step, makes, links_of}
+use Rattle.dna_play.specs.Player.{end_step, makes, links_of}
 use Rattle.dna_links.proofs.Tables.Outcomes.{user_did, sent_did, arrived_did}
 use Rattle.dna_play.proofs.Played.Steps.{PlayHalf}
 use Rattle.dna_play.proofs.Played.Runs.{makes_tells}

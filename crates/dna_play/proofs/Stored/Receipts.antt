@@ -12,7 +12,7 @@ use Rattle.capture.specs.declared.record.Record.{Record}
 use Rattle.capture.specs.declared.record.Record.TheVariants.{Received}
 use Rattle.dna_station.specs.declared.refusal.StepRefusal.{StepRefusal}
 use Rattle.dna_station.specs.declared.refusal.StationRefusal.TheVariants.{CrossedPeriod}
-use Rattle.dna_node.specs.Rules.{judged}
+use Rattle.dna_node.specs.Rules.{judged, by_bytes}
 use Rattle.dna_station.specs.Book.{ArrivalValue, Sound, HeaderBad, DataBad, body_of, keep_refusal}
 use Rattle.dna_station.specs.Bounds.{IsWithin}
 use Rattle.dna_station.specs.Station.{Station}
@@ -30,7 +30,7 @@ use Rattle.dna_node.specs.LayersPair.{side_of}
 use Rattle.dna_node.specs.Layers.{LayersTruth, LayersUnit}
 use Rattle.dna_play.specs.Owed.{Debt, arrival_debt, can_take, with_debt}
 use Rattle.dna_play.specs.Script.{Deliver, Refuse, Damage}
-use Rattle.dna_play.specs.Player.{End, by_bytes, end_step, makes, links_of, station_of, after_record}
+use Rattle.dna_play.specs.Player.{End, end_step, makes, links_of, station_of, after_record}
 use Rattle.dna_play.specs.Player as player
 use Rattle.dna_play.specs.Stepped.{Stop, BadStep, Stepped, made}
 use Rattle.dna_play.specs.Receipt.{carried_in, carried, after_receipt, then_gets, on_unit, is_damage, damaged}

@@ -1,0 +1,203 @@
+-- The node of one end alone is the wire node of the pair with the partner period, the partners of links and those in labels forgotten: what its user
+-- does, what it sends and what comes go along, but for what only the two rules refuse.
+use Rattle.std.proofs.Common.{◌≡◌, Bool, true, false, cond, Option, Some, None, Result, Ok, Err, refl, sym, ap, ◌∙◌, subst}
+use Rattle.ddcmp_msg.specs.Message.{MessageValue}
+use Rattle.capture.specs.declared.event.Event.{Event}
+use Rattle.capture.specs.declared.event.Event.TheVariants as events
+use Rattle.dna_station.specs.declared.state.StationEvent.{StationEvent}
+use Rattle.dna_station.specs.declared.state.StationEvent.TheVariants.{Start, Halt}
+use Rattle.dna_station.specs.declared.tag.Tag.{Tag}
+use Rattle.dna_links.specs.declared.tag.LinkTag.{LinkTag}
+use Rattle.dna_station.specs.declared.refusal.StationRefusal.{StationRefusal}
+use Rattle.dna_station.specs.declared.refusal.StationRefusal.TheVariants.{CrossedPeriod}
+use Rattle.dna_station.specs.declared.refusal.StepRefusal.{StepRefusal}
+use Rattle.dna_station.specs.declared.link_refusal.LinkRefusal.{LinkRefusal}
+use Rattle.dna_station.specs.Table.{user_refusal}
+use Rattle.dna_station.specs.Book.{Sound, HeaderBad, DataBad, body_of, meets_by, takes_by, keep_refusal}
+use Rattle.dna_station.specs.WireStation.{WireStation, wire_after_event, wire_after_label}
+use Rattle.dna_station.specs.WireBook.{wire_book, wire_tag, wire_after_sending, wire_sending_refusal, wire_after_arrival, gives_new}
+use Rattle.dna_station.specs.Rules.{of_period}
+use Rattle.dna_station.specs.Machine.{unless_refused}
+use Rattle.dna_links.specs.Links.{Carried}
+use Rattle.dna_links.specs.User.{LinkEventValue, Open, Accept, Reject, In, Up, Close}
+use Rattle.dna_links.specs.Sending.{Sent}
+use Rattle.dna_links.specs.Arriving.{of_partner, of_anyone}
+use Rattle.dna_links.specs.WireFlow.{WireFlow, wire_flows}
+use Rattle.dna_links.specs.WireLinks.{WireLinks, wire_links_user, wire_links_sent, wire_links_arrived}
+use Rattle.dna_node.specs.Rules.{judged, by_bytes}
+use Rattle.dna_node.specs.Content.{content}
+use Rattle.dna_node.specs.WireLayers.{WireLayers, LayersTag, of_no_link, with_wire_station, with_wire_links, first_tagged, with_tag}
+use Rattle.dna_node.specs.WireLayers.{wire_sends_first}
+use Rattle.dna_node.specs.WireLayers.{wire_sends_again, wire_sends_on, tag_or_none, wire_keeps_packet, wire_meets_on, wire_layers_machine}
+use Rattle.dna_node.specs.Alone.{unknown_tag, is_seen_alone}
+use Rattle.dna_node.proofs.Alone.Links.{forget_tag, forget_links, forget_result, forget_sent, user_along as links_user_along}
+use Rattle.dna_node.proofs.Alone.Links.{sent_along as links_sent_along, arrived_along as links_arrived_along}
+use Rattle.dna_node.proofs.Alone.Links as of_links
+use Rattle.dna_node.proofs.Alone.Station.{forget_station, sending_refusal_along, sending_along, first_along, label_along, no_tag}
+use Rattle.dna_node.proofs.Alone.Station.{arrival_along, header_along, data_bad_along}
+
+abbrev pub forget_layers : WireLayers → WireLayers
+forget_layers s = record { station = forget_station forget_tag s.station; links = forget_links s.links }
+
+abbrev pub forget_layers_result : Result WireLayers StepRefusal → Result WireLayers StepRefusal
+forget_layers_result (Ok s) = Ok (forget_layers s)
+forget_layers_result (Err refusal) = Err refusal
+
+abbrev left : WireLinks → WireStation LinkTag → Result WireLayers StepRefusal
+left links station = Ok (record { station = station; links = links })
+
+module _ (s : WireLayers) where
+  -- ---- the user
+
+  by_station : (event : StationEvent) (o : Option StationRefusal) →
+      with_wire_station (forget_layers s) (unless_refused o (wire_after_event (forget_station forget_tag s.station) event))
+      ≡ forget_layers_result (with_wire_station s (unless_refused o (wire_after_event s.station event)))
+  by_station Start None = refl
+  by_station Halt None = refl
+  by_station event (Some refusal) = refl
+
+  by_links : (o : Result WireLinks LinkRefusal) →
+      with_wire_links (forget_layers s) (forget_result o) ≡ forget_layers_result (with_wire_links s o)
+  by_links (Ok links) = refl
+  by_links (Err refusal) = refl
+
+  link_along : (event : LinkEventValue) → with_wire_links (forget_layers s) (wire_links_user (forget_links s.links) event)
+      ≡ forget_layers_result (with_wire_links s (wire_links_user s.links event))
+  link_along event =
+      ap (with_wire_links (forget_layers s)) (sym (links_user_along wire_flows s.links event)) ∙ by_links (wire_links_user s.links event)
+
+  pub user_along : (event : Event) → (wire_layers_machine by_bytes).user (forget_layers s) event
+      ≡ forget_layers_result ((wire_layers_machine judged).user s event)
+  user_along events.Start = by_station Start (user_refusal s.station.variables.state Start)
+  user_along events.Halt = by_station Halt (user_refusal s.station.variables.state Halt)
+  user_along (events.Open link) = link_along (Open link)
+  user_along (events.Accept partner link) = link_along (Accept partner link)
+  user_along (events.Reject partner link) = link_along (Reject partner link)
+  user_along (events.In link bytes) = link_along (In link bytes)
+  user_along (events.Up link bytes) = link_along (Up link bytes)
+  user_along (events.Close link) = link_along (Close link)
+
+-- ---- a message is sent: what is left of the node, whatever is known of the unit
+
+abbrev pub left_sent : Result (WireLayers × LayersTag) StepRefusal → Result WireLayers StepRefusal
+left_sent (Ok after) = Ok after.0
+left_sent (Err refusal) = Err refusal
+
+module _ (s : WireLayers) (m : MessageValue) where
+  abbrev v : WireStation LinkTag
+  v = forget_station forget_tag s.station
+
+  abbrev after : WireStation LinkTag × Tag
+  after = (wire_after_sending s.station m, wire_tag s.station)
+
+  abbrev after_alone : WireStation LinkTag × Tag
+  after_alone = (wire_after_sending v m, wire_tag v)
+
+  abbrev GoAlong : Result (WireLayers × LayersTag) StepRefusal → Result (WireLayers × LayersTag) StepRefusal → Type 0
+  GoAlong x y = left_sent y ≡ forget_layers_result (left_sent x)
+
+  tagged_along : (links : WireLinks) (tag : LinkTag) →
+      GoAlong (Ok (first_tagged after links tag)) (Ok (first_tagged after_alone (forget_links links) (forget_tag tag)))
+  tagged_along links tag =
+      ap (left (forget_links links))
+      (ap (λ (w : WireStation LinkTag). wire_after_label w (forget_tag tag)) (sending_along forget_tag s.station m)
+      ∙ label_along forget_tag (wire_after_sending s.station m) tag)
+
+  by_message : (o : Result (Sent WireFlow (Unit {0})) LinkRefusal) → GoAlong (with_tag after o) (with_tag after_alone (forget_sent wire_flows o))
+  by_message (Ok made) = tagged_along made.links made.truth.tag
+  by_message (Err refusal) = refl
+
+  by_content : (r : Result (Option Carried) StepRefusal) →
+      GoAlong (wire_sends_first s after r) (wire_sends_first (forget_layers s) after_alone r)
+  by_content (Ok (Some packet)) =
+      ap (λ (o : Result (Sent WireFlow (Unit {0})) LinkRefusal). left_sent (with_tag after_alone o))
+      (sym (links_sent_along wire_flows s.links packet))
+      ∙ by_message (wire_links_sent s.links packet)
+  by_content (Ok None) = tagged_along s.links of_no_link
+  by_content (Err refusal) = refl
+
+  again_along : GoAlong (Ok (wire_sends_again s m after)) (Ok (wire_sends_again (forget_layers s) m after_alone))
+  again_along = ap (left (forget_links s.links)) (sending_along forget_tag s.station m)
+
+  by_number : (b : Bool) → GoAlong (cond b (wire_sends_first s after (content (body_of m))) (Ok (wire_sends_again s m after)))
+      (cond b (wire_sends_first (forget_layers s) after_alone (content (body_of m))) (Ok (wire_sends_again (forget_layers s) m after_alone)))
+  by_number true = by_content (content (body_of m))
+  by_number false = again_along
+
+  by_refusal : (o : Option StationRefusal) →
+      GoAlong (wire_sends_on s m (unless_refused o after)) (wire_sends_on (forget_layers s) m (unless_refused o after_alone))
+  by_refusal None =
+      ap (λ (b : Bool). left_sent (cond b (wire_sends_first (forget_layers s) after_alone (content (body_of m)))
+      (Ok (wire_sends_again (forget_layers s) m after_alone)))) (first_along forget_tag s.station m)
+      ∙ by_number (gives_new s.station m)
+  by_refusal (Some refusal) = refl
+
+  pub sends_along : left_sent ((wire_layers_machine by_bytes).sends (forget_layers s) m)
+      ≡ forget_layers_result (left_sent ((wire_layers_machine judged).sends s m))
+  sends_along =
+      ap (λ (o : Option StationRefusal). left_sent (wire_sends_on (forget_layers s) m (unless_refused o after_alone)))
+      (sending_refusal_along forget_tag s.station m)
+      ∙ by_refusal (wire_sending_refusal s.station m)
+
+-- ---- an arrival
+
+-- what becomes of the node of the pair, and of the one alone
+abbrev pub Along : Result WireLayers StepRefusal → Result WireLayers StepRefusal → Type 0
+Along (Ok s) o = o ≡ Ok (forget_layers s)
+Along (Err refusal) o = is_seen_alone refusal ≡ true → o ≡ Err refusal
+
+module _ (s : WireLayers) where
+  by_links_result : (t : WireLayers) (o o' : Result WireLinks LinkRefusal) → of_links.Along wire_flows o o' →
+      Along (with_wire_links t o) (with_wire_links (forget_layers t) o')
+  by_links_result t (Ok links) o' same = ap (with_wire_links (forget_layers t)) same
+  by_links_result t (Err refusal) o' same = λ seen. ap (with_wire_links (forget_layers t)) (same seen)
+
+  keeps_along : (t : WireLayers) (tag : LinkTag) (r : Result (Option Carried) StepRefusal) →
+      Along (wire_keeps_packet judged t tag r) (wire_keeps_packet by_bytes (forget_layers t) of_no_link r)
+  keeps_along t tag (Ok (Some packet)) =
+      by_links_result t (wire_links_arrived of_partner t.links packet tag) (wire_links_arrived of_anyone (forget_links t.links) packet of_no_link)
+      (links_arrived_along wire_flows t.links (record { tag = tag; known = tt }) packet)
+  keeps_along t tag (Ok None) = refl
+  keeps_along t tag (Err refusal) = λ seen. refl
+
+  module _ (m : MessageValue) (known : LayersTag) (kept : Bool) where
+    abbrev w : WireStation LinkTag
+    w = forget_station forget_tag s.station
+
+    -- the packets that are kept
+    by_kept : (k : Bool) (station : WireStation LinkTag) →
+        Along (wire_meets_on judged s (Sound m known) k (Ok station))
+        (wire_meets_on by_bytes (forget_layers s) (Sound m unknown_tag) k (Ok (forget_station forget_tag station)))
+    by_kept true station = keeps_along (record s { station = station }) (tag_or_none known.link) (content (body_of m))
+    by_kept false station = refl
+
+    by_taking : (o : Option StationRefusal) →
+        Along (wire_meets_on judged s (Sound m known) kept (unless_refused o (wire_after_arrival s.station (Sound m known.station) kept)))
+        (wire_meets_on by_bytes (forget_layers s) (Sound m unknown_tag) kept (unless_refused o (wire_after_arrival w (Sound m no_tag) kept)))
+    by_taking None =
+        subst (λ (t : WireStation LinkTag). Along (wire_meets_on judged s (Sound m known) kept
+        (Ok (wire_after_arrival s.station (Sound m known.station) kept))) (wire_meets_on by_bytes (forget_layers s) (Sound m unknown_tag) kept (Ok t)))
+        (sym (arrival_along forget_tag m known.station kept s.station)) (by_kept kept (wire_after_arrival s.station (Sound m known.station) kept))
+    by_taking (Some refusal) = λ seen. refl
+
+    pub by_period : (met : Bool) →
+        Along (wire_meets_on judged s (Sound m known) kept (unless_refused
+        (cond met (keep_refusal (takes_by wire_book s.station m known.station) kept) (Some CrossedPeriod))
+        (wire_after_arrival s.station (Sound m known.station) kept)))
+        ((wire_layers_machine by_bytes).arrives (forget_layers s) (Sound m unknown_tag) kept)
+    by_period true = by_taking (keep_refusal (takes_by wire_book s.station m known.station) kept)
+    by_period false = λ seen. absurd cc
+
+    pub sound_along : Along ((wire_layers_machine judged).arrives s (Sound m known) kept)
+        ((wire_layers_machine by_bytes).arrives (forget_layers s) (Sound m unknown_tag) kept)
+    sound_along = by_period (meets_by wire_book of_period s.station m known.station)
+
+  pub unit_header_bad_along : (kept : Bool) → (wire_layers_machine by_bytes).arrives (forget_layers s) HeaderBad kept
+      ≡ forget_layers_result ((wire_layers_machine judged).arrives s HeaderBad kept)
+  unit_header_bad_along true = refl
+  unit_header_bad_along false = ap (left (forget_links s.links)) (header_along forget_tag s.station false)
+
+  pub unit_data_bad_along : (kept : Bool) → (wire_layers_machine by_bytes).arrives (forget_layers s) DataBad kept
+      ≡ forget_layers_result ((wire_layers_machine judged).arrives s DataBad kept)
+  unit_data_bad_along true = refl
+  unit_data_bad_along false = ap (left (forget_links s.links)) (data_bad_along forget_tag s.station false)
