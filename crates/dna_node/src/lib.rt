@@ -1,6 +1,6 @@
 //! What a reader must believe of a node, its station with its links on top, of the run of two captures and of the verdict on them, as
-//! definitions in `specs/`; the same node on numbers that wrap (the wire node); and laws of both. It decides nothing and touches no file and
-//! no memory.
+//! definitions in `specs/`; the same node on numbers that wrap (the wire node); what one end makes of its capture without the other; and
+//! laws of all that. It decides nothing and touches no file and no memory.
 #![tactic(auto)]
 
 pub mod alone_laws;

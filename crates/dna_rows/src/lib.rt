@@ -5,6 +5,6 @@
 //!
 //! A row is a lemma: its name says the rule, its statement has the bytes, the records and the answer, and its proof computes that. Where
 //! the rule is turned in the definition, the row is refused. The rows stand by subject: `Station`, `Line`, `Links`, `Layers`, `Packets`,
-//! `NotJudged`, `Player`, `Limits`. `Verdicts` has how a verdict is computed, `Scripts` what a script stands for, `Units` and `Captures` what
-//! rows are made of.
+//! `Alone`, `NotJudged`, `Player`, `Limits`. `Verdicts` has how a verdict is computed, `Scripts` what a script stands for, `Units` and
+//! `Captures` what rows are made of.
 #![tactic(auto)]
