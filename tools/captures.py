@@ -159,11 +159,17 @@ class Link:
         self.session = session
         self.addresses = [address_a, address_b]
         self.given = [0, 0]
-        connect = bytes([1, 2]) + word(512)  # services, information, segment size
-        session.user(0, 'open %d' % address_a)
-        session.carries(0, packet_of(self.route(0) + bytes([0x18]) + word(0) + word(address_a) + connect))
-        session.user(1, 'accept %d %d' % (address_a, address_b))
-        session.carries(1, packet_of(self.front(1, 0x28) + connect))
+        self.connect = bytes([1, 2]) + word(512)  # services, information, segment size
+        self.calls()
+        self.is_accepted()
+
+    def calls(self):
+        self.session.user(0, 'open %d' % self.addresses[0])
+        self.session.carries(0, packet_of(self.route(0) + bytes([0x18]) + word(0) + word(self.addresses[0]) + self.connect))
+
+    def is_accepted(self):
+        self.session.user(1, 'accept %d %d' % tuple(self.addresses))
+        self.session.carries(1, packet_of(self.front(1, 0x28) + self.connect))
 
     def route(self, own):
         return bytes([2]) + NODES[1 - own] + NODES[own] + bytes([0])
@@ -187,8 +193,25 @@ class Link:
 
     def closes(self, own):
         self.session.user(own, 'close %d' % self.addresses[own])
-        self.session.carries(own, packet_of(self.front(own, 0x38) + word(0)))
+        self.ends(own)
+
+    def ends(self, own):
+        self.disconnects(own)
         self.session.carries(1 - own, packet_of(self.front(1 - own, 0x48) + word(42)))
+
+    def disconnects(self, own):
+        self.session.carries(own, packet_of(self.front(own, 0x38) + word(0)))
+
+
+class Call(Link):
+    """A link that side a opens, and side b has not answered."""
+
+    def is_accepted(self):
+        pass
+
+    def is_rejected(self):
+        self.session.user(1, 'reject %d %d' % tuple(self.addresses))
+        self.ends(1)
 
 
 # ---- captures with links
@@ -260,3 +283,65 @@ def links_in_turn(a, b, count):
             session.carries(own, link.segment(own, bodies, number))
             link.delivers(1 - own, bodies, number)
         link.closes(number % 2)
+
+
+# ---- captures with links that live at the same time
+
+def opened(session, count):
+    """So many links that are accepted and stay open; the units that they come in are acknowledged."""
+    links = []
+    for number in range(1, count + 1):
+        links.append(Link(session, number, number))
+        if number % 100 == 0:
+            for own in (0, 1):
+                session.acknowledges(own)
+    return links
+
+
+def calls_left_open(a, b, count):
+    opened(Session(a, b), count)
+
+
+def links_by_turns(a, b, count):
+    """So many messages of one segment of one byte, over 1,000 links that stay open, each link in its turn, 100 of either side at once; each
+    stands behind an acknowledgement."""
+    session, bodies = Session(a, b), Bodies(1)
+    links = opened(session, 1000)
+    for place, link in enumerate(links):
+        session.carries(0, link.ack(0))  # now it runs at b as well
+        if place % 100 == 99:
+            session.acknowledges(1)
+    for turn in range(count // 100):
+        own, other = turn % 2, 1 - turn % 2
+        for place in range(turn * 100, turn * 100 + 100):
+            link = links[place % 1000]
+            session.carries(own, link.ack(own))
+            session.carries(own, link.segment(own, bodies, place))
+            link.delivers(other, bodies, place)
+        for side in (other, own):
+            session.acknowledges(side)
+
+
+def links_in_all_phases(a, b, count):
+    """So many links side by side: called, confirming, running, with a message on its way, disconnecting, ended, and ended with its addresses
+    given again."""
+    session, bodies = Session(a, b), Bodies(1)
+    for number in range(1, count + 1):
+        kind = number % 7
+        if kind == 0:
+            Call(session, number, number)
+        elif kind == 1:
+            Call(session, number, number).is_rejected()
+        else:
+            link = Link(session, number, number)
+            if kind == 3:
+                session.carries(0, link.segment(0, bodies, number))
+                link.delivers(1, bodies, number)
+            elif kind == 4:
+                session.user(1, 'in %d 05' % number)
+            elif kind == 5:
+                session.user(0, 'close %d' % number)
+                link.disconnects(0)
+            elif kind == 6:
+                link.closes(1)
+                Link(session, number, number)
