@@ -1,12 +1,12 @@
 -- An index stays one where a link changes, is confirmed or ends.
-use Rattle.std.proofs.Common.{◌≡◌, ℕ, zero, suc, ◌+◌, ◌<◌, ◌≤◌, Bool, true, false, ◌&&◌, ◌||◌, not, cond, Option, Some, None, List, [], ◌∷◌, ◌++◌}
+use Rattle.std.proofs.Common.{◌≡◌, ℕ, zero, suc, ◌+◌, ◌<◌, ◌≤◌, Bool, true, false, ◌&&◌, ◌||◌, not, cond, Option, Some, None, List, [], ◌∷◌}
 use Rattle.std.proofs.Common.{length, set, refl, sym, ap, ◌∙◌, arith, eqb}
 use Rattle.std.specs.Prelude.{slice_get}
 use Rattle.dna_links.specs.declared.port.Phase.{Phase}
 use Rattle.dna_links.specs.declared.port.Port.{Port}
 use Rattle.dna_links.specs.LookUps.{is_live, is_at, is_called, is_calling}
 use Rattle.dna_links.specs.Links.{LinkOf}
-use Rattle.nsp_link.specs.inner.Index.{IsIndexed, Stays, counted, look_in, look_at, own_of, begun_from, is_begun, lives_to, waits}
+use Rattle.nsp_link.specs.inner.Index.{IsIndexed, Stays, counted, look_at, own_of, begun_from, lives_to, waits}
 use Rattle.nsp_link.proofs.Counting.{bit, bit_true, bit_false, bit_less, counted_set, counted_some, counted_all}
 
 -- ---- what is seen at each number

@@ -4,7 +4,11 @@ mod Acknowledged
 mod Holding
 mod Counting
 mod LookUps
+mod Found
 mod Indexed
 mod Change
+mod Holders
+mod Forgotten
+mod Beginning
 mod Giving
 mod Ended

@@ -88,7 +88,7 @@ impl<W: Window<Piece, 4096> + Drop> Links<W> {
     }
 
     // A CC.
-    #[tactic(auto, using(crate::proofs::LookUps::found_links))]
+    #[tactic(auto, using(crate::proofs::Found::found_links))]
     fn connect_confirm(&mut self, message: &ConnectConfirm, tag: LinkTag) -> Result<(), LinkFault>
         ensures ok { OnOk result (message_arrived wire_flows of_partner self.old (nsp.ConnectConfirm message.now.dstaddr message.now.srcaddr
             message.now.services message.now.info message.now.segsize message.now.user_data.now) (record { tag = tag; known = tt }) ≡ Ok self.new) }
@@ -113,7 +113,7 @@ impl<W: Window<Piece, 4096> + Drop> Links<W> {
     }
 
     // A link service, an interrupt or an acknowledgement of the other subchannel.
-    #[tactic(auto, using(crate::proofs::LookUps::found_links))]
+    #[tactic(auto, using(crate::proofs::Found::found_links))]
     fn other(&mut self, own: u16, far: u16, tag: LinkTag) -> Result<(), LinkFault>
         ensures ok { OnOk result (arriving.acted_on wire_flows of_partner own far tag (λ link. link.flow) self.old ≡ Ok self.new) }
         ensures refused { IfErr result (λ fault. IsFault (arriving.acted_on wire_flows of_partner own far tag (λ link. link.flow) self.old)
@@ -134,7 +134,7 @@ impl<W: Window<Piece, 4096> + Drop> Links<W> {
     }
 
     // A data acknowledgement.
-    #[tactic(auto, using(crate::proofs::LookUps::found_links))]
+    #[tactic(auto, using(crate::proofs::Found::found_links))]
     fn acks_came(&mut self, message: &DataAck, tag: LinkTag) -> Result<(), LinkFault>
         requires { AllByRecursion IsAckWord message.now.acks.items }
         ensures ok { OnOk result (message_arrived wire_flows of_partner self.old (nsp.DataAck message.now.dstaddr message.now.srcaddr
@@ -161,7 +161,7 @@ impl<W: Window<Piece, 4096> + Drop> Links<W> {
     }
 
     // A data segment.
-    #[tactic(auto, using(crate::proofs::LookUps::found_links))]
+    #[tactic(auto, using(crate::proofs::Found::found_links))]
     fn segment_came(&mut self, segment: &Segment, tag: LinkTag) -> Result<(), LinkFault>
         requires acks { AllByRecursion IsAckWord segment.now.acks.items }
         requires segnum { segment.now.number < 4096 }
@@ -191,7 +191,7 @@ impl<W: Window<Piece, 4096> + Drop> Links<W> {
     }
 
     // A CI: where no live link has the sender's address, a link begins; else it is a repeat.
-    #[tactic(auto, using(crate::proofs::LookUps::found_links))]
+    #[tactic(auto, using(crate::proofs::Found::found_links))]
     fn connect_initiate(&mut self, message: &ConnectInitiate, tag: LinkTag) -> Result<(), LinkFault>
         ensures ok { OnOk result (message_arrived wire_flows of_partner self.old (nsp.ConnectInitiate message.now.retransmitted message.now.srcaddr
             message.now.services message.now.info message.now.segsize message.now.user_data.now) (record { tag = tag; known = tt }) ≡ Ok self.new) }
@@ -210,7 +210,7 @@ impl<W: Window<Piece, 4096> + Drop> Links<W> {
     }
 
     // A DI or a DC: the link, or the one in Calling with the own address, is over.
-    #[tactic(auto, using(crate::proofs::LookUps::found_links))]
+    #[tactic(auto, using(crate::proofs::Found::found_links))]
     fn end(&mut self, own: u16, far: u16)
         ensures { self.new ≡ ends_link wire_flows of_partner own far self.old }
     {

@@ -111,7 +111,7 @@ impl<W: Window<Piece, 4096> + Drop> Links<W> {
     }
 
     // A message that changes nothing: the link that this test finds, in this phase.
-    #[tactic(auto, using(crate::proofs::LookUps::found_links))]
+    #[tactic(auto, using(crate::proofs::Found::found_links))]
     fn in_its_phase(&self, test: LinkTest, phase: Phase) -> Result<LinkTag, LinkFault>
         requires { is_of_one test ≡ true }
         ensures ok { IfOk result (λ tag. sending.in_its_phase wire_flows test (is_in phase) self.now
@@ -131,7 +131,7 @@ impl<W: Window<Piece, 4096> + Drop> Links<W> {
     }
 
     // A connect acknowledgement.
-    #[tactic(auto, using(crate::proofs::LookUps::found_links))]
+    #[tactic(auto, using(crate::proofs::Found::found_links))]
     fn connect_ack(&self, dst: u16) -> Result<LinkTag, LinkFault>
         ensures ok { IfOk result (λ tag. message_sent wire_flows self.now (nsp.ConnectAck dst)
             ≡ Ok (record { links = self.now; truth = record { tag = tag; known = tt } })) }
@@ -147,7 +147,7 @@ impl<W: Window<Piece, 4096> + Drop> Links<W> {
     }
 
     // A data acknowledgement.
-    #[tactic(auto, using(crate::proofs::LookUps::found_links))]
+    #[tactic(auto, using(crate::proofs::Found::found_links))]
     fn data_ack(&mut self, message: &DataAck) -> Result<LinkTag, LinkFault>
         requires { AllByRecursion IsAckWord message.now.acks.items }
         ensures ok { IfOk result (λ tag. message_sent wire_flows self.old (nsp.DataAck message.now.dstaddr message.now.srcaddr message.now.acks.items)
@@ -177,7 +177,7 @@ impl<W: Window<Piece, 4096> + Drop> Links<W> {
     }
 
     // A data segment.
-    #[tactic(auto, using(crate::proofs::LookUps::found_links))]
+    #[tactic(auto, using(crate::proofs::Found::found_links))]
     fn segment(&mut self, segment: &Segment) -> Result<LinkTag, LinkFault>
         requires acks { AllByRecursion IsAckWord segment.now.acks.items }
         requires segnum { segment.now.number < 4096 }
@@ -208,7 +208,7 @@ impl<W: Window<Piece, 4096> + Drop> Links<W> {
     }
 
     // A DC: no live link has its addresses; with SRCADDR 0 it ends the link in Called that it is sent for, if there is one.
-    #[tactic(auto, using(crate::proofs::LookUps::found_links))]
+    #[tactic(auto, using(crate::proofs::Found::found_links))]
     fn disconnect_confirm(&mut self, dst: u16, src: u16, reason: u16) -> Result<LinkTag, LinkFault>
         ensures ok { IfOk result (λ tag. message_sent wire_flows self.old (nsp.DisconnectConfirm dst src reason)
             ≡ Ok (record { links = self.new; truth = record { tag = tag; known = tt } })) }

@@ -45,7 +45,7 @@ impl<W: Window<Piece, 4096> + Drop> Links<W> {
     }
 
     // A link is closed from here.
-    #[tactic(auto, using(crate::proofs::LookUps::found_links))]
+    #[tactic(auto, using(crate::proofs::Found::found_links))]
     fn close(&mut self, own: u16) -> Result<(), LinkFault>
         ensures ok { OnOk result (wire_links_user self.old (user.Close own) ≡ Ok self.new) }
         ensures refused { IfErr result (λ fault. IsFault (wire_links_user self.old (user.Close own)) false fault) }
@@ -65,7 +65,7 @@ impl<W: Window<Piece, 4096> + Drop> Links<W> {
     }
 
     // A message is handed in.
-    #[tactic(auto, using(crate::proofs::LookUps::found_links))]
+    #[tactic(auto, using(crate::proofs::Found::found_links))]
     fn hand_in(&mut self, own: u16, message: &[u8]) -> Result<(), LinkFault>
         ensures ok { OnOk result (wire_links_user self.old (user.In own message.now) ≡ Ok self.new) }
         ensures refused { IfErr result (λ fault. IsFault (wire_links_user self.old (user.In own message.now)) true fault) }
@@ -87,7 +87,7 @@ impl<W: Window<Piece, 4096> + Drop> Links<W> {
     }
 
     // A message is delivered.
-    #[tactic(auto, using(crate::proofs::LookUps::found_links))]
+    #[tactic(auto, using(crate::proofs::Found::found_links))]
     fn deliver(&mut self, own: u16, message: &[u8]) -> Result<(), LinkFault>
         ensures ok { OnOk result (wire_links_user self.old (user.Up own message.now) ≡ Ok self.new) }
         ensures refused { IfErr result (λ fault. IsFault (wire_links_user self.old (user.Up own message.now)) false fault) }
@@ -106,7 +106,7 @@ impl<W: Window<Piece, 4096> + Drop> Links<W> {
     }
 
     // A link is opened from here.
-    #[tactic(auto, using(crate::proofs::LookUps::found_links))]
+    #[tactic(auto, using(crate::proofs::Found::found_links))]
     fn open(&mut self, own: u16) -> Result<(), LinkFault>
         ensures ok { OnOk result (wire_links_user self.old (user.Open own) ≡ Ok self.new) }
         ensures refused { IfErr result (λ fault. IsFault (wire_links_user self.old (user.Open own)) true fault) }
@@ -125,7 +125,7 @@ impl<W: Window<Piece, 4096> + Drop> Links<W> {
     }
 
     // A call is answered: the link goes to this phase.
-    #[tactic(auto, using(crate::proofs::LookUps::found_links))]
+    #[tactic(auto, using(crate::proofs::Found::found_links))]
     fn answer(&mut self, partner: u16, own: u16, phase: Phase) -> Result<(), LinkFault>
         requires live { is_live phase ≡ true }
         requires answers { is_called phase ≡ false }

@@ -3,7 +3,8 @@ use Rattle.dna_links.specs.declared.port.LinkTest.TheVariants.{LiveAt}
 use Rattle.std.specs.Prelude.{slice_get}
 use Rattle.dna_links.specs.WireLinks.{WireLinks}
 use Rattle.dna_links.specs.Links.{number_of}
-use Rattle.nsp_link.proofs.LookUps.{dead_holder, address_found}
+use Rattle.nsp_link.proofs.LookUps.{address_found}
+use Rattle.nsp_link.proofs.Found.{dead_holder}
 use Rattle.nsp_link.proofs.Giving.{answered_made}
 use Rattle.nsp_link.proofs.Change.{map_ok}
 use Rattle.nsp_link.proofs.links.Links.answer_at.Goals as goal

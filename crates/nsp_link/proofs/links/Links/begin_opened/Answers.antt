@@ -1,7 +1,8 @@
 use Rattle.std.proofs.Common.{ap, ◌∙◌}
 use Rattle.dna_links.specs.declared.port.LinkTest.TheVariants.{LiveAt}
 use Rattle.dna_links.specs.Links.{number_of}
-use Rattle.nsp_link.proofs.LookUps.{dead_holder, address_found}
+use Rattle.nsp_link.proofs.LookUps.{address_found}
+use Rattle.nsp_link.proofs.Found.{dead_holder}
 use Rattle.nsp_link.proofs.Giving.{opened_made}
 use Rattle.nsp_link.proofs.Change.{map_ok}
 use Rattle.nsp_link.proofs.links.Links.begin_opened.Goals as goal

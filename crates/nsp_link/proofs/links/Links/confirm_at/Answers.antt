@@ -3,8 +3,7 @@ use Rattle.std.specs.BTreeMap.{BTreeMap, get}
 use Rattle.std.specs.HashMap.{HashMap}
 use Rattle.std.specs.HashMap as hashed
 use Rattle.dna_links.specs.Arriving.{of_partner, confirmed}
-use Rattle.dna_links.specs.Links.{LinkOf}
-use Rattle.dna_links.specs.WireFlow.{WireFlow, wire_flows}
+use Rattle.dna_links.specs.WireFlow.{wire_flows}
 use Rattle.nsp_link.specs.inner.Index.{times}
 use Rattle.nsp_link.proofs.Indexed.{some_wait, few_reached}
 use Rattle.nsp_link.proofs.Giving.{one_link}

@@ -2,8 +2,8 @@ use Rattle.std.proofs.Common.{◌≡◌, ℕ, refl, sym, ap, ◌∙◌, nat_cmp}
 use Rattle.std.specs.BTreeMap.{BTreeMap, get}
 use Rattle.dna_links.specs.declared.port.Port.{Port}
 use Rattle.dna_links.specs.LookUps.{is_calling}
-use Rattle.dna_links.specs.Links.{LinkOf, ended}
-use Rattle.dna_links.specs.WireFlow.{WireFlow, wire_flows}
+use Rattle.dna_links.specs.Links.{ended}
+use Rattle.dna_links.specs.WireFlow.{wire_flows}
 use Rattle.nsp_link.proofs.LookUps.{eq-is_at}
 use Rattle.nsp_link.proofs.Indexed.{some_wait, some_reached}
 use Rattle.nsp_link.proofs.Giving.{one_link}

@@ -3,7 +3,8 @@ use Rattle.dna_links.specs.LookUps.{passes}
 use Rattle.dna_links.specs.Links.{LinkOf}
 use Rattle.dna_links.specs.WireFlow.{WireFlow}
 use Rattle.nsp_link.specs.inner.Index.{passing}
-use Rattle.nsp_link.proofs.LookUps.{one_found, found_number}
+use Rattle.nsp_link.proofs.LookUps.{one_found}
+use Rattle.nsp_link.proofs.Found.{found_number}
 use Rattle.nsp_link.proofs.links.Links.find.Goals as goal
 
 pub returns-clause-number : goal.returns-clause-number

@@ -5,7 +5,7 @@ use Rattle.std.specs.HashMap as hashed
 use Rattle.dna_links.specs.Links.{LinkOf}
 use Rattle.dna_links.specs.WireFlow.{WireFlow}
 use Rattle.nsp_link.specs.inner.Index.{times}
-use Rattle.nsp_link.proofs.Giving.{called_index}
+use Rattle.nsp_link.proofs.Beginning.{called_index}
 use Rattle.nsp_link.proofs.links.begin.called_at.Goals as goal
 
 pub returns-clause-index : goal.returns-clause-index
