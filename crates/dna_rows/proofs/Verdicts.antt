@@ -140,7 +140,7 @@ module _ (head_a head_b : Head) where
   -- the same verdict, where the captures and the place are written otherwise
   same_verdict : {xs all_a ys all_b : List Record} {i j : ℕ} (side : Side) (cause : Cause) → xs ≡ all_a → ys ≡ all_b → i ≡ j →
       IsVerdict both_layers head_a head_b xs ys (finding.Refused side i cause) → IsVerdict both_layers head_a head_b all_a all_b (finding.Refused
-          side j cause)
+      side j cause)
   same_verdict {all_a = all_a} {ys = ys} {all_b = all_b} {i = i} side cause of_a of_b place is =
       subst (λ (n : ℕ). IsVerdict both_layers head_a head_b all_a all_b (finding.Refused side n cause)) place
       (subst (λ (bs : List Record). IsVerdict both_layers head_a head_b all_a bs (finding.Refused side i cause)) of_b
