@@ -9,6 +9,7 @@ ghost use Rattle.dna_station.specs.declared.refusal.StepRefusal.{StepRefusal};
 ghost use Rattle.dna_node.specs.declared.finding.Cause.TheVariants.{Step};
 ghost use Rattle.dna_node.specs.declared.finding.Finding.TheVariants as findings;
 ghost use Rattle.dna_node.specs.LayersPair.{layers_pair, layers_start, IsLayersRun};
+ghost use Rattle.dna_node.specs.Kind.{both_layers};
 ghost use Rattle.dna_node.specs.Verdict.{IsVerdict};
 ghost use Rattle.dna_node.specs.Alone.{Accused, accused_of, Refused, judged_alone, Passes, is_seen_alone};
 
@@ -31,9 +32,9 @@ pub fn alone_misses_nothing_of_its_own()
         → (offends : Offends layers_pair (layers_start head_own head_other) own other place reason) → is_seen_alone reason ≡ true
         → judged_alone head_own own ≡ Refused place (accused_of offends.offender reason) reason }
     ensures named_of_a { (head_a head_b : Head) (of_a of_b : List Record) (place : ℕ) (reason : StepRefusal)
-        → IsVerdict head_a head_b of_a of_b (findings.Refused A place (Step reason)) → is_seen_alone reason ≡ true
+        → IsVerdict both_layers head_a head_b of_a of_b (findings.Refused A place (Step reason)) → is_seen_alone reason ≡ true
         → (accused : Accused) × (judged_alone head_a of_a ≡ Refused place accused reason) }
     ensures named_of_b { (head_a head_b : Head) (of_a of_b : List Record) (place : ℕ) (reason : StepRefusal)
-        → IsVerdict head_a head_b of_a of_b (findings.Refused B place (Step reason)) → is_seen_alone reason ≡ true
+        → IsVerdict both_layers head_a head_b of_a of_b (findings.Refused B place (Step reason)) → is_seen_alone reason ≡ true
         → (accused : Accused) × (judged_alone head_b of_b ≡ Refused place accused reason) }
 {}
