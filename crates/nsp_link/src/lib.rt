@@ -5,6 +5,7 @@
 
 mod fault;
 mod flow;
+mod given;
 mod last_sent;
 mod link;
 mod links;
@@ -13,5 +14,6 @@ mod phase;
 pub use dna_links::{LinkEvent, LinkTag};
 pub use dna_station::LinkRefusal;
 pub use fault::LinkFault;
+pub use given::Given;
 pub use link_segments::Piece;
 pub use links::Links;
