@@ -3,6 +3,8 @@ pub mod Sent
 pub mod Comes
 pub mod Packets
 pub mod Arrives
+pub mod AcksAlone
+pub mod LoneEnds
 pub mod Events
 pub mod Advances
 pub mod Courses

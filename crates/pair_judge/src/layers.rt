@@ -4,7 +4,9 @@ ghost use Rattle.std.specs.Prelude.{◌≡◌, length, IfOk};
 ghost use Rattle.dna_station.specs.WireStation.{new_wire_station};
 ghost use Rattle.dna_links.specs.WireLinks.{new_wire_links};
 
+mod accusing;
 mod arriving;
+mod one_end;
 mod sending;
 mod user;
 

@@ -244,7 +244,7 @@ fn make_link_event(own: &mut End, event: LinkEvent) -> Result<Made, AllocError>
 }
 
 // Whether a message is delivered.
-fn is_delivery(event: &LinkEvent) -> bool
+pub fn is_delivery(event: &LinkEvent) -> bool
     ensures { result ≡ delivers (event_of_links (view event.now)) }
 {
     match event {
