@@ -1,5 +1,6 @@
 -- What a contract sees of the types of this crate; the rules stand in `dna_station`
 pub mod Arrival
 pub mod Fault
+pub mod PeriodRules
 pub mod Sent
 pub mod inner

@@ -1,7 +1,8 @@
 //! The station, and what its user does.
 
-ghost use Rattle.std.specs.Prelude.{◌≡◌, ◌+◌, ◌^◌, ◌<◌, ◌≤◌, length, IfOk, OnOk, OnErr, IfErr};
+ghost use Rattle.std.specs.Prelude.{◌≡◌, ◌+◌, ◌^◌, ◌<◌, ◌≤◌, length, nat_le, IfOk, OnOk, OnErr, IfErr};
 ghost use Rattle.dna_station.specs.Table.{user_refusal};
+ghost use Rattle.dna_station.specs.WireBook.{acknowledges};
 ghost use Rattle.dna_station.specs.WireStation.{new_wire_station, wire_after_event, wire_after_label, load};
 ghost use Rattle.ddcmp_station.specs.Fault.{IsRefused};
 
@@ -81,6 +82,14 @@ impl<T: Copy, W: Window<HeldPacket<T>, 256>> Station<T, W> {
         ensures { result ≡ self.now.period }
     {
         self.period
+    }
+
+    /// Whether a RESP that comes is among the highest number acknowledged to the highest given. In RUNNING no other is right. Takes no memory.
+    #[inline(always)]
+    pub fn may_answer(&self, resp: u8) -> bool
+        ensures { result ≡ nat_le (acknowledges self.now.variables resp) (length self.now.variables.held) }
+    {
+        self.variables.may_answer(resp)
     }
 
     /// Its user starts or halts it (DDCMP 4.1, startup state table). A start leads to ISTRT and begins the next period,

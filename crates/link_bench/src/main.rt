@@ -41,7 +41,7 @@ fn take(to: &mut Node, of: u16, message: &Nsp, tag: LinkTag) -> Result<(), LinkF
     if !message.in_range() {
         return Err(LinkFault::OutOfMemory);
     }
-    to.arrived(other(of), of, message, tag)
+    to.arrived::<true>(other(of), of, message, tag)
 }
 
 fn other(node: u16) -> u16 {

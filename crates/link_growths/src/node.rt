@@ -87,12 +87,15 @@ impl<W: Window<Piece, 4096> + Drop> Node<W> {
         if !message.in_range() {
             return Err(LinkFault::OutOfMemory);
         }
-        let answer = self.links.arrived(self.own, self.peer, &message, tag);
+        let answer = self
+            .links
+            .arrived::<true>(self.own, self.peer, &message, tag);
         if answer != Err(LinkFault::OutOfMemory) {
             return answer;
         }
         self.repeats.arrived = self.repeats.arrived.wrapping_add(1);
-        self.links.arrived(self.own, self.peer, &message, tag)
+        self.links
+            .arrived::<true>(self.own, self.peer, &message, tag)
     }
 }
 

@@ -110,7 +110,7 @@ fn takes<W: Window<Piece, 4096> + Drop>(
         return None;
     }
     let tag = LinkTag { link, partner };
-    Some(untagged(links.arrived(dst, src, &message, tag)))
+    Some(untagged(links.arrived::<true>(dst, src, &message, tag)))
 }
 
 // `open LINK`, `close LINK`, `accept PARTNER LINK`, `reject PARTNER LINK`, `in LINK DATA`, `up LINK DATA`

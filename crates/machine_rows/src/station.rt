@@ -134,7 +134,7 @@ fn takes<W: Window<HeldPacket<u64>, 256>>(
         Reading::DataBad => Arrival::DataBad,
         Reading::Malformed(_) => return None,
     };
-    match station.arrived(arrival, kept) {
+    match station.arrived::<true>(arrival, kept) {
         Ok(Some(packet)) => Some(Ok(Given::Packet(Vec::from_slice(alloc, packet).ok()?))),
         Ok(None) => Some(Ok(Given::Nothing)),
         Err(fault) => Some(Err(fault)),

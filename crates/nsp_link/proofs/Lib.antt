@@ -1,4 +1,5 @@
 mod Words
+mod Named
 mod Delivery
 mod Acknowledged
 mod Holding

@@ -1,5 +1,7 @@
 -- What a contract sees of the types of this crate; the rules stand in `dna_links`
 pub mod Fault
 pub mod Flow
+pub mod Given
+pub mod PartnerRules
 pub mod Phases
 pub mod inner

@@ -11,12 +11,13 @@ ghost use Rattle.dna_links.specs.WireFlow.{empty, hands_in, delivers, sends_acks
 ghost use Rattle.dna_links.specs.WireFlow.{takes_segment, takes_acks, ends, sending};
 ghost use Rattle.dna_links.specs.WireFlow as spec;
 ghost use Rattle.nsp_link.specs.Fault.{IsFault};
+ghost use Rattle.nsp_link.specs.Given.{given_of};
 
 mod receiving;
 mod sending;
 
 use crate::last_sent::LastSent;
-use crate::{LinkFault, LinkRefusal};
+use crate::{Given, LinkFault, LinkRefusal};
 use dna_packet::{AckWord, Segment};
 use link_segments::{Outstanding, Piece, Received, Unsent};
 use std::alloc::{AllocError, Global};
@@ -68,6 +69,18 @@ impl<W: Window<Piece, 4096> + Drop> Flow<W> {
             pieces: Received::new(alloc),
             gave_many: false,
             last: LastSent::new(),
+        }
+    }
+
+    /// What it has given.
+    pub fn given(&self) -> Given
+        ensures given { result ≡ given_of self.now }
+        ensures below { result.acknowledged < 4096 }
+    {
+        Given {
+            acknowledged: self.outstanding.acknowledged().value(),
+            outstanding: self.outstanding.len() as u16,
+            gave_many: self.gave_many,
         }
     }
 

@@ -5,6 +5,7 @@
 
 mod fault;
 mod flow;
+mod given;
 mod index;
 mod last_sent;
 mod link;
@@ -14,5 +15,6 @@ mod phase;
 pub use dna_links::{LinkEvent, LinkTag};
 pub use dna_station::LinkRefusal;
 pub use fault::LinkFault;
+pub use given::Given;
 pub use link_segments::Piece;
 pub use links::Links;

@@ -15,10 +15,11 @@ ghost use Rattle.dna_links.specs.WireFlow.{wire_flows, hands_in, delivers, sends
 ghost use Rattle.dna_links.specs.WireFlow as spec;
 ghost use Rattle.nsp_link.specs.Fault.{IsFault};
 ghost use Rattle.nsp_link.specs.Flow.{is_held};
+ghost use Rattle.nsp_link.specs.Given.{given_of};
 ghost use Rattle.nsp_link.specs.inner.Index.{Stays};
 
 use crate::flow::Flow;
-use crate::{LinkFault, LinkRefusal, LinkTag, Piece};
+use crate::{Given, LinkFault, LinkRefusal, LinkTag, Piece};
 use dna_links::{Phase, Port};
 use dna_packet::{AckWord, Segment};
 use std::alloc::{AllocError, Global};
@@ -112,6 +113,21 @@ impl<W: Window<Piece, 4096> + Drop> Link<W> {
         ensures { result ≡ self.now.partner }
     {
         self.partner
+    }
+
+    /// What it has given.
+    pub fn given(&self) -> Given
+        ensures given { result ≡ given_of self.now.flow }
+        ensures below { result.acknowledged < 4096 }
+    {
+        match &self.flow {
+            Some(flow) => flow.given(),
+            None => Given {
+                acknowledged: 0,
+                outstanding: 0,
+                gave_many: false,
+            },
+        }
     }
 
     // ---- the user

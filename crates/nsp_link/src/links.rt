@@ -4,18 +4,20 @@ ghost use Rattle.std.specs.Prelude.{◌≡◌, ◌<◌, true, None, Some, length
 ghost use Rattle.dna_links.specs.LookUps as tests;
 ghost use Rattle.dna_links.specs.Links.{number_of};
 ghost use Rattle.dna_links.specs.WireLinks.{new_wire_links};
+ghost use Rattle.nsp_link.specs.Given.{given_at};
 ghost use Rattle.nsp_link.specs.inner.Index.{is_of_one};
 ghost use Rattle.nsp_link.specs.inner.Index as words;
 
 mod arriving;
 mod begin;
 mod change;
+mod partner;
 mod sending;
 mod user;
 
 use crate::index::Index;
 use crate::link::Link;
-use crate::{LinkFault, LinkRefusal, Piece};
+use crate::{Given, LinkFault, LinkRefusal, Piece};
 use dna_links::LinkTest;
 use link_segments::passes;
 use std::alloc::Global;
@@ -77,6 +79,22 @@ impl<W: Window<Piece, 4096> + Drop> Links<W> {
         ensures { result ≡ length self.now.links }
     {
         self.links.len() as u64
+    }
+
+    /// What the link has given that acts on a message from address `far` to its address `own`: the one in Confirming or RUN with both, if there
+    /// is one. Takes no memory.
+    #[tactic(auto, using(crate::proofs::Found::found_links))]
+    pub fn given(&self, own: u16, far: u16) -> Option<Given>
+        ensures given { result ≡ given_at own far self.now }
+        ensures below { IfSome result (λ given. given.acknowledged < 4096) }
+    {
+        let Some(number) = self.find(LinkTest::ActedOn { own, far }) else {
+            return None;
+        };
+        let Some(link) = self.link(number) else {
+            unreachable!();
+        };
+        Some(link.given())
     }
 
     // The number of the first link that passes a test which at most one passes.

@@ -1,13 +1,13 @@
 //! The variables of a station, and its packets that are not acknowledged.
 
-ghost use Rattle.std.specs.Prelude.{◌≡◌, ◌+◌, ◌<◌, ◌≤◌, ◌==◌, ◌&&◌, ◌++◌, ◌∷◌, [], true, false, not, nat_lt, length, slice_get, option_and_then, option_copied, IfOk, OnOk, OnErr};
+ghost use Rattle.std.specs.Prelude.{◌≡◌, ◌+◌, ◌<◌, ◌≤◌, ◌==◌, ◌&&◌, ◌++◌, ◌∷◌, [], true, false, not, nat_lt, nat_le, length, slice_get, option_and_then, option_copied, IfOk, OnOk, OnErr};
 ghost use Rattle.ddcmp_msg.specs.Message.{view};
 ghost use Rattle.dna_station.specs.Book.{has_packet, num_of};
 ghost use Rattle.dna_station.specs.Station.{wire};
 ghost use Rattle.dna_station.specs.Table.{WINDOW, row};
 ghost use Rattle.dna_station.specs.WireStation.{no_numbers, with_label};
 ghost use Rattle.dna_station.specs.WireStation as wire_station;
-ghost use Rattle.dna_station.specs.WireBook.{is_held_packet, wire_is_next, wire_is_new, wire_responded};
+ghost use Rattle.dna_station.specs.WireBook.{acknowledges, is_held_packet, wire_is_next, wire_is_new, wire_responded};
 
 use crate::{HeldPacket, PacketBytes};
 use ddcmp_msg::Message;
@@ -33,7 +33,7 @@ const MOST: u16 = 255;
 ///  received         7               is_first_given    of the bytes of packet 0 alone
 ///  is_next          of 8 alone      label_to_send     the label beside packet 0, if it has one
 ///  highest          1               can_take          of data with NUM 8
-///  to_send          0
+///  to_send          0               may_answer        of RESP 254 to 1
 ///  is_outstanding   yes             receive           R = 8
 ///  has_room         yes             respond(0)        A = 0, N = 1, T = 1: packet 1 is left
 ///  is_new           no              respond(2)        nothing changes: 2 was not given
@@ -204,6 +204,13 @@ impl<T: Copy, B: PacketBytes, W: Window<HeldPacket<T, B>, 256>> StationVariables
                 _ => false,
             },
         }
+    }
+
+    /// Whether a RESP that comes is among A to N: what a right other station answers in RUNNING, since it was acknowledged last, or given since.
+    pub fn may_answer(&self, resp: u8) -> bool
+        ensures { result ≡ nat_le (acknowledges self.now resp) (length self.now.held) }
+    {
+        usize::from(Seq::distance(self.held.first(), Seq::of(u64::from(resp)))) <= self.held.len()
     }
 
     // ---- what changes

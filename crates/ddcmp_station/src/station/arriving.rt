@@ -6,7 +6,7 @@ ghost use Rattle.ddcmp_msg.specs.Message.{view};
 ghost use Rattle.ddcmp_msg.specs.declared.nak_reason.NakReason.TheVariants as nak;
 ghost use Rattle.dna_station.specs.Causes.{with_cause};
 ghost use Rattle.dna_station.specs.Table.{row};
-ghost use Rattle.dna_station.specs.Rules.{of_period, meets};
+ghost use Rattle.dna_station.specs.Rules.{meets};
 ghost use Rattle.dna_station.specs.Rules as rules;
 ghost use Rattle.dna_station.specs.Book.{num_of, has_packet, keep_refusal, damaged_by};
 ghost use Rattle.dna_station.specs.Book as arriving;
@@ -14,6 +14,7 @@ ghost use Rattle.dna_station.specs.WireStation.{load};
 ghost use Rattle.dna_station.specs.WireBook.{wire_tag, wire_book, wire_is_next, with_next, wire_responded, wire_does, wire_arrival_refusal, wire_after_arrival, wire_taken};
 ghost use Rattle.ddcmp_station.specs.Arrival.{arrival_view};
 ghost use Rattle.ddcmp_station.specs.Fault.{IsRefused};
+ghost use Rattle.ddcmp_station.specs.PeriodRules.{period_rule};
 
 use super::{HeldPacket, Station};
 use crate::{Arrival, StationFault};
@@ -41,29 +42,30 @@ impl<T: Copy, W: Window<HeldPacket<T>, 256>> Station<T, W> {
     ///
     /// `Refused`, and nothing else, with:
     ///
-    /// - `CrossedPeriod`: a message that is acted on belongs to another pair of starts.
+    /// - `CrossedPeriod`: a message that is acted on belongs to another pair of starts. Only where `OF_PAIR`, as a judge of two captures asks it:
+    ///   `arrived::<true>`. Who has one end alone knows no period of what comes, and `arrived::<false>` takes any.
     /// - `WrongKeep`, after it: nothing is taken, and `kept` says that something was.
     ///
     /// After either the station is as it was.
     #[inline(always)]
-    pub fn arrived<'a>(
+    pub fn arrived<'a, const OF_PAIR: bool>(
         &mut self,
         arrival: Arrival<'a>,
         kept: bool,
     ) -> Result<Option<&'a [u8]>, StationFault>
         requires { load self.old < 2 ^ 63 }
-        ensures allowed { OnOk result (wire_arrival_refusal of_period self.old (arrival_view arrival.entry) kept ≡ None) }
+        ensures allowed { OnOk result (wire_arrival_refusal (period_rule OF_PAIR) self.old (arrival_view arrival.entry) kept ≡ None) }
         ensures ok { OnOk result (self.new ≡ wire_after_arrival self.old (arrival_view arrival.entry) kept) }
         ensures taken { IfOk result (λ taken. option_copied taken ≡ wire_taken self.old (arrival_view arrival.entry) kept) }
         ensures refused { IfErr result (λ fault.
-            IsRefused (wire_arrival_refusal of_period self.old (arrival_view arrival.entry) kept) fault) }
+            IsRefused (wire_arrival_refusal (period_rule OF_PAIR) self.old (arrival_view arrival.entry) kept) fault) }
         ensures alone { IfErr result (λ fault. (fault ≡ StationFault.Refused StationRefusal.CrossedPeriod)
             ⊎ (fault ≡ StationFault.Refused StationRefusal.WrongKeep)) }
         ensures err { OnErr result (self.new ≡ self.old) }
         ensures load { load self.new ≤ load self.old + 1 }
     {
         match arrival {
-            Arrival::Sound(message, tag) => self.meet(message, tag, kept),
+            Arrival::Sound(message, tag) => self.meet::<OF_PAIR>(message, tag, kept),
             Arrival::HeaderBad => self.note_damage(NakReason::HeaderCheck, kept),
             Arrival::DataBad => self.note_damage(NakReason::DataCheck, kept),
         }
@@ -71,25 +73,27 @@ impl<T: Copy, W: Window<HeldPacket<T>, 256>> Station<T, W> {
 
     // A sound message came.
     #[inline(always)]
-    fn meet<'a>(
+    fn meet<'a, const OF_PAIR: bool>(
         &mut self,
         message: Message<'a>,
         tag: Tag,
         kept: bool,
     ) -> Result<Option<&'a [u8]>, StationFault>
         requires { load self.old < 2 ^ 63 }
-        ensures allowed { OnOk result (wire_arrival_refusal of_period self.old (arriving.Sound (view message.entry) tag) kept ≡ None) }
+        ensures allowed { OnOk result (wire_arrival_refusal (period_rule OF_PAIR) self.old (arriving.Sound (view message.entry) tag) kept ≡ None) }
         ensures ok { OnOk result (self.new ≡ wire_after_arrival self.old (arriving.Sound (view message.entry) tag) kept) }
         ensures taken { IfOk result (λ taken. option_copied taken ≡ wire_taken self.old (arriving.Sound (view message.entry) tag) kept) }
         ensures refused { IfErr result (λ fault.
-            IsRefused (wire_arrival_refusal of_period self.old (arriving.Sound (view message.entry) tag) kept) fault) }
+            IsRefused (wire_arrival_refusal (period_rule OF_PAIR) self.old (arriving.Sound (view message.entry) tag) kept) fault) }
         ensures alone { IfErr result (λ fault. (fault ≡ StationFault.Refused StationRefusal.CrossedPeriod)
             ⊎ (fault ≡ StationFault.Refused StationRefusal.WrongKeep)) }
         ensures err { OnErr result (self.new ≡ self.old) }
         ensures load { load self.new ≤ load self.old + 1 }
     {
-        if !self.meets(&message, tag) {
-            return Err(StationFault::Refused(StationRefusal::CrossedPeriod));
+        if OF_PAIR {
+            if !self.meets(&message, tag) {
+                return Err(StationFault::Refused(StationRefusal::CrossedPeriod));
+            }
         }
         let takes = self.variables.can_take(&message);
         if !takes && kept {

@@ -5,15 +5,16 @@ ghost use Rattle.std.specs.List.{AllByRecursion};
 ghost use Rattle.dna_packet.specs.AckWord.{IsAckWord};
 ghost use Rattle.dna_packet.specs.Nsp.{segment_view};
 ghost use Rattle.dna_packet.specs.Nsp as nsp;
-ghost use Rattle.dna_links.specs.LookUps as tests;
 ghost use Rattle.dna_links.specs.Arriving.{of_partner, message_arrived, ends_link};
 ghost use Rattle.dna_links.specs.Arriving as arriving;
 ghost use Rattle.dna_links.specs.WireFlow.{wire_flows};
 ghost use Rattle.dna_links.specs.WireLinks.{wire_links_arrived};
 ghost use Rattle.nsp_link.specs.Fault.{IsFault};
+ghost use Rattle.nsp_link.specs.PartnerRules.{partner_rule};
 ghost use Rattle.nsp_link.specs.Phases.{arrival_takes_memory, holds_segment, begins_link};
 
 use super::Links;
+use super::partner::{is_for, is_of_pair};
 use crate::{LinkFault, LinkRefusal, LinkTag, Piece};
 use dna_links::LinkTest;
 use dna_packet::{ConnectConfirm, ConnectInitiate, DataAck, Nsp, Segment};
@@ -32,10 +33,11 @@ impl<W: Window<Piece, 4096> + Drop> Links<W> {
     /// `Refused`, the first that fits:
     ///
     /// - `WrongNode`: `src` is not the other node, or `dst` not this one.
-    /// - `CrossedLink`: a message that is acted on belongs to another pair of links.
+    /// - `CrossedLink`: a message that is acted on belongs to another pair of links. Only where `OF_PAIR`, as a judge of two captures asks it:
+    ///   `arrived::<true>`. Who has one end alone knows no link of what comes, and `arrived::<false>` takes any.
     ///
     /// `OutOfMemory`, after both: memory was refused. After any of them the links are as they were.
-    pub fn arrived(
+    pub fn arrived<const OF_PAIR: bool>(
         &mut self,
         dst: u16,
         src: u16,
@@ -43,9 +45,9 @@ impl<W: Window<Piece, 4096> + Drop> Links<W> {
         tag: LinkTag,
     ) -> Result<(), LinkFault>
         requires { nsp.IsInRange (nsp.view message.now) }
-        ensures ok { OnOk result (wire_links_arrived of_partner self.old (record { dst = dst; src = src; message = nsp.view message.now }) tag
-            ≡ Ok self.new) }
-        ensures refused { IfErr result (λ fault. IsFault (wire_links_arrived of_partner self.old
+        ensures ok { OnOk result (wire_links_arrived (partner_rule OF_PAIR) self.old
+            (record { dst = dst; src = src; message = nsp.view message.now }) tag ≡ Ok self.new) }
+        ensures refused { IfErr result (λ fault. IsFault (wire_links_arrived (partner_rule OF_PAIR) self.old
             (record { dst = dst; src = src; message = nsp.view message.now }) tag) (arrival_takes_memory self.old (nsp.view message.now)) fault) }
         ensures err { OnErr result (self.new ≡ self.old) }
     {
@@ -55,25 +57,33 @@ impl<W: Window<Piece, 4096> + Drop> Links<W> {
         if dst != self.node {
             return Err(LinkFault::Refused(LinkRefusal::WrongNode));
         }
-        self.take(message, tag)
+        self.take::<OF_PAIR>(message, tag)
     }
 
     // The same of a message that comes from the other node to this one.
-    fn take(&mut self, message: &Nsp, tag: LinkTag) -> Result<(), LinkFault>
+    fn take<const OF_PAIR: bool>(&mut self, message: &Nsp, tag: LinkTag) -> Result<(), LinkFault>
         requires { nsp.IsInRange (nsp.view message.now) }
-        ensures ok { OnOk result (message_arrived wire_flows of_partner self.old (nsp.view message.now) (record { tag = tag; known = tt })
-            ≡ Ok self.new) }
-        ensures refused { IfErr result (λ fault. IsFault (message_arrived wire_flows of_partner self.old (nsp.view message.now)
+        ensures ok { OnOk result (message_arrived wire_flows (partner_rule OF_PAIR) self.old (nsp.view message.now)
+            (record { tag = tag; known = tt }) ≡ Ok self.new) }
+        ensures refused { IfErr result (λ fault. IsFault (message_arrived wire_flows (partner_rule OF_PAIR) self.old (nsp.view message.now)
             (record { tag = tag; known = tt })) (arrival_takes_memory self.old (nsp.view message.now)) fault) }
         ensures err { OnErr result (self.new ≡ self.old) }
     {
         match message {
-            Nsp::DataSegment(segment) => self.segment_came(segment, tag),
-            Nsp::DataAck(message) => self.acks_came(message, tag),
-            Nsp::LinkService(message) => self.other(message.dstaddr, message.srcaddr, tag),
-            Nsp::OtherDataAck(message) => self.other(message.dstaddr, message.srcaddr, tag),
-            Nsp::ConnectInitiate(message) => self.connect_initiate(message, tag),
-            Nsp::ConnectConfirm(message) => self.connect_confirm(message, tag),
+            Nsp::DataSegment(segment) => self.segment_came::<OF_PAIR>(segment, tag),
+            Nsp::DataAck(message) => self.acks_came::<OF_PAIR>(message, tag),
+            Nsp::LinkService(message) => self.other::<OF_PAIR>(
+                message.dstaddr,
+                message.srcaddr,
+                tag,
+            ),
+            Nsp::OtherDataAck(message) => self.other::<OF_PAIR>(
+                message.dstaddr,
+                message.srcaddr,
+                tag,
+            ),
+            Nsp::ConnectInitiate(message) => self.connect_initiate::<OF_PAIR>(message, tag),
+            Nsp::ConnectConfirm(message) => self.connect_confirm::<OF_PAIR>(message, tag),
             Nsp::DisconnectInitiate(message) => {
                 self.end(message.dstaddr, message.srcaddr);
                 Ok(())
@@ -89,11 +99,16 @@ impl<W: Window<Piece, 4096> + Drop> Links<W> {
 
     // A CC.
     #[tactic(auto, using(crate::proofs::Found::found_links))]
-    fn connect_confirm(&mut self, message: &ConnectConfirm, tag: LinkTag) -> Result<(), LinkFault>
-        ensures ok { OnOk result (message_arrived wire_flows of_partner self.old (nsp.ConnectConfirm message.now.dstaddr message.now.srcaddr
-            message.now.services message.now.info message.now.segsize message.now.user_data.now) (record { tag = tag; known = tt }) ≡ Ok self.new) }
-        ensures refused { IfErr result (λ fault. IsFault (message_arrived wire_flows of_partner self.old (nsp.ConnectConfirm message.now.dstaddr
+    fn connect_confirm<const OF_PAIR: bool>(
+        &mut self,
+        message: &ConnectConfirm,
+        tag: LinkTag,
+    ) -> Result<(), LinkFault>
+        ensures ok { OnOk result (message_arrived wire_flows (partner_rule OF_PAIR) self.old (nsp.ConnectConfirm message.now.dstaddr
             message.now.srcaddr message.now.services message.now.info message.now.segsize message.now.user_data.now)
+            (record { tag = tag; known = tt }) ≡ Ok self.new) }
+        ensures refused { IfErr result (λ fault. IsFault (message_arrived wire_flows (partner_rule OF_PAIR) self.old (nsp.ConnectConfirm
+            message.now.dstaddr message.now.srcaddr message.now.services message.now.info message.now.segsize message.now.user_data.now)
             (record { tag = tag; known = tt })) false fault) }
         ensures err { OnErr result (self.new ≡ self.old) }
     {
@@ -105,7 +120,7 @@ impl<W: Window<Piece, 4096> + Drop> Links<W> {
         let Some(_link) = self.link(number) else {
             unreachable!();
         };
-        if !is_for(number, tag) {
+        if !is_for::<OF_PAIR>(number, tag) {
             return Err(LinkFault::Refused(LinkRefusal::CrossedLink));
         }
         self.confirm_at(number, message.srcaddr, message.segsize, tag);
@@ -114,10 +129,15 @@ impl<W: Window<Piece, 4096> + Drop> Links<W> {
 
     // A link service, an interrupt or an acknowledgement of the other subchannel.
     #[tactic(auto, using(crate::proofs::Found::found_links))]
-    fn other(&mut self, own: u16, far: u16, tag: LinkTag) -> Result<(), LinkFault>
-        ensures ok { OnOk result (arriving.acted_on wire_flows of_partner own far tag (λ link. link.flow) self.old ≡ Ok self.new) }
-        ensures refused { IfErr result (λ fault. IsFault (arriving.acted_on wire_flows of_partner own far tag (λ link. link.flow) self.old)
-            false fault) }
+    fn other<const OF_PAIR: bool>(
+        &mut self,
+        own: u16,
+        far: u16,
+        tag: LinkTag,
+    ) -> Result<(), LinkFault>
+        ensures ok { OnOk result (arriving.acted_on wire_flows (partner_rule OF_PAIR) own far tag (λ link. link.flow) self.old ≡ Ok self.new) }
+        ensures refused { IfErr result (λ fault. IsFault (arriving.acted_on wire_flows (partner_rule OF_PAIR) own far tag (λ link. link.flow)
+            self.old) false fault) }
         ensures err { OnErr result (self.new ≡ self.old) }
     {
         let Some(number) = self.find(LinkTest::ActedOn { own, far }) else {
@@ -126,7 +146,7 @@ impl<W: Window<Piece, 4096> + Drop> Links<W> {
         let Some(link) = self.link(number) else {
             unreachable!();
         };
-        if !is_of_pair(number, link.partner(), tag) {
+        if !is_of_pair::<OF_PAIR>(number, link.partner(), tag) {
             return Err(LinkFault::Refused(LinkRefusal::CrossedLink));
         }
         self.run_at(number);
@@ -135,11 +155,15 @@ impl<W: Window<Piece, 4096> + Drop> Links<W> {
 
     // A data acknowledgement.
     #[tactic(auto, using(crate::proofs::Found::found_links))]
-    fn acks_came(&mut self, message: &DataAck, tag: LinkTag) -> Result<(), LinkFault>
+    fn acks_came<const OF_PAIR: bool>(
+        &mut self,
+        message: &DataAck,
+        tag: LinkTag,
+    ) -> Result<(), LinkFault>
         requires { AllByRecursion IsAckWord message.now.acks.items }
-        ensures ok { OnOk result (message_arrived wire_flows of_partner self.old (nsp.DataAck message.now.dstaddr message.now.srcaddr
+        ensures ok { OnOk result (message_arrived wire_flows (partner_rule OF_PAIR) self.old (nsp.DataAck message.now.dstaddr message.now.srcaddr
             message.now.acks.items) (record { tag = tag; known = tt }) ≡ Ok self.new) }
-        ensures refused { IfErr result (λ fault. IsFault (message_arrived wire_flows of_partner self.old (nsp.DataAck message.now.dstaddr
+        ensures refused { IfErr result (λ fault. IsFault (message_arrived wire_flows (partner_rule OF_PAIR) self.old (nsp.DataAck message.now.dstaddr
             message.now.srcaddr message.now.acks.items) (record { tag = tag; known = tt })) false fault) }
         ensures err { OnErr result (self.new ≡ self.old) }
     {
@@ -153,7 +177,7 @@ impl<W: Window<Piece, 4096> + Drop> Links<W> {
         let Some(link) = self.link(number) else {
             unreachable!();
         };
-        if !is_of_pair(number, link.partner(), tag) {
+        if !is_of_pair::<OF_PAIR>(number, link.partner(), tag) {
             return Err(LinkFault::Refused(LinkRefusal::CrossedLink));
         }
         self.take_acks_at(number, &message.acks);
@@ -162,13 +186,18 @@ impl<W: Window<Piece, 4096> + Drop> Links<W> {
 
     // A data segment.
     #[tactic(auto, using(crate::proofs::Found::found_links))]
-    fn segment_came(&mut self, segment: &Segment, tag: LinkTag) -> Result<(), LinkFault>
+    fn segment_came<const OF_PAIR: bool>(
+        &mut self,
+        segment: &Segment,
+        tag: LinkTag,
+    ) -> Result<(), LinkFault>
         requires acks { AllByRecursion IsAckWord segment.now.acks.items }
         requires segnum { segment.now.number < 4096 }
-        ensures ok { OnOk result (message_arrived wire_flows of_partner self.old (nsp.DataSegment (segment_view segment.now))
+        ensures ok { OnOk result (message_arrived wire_flows (partner_rule OF_PAIR) self.old (nsp.DataSegment (segment_view segment.now))
             (record { tag = tag; known = tt }) ≡ Ok self.new) }
-        ensures refused { IfErr result (λ fault. IsFault (message_arrived wire_flows of_partner self.old (nsp.DataSegment (segment_view segment.now))
-            (record { tag = tag; known = tt })) (holds_segment self.old (segment_view segment.now)) fault) }
+        ensures refused { IfErr result (λ fault. IsFault (message_arrived wire_flows (partner_rule OF_PAIR) self.old
+            (nsp.DataSegment (segment_view segment.now)) (record { tag = tag; known = tt }))
+            (holds_segment self.old (segment_view segment.now)) fault) }
         ensures err { OnErr result (self.new ≡ self.old) }
     {
         let test = LinkTest::ActedOn {
@@ -181,7 +210,7 @@ impl<W: Window<Piece, 4096> + Drop> Links<W> {
         let Some(link) = self.link(number) else {
             unreachable!();
         };
-        if !is_of_pair(number, link.partner(), tag) {
+        if !is_of_pair::<OF_PAIR>(number, link.partner(), tag) {
             return Err(LinkFault::Refused(LinkRefusal::CrossedLink));
         }
         let Ok(()) = self.take_segment_at(number, segment) else {
@@ -192,10 +221,15 @@ impl<W: Window<Piece, 4096> + Drop> Links<W> {
 
     // A CI: where no live link has the sender's address, a link begins; else it is a repeat.
     #[tactic(auto, using(crate::proofs::Found::found_links))]
-    fn connect_initiate(&mut self, message: &ConnectInitiate, tag: LinkTag) -> Result<(), LinkFault>
-        ensures ok { OnOk result (message_arrived wire_flows of_partner self.old (nsp.ConnectInitiate message.now.retransmitted message.now.srcaddr
-            message.now.services message.now.info message.now.segsize message.now.user_data.now) (record { tag = tag; known = tt }) ≡ Ok self.new) }
-        ensures refused { IfErr result (λ fault. IsFault (message_arrived wire_flows of_partner self.old (nsp.ConnectInitiate
+    fn connect_initiate<const OF_PAIR: bool>(
+        &mut self,
+        message: &ConnectInitiate,
+        tag: LinkTag,
+    ) -> Result<(), LinkFault>
+        ensures ok { OnOk result (message_arrived wire_flows (partner_rule OF_PAIR) self.old (nsp.ConnectInitiate message.now.retransmitted
+            message.now.srcaddr message.now.services message.now.info message.now.segsize message.now.user_data.now)
+            (record { tag = tag; known = tt }) ≡ Ok self.new) }
+        ensures refused { IfErr result (λ fault. IsFault (message_arrived wire_flows (partner_rule OF_PAIR) self.old (nsp.ConnectInitiate
             message.now.retransmitted message.now.srcaddr message.now.services message.now.info message.now.segsize
             message.now.user_data.now) (record { tag = tag; known = tt })) (begins_link self.old message.now.srcaddr) fault) }
         ensures err { OnErr result (self.new ≡ self.old) }
@@ -228,37 +262,5 @@ impl<W: Window<Piece, 4096> + Drop> Links<W> {
             unreachable!();
         };
         self.end_at(number);
-    }
-}
-
-// Whether a message is for the link with this number: its sender's link goes with it.
-fn is_for(number: usize, tag: LinkTag) -> bool
-    ensures { result ≡ arriving.is_for number tag }
-{
-    tag.link.is_some() && is_known(tag.partner, number as u64)
-}
-
-// Whether a message is of the link with this number and this partner.
-fn is_of_pair(number: usize, partner: Option<u64>, tag: LinkTag) -> bool
-    ensures { result ≡ arriving.is_of_pair number partner tag }
-{
-    are_same(partner, tag.link) && is_known(tag.partner, number as u64)
-}
-
-fn are_same(known: Option<u64>, other: Option<u64>) -> bool
-    ensures { result ≡ arriving.are_same known other }
-{
-    match known {
-        Some(number) => is_known(other, number),
-        None => false,
-    }
-}
-
-fn is_known(known: Option<u64>, number: u64) -> bool
-    ensures { result ≡ tests.is_at known number }
-{
-    match known {
-        Some(known) => known == number,
-        None => false,
     }
 }
