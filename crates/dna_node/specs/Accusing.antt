@@ -52,6 +52,15 @@ wrong_unit s (Rep flags num) = None
 wrong_unit s (Strt flags) = None
 wrong_unit s (Stack flags) = None
 
+-- asked of a station alone, which doesn't read packets
+abbrev pub wrong_response_of : {L : Type 0} → StationVariables L → MessageValue → Option StepRefusal
+wrong_response_of k (Data flags resp num body) = wrong_response k resp
+wrong_response_of k (Ack flags resp) = wrong_response k resp
+wrong_response_of k (Nak flags reason resp) = wrong_response k resp
+wrong_response_of k (Rep flags num) = None
+wrong_response_of k (Strt flags) = None
+wrong_response_of k (Stack flags) = None
+
 -- ---- a packet that is taken
 
 -- An acknowledgement is at most the highest number given: at most as far above the acknowledged one as segments are outstanding; or it is an

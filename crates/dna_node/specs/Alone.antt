@@ -7,6 +7,8 @@ use Rattle.ddcmp_msg.specs.Reading as read
 use Rattle.capture.specs.declared.record.Record.{Record}
 use Rattle.capture.specs.declared.record.Record.TheVariants.{Sent, Received, Noise, User}
 use Rattle.dna_station.specs.declared.head.Head.{Head}
+use Rattle.dna_station.specs.declared.tag.Tag.{Tag}
+use Rattle.dna_links.specs.declared.tag.LinkTag.{LinkTag}
 use Rattle.dna_station.specs.declared.refusal.StationRefusal.TheVariants.{CrossedPeriod}
 use Rattle.dna_station.specs.declared.refusal.StepRefusal.{StepRefusal}
 use Rattle.dna_station.specs.declared.refusal.StepRefusal.TheVariants.{NotAMessage, HintOrder, Undetected, Station as OfStation, Links as OfLinks}
@@ -14,9 +16,12 @@ use Rattle.dna_station.specs.declared.link_refusal.LinkRefusal.TheVariants.{Cros
 use Rattle.dna_station.specs.Book.{Sound, HeaderBad, DataBad}
 use Rattle.dna_station.specs.Line.{damage}
 use Rattle.dna_station.specs.Machine.{Machine, NodeOf, noise_comes}
+use Rattle.dna_station.specs.Rules.{of_any_period}
+use Rattle.dna_station.specs.WireStation.{WireStation}
+use Rattle.dna_station.specs.WireNode.{WireNode, wire_machine, new_wire_node}
 use Rattle.dna_node.specs.Rules.{by_bytes}
 use Rattle.dna_node.specs.WireLayers.{WireLayers, LayersTag, WireLayersNode, of_no_link, wire_layers_machine, new_wire_layers_node}
-use Rattle.dna_node.specs.Accusing.{wrong_unit, wrong_taken}
+use Rattle.dna_node.specs.Accusing.{wrong_unit, wrong_taken, wrong_response_of}
 
 -- who broke a rule
 pub data Accused : Type 0 where
@@ -120,9 +125,13 @@ ends_from one n place (r ∷ records) = goes_on (step_alone one n r) place (λ n
 
 -- ---- the end over both layers
 
--- of a unit that comes no period and no link is known
+-- of a unit that comes no period is known
+abbrev pub unknown_period : Tag
+unknown_period = record { period = 0; partner = None }
+
+-- and no link
 abbrev pub unknown_tag : LayersTag
-unknown_tag = record { station = record { period = 0; partner = None }; link = Some of_no_link }
+unknown_tag = record { station = unknown_period; link = Some of_no_link }
 
 abbrev pub layers_end : EndOf WireLayers LayersTag
 layers_end = record { machine = wire_layers_machine by_bytes; unknown = unknown_tag; wrong_unit = wrong_unit; wrong_taken = wrong_taken }
@@ -131,11 +140,29 @@ layers_end = record { machine = wire_layers_machine by_bytes; unknown = unknown_
 abbrev pub judged_alone : Head → List Record → EndingAlone WireLayers
 judged_alone head records = ends_from layers_end (new_wire_layers_node head) 0 records
 
--- ---- what is said of it
+-- ---- the end over its station alone: a packet is any bytes and is not read, and the links' events change nothing
+
+-- of a sound unit its RESP alone accuses the other end (8), and no packet that is taken does
+abbrev pub station_end : EndOf (WireStation LinkTag) Tag
+station_end = record {
+  machine = wire_machine of_any_period;
+  unknown = unknown_period;
+  wrong_unit = λ (w : WireStation LinkTag) (m : MessageValue). wrong_response_of w.variables m;
+  wrong_taken = λ (w : WireStation LinkTag) (m : MessageValue). None;
+}
+
+-- the capture with this head and these records
+abbrev pub judged_station_alone : Head → List Record → EndingAlone (WireStation LinkTag)
+judged_station_alone head records = ends_from station_end (new_wire_node head) 0 records
+
+-- ---- what is said of both
 
 -- all of them are made
 abbrev pub Passes : Head → List Record → Type 0
 Passes head records = (node : WireLayersNode) × (judged_alone head records ≡ Passed node)
+
+abbrev pub StationPasses : Head → List Record → Type 0
+StationPasses head records = (node : WireNode LinkTag) × (judged_station_alone head records ≡ Passed node)
 
 -- A refusal that does not speak of what the other end alone has: the unit that was sent (5), its period (13), its link (25)
 abbrev pub is_seen_alone : StepRefusal → Bool

@@ -9,9 +9,10 @@ ghost use Rattle.dna_station.specs.declared.refusal.StepRefusal.{StepRefusal};
 ghost use Rattle.dna_node.specs.declared.finding.Cause.TheVariants.{Step};
 ghost use Rattle.dna_node.specs.declared.finding.Finding.TheVariants as findings;
 ghost use Rattle.dna_node.specs.LayersPair.{layers_pair, layers_start, IsLayersRun};
-ghost use Rattle.dna_node.specs.Kind.{both_layers};
+ghost use Rattle.dna_node.specs.Kind.{both_layers, stations_alone, kind_pair, kind_start, IsRunOf};
 ghost use Rattle.dna_node.specs.Verdict.{IsVerdict};
-ghost use Rattle.dna_node.specs.Alone.{Accused, accused_of, Refused, judged_alone, Passes, is_seen_alone};
+ghost use Rattle.dna_node.specs.Alone.{Accused, ThisEnd, accused_of, Refused, judged_alone, judged_station_alone, Passes, StationPasses};
+ghost use Rattle.dna_node.specs.Alone.{is_seen_alone};
 
 /// Refused is final: in a run of two captures the end alone makes all records of either side. So a capture of which it refuses a record is a
 /// side of no run, whatever the other one is, and however it goes on behind that record.
@@ -37,4 +38,33 @@ pub fn alone_misses_nothing_of_its_own()
     ensures named_of_b { (head_a head_b : Head) (of_a of_b : List Record) (place : ℕ) (reason : StepRefusal)
         → IsVerdict both_layers head_a head_b of_a of_b (findings.Refused B place (Step reason)) → is_seen_alone reason ≡ true
         → (accused : Accused) × (judged_alone head_b of_b ≡ Refused place accused reason) }
+{}
+
+/// Refused is final for a station alone too: in a run of two captures as stations alone, which read no packet and go by no event of the links,
+/// the station alone makes all records of either side. So a capture of which it refuses a record is a side of no such run, whatever the other
+/// one is, and however it goes on behind that record.
+pub fn refused_station_alone_is_final()
+    ensures a_passes { (head_a head_b : Head) (of_a of_b : List Record)
+        → IsRunOf stations_alone head_a head_b of_a of_b → StationPasses head_a of_a }
+    ensures b_passes { (head_a head_b : Head) (of_a of_b : List Record)
+        → IsRunOf stations_alone head_a head_b of_a of_b → StationPasses head_b of_b }
+    ensures of_a { (head_a head_b : Head) (of_a further of_b : List Record) (place : ℕ) (accused : Accused) (reason : StepRefusal)
+        → judged_station_alone head_a of_a ≡ Refused place accused reason → ¬ IsRunOf stations_alone head_a head_b (of_a ++ further) of_b }
+    ensures of_b { (head_a head_b : Head) (of_a of_b further : List Record) (place : ℕ) (accused : Accused) (reason : StepRefusal)
+        → judged_station_alone head_b of_b ≡ Refused place accused reason → ¬ IsRunOf stations_alone head_a head_b of_a (of_b ++ further) }
+{}
+
+/// And a station alone misses nothing that is the side's own: where a record offends in a pair of stations, for a reason that does not speak of
+/// what the other end alone has, it makes all records before that one, and refuses it for that reason, as this end's. So where such a record
+/// is named in a verdict on stations alone, the station alone names it for the same reason.
+pub fn station_alone_misses_nothing_of_its_own()
+    ensures offender { (head_own head_other : Head) (own other : List Record) (place : ℕ) (reason : StepRefusal)
+        → Offends (kind_pair stations_alone) (kind_start stations_alone head_own head_other) own other place reason → is_seen_alone reason ≡ true
+        → judged_station_alone head_own own ≡ Refused place ThisEnd reason }
+    ensures named_of_a { (head_a head_b : Head) (of_a of_b : List Record) (place : ℕ) (reason : StepRefusal)
+        → IsVerdict stations_alone head_a head_b of_a of_b (findings.Refused A place (Step reason)) → is_seen_alone reason ≡ true
+        → judged_station_alone head_a of_a ≡ Refused place ThisEnd reason }
+    ensures named_of_b { (head_a head_b : Head) (of_a of_b : List Record) (place : ℕ) (reason : StepRefusal)
+        → IsVerdict stations_alone head_a head_b of_a of_b (findings.Refused B place (Step reason)) → is_seen_alone reason ≡ true
+        → judged_station_alone head_b of_b ≡ Refused place ThisEnd reason }
 {}

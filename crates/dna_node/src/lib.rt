@@ -8,7 +8,10 @@ mod finding;
 pub mod laws;
 mod nodes;
 
-pub use alone_laws::{alone_misses_nothing_of_its_own, refused_alone_is_final};
+pub use alone_laws::{
+    alone_misses_nothing_of_its_own, refused_alone_is_final, refused_station_alone_is_final,
+    station_alone_misses_nothing_of_its_own,
+};
 pub use finding::{Cause, Finding};
 pub use laws::{
     layers_deliver_in_order, layers_run_as_stations, links_meet_packets_in_order,

@@ -1,16 +1,17 @@
--- One end alone: each accusation of the other end with its near miss, the order of the checks at a receipt, and what is left out. The end is node 1.1.
+-- One end alone: each accusation of the other end with its near miss, the order of the checks at a receipt, and what is left out; and its station
+-- alone. The end is node 1.1.
 use Rattle.std.proofs.Common.{◌≡◌, ℕ, Bool, true, false, List, [], ◌∷◌, ◌++◌, refl}
 use Rattle.wire_base.specs.BlockCheck.{is_good, check_of, after_byte, shift}
 use Rattle.ddcmp_msg.specs.Reading.{reading}
 use Rattle.capture.specs.declared.record.Record.{Record}
 use Rattle.capture.specs.declared.record.Record.TheVariants.{Sent, Received, User}
-use Rattle.capture.specs.declared.event.Event.TheVariants.{Start, In}
+use Rattle.capture.specs.declared.event.Event.TheVariants.{Start, Halt, Open, Accept, In, Up, Close}
 use Rattle.dna_station.specs.declared.refusal.StationRefusal.TheVariants.{WrongState, WrongResponse, WrongKeep}
 use Rattle.dna_station.specs.declared.refusal.StepRefusal.{StepRefusal}
-use Rattle.dna_station.specs.declared.refusal.StepRefusal.TheVariants.{NotAMessage, HintOrder, BadPacket, BadNsp, Station as OfStation, Links as OfLinks}
+use Rattle.dna_station.specs.declared.refusal.StepRefusal.TheVariants.{NotAMessage, HintOrder, BadPacket, BadNsp, Station as OfStation}
+use Rattle.dna_station.specs.declared.refusal.StepRefusal.TheVariants.{Links as OfLinks}
 use Rattle.dna_station.specs.declared.link_refusal.LinkRefusal.TheVariants.{WrongNode, WrongAck}
-use Rattle.dna_node.specs.Alone.{Accused, ThisEnd, OtherEnd, EndingAlone, Passed, Refused, judged_alone}
-use Rattle.dna_node.specs.WireLayers.{WireLayers}
+use Rattle.dna_node.specs.Alone.{Accused, ThisEnd, OtherEnd, EndingAlone, Passed, Refused, judged_alone, judged_station_alone}
 use Rattle.dna_rows.proofs.Units.{control, STRT, STACK, ACK, NAK, REP, data_of, from_a, from_b, CI, DI, DATA_ACK, ack, nak, other_ack, SEGMENT}
 use Rattle.dna_rows.proofs.Units.{carries}
 use Rattle.dna_rows.proofs.Captures.{started, confirmed_a}
@@ -18,7 +19,7 @@ use Rattle.dna_rows.proofs.Verdicts.{head_1}
 
 -- ---- how a row ends
 
-abbrev is_passed : EndingAlone WireLayers → Bool
+abbrev is_passed : {S : Type 0} → EndingAlone S → Bool
 is_passed (Passed node) = true
 is_passed (Refused place accused reason) = false
 
@@ -212,3 +213,47 @@ bytes_that_are_no_message = refl
 whatever_the_other_end_sent : Passes (User Start ∷ Sent STRT ∷ Received 7 false STACK ∷ Received 9 true (data_of 1 0 plain) ∷ [])
 unfolding reading is_good check_of after_byte shift
 whatever_the_other_end_sent = refl
+
+-- ---- its station alone
+
+abbrev StationPasses : List Record → Type 0
+StationPasses records = is_passed (judged_station_alone head_1 records) ≡ true
+
+abbrev StationRefuses : (place : ℕ) → Accused → StepRefusal → List Record → Type 0
+StationRefuses place accused reason records = judged_station_alone head_1 records ≡ Refused place accused reason
+
+-- packets that no node could read, sent and kept: a packet is any bytes
+any_packet : StationPasses
+    (started ++ Sent (data_of 1 0 bad) ∷ Received 1 true (data_of 1 1 bad) ∷ Received 2 true (data_of 2 1 no_message) ∷
+    Received 3 true (data_of 3 1 (from_another (CI 1))) ∷ [])
+unfolding reading is_good check_of after_byte shift
+any_packet = refl
+
+-- no event of the links changes it: of links that there are not, in HALTED and between
+any_event_of_links : StationPasses
+    (User (Up 7 (9 ∷ [])) ∷ User (Open 0) ∷ started ++ User (In 1 []) ∷ User (Accept 2 1) ∷ Sent (ACK 0) ∷ User (Close 3) ∷ User Halt ∷
+    User (Open 1) ∷ [])
+unfolding reading is_good check_of after_byte shift
+any_event_of_links = refl
+
+-- (8) and (1) accuse the other end, of a unit whose packet is not read as well
+station_above_N : StationRefuses 5 OtherEnd (OfStation WrongResponse) (gave_two ++ Received 1 false (ACK 3) ∷ [])
+unfolding reading is_good check_of after_byte shift
+station_above_N = refl
+
+station_data_above_N : StationRefuses 5 OtherEnd (OfStation WrongResponse) (gave_two ++ Received 1 true (data_of 1 3 bad) ∷ [])
+unfolding reading is_good check_of after_byte shift
+station_data_above_N = refl
+
+station_all_of_N : StationPasses (gave_two ++ Received 1 false (ACK 0) ∷ Received 2 true (data_of 1 2 bad) ∷ [])
+unfolding reading is_good check_of after_byte shift
+station_all_of_N = refl
+
+station_no_such_type : StationRefuses 0 OtherEnd NotAMessage (Received 0 false (control 9 0 0 0) ∷ [])
+unfolding reading is_good check_of after_byte shift
+station_no_such_type = refl
+
+-- all else that a station refuses is this end's
+station_nothing_to_keep : StationRefuses 3 ThisEnd (OfStation WrongKeep) (started ++ Received 1 true (ACK 0) ∷ [])
+unfolding reading is_good check_of after_byte shift
+station_nothing_to_keep = refl

@@ -11,6 +11,7 @@ use Rattle.dna_links.specs.declared.tag.LinkTag.{LinkTag}
 use Rattle.dna_station.specs.declared.refusal.StationRefusal.{StationRefusal}
 use Rattle.dna_station.specs.declared.refusal.StationRefusal.TheVariants.{CrossedPeriod}
 use Rattle.dna_station.specs.declared.refusal.StepRefusal.{StepRefusal}
+use Rattle.dna_station.specs.declared.refusal.StepRefusal.TheVariants.{Station as OfStation}
 use Rattle.dna_station.specs.declared.link_refusal.LinkRefusal.{LinkRefusal}
 use Rattle.dna_station.specs.Table.{user_refusal}
 use Rattle.dna_station.specs.Book.{Sound, HeaderBad, DataBad, body_of, meets_by, takes_by, keep_refusal}
@@ -29,19 +30,14 @@ use Rattle.dna_node.specs.Content.{content}
 use Rattle.dna_node.specs.WireLayers.{WireLayers, LayersTag, of_no_link, with_wire_station, with_wire_links, first_tagged, with_tag}
 use Rattle.dna_node.specs.WireLayers.{wire_sends_first}
 use Rattle.dna_node.specs.WireLayers.{wire_sends_again, wire_sends_on, tag_or_none, wire_keeps_packet, wire_meets_on, wire_layers_machine}
-use Rattle.dna_node.specs.Alone.{unknown_tag, is_seen_alone}
-use Rattle.dna_node.proofs.Alone.Links.{forget_tag, forget_links, forget_result, forget_sent, user_along as links_user_along}
+use Rattle.dna_node.specs.Alone.{unknown_period, unknown_tag, layers_end}
+use Rattle.dna_node.proofs.Alone.Along.{forget_result, Along, left_sent, GoesAlong}
+use Rattle.dna_node.proofs.Alone.Links.{forget_tag, forget_links, forget_sent, user_along as links_user_along}
 use Rattle.dna_node.proofs.Alone.Links.{sent_along as links_sent_along, arrived_along as links_arrived_along}
 use Rattle.dna_node.proofs.Alone.Links as of_links
-use Rattle.dna_node.proofs.Alone.Station.{forget_station, sending_refusal_along, sending_along, first_along, label_along, no_tag}
+use Rattle.dna_node.proofs.Alone.Station.{forget_station, sending_refusal_along, sending_along, first_along, label_along}
 use Rattle.dna_node.proofs.Alone.Station.{arrival_along, header_along, data_bad_along}
-
-abbrev pub forget_layers : WireLayers → WireLayers
-forget_layers s = record { station = forget_station forget_tag s.station; links = forget_links s.links }
-
-abbrev pub forget_layers_result : Result WireLayers StepRefusal → Result WireLayers StepRefusal
-forget_layers_result (Ok s) = Ok (forget_layers s)
-forget_layers_result (Err refusal) = Err refusal
+use Rattle.dna_node.proofs.Alone.Forgotten.{forget_layers, wrong_unit_along, wrong_taken_along}
 
 abbrev left : WireLinks → WireStation LinkTag → Result WireLayers StepRefusal
 left links station = Ok (record { station = station; links = links })
@@ -51,23 +47,23 @@ module _ (s : WireLayers) where
 
   by_station : (event : StationEvent) (o : Option StationRefusal) →
       with_wire_station (forget_layers s) (unless_refused o (wire_after_event (forget_station forget_tag s.station) event))
-      ≡ forget_layers_result (with_wire_station s (unless_refused o (wire_after_event s.station event)))
+      ≡ forget_result forget_layers (with_wire_station s (unless_refused o (wire_after_event s.station event)))
   by_station Start None = refl
   by_station Halt None = refl
   by_station event (Some refusal) = refl
 
   by_links : (o : Result WireLinks LinkRefusal) →
-      with_wire_links (forget_layers s) (forget_result o) ≡ forget_layers_result (with_wire_links s o)
+      with_wire_links (forget_layers s) (of_links.forget_result o) ≡ forget_result forget_layers (with_wire_links s o)
   by_links (Ok links) = refl
   by_links (Err refusal) = refl
 
   link_along : (event : LinkEventValue) → with_wire_links (forget_layers s) (wire_links_user (forget_links s.links) event)
-      ≡ forget_layers_result (with_wire_links s (wire_links_user s.links event))
+      ≡ forget_result forget_layers (with_wire_links s (wire_links_user s.links event))
   link_along event =
       ap (with_wire_links (forget_layers s)) (sym (links_user_along wire_flows s.links event)) ∙ by_links (wire_links_user s.links event)
 
   pub user_along : (event : Event) → (wire_layers_machine by_bytes).user (forget_layers s) event
-      ≡ forget_layers_result ((wire_layers_machine judged).user s event)
+      ≡ forget_result forget_layers ((wire_layers_machine judged).user s event)
   user_along events.Start = by_station Start (user_refusal s.station.variables.state Start)
   user_along events.Halt = by_station Halt (user_refusal s.station.variables.state Halt)
   user_along (events.Open link) = link_along (Open link)
@@ -78,10 +74,6 @@ module _ (s : WireLayers) where
   user_along (events.Close link) = link_along (Close link)
 
 -- ---- a message is sent: what is left of the node, whatever is known of the unit
-
-abbrev pub left_sent : Result (WireLayers × LayersTag) StepRefusal → Result WireLayers StepRefusal
-left_sent (Ok after) = Ok after.0
-left_sent (Err refusal) = Err refusal
 
 module _ (s : WireLayers) (m : MessageValue) where
   abbrev v : WireStation LinkTag
@@ -94,7 +86,7 @@ module _ (s : WireLayers) (m : MessageValue) where
   after_alone = (wire_after_sending v m, wire_tag v)
 
   abbrev GoAlong : Result (WireLayers × LayersTag) StepRefusal → Result (WireLayers × LayersTag) StepRefusal → Type 0
-  GoAlong x y = left_sent y ≡ forget_layers_result (left_sent x)
+  GoAlong x y = left_sent y ≡ forget_result forget_layers (left_sent x)
 
   tagged_along : (links : WireLinks) (tag : LinkTag) →
       GoAlong (Ok (first_tagged after links tag)) (Ok (first_tagged after_alone (forget_links links) (forget_tag tag)))
@@ -133,7 +125,7 @@ module _ (s : WireLayers) (m : MessageValue) where
   by_refusal (Some refusal) = refl
 
   pub sends_along : left_sent ((wire_layers_machine by_bytes).sends (forget_layers s) m)
-      ≡ forget_layers_result (left_sent ((wire_layers_machine judged).sends s m))
+      ≡ forget_result forget_layers (left_sent ((wire_layers_machine judged).sends s m))
   sends_along =
       ap (λ (o : Option StationRefusal). left_sent (wire_sends_on (forget_layers s) m (unless_refused o after_alone)))
       (sending_refusal_along forget_tag s.station m)
@@ -141,19 +133,14 @@ module _ (s : WireLayers) (m : MessageValue) where
 
 -- ---- an arrival
 
--- what becomes of the node of the pair, and of the one alone
-abbrev pub Along : Result WireLayers StepRefusal → Result WireLayers StepRefusal → Type 0
-Along (Ok s) o = o ≡ Ok (forget_layers s)
-Along (Err refusal) o = is_seen_alone refusal ≡ true → o ≡ Err refusal
-
 module _ (s : WireLayers) where
   by_links_result : (t : WireLayers) (o o' : Result WireLinks LinkRefusal) → of_links.Along wire_flows o o' →
-      Along (with_wire_links t o) (with_wire_links (forget_layers t) o')
+      Along forget_layers (with_wire_links t o) (with_wire_links (forget_layers t) o')
   by_links_result t (Ok links) o' same = ap (with_wire_links (forget_layers t)) same
   by_links_result t (Err refusal) o' same = λ seen. ap (with_wire_links (forget_layers t)) (same seen)
 
   keeps_along : (t : WireLayers) (tag : LinkTag) (r : Result (Option Carried) StepRefusal) →
-      Along (wire_keeps_packet judged t tag r) (wire_keeps_packet by_bytes (forget_layers t) of_no_link r)
+      Along forget_layers (wire_keeps_packet judged t tag r) (wire_keeps_packet by_bytes (forget_layers t) of_no_link r)
   keeps_along t tag (Ok (Some packet)) =
       by_links_result t (wire_links_arrived of_partner t.links packet tag) (wire_links_arrived of_anyone (forget_links t.links) packet of_no_link)
       (links_arrived_along wire_flows t.links (record { tag = tag; known = tt }) packet)
@@ -166,38 +153,61 @@ module _ (s : WireLayers) where
 
     -- the packets that are kept
     by_kept : (k : Bool) (station : WireStation LinkTag) →
-        Along (wire_meets_on judged s (Sound m known) k (Ok station))
+        Along forget_layers (wire_meets_on judged s (Sound m known) k (Ok station))
         (wire_meets_on by_bytes (forget_layers s) (Sound m unknown_tag) k (Ok (forget_station forget_tag station)))
     by_kept true station = keeps_along (record s { station = station }) (tag_or_none known.link) (content (body_of m))
     by_kept false station = refl
 
     by_taking : (o : Option StationRefusal) →
-        Along (wire_meets_on judged s (Sound m known) kept (unless_refused o (wire_after_arrival s.station (Sound m known.station) kept)))
-        (wire_meets_on by_bytes (forget_layers s) (Sound m unknown_tag) kept (unless_refused o (wire_after_arrival w (Sound m no_tag) kept)))
+        Along forget_layers
+        (wire_meets_on judged s (Sound m known) kept (unless_refused o (wire_after_arrival s.station (Sound m known.station) kept)))
+        (wire_meets_on by_bytes (forget_layers s) (Sound m unknown_tag) kept (unless_refused o (wire_after_arrival w (Sound m unknown_period) kept)))
     by_taking None =
-        subst (λ (t : WireStation LinkTag). Along (wire_meets_on judged s (Sound m known) kept
-        (Ok (wire_after_arrival s.station (Sound m known.station) kept))) (wire_meets_on by_bytes (forget_layers s) (Sound m unknown_tag) kept (Ok t)))
+        subst (λ (t : WireStation LinkTag). Along forget_layers (wire_meets_on judged s (Sound m known) kept
+        (Ok (wire_after_arrival s.station (Sound m known.station) kept)))
+        (wire_meets_on by_bytes (forget_layers s) (Sound m unknown_tag) kept (Ok t)))
         (sym (arrival_along forget_tag m known.station kept s.station)) (by_kept kept (wire_after_arrival s.station (Sound m known.station) kept))
     by_taking (Some refusal) = λ seen. refl
 
-    pub by_period : (met : Bool) →
-        Along (wire_meets_on judged s (Sound m known) kept (unless_refused
+    by_period : (met : Bool) →
+        Along forget_layers (wire_meets_on judged s (Sound m known) kept (unless_refused
         (cond met (keep_refusal (takes_by wire_book s.station m known.station) kept) (Some CrossedPeriod))
         (wire_after_arrival s.station (Sound m known.station) kept)))
         ((wire_layers_machine by_bytes).arrives (forget_layers s) (Sound m unknown_tag) kept)
     by_period true = by_taking (keep_refusal (takes_by wire_book s.station m known.station) kept)
     by_period false = λ seen. absurd cc
 
-    pub sound_along : Along ((wire_layers_machine judged).arrives s (Sound m known) kept)
+    pub sound_along : Along forget_layers ((wire_layers_machine judged).arrives s (Sound m known) kept)
         ((wire_layers_machine by_bytes).arrives (forget_layers s) (Sound m unknown_tag) kept)
     sound_along = by_period (meets_by wire_book of_period s.station m known.station)
 
   pub unit_header_bad_along : (kept : Bool) → (wire_layers_machine by_bytes).arrives (forget_layers s) HeaderBad kept
-      ≡ forget_layers_result ((wire_layers_machine judged).arrives s HeaderBad kept)
+      ≡ forget_result forget_layers ((wire_layers_machine judged).arrives s HeaderBad kept)
   unit_header_bad_along true = refl
   unit_header_bad_along false = ap (left (forget_links s.links)) (header_along forget_tag s.station false)
 
   pub unit_data_bad_along : (kept : Bool) → (wire_layers_machine by_bytes).arrives (forget_layers s) DataBad kept
-      ≡ forget_layers_result ((wire_layers_machine judged).arrives s DataBad kept)
+      ≡ forget_result forget_layers ((wire_layers_machine judged).arrives s DataBad kept)
   unit_data_bad_along true = refl
   unit_data_bad_along false = ap (left (forget_links s.links)) (data_bad_along forget_tag s.station false)
+
+  -- what the rule on periods refuses
+  pub unit_crossed : (m : MessageValue) (known : LayersTag) (kept : Bool) → meets_by wire_book of_period s.station m known.station ≡ false →
+      (wire_layers_machine judged).arrives s (Sound m known) kept ≡ Err (OfStation CrossedPeriod)
+  unit_crossed m known kept e =
+      ap (λ (b : Bool). wire_meets_on judged s (Sound m known) kept (unless_refused
+      (cond b (keep_refusal (takes_by wire_book s.station m known.station) kept) (Some CrossedPeriod))
+      (wire_after_arrival s.station (Sound m known.station) kept))) e
+
+abbrev pub layers_along : GoesAlong (wire_layers_machine judged) layers_end forget_layers
+layers_along = record {
+  meets = λ (s : WireLayers) (m : MessageValue) (known : LayersTag). meets_by wire_book of_period s.station m known.station;
+  crossed = unit_crossed;
+  user = user_along;
+  sends = sends_along;
+  sound = sound_along;
+  header_bad = unit_header_bad_along;
+  data_bad = unit_data_bad_along;
+  wrong_unit = wrong_unit_along;
+  wrong_taken = wrong_taken_along;
+}

@@ -1,29 +1,24 @@
 -- In every run each unit that the other side sent, and that may still come, is one of a right end.
-use Rattle.std.proofs.Common.{◌≡◌, ℕ, ◌-◌, ◌≤◌, Bool, true, cond, Option, Some, None, Result, Ok, Err, List, map, length, drop, refl}
-use Rattle.std.proofs.Common.{sym, ap, ap₂, ◌∙◌, subst, arith, option_map, le-leb}
+use Rattle.std.proofs.Common.{◌≡◌, ℕ, ◌≤◌, true, Option, Some, None, Result, Ok, Err, List, map, refl, sym, ap, ap₂, ◌∙◌, option_map}
 use Rattle.std.specs.Prelude.{slice_get}
-use Rattle.std.proofs.lemmas.Option.{same_Some, slice_get-map}
+use Rattle.std.proofs.lemmas.Option.{slice_get-map}
 use Rattle.two_nodes.specs.Nodes.{Half, World}
 use Rattle.ddcmp_msg.specs.Message.{MessageValue, Data, Ack, Nak, Rep, Strt, Stack}
 use Rattle.capture.specs.declared.record.Record.{Record}
 use Rattle.dna_station.specs.declared.head.Head.{Head}
-use Rattle.dna_station.specs.declared.state.State.{State}
-use Rattle.dna_station.specs.declared.state.State.TheVariants.{Halted, Istrt, Astrt, Running}
 use Rattle.dna_station.specs.declared.refusal.StationRefusal.{StationRefusal}
-use Rattle.dna_station.specs.declared.refusal.StationRefusal.TheVariants.{WrongResponse}
 use Rattle.dna_station.specs.declared.refusal.StepRefusal.{StepRefusal}
-use Rattle.dna_station.specs.declared.refusal.StepRefusal.TheVariants.{Station as OfStation}
 use Rattle.dna_station.specs.declared.link_refusal.LinkRefusal.{LinkRefusal}
 use Rattle.dna_links.specs.declared.tag.LinkTag.{LinkTag}
-use Rattle.dna_station.specs.Table.{Change, row, change_of}
-use Rattle.dna_station.specs.Station.{Station, wire, all_given}
+use Rattle.dna_station.specs.Table.{Change, change_of}
+use Rattle.dna_station.specs.Station.{all_given}
 use Rattle.dna_station.specs.Truth.{Truth}
-use Rattle.dna_station.specs.Book.{Sound, body_of, resp_of}
+use Rattle.dna_station.specs.Book.{Sound, body_of}
 use Rattle.dna_station.specs.StationBook.{meets_needs, arrival_refusal}
-use Rattle.dna_station.specs.WireStation.{HeldPacket, WireStation}
-use Rattle.dna_station.specs.WireBook.{acknowledges, wire_arrival_refusal, wire_after_arrival}
-use Rattle.dna_station.specs.Bounds.{IsOrdered, ResponseIsNear, AreNear, IsWithin}
-use Rattle.dna_station.specs.Cut.{AreLabelled, cut}
+use Rattle.dna_station.specs.WireStation.{WireStation}
+use Rattle.dna_station.specs.WireBook.{wire_arrival_refusal, wire_after_arrival}
+use Rattle.dna_station.specs.Bounds.{IsOrdered, IsWithin}
+use Rattle.dna_station.specs.Cut.{cut}
 use Rattle.dna_station.specs.Machine.{unless_refused}
 use Rattle.dna_links.specs.Links.{Carried}
 use Rattle.dna_links.specs.Bounds.{AreLinksBounded}
@@ -34,14 +29,12 @@ use Rattle.dna_links.specs.WireLinks.{WireLinks, wire_links_arrived}
 use Rattle.dna_node.specs.Rules.{judged}
 use Rattle.dna_node.specs.Content.{content}
 use Rattle.dna_node.specs.Layers.{Layers, LayersNode, LayersUnit, unit_of_station}
-use Rattle.dna_node.specs.WireLayers.{WireLayers, WireLayersUnit, with_wire_links, tag_or_none, wire_keeps_packet, wire_meets_on}
+use Rattle.dna_node.specs.WireLayers.{WireLayers, with_wire_links, tag_or_none, wire_keeps_packet, wire_meets_on}
 use Rattle.dna_node.specs.WireLayers.{wire_layers_machine}
 use Rattle.dna_node.specs.LayersPair.{side_of}
 use Rattle.dna_node.specs.CutLayers.{tag_of_packet, tagged_packets, cut_layers, tag_by, cut_truth, cut_layers_node, cut_layers_unit}
-use Rattle.dna_node.specs.Accusing.{wrong_response_in, wrong_content, or_else, wrong_unit, wrong_carried, wrong_taken}
-use Rattle.dna_station.proofs.Bounds.Modulo.{distance_near}
+use Rattle.dna_node.specs.Accusing.{wrong_content, or_else, wrong_unit, wrong_carried, wrong_taken}
 use Rattle.dna_station.proofs.Bounds.Numbers.{is_data}
-use Rattle.dna_station.proofs.Cut.Sending.{outstanding}
 use Rattle.dna_station.proofs.Cut.Arriving.{arrival_refusal_same}
 use Rattle.dna_links.proofs.Runs.Bounds.{bounded}
 use Rattle.dna_node.proofs.ReadInRange.{content_in_range}
@@ -50,29 +43,9 @@ use Rattle.dna_node.proofs.LayersLabels.{layers_labelled}
 use Rattle.dna_node.proofs.CutLayersNode.{HasItsMessage, IsLayersBounded}
 use Rattle.dna_node.proofs.LayersBounds.{a_bounded}
 use Rattle.dna_node.proofs.Alone.Acks.{packet_right}
+use Rattle.dna_node.proofs.Alone.Layers.{layers_along}
+use Rattle.dna_node.proofs.Alone.Response.{message_right}
 use Rattle.dna_node.proofs.Alone.Steps.{IsRight}
-
--- ---- a response
-
-abbrev wrong_if : Bool → Option StepRefusal
-wrong_if b = cond b None (Some (OfStation WrongResponse))
-
-module _ (all : List (HeldPacket LinkTag)) (s : Station) (fits : AreLabelled all s) (ordered : IsOrdered s) where
-  among : (resp response : ℕ) → ResponseIsNear s response → resp ≡ wire response → wrong_response_in Running (cut all s).variables resp ≡ None
-  among resp response near spelled =
-      let o = outstanding all s fits ordered in let few = ordered.few in let least = near.least in let most = near.most in
-      let d = distance_near s.acknowledged response least (omega arith) in
-      let far : acknowledges (cut all s).variables resp ≡ response - s.acknowledged = ap (acknowledges (cut all s).variables) spelled ∙ d in
-      ap wrong_if (le-leb (acknowledges (cut all s).variables resp) (length (drop s.acknowledged all)) (omega arith))
-
-  -- asked in RUNNING, where the message has it
-  response_right : (m : MessageValue) (u : Truth) → IsWithin s m u → (AreNear s u (row Running m).effects → ResponseIsNear s u.response) →
-      (state : State) → s.state ≡ state → wrong_response_in state (cut all s).variables (resp_of m) ≡ None
-  response_right m u within near Running e =
-      among (resp_of m) u.response (near (subst (λ (state : State). AreNear s u (row state m).effects) e within.near)) within.wire_numbers.response
-  response_right m u within near Halted e = refl
-  response_right m u within near Istrt e = refl
-  response_right m u within near Astrt e = refl
 
 -- ---- any unit
 
@@ -80,14 +53,12 @@ module _ (s : Layers) (ordered : IsOrdered s.station) where
   unit_right : (m : MessageValue) (u : Truth) (carried : Option SentMessage) → IsWithin s.station m u →
       (is_data m ≡ true → content (body_of m) ≡ Ok (packet_in carried)) → wrong_unit (cut_layers s) m ≡ None
   unit_right (Data flags resp num body) u carried within reads =
-      ap₂ or_else
-      (response_right (tagged_packets s) s.station (layers_labelled s) ordered (Data flags resp num body) u within
-      (λ near. near.0) s.station.state refl)
+      ap₂ or_else (message_right (tagged_packets s) s.station (layers_labelled s) ordered (Data flags resp num body) u within)
       (ap wrong_content (reads refl))
   unit_right (Ack flags resp) u carried within reads =
-      response_right (tagged_packets s) s.station (layers_labelled s) ordered (Ack flags resp) u within (λ near. near.0) s.station.state refl
+      message_right (tagged_packets s) s.station (layers_labelled s) ordered (Ack flags resp) u within
   unit_right (Nak flags reason resp) u carried within reads =
-      response_right (tagged_packets s) s.station (layers_labelled s) ordered (Nak flags reason resp) u within (λ near. near.0) s.station.state refl
+      message_right (tagged_packets s) s.station (layers_labelled s) ordered (Nak flags reason resp) u within
   unit_right (Rep flags num) u carried within reads = refl
   unit_right (Strt flags) u carried within reads = refl
   unit_right (Stack flags) u carried within reads = refl
@@ -155,8 +126,8 @@ module _ (own other : Half LayersNode LayersUnit) (front of_other : ℕ) (c : Is
 -- ---- in every run
 
 module _ (head_a head_b : Head) (w : World LayersNode LayersUnit) (of_a of_b : List Record) (c : LayersRead head_a head_b w of_a of_b) where
-  a_right : (hint : ℕ) (unit : LayersUnit) → slice_get w.b.sent hint ≡ Some unit → w.a.state.front ≤ hint →
-      IsRight (cut_layers_node w.a.state) (cut_layers_unit unit)
+  pub a_right : (hint : ℕ) (unit : LayersUnit) → slice_get w.b.sent hint ≡ Some unit → w.a.state.front ≤ hint →
+      IsRight layers_along (cut_layers_node w.a.state) (cut_layers_unit unit)
   a_right hint unit there ahead =
       let b = a_bounded head_a head_b w of_a of_b c in
       let order = c.joined.placed.order in
@@ -172,15 +143,3 @@ module _ (head_a head_b : Head) (w : World LayersNode LayersUnit) (of_a of_b : L
             (order.of_b.places hint (unit_of_station unit) low) (c.joined.b_told.told hint unit there d));
         taken = taken_right w.a w.b c.joined.joined.front_a c.joined.joined.front_b b l hint unit there ahead;
       }
-
-  -- of what the wire node sees
-  pub a_sees_right : (hint : ℕ) (unit : WireLayersUnit) → slice_get (map cut_layers_unit w.b.sent) hint ≡ Some unit → w.a.state.front ≤ hint →
-      IsRight (cut_layers_node w.a.state) unit
-  a_sees_right hint unit there ahead =
-      by_unit (slice_get w.b.sent hint) refl (sym (slice_get-map cut_layers_unit w.b.sent hint) ∙ there)
-    where
-      by_unit : (o : Option LayersUnit) → slice_get w.b.sent hint ≡ o → option_map cut_layers_unit o ≡ Some unit →
-          IsRight (cut_layers_node w.a.state) unit
-      by_unit None at is = absurd cc
-      by_unit (Some x) at is =
-          subst (IsRight (cut_layers_node w.a.state)) (same_Some (cut_layers_unit x) unit is) (a_right hint x at ahead)

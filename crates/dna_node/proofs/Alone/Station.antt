@@ -22,6 +22,7 @@ use Rattle.dna_station.specs.WireStation.{wire_after_label}
 use Rattle.dna_station.specs.WireBook.{wire_is_new, is_held_packet, wire_passes, wire_sends, acknowledges, wire_acknowledged_by}
 use Rattle.dna_station.specs.WireBook.{wire_responded, wire_is_next, with_next, wire_does, wire_book, wire_sending_refusal}
 use Rattle.dna_station.specs.WireBook.{wire_after_sending, wire_after_arrival, gives_by, gives_new}
+use Rattle.dna_node.specs.Alone.{unknown_period}
 
 -- checks that are answered alike refuse alike
 first_failed_same : (p q : Check → Bool) → ((check : Check) → p check ≡ q check) → (list : List Check) → first_failed p list ≡ first_failed q list
@@ -32,10 +33,6 @@ first_failed_same p q same (check ∷ next) =
 failed_same : (p q : Check → Bool) → ((check : Check) → p check ≡ q check) → (list : Option (List Check)) → failed p list ≡ failed q list
 failed_same p q same None = refl
 failed_same p q same (Some list) = first_failed_same p q same list
-
--- of a unit that comes no period is known
-abbrev pub no_tag : Tag
-no_tag = record { period = 0; partner = None }
 
 module _ {L : Type 0} (forget_label : L → L) where
   abbrev pub forget_packet : HeldPacket L → HeldPacket L
@@ -168,7 +165,7 @@ module _ {L : Type 0} (forget_label : L → L) where
 
   module _ (m : MessageValue) (tag : Tag) (kept : Bool) where
     does_along : (w : WireStation L) (effect : Effect) →
-        wire_does m no_tag kept (forget_station w) effect ≡ forget_station (wire_does m tag kept w effect)
+        wire_does m unknown_period kept (forget_station w) effect ≡ forget_station (wire_does m tag kept w effect)
     does_along w (GoTo state) = refl
     does_along w TakePartner = refl
     does_along w Respond =
@@ -180,14 +177,14 @@ module _ {L : Type 0} (forget_label : L → L) where
     does_along w AnswerRep = refl
 
     all_along : (effects : List Effect) (w : WireStation L) →
-        fold (wire_does m no_tag kept) (forget_station w) effects ≡ forget_station (fold (wire_does m tag kept) w effects)
+        fold (wire_does m unknown_period kept) (forget_station w) effects ≡ forget_station (fold (wire_does m tag kept) w effects)
     all_along [] w = refl
     all_along (effect ∷ effects) w =
-        ap (λ (v : WireStation L). fold (wire_does m no_tag kept) v effects) (does_along w effect)
+        ap (λ (v : WireStation L). fold (wire_does m unknown_period kept) v effects) (does_along w effect)
         ∙ all_along effects (wire_does m tag kept w effect)
 
     pub arrival_along : (w : WireStation L) →
-        wire_after_arrival (forget_station w) (Sound m no_tag) kept ≡ forget_station (wire_after_arrival w (Sound m tag) kept)
+        wire_after_arrival (forget_station w) (Sound m unknown_period) kept ≡ forget_station (wire_after_arrival w (Sound m tag) kept)
     arrival_along w = all_along (row w.variables.state m).effects w
 
   damaged_along : (b : Bool) (w : WireStation L) (reason : NakReason) →
