@@ -8,16 +8,15 @@ use Rattle.dna_station.specs.declared.refusal.StepRefusal.{StepRefusal}
 use Rattle.dna_station.specs.Book.{ArrivalValue, Sound, HeaderBad, DataBad, body_of, takes_by}
 use Rattle.dna_node.specs.Content.{content}
 use Rattle.dna_station.specs.Machine.{unless_refused}
-use Rattle.dna_node.specs.Rules.{judged}
+use Rattle.dna_node.specs.Rules.{Rules}
 use Rattle.dna_station.specs.WireStation.{WireStation}
 use Rattle.dna_station.specs.WireBook.{wire_book, wire_arrival_refusal, wire_after_arrival, wire_taken}
-use Rattle.dna_node.specs.WireLayers.{WireLayers, tag_or_none, wire_keeps_packet, wire_meets_on, to_wire_station}
+use Rattle.dna_node.specs.WireLayers.{WireLayers, tag_or_none, wire_keeps_packet, wire_meets_on, to_wire_station, wire_layers_machine}
 use Rattle.pair_judge.specs.declared.step_fault.StepFault.{StepFault}
 use Rattle.pair_judge.specs.declared.step_fault.StepFault.TheVariants.{Refused, OutOfMemory}
 use Rattle.pair_judge.specs.inner.Memory.{IfNoMemory, MayKeep}
 use Rattle.pair_judge.specs.inner.Receipts.{is_damage}
 use Rattle.pair_judge.specs.inner.Steps.{IfRefused, with_link}
-use Rattle.pair_judge.specs.inner.Tops.{layers_run}
 
 -- a packet is taken only where it is kept
 taken_kept : (t k : Bool) (body packet : List ℕ) → cond (t && k) (Some body) None ≡ Some packet → (k ≡ true) × (body ≡ packet)
@@ -33,32 +32,32 @@ met_by_station s (Sound m tag) link kept = refl
 met_by_station s HeaderBad link kept = refl
 met_by_station s DataBad link kept = refl
 
-module _ (s : WireLayers) (link : Option LinkTag) (kept : Bool) where
+module _ (rules : Rules) (s : WireLayers) (link : Option LinkTag) (kept : Bool) where
   -- both layers go on from what the station made of it
-  on_station : (arrival : ArrivalValue Tag) → wire_arrival_refusal judged.periods s.station arrival kept ≡ None →
-      layers_run.arrives s (with_link link arrival) kept ≡ wire_meets_on judged s (with_link link arrival) kept
+  on_station : (arrival : ArrivalValue Tag) → wire_arrival_refusal rules.periods s.station arrival kept ≡ None →
+      (wire_layers_machine rules).arrives s (with_link link arrival) kept ≡ wire_meets_on rules s (with_link link arrival) kept
       (Ok (wire_after_arrival s.station arrival kept))
   on_station arrival free =
-      ap (λ (a : ArrivalValue Tag). wire_meets_on judged s (with_link link arrival) kept
-      (unless_refused (wire_arrival_refusal judged.periods s.station a kept) (wire_after_arrival s.station a kept)))
+      ap (λ (a : ArrivalValue Tag). wire_meets_on rules s (with_link link arrival) kept
+      (unless_refused (wire_arrival_refusal rules.periods s.station a kept) (wire_after_arrival s.station a kept)))
       (met_by_station s arrival link kept)
-      ∙ ap (λ (o : Option StationRefusal). wire_meets_on judged s (with_link link arrival) kept
+      ∙ ap (λ (o : Option StationRefusal). wire_meets_on rules s (with_link link arrival) kept
       (unless_refused o (wire_after_arrival s.station arrival kept))) free
 
   -- a packet was taken: the links meet it
   pub arrives_kept : (arrival : ArrivalValue Tag) (packet : List ℕ) (after : WireStation LinkTag) (tag : LinkTag)
-      (r : Result WireLayers StepRefusal) → wire_arrival_refusal judged.periods s.station arrival kept ≡ None →
+      (r : Result WireLayers StepRefusal) → wire_arrival_refusal rules.periods s.station arrival kept ≡ None →
       wire_taken s.station arrival kept ≡ Some packet
-      → after ≡ wire_after_arrival s.station arrival kept → tag ≡ tag_or_none link → wire_keeps_packet judged (record s { station = after }) tag
-      (content packet) ≡ r → layers_run.arrives s (with_link link arrival) kept ≡ r
+      → after ≡ wire_after_arrival s.station arrival kept → tag ≡ tag_or_none link → wire_keeps_packet rules (record s { station = after }) tag
+      (content packet) ≡ r → (wire_layers_machine rules).arrives s (with_link link arrival) kept ≡ r
   arrives_kept (Sound m of_station) packet after tag r free taken after_is tag_is keeps =
       let both = taken_kept (takes_by wire_book s.station m of_station) kept (body_of m) packet taken in
       let next = record s { station = wire_after_arrival s.station (Sound m of_station) kept } in
       on_station (Sound m of_station) free
-      ∙ ap (λ (k : Bool). cond k (wire_keeps_packet judged next (tag_or_none link) (content (body_of m))) (Ok next)) both.0
-      ∙ ap (λ (bytes : List ℕ). wire_keeps_packet judged next (tag_or_none link) (content bytes)) both.1
-      ∙ ap (λ (w : WireStation LinkTag). wire_keeps_packet judged (record s { station = w }) (tag_or_none link) (content packet)) (sym after_is)
-      ∙ ap (λ (t : LinkTag). wire_keeps_packet judged (record s { station = after }) t (content packet)) (sym tag_is)
+      ∙ ap (λ (k : Bool). cond k (wire_keeps_packet rules next (tag_or_none link) (content (body_of m))) (Ok next)) both.0
+      ∙ ap (λ (bytes : List ℕ). wire_keeps_packet rules next (tag_or_none link) (content bytes)) both.1
+      ∙ ap (λ (w : WireStation LinkTag). wire_keeps_packet rules (record s { station = w }) (tag_or_none link) (content packet)) (sym after_is)
+      ∙ ap (λ (t : LinkTag). wire_keeps_packet rules (record s { station = after }) t (content packet)) (sym tag_is)
       ∙ keeps
   arrives_kept HeaderBad packet after tag r free taken after_is tag_is keeps = absurd (cc)
   arrives_kept DataBad packet after tag r free taken after_is tag_is keeps = absurd (cc)

@@ -19,7 +19,6 @@ use Rattle.dna_node.specs.Kind.{NodeKind, KindNode, KindUnit, kind_pair, kind_st
 use Rattle.dna_node.specs.Verdict.{IsVerdict, IsWrong, IsWrongOfB}
 use Rattle.pair_judge.specs.declared.judging.Found.{Found}
 use Rattle.pair_judge.specs.declared.summary.Summary.{Summary}
-use Rattle.pair_judge.specs.declared.verdict.Verdict.TheVariants.{Accepted}
 use Rattle.pair_judge.specs.declared.fault.JudgeFault.{JudgeFault}
 use Rattle.pair_judge.specs.declared.fault.JudgeFault.TheVariants.{Capture, OutOfMemory}
 use Rattle.pair_judge.specs.declared.fault.TextFault.TheVariants.{Departs, Read}
@@ -30,8 +29,8 @@ use Rattle.pair_judge.specs.Heads.{head_of}
 use Rattle.pair_judge.specs.Finding.{EndsFor, EndsWhere, IsCounted, IsFinding, IsFoundIn, IsFindingBehind, of_side}
 use Rattle.pair_judge.specs.Faulty.{IsFaultyText, IsJudgeFault}
 use Rattle.pair_judge.specs.Reason.{reason_of}
-use Rattle.pair_judge.specs.Refusal.{AreRefused, AreTexts, IsRefusal, OffendsFor, WholeCapture}
-use Rattle.pair_judge.specs.Judged.{AcceptsOrFails, Answer, AreARun, IfTold, IsAcceptance, IsExact, IsRefusalWhere}
+use Rattle.pair_judge.specs.Refusal.{AreRefused, IsRefusal, OffendsFor, WholeCapture}
+use Rattle.pair_judge.specs.Judged.{AcceptsOrFails, AreARun, IfTold, IsAcceptance, IsExact, IsRefusalWhere}
 use Rattle.pair_judge.proofs.Found.{at_heads}
 
 -- the laws of whole texts
@@ -44,6 +43,13 @@ pub record WholeLaws : Type 0 where
       IsText own peer rs bytes → IsReadSoFar (Some bytes) read → DepartsBehind read kind line → ⊥
   pub head_stands : (bytes : List ℕ) (own peer : ℕ) (rs : List Record) (kind : Departure) (line : ℕ) → IsText own peer rs bytes →
       HeadDepartsAt (Some bytes) kind line → ⊥
+
+-- to its end it is a whole text
+pub read_whole : (laws : WholeLaws) (bytes : List ℕ) (read : ReadSoFar) → IsReadSoFar (Some bytes) read → read.behind ≡ TheEnd →
+    IsText read.own read.peer read.records bytes
+read_whole laws bytes read from is =
+    laws.ended bytes read.form read.own read.peer read.records
+    (subst (λ (b : Behind). IsReadSoFar (Some bytes) (so_far read.form read.own read.peer read.records b)) is from)
 
 module _ (nodes : NodeKind) where
   -- the laws of what was delivered in a run
@@ -126,13 +132,6 @@ module _ (nodes : NodeKind) where
       by_rest : (behind : Behind) → GoesOnBy behind read.records read.records
       by_rest (ToCome bytes) = ([], sym (append-nil read.records))
       by_rest TheEnd = refl
-
-  -- to its end it is a whole text
-  read_whole : (laws : WholeLaws) (bytes : List ℕ) (read : ReadSoFar) → IsReadSoFar (Some bytes) read → read.behind ≡ TheEnd →
-      IsText read.own read.peer read.records bytes
-  read_whole laws bytes read from is =
-      laws.ended bytes read.form read.own read.peer read.records
-      (subst (λ (b : Behind). IsReadSoFar (Some bytes) (so_far read.form read.own read.peer read.records b)) is from)
 
   module _ (laws : WholeLaws) (runs : RunLaws) (bytes_a bytes_b : List ℕ) (read_a read_b : ReadSoFar) (from_a : IsReadSoFar (Some bytes_a) read_a)
       (from_b : IsReadSoFar (Some bytes_b) read_b) where

@@ -1,8 +1,8 @@
 -- How far a side gets in any run of beginnings, where one of its records can't be made.
-use Rattle.std.proofs.Common.{◌≡◌, ◌<◌, ◌≤◌, ◌+◌, ℕ, List, [], ◌∷◌, ◌++◌, Some, length, take, refl, sym, ap, subst, ◌∙◌, inl, inr, arith, take-take}
+use Rattle.std.proofs.Common.{◌≡◌, ◌<◌, ◌≤◌, ℕ, List, [], ◌∷◌, ◌++◌, Some, length, take, refl, ap, subst, inl, inr, arith, take-take}
 use Rattle.std.proofs.lemmas.Bool.{cases_lt}
 use Rattle.std.specs.Prelude.{slice_get, zero, suc}
-use Rattle.two_nodes.specs.Nodes.{Nodes, World, IsRun, start_world}
+use Rattle.two_nodes.specs.Nodes.{Nodes, IsRun, start_world}
 use Rattle.two_nodes.specs.Past.{BothTell, sent_by, NamesBelow, IsClosed, Offends}
 use Rattle.two_nodes.specs.Endings.{LacksUnit, IsStuck}
 use Rattle.two_nodes.proofs.Closed.{below_head, below_tail, sent_by-cons}

@@ -3,6 +3,10 @@ pub mod Sent
 pub mod Comes
 pub mod Packets
 pub mod Arrives
+pub mod AcksAlone
+pub mod LineEnds
+pub mod LoneEnds
+pub mod LoneWalk
 pub mod Events
 pub mod Advances
 pub mod Courses
@@ -13,6 +17,7 @@ pub mod Found
 pub mod Starts
 pub mod Faults
 pub mod Clauses
+pub mod EndClauses
 pub mod Alike
 pub mod Seen
 pub mod Alone

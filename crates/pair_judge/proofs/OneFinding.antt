@@ -1,5 +1,5 @@
 -- Two captures have one finding.
-use Rattle.std.proofs.Common.{◌≡◌, ◌<◌, ◌≤◌, ℕ, List, Some, length, take, refl, sym, ap, ap₂, subst, ◌∙◌, inl, inr, arith, take_all, le_refl}
+use Rattle.std.proofs.Common.{◌≡◌, ◌<◌, ◌≤◌, ℕ, List, length, take, refl, sym, ap, ap₂, subst, ◌∙◌, inl, inr, arith, take_all, le_refl}
 use Rattle.std.proofs.lemmas.Bool.{cases_lt}
 use Rattle.std.specs.Prelude.{slice_get}
 use Rattle.std.proofs.lemmas.Option.{slice_get_within}

@@ -7,5 +7,7 @@ pub mod Finding
 pub mod Faulty
 pub mod Refusal
 pub mod Judged
+pub mod EndKind
+pub mod EndJudged
 pub mod Events
 pub mod inner

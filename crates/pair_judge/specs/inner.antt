@@ -14,3 +14,4 @@ pub mod Course
 pub mod Reached
 pub mod Opened
 pub mod Answer
+pub mod LoneEnd

@@ -4,8 +4,10 @@ ghost use Rattle.std.specs.Prelude.{◌≡◌, length, IfOk};
 ghost use Rattle.dna_station.specs.WireStation.{new_wire_station};
 ghost use Rattle.dna_links.specs.WireLinks.{new_wire_links};
 
+mod accusing;
 mod alone;
 mod arriving;
+mod one_end;
 mod sending;
 mod user;
 

@@ -245,7 +245,7 @@ fn make_link_event<T: Top>(own: &mut End, event: LinkEvent) -> Result<Made, Allo
 }
 
 // Whether a message is delivered.
-fn is_delivery(event: &LinkEvent) -> bool
+pub fn is_delivery(event: &LinkEvent) -> bool
     ensures { result ≡ delivers (event_of_links (view event.now)) }
 {
     match event {

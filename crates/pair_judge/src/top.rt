@@ -1,22 +1,27 @@
 //! What stands on top of the stations that the judge runs: their links, or nothing.
 
-ghost use Rattle.std.specs.Prelude.{◌≡◌, ◌+◌, ◌^◌, ◌<◌, ◌≤◌, Ok, Err, List, None, OnOk, IfOk, IfErr};
+ghost use Rattle.std.specs.Prelude.{◌≡◌, ◌+◌, ◌^◌, ◌<◌, ◌≤◌, Ok, Err, List, None, Some, OnOk, IfOk, IfErr};
 ghost use Rattle.two_nodes.specs.Nodes.{Run};
-ghost use Rattle.ddcmp_msg.specs.Message.{view};
+ghost use Rattle.ddcmp_msg.specs.Message.{MessageValue, view};
+ghost use Rattle.ddcmp_msg.specs.Reading.{ReadingValue};
 ghost use Rattle.ddcmp_station.specs.Arrival.{arrival_view};
+ghost use Rattle.capture.specs.declared.event.Event.{Event};
 ghost use Rattle.capture.specs.declared.record.Record.{Record};
 ghost use Rattle.dna_station.specs.declared.head.Head.{Head};
+ghost use Rattle.dna_station.specs.Line.{damage};
+ghost use Rattle.dna_station.specs.Machine.{noise_comes};
 ghost use Rattle.dna_station.specs.WireBook.{wire_sending_refusal};
 ghost use Rattle.dna_station.specs.WireStation.{load};
 ghost use Rattle.dna_links.specs.User.{view as link_view};
-ghost use Rattle.dna_node.specs.WireLayers.{wire_layers_start};
+ghost use Rattle.dna_node.specs.Alone.{unknown_tag};
+ghost use Rattle.dna_node.specs.WireLayers.{WireLayers, of_no_link, wire_layers_start};
 ghost use Rattle.pair_judge.specs.Events.{event_of_station, event_of_links};
 ghost use Rattle.pair_judge.specs.inner.Memory.{IfNoMemory, MayEnter, MayKeep};
 ghost use Rattle.pair_judge.specs.inner.Reached.{IsShown};
 ghost use Rattle.pair_judge.specs.inner.Receipts.{is_damage};
 ghost use Rattle.pair_judge.specs.inner.Steps.{IfRefused, with_link};
 ghost use Rattle.pair_judge.specs.inner.Unit.{tags_of};
-ghost use Rattle.pair_judge.specs.inner.Wire.{JudgeTop, JudgeWorld, judge_pair};
+ghost use Rattle.pair_judge.specs.inner.Wire.{EndsAlike, JudgeTop, JudgeWorld, judge_hears, judge_pair};
 ghost use Rattle.pair_judge.specs.inner.Tops.{links_on_top, nothing_on_top};
 
 use crate::held_link::HeldLink;
@@ -71,6 +76,24 @@ pub trait Top {
         ensures memory { IfErr result (IfNoMemory (MayKeep kept (is_damage (arrival_view arrival.entry)))) }
         ensures load { load layers.new.station ≤ load layers.old.station + 1 };
 
+    /// This came of an end whose capture nobody has, and the node kept the packet or did not: as in `arrived`, but of what came no period and no
+    /// link is known, so neither rule on those is asked.
+    fn arrived_unknown(layers: &mut Layers, arrival: Arrival, kept: bool) -> Result<(), StepFault>
+        requires { load layers.old.station < 2 ^ 63 }
+        ensures ok { OnOk result (top.alone.machine.arrives layers.old (with_link (Some of_no_link) (arrival_view arrival.entry)) kept
+            ≡ Ok layers.new) }
+        ensures refused { IfErr result (IfRefused (λ refusal.
+            top.alone.machine.arrives layers.old (with_link (Some of_no_link) (arrival_view arrival.entry)) kept ≡ Err refusal)) }
+        ensures load { load layers.new.station ≤ load layers.old.station + 1 };
+
+    /// Why no right other end sends this message now, whether its packet is taken or not. Takes no memory.
+    fn wrong_unit(layers: &Layers, message: &Message) -> Option<StepRefusal>
+        ensures { result ≡ top.alone.wrong_unit layers.now (view message.now) };
+
+    /// Why no right other end sends a packet that is taken now. Takes no memory.
+    fn wrong_taken(layers: &Layers, message: &Message) -> Option<StepRefusal>
+        ensures { result ≡ top.alone.wrong_taken layers.now (view message.now) };
+
     /// How many links began.
     fn links_begun(layers: &Layers) -> u64
         ensures { result ≡ top.links layers.now };
@@ -79,6 +102,14 @@ pub trait Top {
     fn shows()
         ensures { (head_a head_b : Head) (w : JudgeWorld) (of_a of_b : List Record)
             → Run (judge_pair top) (wire_layers_start head_a head_b) of_a of_b w → IsShown top head_a head_b w of_a of_b };
+
+    /// What one end alone shares with a side of a pair, and what it shows of an end of its kind, as a function that does nothing.
+    fn shows_alone()
+        ensures user { (s : WireLayers) (event : Event) → top.alone.machine.user s event ≡ top.machine.user s event }
+        ensures sends { (s : WireLayers) (m : MessageValue) → top.alone.machine.sends s m ≡ top.machine.sends s m }
+        ensures hears { (s : WireLayers) (read : ReadingValue) → noise_comes top.alone.machine s (damage read) ≡ judge_hears top s read }
+        ensures unknown { top.alone.unknown ≡ unknown_tag }
+        ensures ends { (head : Head) (records : List Record) → EndsAlike top head records };
 }
 
 /// The links of each side, on both layers.
@@ -112,6 +143,18 @@ impl Top for LinksOnTop {
         layers.arrived(arrival, link, kept)
     }
 
+    fn arrived_unknown(layers: &mut Layers, arrival: Arrival, kept: bool) -> Result<(), StepFault> {
+        layers.arrived_unknown(arrival, kept)
+    }
+
+    fn wrong_unit(layers: &Layers, message: &Message) -> Option<StepRefusal> {
+        layers.wrong_unit(message)
+    }
+
+    fn wrong_taken(layers: &Layers, message: &Message) -> Option<StepRefusal> {
+        layers.wrong_taken(message)
+    }
+
     fn links_begun(layers: &Layers) -> u64 {
         layers.links_begun()
     }
@@ -119,6 +162,8 @@ impl Top for LinksOnTop {
     fn shows() {
         wire_layers_see_right();
     }
+
+    fn shows_alone() {}
 }
 
 /// Nothing: packets are any bytes, and what the links' user does is not judged.
@@ -152,6 +197,18 @@ impl Top for NothingOnTop {
         layers.arrived_alone(arrival, link, kept)
     }
 
+    fn arrived_unknown(layers: &mut Layers, arrival: Arrival, kept: bool) -> Result<(), StepFault> {
+        layers.arrived_unknown_alone(arrival, kept)
+    }
+
+    fn wrong_unit(layers: &Layers, message: &Message) -> Option<StepRefusal> {
+        layers.wrong_answer(message)
+    }
+
+    fn wrong_taken(_layers: &Layers, _message: &Message) -> Option<StepRefusal> {
+        None
+    }
+
     fn links_begun(_layers: &Layers) -> u64 {
         0
     }
@@ -159,4 +216,6 @@ impl Top for NothingOnTop {
     fn shows() {
         wire_nodes_see_right::<LinkTag>();
     }
+
+    fn shows_alone() {}
 }

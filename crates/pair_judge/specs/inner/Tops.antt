@@ -5,14 +5,16 @@ use Rattle.capture.specs.declared.event.Event.{Event}
 use Rattle.dna_station.specs.declared.refusal.StepRefusal.{StepRefusal}
 use Rattle.dna_station.specs.declared.tag.Tag.{Tag}
 use Rattle.dna_links.specs.declared.tag.LinkTag.{LinkTag}
-use Rattle.dna_station.specs.Rules.{of_period}
+use Rattle.dna_station.specs.Rules.{PeriodRule, of_period, of_any_period}
 use Rattle.dna_station.specs.Book.{ArrivalValue}
 use Rattle.dna_station.specs.Machine.{Machine}
 use Rattle.dna_station.specs.WireStation.{WireStation}
 use Rattle.dna_station.specs.WireNode.{wire_machine}
+use Rattle.dna_node.specs.Alone.{EndOf, layers_end, station_end, unknown_tag}
 use Rattle.dna_node.specs.Kind.{both_layers, stations_alone}
 use Rattle.dna_node.specs.Rules.{judged}
 use Rattle.dna_node.specs.WireLayers.{WireLayers, LayersTag, to_wire_station, wire_layers_machine, with_wire_station}
+use Rattle.pair_judge.specs.EndKind.{layers_alone, station_alone}
 use Rattle.pair_judge.specs.inner.Wire.{JudgeTop}
 
 -- ---- the links
@@ -21,7 +23,13 @@ abbrev pub layers_run : Machine WireLayers LayersTag
 layers_run = wire_layers_machine judged
 
 abbrev pub links_on_top : JudgeTop
-links_on_top = record { kind = both_layers; machine = layers_run; links = λ (s : WireLayers). length s.links.links }
+links_on_top = record {
+  kind = both_layers;
+  machine = layers_run;
+  links = λ (s : WireLayers). length s.links.links;
+  alone = layers_end;
+  end = layers_alone;
+}
 
 -- ---- nothing: the links stay as they were before any record
 
@@ -30,13 +38,31 @@ abbrev pub sent_alone : WireLayers → Result (WireStation LinkTag × Tag) StepR
 sent_alone s (Ok after) = Ok (record s { station = after.0 }, record { station = after.1; link = None })
 sent_alone s (Err refusal) = Err refusal
 
-abbrev pub line_machine : Machine WireLayers LayersTag
-line_machine = record {
-  user = λ (s : WireLayers) (event : Event). with_wire_station s ((wire_machine of_period).user s.station event);
-  sends = λ (s : WireLayers) (m : MessageValue). sent_alone s ((wire_machine of_period).sends s.station m);
+abbrev pub line_by : PeriodRule → Machine WireLayers LayersTag
+line_by rule = record {
+  user = λ (s : WireLayers) (event : Event). with_wire_station s ((wire_machine rule).user s.station event);
+  sends = λ (s : WireLayers) (m : MessageValue). sent_alone s ((wire_machine rule).sends s.station m);
   arrives = λ (s : WireLayers) (arrival : ArrivalValue LayersTag) (kept : Bool). with_wire_station s
-      ((wire_machine of_period).arrives s.station (to_wire_station arrival) kept);
+      ((wire_machine rule).arrives s.station (to_wire_station arrival) kept);
+}
+
+abbrev pub line_machine : Machine WireLayers LayersTag
+line_machine = line_by of_period
+
+-- one end alone, of whose arrivals no period is known
+abbrev pub line_end : EndOf WireLayers LayersTag
+line_end = record {
+  machine = line_by of_any_period;
+  unknown = unknown_tag;
+  wrong_unit = λ (s : WireLayers) (m : MessageValue). station_end.wrong_unit s.station m;
+  wrong_taken = λ (s : WireLayers) (m : MessageValue). station_end.wrong_taken s.station m;
 }
 
 abbrev pub nothing_on_top : JudgeTop
-nothing_on_top = record { kind = stations_alone; machine = line_machine; links = λ (s : WireLayers). 0 }
+nothing_on_top = record {
+  kind = stations_alone;
+  machine = line_machine;
+  links = λ (s : WireLayers). 0;
+  alone = line_end;
+  end = station_alone;
+}

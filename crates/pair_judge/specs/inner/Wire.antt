@@ -1,13 +1,16 @@
 -- The nodes that the judge runs: wire nodes, with or without their links, beside the kind of node that it takes the ends for.
-use Rattle.std.specs.Prelude.{ℕ, Bool, List, Result}
+use Rattle.std.specs.Prelude.{◌≡◌, ℕ, Bool, List, Result}
 use Rattle.two_nodes.specs.Nodes.{Answer, Half, Nodes, World}
 use Rattle.ddcmp_msg.specs.Reading.{ReadingValue}
 use Rattle.capture.specs.declared.record.Record.{Record}
 use Rattle.dna_station.specs.declared.refusal.StepRefusal.{StepRefusal}
+use Rattle.dna_station.specs.declared.head.Head.{Head}
 use Rattle.dna_station.specs.Line.{damage}
-use Rattle.dna_station.specs.Machine.{Machine, pair_of, sent_step, receives, noise_comes, step}
+use Rattle.dna_station.specs.Machine.{Machine, NodeOf, pair_of, sent_step, receives, noise_comes, step}
 use Rattle.dna_node.specs.Kind.{NodeKind}
-use Rattle.dna_node.specs.WireLayers.{WireLayers, LayersTag, WireLayersNode, WireLayersUnit}
+use Rattle.dna_node.specs.Alone.{EndOf, EndingAlone, Passed, Refused, ends_from}
+use Rattle.dna_node.specs.WireLayers.{WireLayers, LayersTag, WireLayersNode, WireLayersUnit, new_wire_layers_node}
+use Rattle.pair_judge.specs.EndKind.{EndKind}
 
 abbrev pub JudgeHalf : Type 0
 JudgeHalf = Half WireLayersNode WireLayersUnit
@@ -22,6 +25,9 @@ pub record JudgeTop : Type 1 where
   -- what it runs, and how many links began there
   pub machine : Machine WireLayers LayersTag
   pub links : WireLayers → ℕ
+  -- the same of one end alone, and what it is taken for there
+  pub alone : EndOf WireLayers LayersTag
+  pub end : EndKind
 
 module _ (top : JudgeTop) where
   abbrev pub judge_pair : Nodes WireLayersNode Record WireLayersUnit StepRefusal
@@ -38,3 +44,13 @@ module _ (top : JudgeTop) where
 
   abbrev pub judge_hears : WireLayers → ReadingValue → Result WireLayers StepRefusal
   judge_hears s read = noise_comes top.machine s (damage read)
+
+  -- ---- one end alone
+
+  -- a node of its kind ends so, with as many links
+  abbrev pub EndsSo : EndingAlone WireLayers → EndingAlone top.end.Keeps → Type 0
+  EndsSo (Passed n) ending = (node : NodeOf top.end.Keeps) × (ending ≡ Passed node) × (top.end.links node.station ≡ top.links n.station)
+  EndsSo (Refused place accused refusal) ending = ending ≡ Refused place accused refusal
+
+  abbrev pub EndsAlike : Head → List Record → Type 0
+  EndsAlike head records = EndsSo (ends_from top.alone (new_wire_layers_node head) 0 records) (top.end.judged head records)

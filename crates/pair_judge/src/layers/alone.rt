@@ -1,15 +1,16 @@
 //! A station with nothing on top: its packets are any bytes, and are not read.
 
-ghost use Rattle.std.specs.Prelude.{◌≡◌, ◌+◌, ◌^◌, ◌<◌, ◌≤◌, Ok, Err, None, OnOk, IfOk, IfErr};
+ghost use Rattle.std.specs.Prelude.{◌≡◌, ◌+◌, ◌^◌, ◌<◌, ◌≤◌, Ok, Err, None, Some, OnOk, IfOk, IfErr};
 ghost use Rattle.ddcmp_msg.specs.Message.{view};
 ghost use Rattle.dna_station.specs.WireBook.{wire_sending_refusal};
 ghost use Rattle.dna_station.specs.WireStation.{load};
+ghost use Rattle.dna_node.specs.WireLayers.{of_no_link};
 ghost use Rattle.ddcmp_station.specs.Arrival.{arrival_view};
 ghost use Rattle.pair_judge.specs.Events.{event_of_station};
 ghost use Rattle.pair_judge.specs.inner.Memory.{IfNoMemory, MayKeep};
 ghost use Rattle.pair_judge.specs.inner.Receipts.{is_damage};
 ghost use Rattle.pair_judge.specs.inner.Steps.{IfRefused, with_link};
-ghost use Rattle.pair_judge.specs.inner.Tops.{line_machine};
+ghost use Rattle.pair_judge.specs.inner.Tops.{line_end, line_machine};
 ghost use Rattle.pair_judge.specs.inner.Unit.{tags_of};
 
 use super::Layers;
@@ -72,7 +73,23 @@ impl Layers {
         ensures load { load self.new.station ≤ load self.old.station + 1 }
     {
         let _ = link;
-        match self.station.arrived(arrival, kept) {
+        match self.station.arrived::<true>(arrival, kept) {
+            Ok(_) => Ok(()),
+            Err(StationFault::Refused(refusal)) => {
+                Err(StepFault::Refused(StepRefusal::Station(refusal)))
+            }
+            Err(StationFault::OutOfMemory) => unreachable!(),
+        }
+    }
+    /// This came of a station whose capture nobody has, and the node kept the packet or did not. Takes no memory.
+    pub fn arrived_unknown_alone(&mut self, arrival: Arrival, kept: bool) -> Result<(), StepFault>
+        requires { load self.old.station < 2 ^ 63 }
+        ensures ok { OnOk result (line_end.machine.arrives self.old (with_link (Some of_no_link) (arrival_view arrival.entry)) kept ≡ Ok self.new) }
+        ensures refused { IfErr result (IfRefused (λ refusal.
+            line_end.machine.arrives self.old (with_link (Some of_no_link) (arrival_view arrival.entry)) kept ≡ Err refusal)) }
+        ensures load { load self.new.station ≤ load self.old.station + 1 }
+    {
+        match self.station.arrived::<false>(arrival, kept) {
             Ok(_) => Ok(()),
             Err(StationFault::Refused(refusal)) => {
                 Err(StepFault::Refused(StepRefusal::Station(refusal)))

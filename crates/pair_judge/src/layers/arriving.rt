@@ -42,7 +42,7 @@ impl Layers {
         ensures memory { IfErr result (IfNoMemory (MayKeep kept (is_damage (arrival_view arrival.entry)))) }
         ensures load { load self.new.station ≤ load self.old.station + 1 }
     {
-        match self.station.arrived(arrival, kept) {
+        match self.station.arrived::<true>(arrival, kept) {
             Ok(Some(packet)) => self.keep(packet, tag_of(link)),
             Ok(None) => Ok(()),
             Err(StationFault::Refused(refusal)) => {
@@ -74,7 +74,10 @@ impl Layers {
         ensures station { self.new.station ≡ self.old.station }
     {
         match &read_nsp(carried.message) {
-            Ok(message) => match self.links.arrived(carried.dst, carried.src, message, tag) {
+            Ok(message) => match self
+                .links
+                .arrived::<true>(carried.dst, carried.src, message, tag)
+            {
                 Ok(()) => Ok(()),
                 Err(LinkFault::Refused(refusal)) => Err(StepFault::Refused(StepRefusal::Links(
                     refusal,

@@ -107,7 +107,7 @@ impl Layers {
 }
 
 // The packet of a data message.
-fn packet_of<'a>(message: &Message<'a>) -> &'a [u8]
+pub fn packet_of<'a>(message: &Message<'a>) -> &'a [u8]
     ensures { result.now ≡ body_of (view message.now) }
 {
     match message {

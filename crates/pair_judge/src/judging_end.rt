@@ -1,0 +1,92 @@
+//! The judge of one end: one capture in one pass, without the other.
+
+ghost use Rattle.std.specs.Prelude.{◌≡◌, ◌≢◌, IfErr};
+ghost use Rattle.wire_base.specs.Tally.{tally_faults, tally_lent};
+ghost use Rattle.capture.specs.declared.fault.CaptureFault.TheVariants as CaptureFault;
+ghost use Rattle.capture.specs.Faulty.{CountsReads, is_failed_read};
+ghost use Rattle.pair_judge.specs.EndJudged.{IsEndAnswer, IsJudgedAlone};
+ghost use Rattle.pair_judge.specs.EndKind.{layers_alone, station_alone};
+
+use crate::end_verdict::EndVerdict;
+use crate::lone_end::{LoneEnd, MadeAlone};
+use crate::reason::Reason;
+use crate::top::{LinksOnTop, NothingOnTop, Top};
+use capture::{CaptureFault, CaptureReader, MAX_RECORDS, text_read_on, whole_text};
+use dna_node::Cause;
+use dna_station::Head;
+use std::alloc::Global;
+use std::io::Read;
+use wire_base::Tally;
+
+/// Decides of the text that a reader gives up to its end whether it is a capture whose records a node of a pair can make, whatever the capture
+/// of the other end may be: what came is taken as what the other end sent, and of hints it is only asked that they rise.
+///
+/// `Passed`: the text is a capture, and all of its records were made; their counts. Of such a text nothing else is answered, but for want of
+/// memory and a failed read.
+///
+/// `Refused`: however the text goes on behind what was read of it by then, the named record is the first that can't be made: this end breaks the
+/// rule in it, or the other end did in what came. No such capture is a side of a run, whatever the other one is (`refused_alone_is_final`).
+///
+/// `Departs`: the line departs from the format as named, and all records before it were made. `Read`: a read failed; at any other answer
+/// the count of the reader's failed calls stands. `OutOfMemory`: a growth was refused, of a reader's block or its room for bytes, the station's
+/// window, a packet, a link, a message that was handed in, or a segment that is held.
+pub fn judge_end<R: Read>(alloc: Global, a: &mut Tally<R>) -> Result<EndVerdict, CaptureFault>
+    ensures judged { IsJudgedAlone layers_alone (R.remaining (tally_lent a.old)) result }
+    ensures first { IfErr result (λ fault. fault ≢ CaptureFault.Failed) }
+    ensures reads { CountsReads (is_failed_read result) (tally_faults a.old) (tally_faults a.new) }
+{
+    whole_text();
+    find_end::<LinksOnTop, R>(alloc, a)
+}
+
+/// Decides the same of a station alone: a packet is any bytes and is not read, so that it may be one of another layer or of a third node; and the
+/// events of the links, `u open` to `u up`, may stand anywhere and are not judged. The reasons are those of stations and line, and the other end
+/// is accused of `NotAMessage` and `WrongResponse` alone.
+///
+/// All that is said of `judge_end` holds, with "DDCMP station" for "node"; in the summary `links` is 0, and `up` counts lines that were not judged.
+pub fn judge_line_end<R: Read>(alloc: Global, a: &mut Tally<R>) -> Result<EndVerdict, CaptureFault>
+    ensures judged { IsJudgedAlone station_alone (R.remaining (tally_lent a.old)) result }
+    ensures first { IfErr result (λ fault. fault ≢ CaptureFault.Failed) }
+    ensures reads { CountsReads (is_failed_read result) (tally_faults a.old) (tally_faults a.new) }
+{
+    whole_text();
+    find_end::<NothingOnTop, R>(alloc, a)
+}
+
+// The same over either top, of whatever the reader tells.
+fn find_end<T: Top, R: Read>(alloc: Global, a: &mut Tally<R>) -> Result<EndVerdict, CaptureFault>
+    ensures answer { IsEndAnswer T.top.end (R.remaining (tally_lent a.old)) result }
+    ensures reads { CountsReads (is_failed_read result) (tally_faults a.old) (tally_faults a.new) }
+{
+    text_read_on();
+    T::shows_alone();
+    let mut capture = match CaptureReader::open(alloc, a) {
+        Ok(capture) => capture,
+        Err(fault) => return Err(fault),
+    };
+    let head = Head {
+        own: capture.own(),
+        peer: capture.peer(),
+    };
+    let Ok(mut end) = LoneEnd::new(alloc, head) else {
+        return Err(CaptureFault::OutOfMemory);
+    };
+    for number in 0..MAX_RECORDS + 1 {
+        match capture.advance(a) {
+            Ok(Some(entry)) => match end.make::<T>(entry, capture.bytes()) {
+                Ok(MadeAlone::Done) => {}
+                Ok(MadeAlone::Fails { accused, refusal }) => {
+                    return Ok(EndVerdict::Refused {
+                        place: number,
+                        accused,
+                        reason: Reason::of_cause(Cause::Step(refusal)),
+                    });
+                }
+                Err(_) => return Err(CaptureFault::OutOfMemory),
+            },
+            Ok(None) => return Ok(EndVerdict::Passed(end.summary::<T>())),
+            Err(fault) => return Err(fault),
+        }
+    }
+    unreachable!()
+}

@@ -1,0 +1,227 @@
+//! One end whose other side is not known, as far as the judge has gone along its capture.
+
+ghost use Rattle.std.specs.Prelude.{◌≡◌, ◌+◌, ◌≤◌, [], IfOk};
+ghost use Rattle.capture.specs.declared.record.Record.TheVariants as Record;
+ghost use Rattle.capture.specs.Entries.{record_with};
+ghost use Rattle.capture.specs.Range.{NumbersFit};
+ghost use Rattle.capture.specs.declared.limit.TheConstants.{MAX_HINT};
+ghost use Rattle.dna_links.specs.User.{view};
+ghost use Rattle.dna_node.specs.WireLayers.{new_wire_layers_node};
+ghost use Rattle.pair_judge.specs.Counting.{delivers};
+ghost use Rattle.pair_judge.specs.Events.{event_of_station, event_of_links};
+ghost use Rattle.pair_judge.specs.Summary.{counts_of};
+ghost use Rattle.pair_judge.specs.inner.LoneEnd.{HasRoomAlone, MadeAloneIs, node_of_end, summary_of_end};
+ghost use Rattle.pair_judge.specs.inner.Making.{IsEvent};
+
+mod receiving;
+
+use crate::end_verdict::Accused;
+use crate::layers::Layers;
+use crate::making::is_delivery;
+use crate::noise::hear;
+use crate::step_fault::StepFault;
+use crate::summary::SideSummary;
+use crate::top::Top;
+use capture::Entry;
+use ddcmp_msg::{Reading, read_unit};
+use ddcmp_station::StationEvent;
+use dna_station::{Head, StepRefusal};
+use nsp_link::LinkEvent;
+use receiving::{Came, receive};
+use std::alloc::{AllocError, Global};
+
+/// The end: the head of its capture, its station with its links on top, the other side's first unit that may still come, and its counts so
+/// far.
+#[derive(Drop)]
+pub struct LoneEnd {
+    pub head: Head,
+    pub layers: Layers,
+    pub front: u64,
+    pub counts: SideSummary,
+}
+
+/// What became of a record.
+#[derive(Clone, Copy, Debug, PartialEq, Eq)]
+pub enum MadeAlone {
+    /// It was made.
+    Done,
+    /// It can't be made.
+    Fails {
+        accused: Accused,
+        refusal: StepRefusal,
+    },
+}
+
+impl LoneEnd {
+    /// Before any record. `AllocError`: there is no room for the window of the station.
+    pub fn new(alloc: Global, head: Head) -> Result<LoneEnd, AllocError>
+        ensures node { IfOk result (λ end. node_of_end end ≡ new_wire_layers_node head) }
+        ensures counts { IfOk result (λ end. end.counts ≡ counts_of []) }
+    {
+        let Ok(layers) = Layers::new(alloc, head) else {
+            return Err(AllocError);
+        };
+        Ok(LoneEnd {
+            head,
+            layers,
+            front: 0,
+            counts: SideSummary::new(),
+        })
+    }
+
+    /// Its counts, with how many links began.
+    pub fn summary<T: Top>(&self) -> SideSummary
+        ensures { result ≡ summary_of_end T.top self.now }
+    {
+        self.counts.with_links(T::links_begun(&self.layers))
+    }
+
+    /// Makes one record: that of the entry and these bytes. An error: there is no memory for the packet that it sends, or for what the links keep
+    /// of a packet or of an event.
+    pub fn make<T: Top>(&mut self, entry: Entry, bytes: &[u8]) -> Result<MadeAlone, AllocError>
+        requires room { HasRoomAlone self.old }
+        requires numbers { NumbersFit (record_with entry bytes.now) }
+        ensures { IfOk result (λ made. MadeAloneIs T.top made self.old self.new (record_with entry bytes.now)) }
+    {
+        match entry {
+            Entry::Sent => self.make_sent::<T>(bytes),
+            Entry::Received { kept, hint } => self.make_received::<T>(hint, kept, bytes),
+            Entry::Noise => Ok(self.make_noise::<T>(bytes)),
+            Entry::Start
+            | Entry::Halt
+            | Entry::Open { .. }
+            | Entry::Accept { .. }
+            | Entry::Reject { .. }
+            | Entry::In { .. }
+            | Entry::Up { .. }
+            | Entry::Close { .. } => self.make_event::<T>(entry, bytes),
+        }
+    }
+
+    fn make_sent<T: Top>(&mut self, bytes: &[u8]) -> Result<MadeAlone, AllocError>
+        requires { HasRoomAlone self.old }
+        ensures { IfOk result (λ made. MadeAloneIs T.top made self.old self.new (Record.Sent bytes.now)) }
+    {
+        T::shows_alone();
+        match read_unit(bytes) {
+            Reading::Sound(message) => match T::sent(&mut self.layers, &message) {
+                Ok(_) => {
+                    self.counts = self.counts.with_sending();
+                    Ok(MadeAlone::Done)
+                }
+                Err(StepFault::Refused(refusal)) => Ok(by_this_end(refusal)),
+                Err(StepFault::OutOfMemory) => Err(AllocError),
+            },
+            Reading::HeaderBad => Ok(by_this_end(StepRefusal::NotAMessage)),
+            Reading::DataBad => Ok(by_this_end(StepRefusal::NotAMessage)),
+            Reading::Malformed(_) => Ok(by_this_end(StepRefusal::NotAMessage)),
+        }
+    }
+
+    fn make_received<T: Top>(
+        &mut self,
+        hint: u64,
+        kept: bool,
+        bytes: &[u8],
+    ) -> Result<MadeAlone, AllocError>
+        requires room { HasRoomAlone self.old }
+        requires hint { hint ≤ MAX_HINT }
+        ensures { IfOk result (λ made. MadeAloneIs T.top made self.old self.new (Record.Received hint kept bytes.now)) }
+    {
+        if hint < self.front {
+            return Ok(by_this_end(StepRefusal::HintOrder));
+        }
+        match receive::<T>(&mut self.layers, kept, bytes) {
+            Ok(Came::Done { damaged }) => {
+                self.front = hint + 1;
+                self.counts = self.counts.with_receipt(damaged, kept);
+                Ok(MadeAlone::Done)
+            }
+            Ok(Came::Fails { accused, refusal }) => Ok(MadeAlone::Fails { accused, refusal }),
+            Err(AllocError) => Err(AllocError),
+        }
+    }
+
+    fn make_noise<T: Top>(&mut self, bytes: &[u8]) -> MadeAlone
+        requires { HasRoomAlone self.old }
+        ensures { MadeAloneIs T.top result self.old self.new (Record.Noise bytes.now) }
+    {
+        T::shows_alone();
+        match hear::<T>(&mut self.layers, bytes) {
+            Ok(()) => {
+                self.counts = self.counts.with_receipt(true, false);
+                MadeAlone::Done
+            }
+            Err(refusal) => by_this_end(refusal),
+        }
+    }
+
+    fn make_event<T: Top>(&mut self, entry: Entry, bytes: &[u8]) -> Result<MadeAlone, AllocError>
+        requires room { HasRoomAlone self.old }
+        requires event { IsEvent entry }
+        ensures { IfOk result (λ made. MadeAloneIs T.top made self.old self.new (record_with entry bytes.now)) }
+    {
+        match entry {
+            Entry::Start => Ok(self.make_station_event::<T>(StationEvent::Start)),
+            Entry::Halt => Ok(self.make_station_event::<T>(StationEvent::Halt)),
+            Entry::Open { link } => self.make_link_event::<T>(LinkEvent::Open { link }),
+            Entry::Accept { partner, link } => self.make_link_event::<T>(LinkEvent::Accept {
+                partner,
+                link,
+            }),
+            Entry::Reject { partner, link } => self.make_link_event::<T>(LinkEvent::Reject {
+                partner,
+                link,
+            }),
+            Entry::In { link } => {
+                let message = bytes;
+                self.make_link_event::<T>(LinkEvent::In { link, message })
+            }
+            Entry::Up { link } => {
+                let message = bytes;
+                self.make_link_event::<T>(LinkEvent::Up { link, message })
+            }
+            Entry::Close { link } => self.make_link_event::<T>(LinkEvent::Close { link }),
+            Entry::Sent | Entry::Received { .. } | Entry::Noise => unreachable!(),
+        }
+    }
+
+    fn make_station_event<T: Top>(&mut self, event: StationEvent) -> MadeAlone
+        requires { HasRoomAlone self.old }
+        ensures { MadeAloneIs T.top result self.old self.new (Record.User (event_of_station event)) }
+    {
+        T::shows_alone();
+        match T::start_or_halt(&mut self.layers, event) {
+            Ok(()) => {
+                self.counts = self.counts.with_station_event(event);
+                MadeAlone::Done
+            }
+            Err(refusal) => by_this_end(refusal),
+        }
+    }
+
+    fn make_link_event<T: Top>(&mut self, event: LinkEvent) -> Result<MadeAlone, AllocError>
+        requires { HasRoomAlone self.old }
+        ensures { IfOk result (λ made. MadeAloneIs T.top made self.old self.new (Record.User (event_of_links (view event.entry)))) }
+    {
+        T::shows_alone();
+        let delivers = is_delivery(&event);
+        match T::at_links(&mut self.layers, event) {
+            Ok(()) => {
+                self.counts = self.counts.with_link_event(delivers);
+                Ok(MadeAlone::Done)
+            }
+            Err(StepFault::Refused(refusal)) => Ok(by_this_end(refusal)),
+            Err(StepFault::OutOfMemory) => Err(AllocError),
+        }
+    }
+}
+
+fn by_this_end(refusal: StepRefusal) -> MadeAlone
+    ensures { result ≡ MadeAlone.Fails Accused.ThisEnd refusal }
+{
+    MadeAlone::Fails {
+        accused: Accused::ThisEnd,
+        refusal,
+    }
+}

@@ -1,0 +1,130 @@
+//! A receipt at an end whose other side is not known: what came is taken as what the other end sent.
+
+ghost use Rattle.std.specs.Prelude.{◌≡◌, ◌+◌, ◌^◌, ◌<◌, ◌≤◌, IfOk};
+ghost use Rattle.ddcmp_msg.specs.Message.{view};
+ghost use Rattle.ddcmp_msg.specs.Reading.{reading};
+ghost use Rattle.dna_node.specs.Alone as alone;
+ghost use Rattle.dna_station.specs.WireStation.{load};
+ghost use Rattle.pair_judge.specs.EndJudged.{accused_view};
+ghost use Rattle.pair_judge.specs.inner.LoneEnd.{CameIs, MeetsIs, SoundIs};
+
+use crate::end_verdict::Accused;
+use crate::layers::Layers;
+use crate::step_fault::StepFault;
+use crate::top::Top;
+use ddcmp_msg::{Message, Reading, read_unit};
+use ddcmp_station::Arrival;
+use dna_station::{StepRefusal, Tag};
+use std::alloc::AllocError;
+
+// What is known of a unit whose sender is not.
+const UNKNOWN: Tag = Tag {
+    period: 0,
+    partner: None,
+};
+
+/// What became of a receipt.
+#[derive(Clone, Copy, Debug, PartialEq, Eq)]
+pub enum Came {
+    /// It was made, of a unit that came sound or damaged.
+    Done {
+        damaged: bool,
+    },
+    /// It can't be made.
+    Fails {
+        accused: Accused,
+        refusal: StepRefusal,
+    },
+}
+
+/// Receives these bytes. It fails, in this order: by the other end, where they are no message of a right one in this state; by this end, as the
+/// station refuses; and, of a packet that is taken, by the other end. An error: there is no memory for what the links keep of it.
+pub fn receive<T: Top>(layers: &mut Layers, kept: bool, bytes: &[u8]) -> Result<Came, AllocError>
+    requires { load layers.old.station < 2 ^ 63 }
+    ensures came { IfOk result (λ came. CameIs T.top came layers.old layers.new kept (reading bytes.now)) }
+    ensures load { load layers.new.station ≤ load layers.old.station + 1 }
+{
+    match read_unit(bytes) {
+        Reading::Sound(message) => receive_sound::<T>(layers, kept, message),
+        Reading::HeaderBad => met(T::arrived_unknown(layers, Arrival::HeaderBad, kept), true),
+        Reading::DataBad => met(T::arrived_unknown(layers, Arrival::DataBad, kept), true),
+        Reading::Malformed(_) => Ok(Came::Fails {
+            accused: Accused::OtherEnd,
+            refusal: StepRefusal::NotAMessage,
+        }),
+    }
+}
+
+// A sound message comes.
+fn receive_sound<T: Top>(
+    layers: &mut Layers,
+    kept: bool,
+    message: Message,
+) -> Result<Came, AllocError>
+    requires { load layers.old.station < 2 ^ 63 }
+    ensures came { IfOk result (λ came. SoundIs T.top came layers.old layers.new kept (view message.entry)) }
+    ensures load { load layers.new.station ≤ load layers.old.station + 1 }
+{
+    T::shows_alone();
+    if let Some(refusal) = T::wrong_unit(layers, &message) {
+        return Ok(by_the_other(refusal));
+    }
+    let wrong = wrong_if_kept::<T>(layers, kept, &message);
+    let arrived = T::arrived_unknown(layers, Arrival::Sound(message, UNKNOWN), kept);
+    let Some(refusal) = wrong else {
+        return met(arrived, false);
+    };
+    match arrived {
+        Ok(()) => Ok(by_the_other(refusal)),
+        Err(fault) => met(Err(fault), false),
+    }
+}
+
+fn wrong_if_kept<T: Top>(layers: &Layers, kept: bool, message: &Message) -> Option<StepRefusal>
+    ensures { result ≡ alone.if_kept kept (T.top.alone.wrong_taken layers.now (view message.now)) }
+{
+    if kept {
+        T::wrong_taken(layers, message)
+    } else {
+        None
+    }
+}
+
+fn by_the_other(refusal: StepRefusal) -> Came
+    ensures { result ≡ Came.Fails Accused.OtherEnd refusal }
+{
+    Came::Fails {
+        accused: Accused::OtherEnd,
+        refusal,
+    }
+}
+
+// What became of what the layers met.
+fn met(arrived: Result<(), StepFault>, damaged: bool) -> Result<Came, AllocError>
+    ensures { IfOk result (λ came. MeetsIs came damaged arrived) }
+{
+    match arrived {
+        Ok(()) => Ok(Came::Done { damaged }),
+        Err(StepFault::Refused(refusal)) => Ok(Came::Fails {
+            accused: accused_by(refusal),
+            refusal,
+        }),
+        Err(StepFault::OutOfMemory) => Err(AllocError),
+    }
+}
+
+// Who breaks the rule of a packet that comes: what the links refuse is the other end's.
+fn accused_by(refusal: StepRefusal) -> Accused
+    ensures { accused_view result ≡ alone.accused_by refusal }
+{
+    match refusal {
+        StepRefusal::Links(_) => Accused::OtherEnd,
+        StepRefusal::NotAMessage => Accused::ThisEnd,
+        StepRefusal::HintOrder => Accused::ThisEnd,
+        StepRefusal::Undetected => Accused::ThisEnd,
+        StepRefusal::Station(_) => Accused::ThisEnd,
+        StepRefusal::BadPacket => Accused::ThisEnd,
+        StepRefusal::BadNsp => Accused::ThisEnd,
+        StepRefusal::NotNoise => Accused::ThisEnd,
+    }
+}
