@@ -1,6 +1,7 @@
 pub mod Printed
 pub mod Shown
 pub mod Showing
+pub mod PrintedAlone
 pub mod Conversion
 pub mod Playing
 pub mod Accepting

@@ -5,7 +5,7 @@ ghost use Rattle.ddcap.specs.Helping.{help_text};
 ghost use Rattle.ddcap.specs.Printed.{Writes, stream_of};
 
 use crate::check::print;
-use crate::help_pages::{CHECK, CONVERT, EXPLAIN, HELP, PLAY, PROGRAM, SHOW};
+use crate::help_pages::{ALONE, CHECK, CONVERT, EXPLAIN, HELP, PLAY, PROGRAM, SHOW};
 use crate::text::FAILED;
 use std::io::Write;
 use wire_base::{Tally, write_whole};
@@ -22,6 +22,7 @@ pub enum Topic {
     /// The program as a whole.
     Program,
     Check,
+    Alone,
     Show,
     Play,
     Convert,
@@ -36,6 +37,7 @@ pub fn help_to<W: Write>(stream: &mut Tally<W>, topic: Topic) -> u8
     match topic {
         Topic::Program => print_program(stream),
         Topic::Check => print(stream, CHECK.as_bytes(), HELPED),
+        Topic::Alone => print(stream, ALONE.as_bytes(), HELPED),
         Topic::Show => print(stream, SHOW.as_bytes(), HELPED),
         Topic::Play => print(stream, PLAY.as_bytes(), HELPED),
         Topic::Convert => print(stream, CONVERT.as_bytes(), HELPED),

@@ -5,6 +5,7 @@ pub const PROGRAM: &str = "\
 : checks recordings of a DDCMP line between two DECnet nodes
 
   ddcap check A B         judge the captures of both ends of a line
+  ddcap alone A           judge the capture of one end, without the other
   ddcap show A            print what a capture says, a line a record
   ddcap play SCRIPT A B   write both captures of a script
   ddcap convert N IN OUT  write a capture in format N: 1 or 2
@@ -12,14 +13,14 @@ pub const PROGRAM: &str = "\
   ddcap explain N         tell what reason N of a refusal means: 1 to 27
 
 Status:
-  0  it was done; of check: the pair is accepted
-  1  of check: the pair is refused
+  0  it was done; of check and alone: accepted, passed
+  1  of check and alone: refused
   2  the words, or a line of a file, are faulty
   3  a file, the memory or a stream failed
 
 Faults are printed to standard error, all else to standard output.
 
-Begin with: ddcap help check
+Begin with: ddcap help check, or ddcap help alone
 Read on in the folder docs: CAPTURES.md (how to record, and the format),
 REASONS.md (why a pair is refused), SCRIPTS.md (what play reads).
 ";
@@ -50,6 +51,36 @@ for a line that joins routers, or that carries what is no DECnet.
 Status:
   0  accepted: some order of all records keeps to the protocols
   1  refused: no order does
+  2  a faulty line, as a: line 3: syntax (or too long, too many)
+  3  a: cannot open, a: read failed, out of memory, or a failed write
+";
+
+pub const ALONE: &str = "\
+ddcap alone A
+
+Judges the capture of one end without that of the other: what came is taken as
+what the other end sent. Begin with it where you can record at one end only.
+
+Example, in the top folder of the sources:
+
+  ./ddcap alone examples/wrong_response.a
+
+It ends with status 1 and prints:
+
+  refused a 3 line 5: 8 WrongResponse
+
+No capture of the other end, whatever it is, goes with this one: record 3, on
+line 5, breaks a rule. With ' by the other end' behind it, what came there is
+what no right end can have sent. Then: ./ddcap explain 8
+
+passed, and a line of counts: this end kept its rules, as far as one end shows.
+
+A recorder that counts no units writes each receipt as r 0 BYTES in format 2.
+With --line station and line are judged alone, as ddcap help check says.
+
+Status:
+  0  passed
+  1  refused
   2  a faulty line, as a: line 3: syntax (or too long, too many)
   3  a: cannot open, a: read failed, out of memory, or a failed write
 ";

@@ -3,6 +3,7 @@
 ghost use Rattle.std.specs.IoError.{error_kind};
 ghost use Rattle.ddcap.specs.Printed.{Writes, not_opened_says, stream_of, words_fault_status, words_fault_text};
 
+use crate::alone::{alone_line_to, alone_to};
 use crate::check::{check_line_to, check_to, print, print_out_of_memory};
 use crate::convert::convert_to;
 use crate::explain::explain_to;
@@ -60,6 +61,14 @@ fn do_task<R: Files + AllocGlobal, O: Write, E: Write>(
     match task {
         Task::Check { a, b } => check_files(rt, a, b, out, err),
         Task::CheckLine { a, b } => check_line_files(rt, a, b, out, err),
+        Task::Alone { a } => {
+            let mut a = opened(rt, a, Named::A, err)?;
+            Ok(alone_to(rt.alloc(), &mut a, out, err))
+        }
+        Task::AloneLine { a } => {
+            let mut a = opened(rt, a, Named::A, err)?;
+            Ok(alone_line_to(rt.alloc(), &mut a, out, err))
+        }
         Task::Show { a } => show_file(rt, a, out, err),
         Task::Play { script, a, b } => play_file(rt, script, a, b, out, err),
         Task::Convert { to, a, b } => convert_file(rt, to, a, b, out, err),

@@ -20,9 +20,9 @@ pub const FAILED: u8 = 3;
 
 /// The line of one side of an accepted pair.
 #[derive(Clone, Copy)]
-struct SideLine {
-    side: Side,
-    counts: SideSummary,
+pub struct SideLine {
+    pub side: Side,
+    pub counts: SideSummary,
 }
 
 impl fmt::Display for SideLine {
@@ -51,9 +51,9 @@ impl fmt::Display for SideLine {
 
 /// The line of one side of an accepted pair of stations alone.
 #[derive(Clone, Copy)]
-struct StationLine {
-    side: Side,
-    counts: SideSummary,
+pub struct StationLine {
+    pub side: Side,
+    pub counts: SideSummary,
 }
 
 impl fmt::Display for StationLine {

@@ -22,6 +22,14 @@ pub enum Task<'a> {
         a: &'a str,
         b: &'a str,
     },
+    /// To judge the capture in a file without that of the other end.
+    Alone {
+        a: &'a str,
+    },
+    /// To judge station and line alone of it.
+    AloneLine {
+        a: &'a str,
+    },
     /// To show the records of the capture in a file.
     Show {
         a: &'a str,
@@ -65,6 +73,7 @@ pub fn task_of<'a, S: AsStr>(alloc: Global, words: &'a [S]) -> Result<Task<'a>, 
     match program.try_get_matches_from(words) {
         Ok(matches) => match matches.subcommand() {
             Some(("check", found)) => checked_of(found),
+            Some(("alone", found)) => judged_alone_of(found),
             Some(("show", found)) => match found.get_str("A") {
                 Some(a) => Ok(Task::Show { a }),
                 None => Err(WordsFault::BadWords),
@@ -91,6 +100,17 @@ fn checked_of<'a>(found: &ArgMatches<'a>) -> Result<Task<'a>, WordsFault> {
         return Ok(Task::CheckLine { a, b });
     }
     Ok(Task::Check { a, b })
+}
+
+// The capture that the words behind `alone` name, and whether the line alone is judged.
+fn judged_alone_of<'a>(found: &ArgMatches<'a>) -> Result<Task<'a>, WordsFault> {
+    let Some(a) = found.get_str("A") else {
+        return Err(WordsFault::BadWords);
+    };
+    if found.get_flag("line") {
+        return Ok(Task::AloneLine { a });
+    }
+    Ok(Task::Alone { a })
 }
 
 // The conversion that the words behind `convert` ask for: the format's number has one spelling.
@@ -134,6 +154,7 @@ fn help_of<'a>(found: &ArgMatches<'a>) -> Result<Task<'a>, WordsFault> {
     let topic = match found.get_str("WORD") {
         None => Topic::Program,
         Some("check") => Topic::Check,
+        Some("alone") => Topic::Alone,
         Some("show") => Topic::Show,
         Some("play") => Topic::Play,
         Some("convert") => Topic::Convert,
@@ -160,6 +181,7 @@ fn program<'a>(alloc: Global) -> Result<Command<'a>, AllocError> {
         .disable_help_subcommand(true)
         .subcommand_required(true)
         .subcommand(check(alloc)?)?
+        .subcommand(alone(alloc)?)?
         .subcommand(show(alloc)?)?
         .subcommand(play(alloc)?)?
         .subcommand(convert(alloc)?)?
@@ -172,6 +194,13 @@ fn check<'a>(alloc: Global) -> Result<Command<'a>, AllocError> {
     Command::new(alloc, "check")
         .arg(Arg::new(alloc, "A").required(true))?
         .arg(Arg::new(alloc, "B").required(true))?
+        .arg(line_alone(alloc))
+}
+
+// `alone [--line] A`
+fn alone<'a>(alloc: Global) -> Result<Command<'a>, AllocError> {
+    Command::new(alloc, "alone")
+        .arg(Arg::new(alloc, "A").required(true))?
         .arg(line_alone(alloc))
 }
 

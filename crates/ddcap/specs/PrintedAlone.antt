@@ -1,0 +1,66 @@
+-- What `alone` prints of an answer of the judge of one end, byte by byte, and with which status it ends.
+use Rattle.std.specs.Prelude.{◌≡◌, ℕ, ◌+◌, ◌⊎◌, List, [], ◌++◌, Ok, Err, codes}
+use Rattle.std.specs.Fmt.{decimal}
+use Rattle.wire_base.specs.declared.side.Side.TheVariants.{A}
+use Rattle.capture.specs.declared.fault.CaptureFault.{CaptureFault}
+use Rattle.capture.specs.declared.fault.CaptureFault.TheVariants.{Departs, Read, OutOfMemory, Failed}
+use Rattle.capture.specs.Faulty.{CountsReads, is_failed_read}
+use Rattle.pair_judge.specs.declared.end_verdict.Accused.{Accused}
+use Rattle.pair_judge.specs.declared.end_verdict.Accused.TheVariants.{ThisEnd, OtherEnd}
+use Rattle.pair_judge.specs.declared.end_verdict.EndVerdict.{EndVerdict}
+use Rattle.pair_judge.specs.declared.end_verdict.EndVerdict.TheVariants.{Passed, Refused}
+use Rattle.pair_judge.specs.declared.reason.Reason.{Reason}
+use Rattle.pair_judge.specs.EndJudged.{EndAnswer, IsJudgedAlone}
+use Rattle.pair_judge.specs.EndKind.{EndKind}
+use Rattle.pair_judge.specs.Reason.{reason_name, reason_number}
+use Rattle.ddcap.specs.Printed.{Moved, Writes, side_line, station_line}
+use Rattle.ddcap.specs.Showing.{shown_fault, shown_fault_status}
+
+-- behind the reason, where it is the other end that broke the rule
+abbrev pub by_whom : Accused → List ℕ
+by_whom ThisEnd = []
+by_whom OtherEnd = codes " by the other end"
+
+-- `refused a RECORD line LINE: NUMBER NAME`, and by whom
+abbrev pub refused_alone_text : (place : ℕ) → Accused → Reason → List ℕ
+refused_alone_text place accused reason =
+    codes "refused a " ++ (decimal place ++ (codes " line " ++ (decimal (place + 2) ++ (codes ": " ++ (decimal (reason_number reason)
+    ++ (codes " " ++ (reason_name reason ++ (by_whom accused ++ codes "\n"))))))))
+
+-- `passed`, and a line of counts; or what is refused
+abbrev pub end_text : EndVerdict → List ℕ
+end_text (Passed counts) = codes "passed\n" ++ (side_line A counts ++ codes "\n")
+end_text (Refused place accused reason) = refused_alone_text place accused reason
+
+-- the same of a station alone
+abbrev pub line_end_text : EndVerdict → List ℕ
+line_end_text (Passed counts) = codes "passed\n" ++ (station_line A counts ++ codes "\n")
+line_end_text (Refused place accused reason) = refused_alone_text place accused reason
+
+-- 0: passed; 1: refused
+abbrev pub end_status : EndVerdict → ℕ
+end_status (Passed counts) = 0
+end_status (Refused place accused reason) = 1
+
+-- why there is no verdict is written to standard error; where there is no memory for the text of a faulty line, that is told
+abbrev pub TellsEndFault : (err : Moved) → CaptureFault → ℕ → Type 0
+TellsEndFault err (Departs kind line) status =
+    Writes err.old err.new (shown_fault (Departs kind line)) 2 status ⊎ Writes err.old err.new (shown_fault OutOfMemory) 3 status
+TellsEndFault err Read status = Writes err.old err.new (shown_fault Read) 3 status
+TellsEndFault err OutOfMemory status = Writes err.old err.new (shown_fault OutOfMemory) 3 status
+TellsEndFault err Failed status = ⊥
+
+-- What the end is judged as, and the text of a verdict
+module _ (end : EndKind) (text : EndVerdict → List ℕ) where
+  -- a verdict is written to standard output and a fault to standard error; the other stream stays as it is
+  abbrev pub PrintsEnd : (out err : Moved) → EndAnswer → ℕ → Type 0
+  PrintsEnd out err (Ok verdict) status = Writes out.old out.new (text verdict) (end_status verdict) status × (err.new ≡ err.old)
+  PrintsEnd out err (Err fault) status = Writes err.old err.new (shown_fault fault) (shown_fault_status fault) status × (out.new ≡ out.old)
+
+  -- One call of `alone`: what is printed, with its status, is an answer of which all is true that the judge's contract says of its own: of what the
+  -- reader had left, and of its count.
+  pub record ChecksEnd (a out err : Moved) (status : ℕ) : Type 0 where
+    pub answer : EndAnswer
+    pub judged : IsJudgedAlone end a.old.bytes answer
+    pub reads : CountsReads (is_failed_read answer) a.old.faults a.new.faults
+    pub printed : PrintsEnd out err answer status
