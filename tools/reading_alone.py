@@ -1,6 +1,6 @@
 """The second reading of one end alone: the node of a pair with the rules on periods and on partners left out, over a line that gives what stands in
-each receipt; and what no right other end can have sent. `judged_alone(a)` is the answer to one capture. A part of tools/reading.py, which judges
-pairs apart from the program."""
+each receipt; and what no right other end can have sent. `judged_alone(a)` is the answer to one capture, of a station alone where `line` is set. A part
+of tools/reading.py, which judges pairs apart from the program."""
 from reading import NAMES, RULES, Side
 from reading_flow import distance
 from reading_links import NO_TAG
@@ -19,78 +19,154 @@ class ByOther(Refused):
 
 
 class Alone(Side):
-    """One end: a receipt is what the other end sent. In format 2 a hint is a distance from the front."""
+    """One end: a receipt is what the other end sent. In format 2 a hint is a distance from the front. A turn names a rule that is read wrongly."""
 
-    def __init__(self, rules, text):
+    def __init__(self, rules, text, turn=None):
         super().__init__(rules, text)
+        self.turn = turn
         self.is_distance = text.split(' ')[1] == '2'
+
+    def turned(self, name):
+        if name not in TURNS:
+            raise ValueError('what turn is %r?' % name)
+        return name == self.turn
 
     def waits(self, other):
         return False
 
     def receives(self, other, hint, text, kept):
         hint += self.front if self.is_distance else 0
-        if hint < self.front:
+        unit = read_unit(text)
+        if unit == MALFORMED and self.turned('malformed before the hint'):
+            raise ByOther(1)
+        if hint < self.front and not self.turned('hints may go back'):
             raise Refused(2)
         self.front = hint + 1
-        unit = read_unit(text)
         if unit == MALFORMED:
+            raise Refused(1) if self.turned('malformed is by this end') else ByOther(1)
+        is_damaged = unit in (HEADER_BAD, DATA_BAD)
+        if is_damaged and self.turned('damage is by the other end'):
             raise ByOther(1)
-        if unit not in (HEADER_BAD, DATA_BAD):
+        if not is_damaged and (kept or not self.turned('only kept units accuse')):
             self.accuses(unit)
         taken = self.comes(unit, NO_PERIOD, NO_TAG, kept)
-        self.counts.update(received=1, damaged=unit in (HEADER_BAD, DATA_BAD), kept=kept)
+        self.counts.update(received=1, damaged=is_damaged, kept=kept)
         return taken
 
     def accuses(self, unit):
-        """What no right station sends to one in this state: a RESP beyond N, and a packet that cannot be read."""
-        station = self.station
-        if station.state == 'RUNNING' and unit.kind in ('ACK', 'NAK', 'data'):
-            if (unit.resp - station.acknowledged) % 256 > station.given - station.acknowledged:
-                raise ByOther(8)
+        """What no right end sends to one in this state, whether it is kept or not."""
+        if unit.kind == 'data' and self.turned('the packet before RESP'):
+            self.accuses_packet(unit.packet)
+        self.accuses_response(unit)
         if unit.kind == 'data':
-            packet = read_packet(unit.packet)
-            if packet is None:
-                raise ByOther(15)
-            if packet.nsp is not None and not packet.returned and read_nsp(packet.nsp) is None:
-                raise ByOther(17)
+            self.accuses_packet(unit.packet)
+
+    def accuses_response(self, unit):
+        """A RESP that is not among A to N."""
+        station = self.station
+        in_state = station.state == 'RUNNING' or self.turned('RESP in every state')
+        has_resp = unit.kind in ('ACK', 'NAK', 'data') and not self.turned('any RESP of ' + unit.kind)
+        resp = unit.num if unit.kind == 'REP' and self.turned('NUM of a REP is a RESP') else unit.resp if has_resp else None
+        if resp is None or not in_state:
+            return
+        above = (resp - station.acknowledged) % 256
+        outstanding = station.given - station.acknowledged
+        if above > outstanding + 127 and self.turned('RESP below A is right'):
+            return
+        if above > outstanding or above == outstanding > 0 and self.turned('RESP at N is wrong'):
+            raise Refused(8) if self.turned('RESP is by this end') else ByOther(8)
+
+    def accuses_packet(self, text):
+        """A packet that cannot be read."""
+        packet = read_packet(text)
+        if packet is None:
+            if not self.turned('any packet is carried'):
+                raise Refused(15) if self.turned('a packet is by this end') else ByOther(15)
+        elif packet.nsp is not None and (not packet.returned or self.turned('a returned packet is read')) and read_nsp(packet.nsp) is None:
+            if not self.turned('any message is one of NSP'):
+                raise Refused(17) if self.turned('a message is by this end') else ByOther(17)
+        elif packet.nsp is not None and self.turned('the nodes of any packet'):
+            self.accuses_nodes(packet)
+
+    def accuses_nodes(self, packet):
+        if (packet.source, packet.destination) != (self.links.other, self.links.node):
+            raise Refused(16) if self.turned('the nodes are by this end') else ByOther(16)
 
     def kept(self, text, label):
         packet = read_packet(text)
         message = read_nsp(packet.nsp) if packet and packet.nsp is not None and not packet.returned else None
         if message is not None:
-            self.accuses_message(packet, message)
+            self.accuses_nodes(packet)
+            self.accuses_message(message)
         super().kept(text, label)
 
-    def accuses_message(self, packet, message):
-        """Of a packet that is taken: the nodes, and what the link that acts on it has not given."""
-        if (packet.source, packet.destination) != (self.links.other, self.links.node):
-            raise ByOther(16)
-        if message.kind in ('segment', 'data ack'):
+    def accuses_message(self, message):
+        """Of a packet that is taken: what the link that acts on it has not given."""
+        if message.kind in ('segment', 'data ack') and not self.turned('any acknowledgement of a ' + message.kind):
             row = self.rules['gets ' + message.kind]
             link = self.links.find(row, row['look_up'], message.destination, message.source)
-            if link is not None:
+            if link is not None and not (link.phase == 'Confirming' and self.turned('none in Confirming')):
                 acknowledged = link.flow.acknowledged
-                for word in message.words:
+                for word in message.words[:1] if self.turned('the first word alone') else message.words:
                     acknowledged = self.accuses_word(link.flow, acknowledged, word)
 
-    @staticmethod
-    def accuses_word(flow, acknowledged, word):
-        if word >> 12 & 7 > 1:
+    def accuses_word(self, flow, acknowledged, word):
+        qualifier = word >> 12 & 7
+        if qualifier > 1 and not self.turned('words of the other subchannel'):
+            return acknowledged
+        if qualifier == 1 and self.turned('a NAK word acknowledges nothing'):
             return acknowledged
         number, reach = word & 0xfff, 2047
         ahead = (number - acknowledged) % 4096
         outstanding = flow.given - acknowledged
-        if ahead <= outstanding:
-            return acknowledged + ahead
+        if ahead < outstanding or ahead == outstanding and not (outstanding and self.turned('the highest given is wrong')):
+            return acknowledged if self.turned('each word from the first') else acknowledged + ahead
         back = 4096 - ahead
-        if back <= reach and (flow.given >= 2047 or back <= acknowledged):
-            return acknowledged
-        raise ByOther(21)
+        may_wrap = flow.given >= 2047 and not self.turned('numbers never wrap') or self.turned('numbers wrap at once')
+        if back <= reach and (may_wrap or back <= acknowledged):
+            if not self.turned('an earlier one is wrong'):
+                return acknowledged
+        raise Refused(21) if self.turned('an acknowledgement is by this end') else ByOther(21)
 
 
-def judged_alone(text):
-    side = Alone(FREE, text)
+# what can be read wrongly of what accuses the other end; each is told by a row of tools/alone.txt
+TURNS = {
+    'malformed before the hint', 'hints may go back', 'malformed is by this end', 'damage is by the other end', 'only kept units accuse',
+    'the packet before RESP', 'RESP in every state', 'any RESP of ACK', 'any RESP of NAK', 'any RESP of data',
+    'NUM of a REP is a RESP', 'RESP below A is right', 'RESP at N is wrong', 'RESP is by this end',
+    'any packet is carried', 'a packet is by this end', 'a returned packet is read', 'any message is one of NSP', 'a message is by this end',
+    'the nodes of any packet', 'the nodes are by this end', 'any acknowledgement of a segment',
+    'any acknowledgement of a data ack', 'none in Confirming', 'the first word alone',
+    'words of the other subchannel', 'a NAK word acknowledges nothing', 'the highest given is wrong', 'each word from the first', 'numbers never wrap',
+    'numbers wrap at once', 'an earlier one is wrong', 'an acknowledgement is by this end',
+}
+
+
+class StationAlone(Alone):
+    """The same of a station with nothing on top: packets are not read, and the links' events are nothing."""
+
+    def user(self, words):
+        if len(words) == 1:
+            super().user(words)
+
+    def looks_early(self, unit):
+        pass
+
+    def meets(self, text):
+        return NO_TAG
+
+    def accuses_packet(self, text):
+        pass
+
+    def kept(self, text, label):
+        pass
+
+    def ends(self):
+        return super().ends().partition(' links')[0]
+
+
+def judged_alone(text, line=False, turn=None):
+    side = (StationAlone if line else Alone)(FREE, text, turn)
     while not side.has_ended():
         try:
             side.make(None)
