@@ -1,5 +1,5 @@
 -- What `alone` prints of an answer of the judge of one end, byte by byte, and with which status it ends.
-use Rattle.std.specs.Prelude.{◌≡◌, ℕ, ◌+◌, ◌⊎◌, List, [], ◌++◌, Ok, Err, codes}
+use Rattle.std.specs.Prelude.{◌≡◌, ℕ, ◌+◌, ◌⊎◌, List, ◌++◌, Ok, Err, codes}
 use Rattle.std.specs.Fmt.{decimal}
 use Rattle.wire_base.specs.declared.side.Side.TheVariants.{A}
 use Rattle.capture.specs.declared.fault.CaptureFault.{CaptureFault}
@@ -16,16 +16,16 @@ use Rattle.pair_judge.specs.Reason.{reason_name, reason_number}
 use Rattle.ddcap.specs.Printed.{Moved, Writes, side_line, station_line}
 use Rattle.ddcap.specs.Showing.{shown_fault, shown_fault_status}
 
--- behind the reason, where it is the other end that broke the rule
+-- behind the reason: nothing more, or that it is the other end that broke the rule
 abbrev pub by_whom : Accused → List ℕ
-by_whom ThisEnd = []
-by_whom OtherEnd = codes " by the other end"
+by_whom ThisEnd = codes "\n"
+by_whom OtherEnd = codes " by the other end\n"
 
 -- `refused a RECORD line LINE: NUMBER NAME`, and by whom
 abbrev pub refused_alone_text : (place : ℕ) → Accused → Reason → List ℕ
 refused_alone_text place accused reason =
     codes "refused a " ++ (decimal place ++ (codes " line " ++ (decimal (place + 2) ++ (codes ": " ++ (decimal (reason_number reason)
-    ++ (codes " " ++ (reason_name reason ++ (by_whom accused ++ codes "\n"))))))))
+    ++ (codes " " ++ (reason_name reason ++ by_whom accused)))))))
 
 -- `passed`, and a line of counts; or what is refused
 abbrev pub end_text : EndVerdict → List ℕ
