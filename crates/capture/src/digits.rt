@@ -14,10 +14,10 @@ use crate::fault::{Departure, PartFault};
 use crate::spelling::{Spelling, two_digits};
 use std::alloc::Global;
 
-// As many bytes of a long text are spelled again at a time.
+// As many bytes are spelled again at a time, where it is not known how each is spelled.
 const BLOCK: usize = 128;
 
-// As many bytes at most are told by the spelling of each: a unit that carries no data, or little.
+// As many bytes at most are guessed eight at a time: a unit that carries no data, or little.
 const FEW: usize = 32;
 
 const EIGHT: usize = 8;
@@ -91,23 +91,20 @@ fn guess_byte(high: u8, low: u8) -> u8 {
     ((values.wrapping_shl(4) | (values >> 8)) & 0xff) as u8
 }
 
-// Whether the text is how `hex` spells these bytes; few are told by the spelling of each, if there is one.
+// Whether the text is how `hex` spells these bytes; they are told by the spelling of each, if there is one.
 fn spells(spelling: Option<&Spelling>, bytes: &[u8], text: &[u8]) -> bool
     requires { length text.now ≡ 2 * length bytes.now }
     ensures value { IsTrue result ↔ (encode_lower bytes.now ≡ text.now) }
     ensures bytes { IsBytes bytes.now }
 {
-    if bytes.len() > FEW {
-        return spells_many(bytes, text);
-    }
     match spelling {
-        Some(spelling) => spells_few(spelling, bytes, text),
+        Some(spelling) => spells_by(spelling, bytes, text),
         None => spells_many(bytes, text),
     }
 }
 
-// The same of few bytes.
-fn spells_few(spelling: &Spelling, bytes: &[u8], text: &[u8]) -> bool
+// The same, by the spelling of each byte.
+fn spells_by(spelling: &Spelling, bytes: &[u8], text: &[u8]) -> bool
     requires { length text.now ≡ 2 * length bytes.now }
     ensures value { IsTrue result ↔ (encode_lower bytes.now ≡ text.now) }
     ensures bytes { IsBytes bytes.now }
@@ -237,7 +234,7 @@ pub fn bytes_into(text: &[u8], most: usize, room: &mut [u8]) -> Result<usize, De
     bytes_by(None, text, most, room)
 }
 
-/// The same; the digits of few bytes are told by how each is spelled, if that is there.
+/// The same; the digits are told by how each byte is spelled, if that is there.
 #[tactic(auto, unfolding(crate::specs::Reading::bytes_at, crate::specs::Reading::any_bytes_at))]
 #[inline(always)]
 pub(crate) fn bytes_by(

@@ -5,7 +5,7 @@ ghost use Rattle.hex.specs.Hex.{lower_digits};
 
 use std::marker::Model;
 
-/// The two digits that `hex` spells each byte as, in the order of the bytes. `hex` spells all of them once, when this is made; a few bytes are
+/// The two digits that `hex` spells each byte as, in the order of the bytes. `hex` spells all of them once, when this is made; bytes are
 /// then told by looking each of them up.
 #[derive(Drop)]
 pub struct Spelling {

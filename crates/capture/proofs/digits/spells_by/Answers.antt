@@ -1,7 +1,7 @@
 use Rattle.std.proofs.Common.{◌/◌, ◌*◌, length, refl, sym, ap, ◌∙◌}
 use Rattle.hex.specs.Hex.{encode_lower}
 use Rattle.capture.proofs.DigitsLaws.{all_behind, spelled_parts, front_spelled, rest_spelled}
-use Rattle.capture.proofs.digits.spells_few.Goals as goal
+use Rattle.capture.proofs.digits.spells_by.Goals as goal
 
 pub returns-then-not-spells_eights-clause-value : goal.returns-then-not-spells_eights-clause-value
 returns-then-not-spells_eights-clause-value c =
