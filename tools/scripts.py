@@ -28,3 +28,47 @@ def links_played(text, links):
     text.write('ddplay 1 1.1 1.2\n' + lines(STARTED))
     for link in range(1, links + 1):
         text.write(lines(OPENED % link) + 'a in %d 05\n' % link + lines('a send;b deliver;b send;a deliver') + lines(CLOSED % link))
+
+
+# ---- scripts with links that live at the same time
+
+def links_left_open(text, links):
+    """So many links that are opened and accepted, one after another, and stay open."""
+    text.write('ddplay 1 1.1 1.2\n' + lines(STARTED))
+    for link in range(1, links + 1):
+        text.write(lines(OPENED % link))
+
+
+def links_played_by_turns(text, messages):
+    """So many messages of one segment of one byte over 1,000 links that stay open, each link in its turn, 100 of either side at once, which
+    the other side acknowledges on each link."""
+    source = random.Random(1)
+    links_left_open(text, 1000)
+    for turn in range(messages // 100):
+        own, other = 'ab'[turn % 2], 'ba'[turn % 2]
+        for place in range(turn * 100, turn * 100 + 100):
+            text.write('%s in %d %s\n%s send\n' % (own, place % 1000 + 1, source.randbytes(1).hex(), own))
+        text.write('%s deliver\n' % other * 100 + ('%s send\n' % other + '%s deliver\n' % own) * 100)
+
+
+def links_played_in_all_phases(text, links):
+    """So many links side by side, in all phases. In turn one is called, one rejected, one runs with a message each way, and one has ended; the
+    last eight are accepted, and their CC is still to be sent. In the end one that runs has messages to send, one is closed, and timers run
+    out."""
+    text.write('ddplay 1 1.1 1.2\n' + lines(STARTED))
+    answered = 0
+    for link in range(1, links + 1):
+        text.write(lines('a open;a send;b deliver'))
+        if link > links - 8:
+            text.write('b accept %d\n' % link)
+        elif link % 4 == 0:
+            text.write(lines('b send;a deliver'))
+        else:
+            answered += 1
+            text.write(lines('b %s %d;b send;a deliver;a send;b deliver' % ('reject' if link % 4 == 1 else 'accept', link)))
+            if link % 4 == 2:
+                text.write('a in %d 05\nb in %d 06\n' % (link, answered))
+                text.write(lines('a send;b deliver;b send;a deliver;b send;a deliver;a send;b deliver'))
+            elif link % 4 == 3:
+                text.write(lines(CLOSED % link))
+    text.write('a in 2 05\na in 2 06\na close 6\na retry 6\na retry 2\n')
