@@ -1,0 +1,5 @@
+pub mod Fronts
+pub mod Framings
+pub mod WrittenLaws
+pub mod Rooms
+pub mod CutUnits

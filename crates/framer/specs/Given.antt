@@ -1,0 +1,24 @@
+-- What a contract sees of a framer, and what one call of it finds.
+use Rattle.std.specs.Prelude.{◌≡◌, ℕ, ◌<◌, List, [], length, slice_index, Some}
+use Rattle.framer.specs.declared.kind.Kind.{Kind}
+use Rattle.framer.specs.declared.framer.Found.{Found}
+use Rattle.framer.specs.declared.framer.Found.TheVariants as found
+use Rattle.framer.specs.Framing.{kind_of, framing, only_left, behind_strays, behind_unit}
+
+-- the bytes that are held, and the unit that was completed last
+pub record FramerState : Type 0 where
+  pub held : List ℕ
+  pub completed : List ℕ
+
+-- In these bytes a unit of this kind was found first, behind so many stray bytes, and the rest is to come.
+pub record IsUnitFound (bytes : List ℕ) (kind : Kind) (strays : ℕ) (unit rest : List ℕ) : Type 0 where
+  pub framed : framing bytes ≡ behind_strays strays (behind_unit unit (framing rest))
+  pub kind_is : kind_of (slice_index unit 0) ≡ Some kind
+  pub shorter : length rest < length bytes
+
+-- What was found in what was held and a piece behind it: a unit, in the piece or completed, behind which nothing is held; or no whole unit, and
+-- then just what is held now is left.
+abbrev pub Finds : List ℕ → FramerState → Found → Type 0
+Finds bytes state (found.Unit kind strays unit rest) = IsUnitFound bytes kind strays unit.now rest.now × (state.held ≡ [])
+Finds bytes state (found.Completed kind strays rest) = IsUnitFound bytes kind strays state.completed rest.now × (state.held ≡ [])
+Finds bytes state (found.More strays) = (framing bytes ≡ behind_strays strays (only_left state.held)) × (framing state.held ≡ only_left state.held)

@@ -1,0 +1,4 @@
+pub mod Framing
+pub mod Written
+pub mod Given
+pub mod inner
