@@ -7,8 +7,7 @@ use Rattle.framer.specs.declared.kind.Kind.{Kind}
 use Rattle.framer.specs.declared.front.Front.TheVariants.{Between, Stray, Whole, Cut}
 use Rattle.framer.specs.Framing.{Framing, kind_of, unit_len, front, framing, only_left, behind_strays, behind_unit, joined}
 use Rattle.framer.specs.Given.{IsUnitFound}
-use Rattle.framer.specs.inner.Held.{IsHeld, IsBegun}
-use Rattle.framer.specs.inner.Found.{StandsAt}
+use Rattle.framer.specs.inner.Held.{IsHeld, IsBegun, StandsAt}
 use Rattle.framer.proofs.Fronts.{Begins, IsWhole, IsCut, begins_whole, begins_cut, whole_parts, whole_len, cut_parts, unit_len-append}
 use Rattle.framer.proofs.Fronts.{front_more, front_nil}
 use Rattle.framer.proofs.Framings.{framing-append, framing-between, framing-stray, framing-whole, framing-cut, strays_both, strays_joined}

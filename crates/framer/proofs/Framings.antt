@@ -86,7 +86,7 @@ along P kept nil bytes = everywhere P kept nil bytes 0
 pub strays_joined : (n : ℕ) (f g : Framing) → behind_strays n (joined f g) ≡ joined (behind_strays n f) g
 strays_joined n f g = let e : n + (f.strays + g.strays) ≡ n + f.strays + g.strays = omega arith in rw e refl
 
-joined-nil : (bytes : List ℕ) (f : Framing) → joined (only_left bytes) f ≡ f
+pub joined-nil : (bytes : List ℕ) (f : Framing) → joined (only_left bytes) f ≡ f
 joined-nil bytes f = let e : 0 + f.strays ≡ f.strays = omega arith in rw e refl
 
 pub strays_none : (f : Framing) → behind_strays 0 f ≡ f

@@ -3,3 +3,4 @@ pub mod Framings
 pub mod WrittenLaws
 pub mod Rooms
 pub mod CutUnits
+pub mod SoFarLaws

@@ -13,8 +13,8 @@ use crate::room::Room;
 use std::alloc::{AllocError, Global};
 use std::marker::Model;
 
-/// What a framer found. `strays` counts the bytes that belong to no unit, SYN and pads not among them, since what it found before; `rest` is what the
-/// piece has behind the unit, which is to be given next.
+/// What a framer found. `strays` counts the bytes that belong to no unit, SYN and pads not among them, since what it found before; `rest` is what
+/// the piece has behind the unit, which is to be given next.
 #[derive(Clone, Copy, Debug)]
 pub enum Found<'a> {
     /// A unit that lies whole in the piece.
@@ -36,13 +36,13 @@ pub enum Found<'a> {
     },
 }
 
-/// Finds the units of one direction of a line, in pieces of its bytes that may be cut anywhere. It holds the beginning of one unit at most, in room that
-/// it takes when it is made.
+/// Finds the units of one direction of a line, in pieces of its bytes that may be cut anywhere. It holds the beginning of one unit at most, in room
+/// that it takes when it is made.
 ///
 /// ```text
-/// piece 96 96 05 01 c0         More, no stray byte; 3 bytes are held
-/// piece 02 00 01 00 15 ff 07   Completed 05 01 c0 02 00 01 00 15, an ACK; the rest is ff 07
-/// piece ff 07                  More, 1 stray byte; nothing is held
+/// piece 96 96 05 01 c0         More, no stray byte; three bytes are held
+/// piece 02 00 01 61 95 ff 07   Completed, a control message: 05 01 c0 02 00 01 61 95; the rest is ff 07
+/// piece ff 07                  More, one stray byte; nothing is held
 /// ```
 #[derive(Drop)]
 pub struct Framer {

@@ -2,7 +2,7 @@
 
 ghost use Rattle.std.specs.Prelude.{◌≡◌, ◌≤◌, ◌<◌, ◌+◌, length, take, drop, slice_index, Some, None};
 ghost use Rattle.framer.specs.Framing.{behind_strays, framing, front, front_of_kind, kind_of};
-ghost use Rattle.framer.specs.inner.Found.{StandsAt};
+ghost use Rattle.framer.specs.inner.Held.{StandsAt};
 ghost use Rattle.framer.specs.declared.front.Front.TheVariants.{Cut, Whole};
 ghost use Rattle.framer.specs.declared.limit.TheConstants.{MAX_FRAME};
 

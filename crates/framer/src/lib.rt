@@ -1,5 +1,5 @@
-//! Units out of the bytes of one direction of a line (DDCMP 4.1, framing), in pieces that may be cut anywhere: where a unit begins and ends, and which
-//! bytes belong to none. It decides by the header's check alone, and never asks what a unit says, nor whether its data are sound: that is
+//! Units out of the bytes of one direction of a line (DDCMP 4.1, framing), in pieces that may be cut anywhere: where a unit begins and ends, and
+//! which bytes belong to none. It decides by the header's check alone, and never asks what a unit says, nor whether its data are sound: that is
 //! `ddcmp_msg`'s. It touches no file or clock, and knows nothing of the other direction.
 #![tactic(auto)]
 
@@ -18,3 +18,6 @@ pub use laws::{
     cuts_change_nothing, found_are_frames, left_is_short, messages_are_frames, written_is_found,
 };
 pub use limit::MAX_FRAME;
+
+#[cfg(test)]
+mod tests;

@@ -1,11 +1,11 @@
 -- What a contract sees of a reader of what passed, and what one call of it gives.
-use Rattle.std.specs.Prelude.{◌≡◌, ℕ, ◌+◌, ◌-◌, ◌<◌, ◌≤◌, List, Option, Some, None, Result, Ok, Err}
+use Rattle.std.specs.Prelude.{◌≡◌, ℕ, ◌+◌, ◌<◌, List, Option, Some, None, Result, Ok, Err}
 use Rattle.std.specs.Io.KnownBytes.{Consumes, IsAtEnd}
 use Rattle.wire_base.specs.declared.side.Side.{Side}
 use Rattle.capture.specs.declared.fault.CaptureFault.{CaptureFault}
 use Rattle.capture.specs.declared.phase.Phase.{Phase}
 use Rattle.capture.specs.declared.phase.Phase.TheVariants as phases
-use Rattle.capture.specs.Lines.{LineState, to_come}
+use Rattle.capture.specs.Lines.{to_come}
 use Rattle.capture.specs.Range.{IsNode}
 use Rattle.capture.specs.Reader.{FaultShows}
 use Rattle.capture.specs.Text.{ended}
@@ -31,15 +31,7 @@ Opens before after (Ok state) =
     × Consumes before (to_come state.unread after) (ended (wire_head state.node_a state.node_b))
 Opens before after (Err fault) = FaultShows WireHeadDeparts 1 before fault
 
--- The lines taken and the bytes to come, before and after one piece's turn.
-abbrev pub TakesPiece : LineState → LineState → Option (List ℕ) → Option (List ℕ) → Result (Option Piece) CaptureFault → Type 0
-TakesPiece old new before after (Ok (Some p)) =
-    IsPiece p × (old.taken ≤ MAX_PIECES) × (new.taken ≡ old.taken + 1) × Consumes before after (piece_line p)
-TakesPiece old new before after (Ok None) = IsAtEnd before × (new.taken ≡ old.taken)
-TakesPiece old new before after (Err fault) = FaultShows (PieceDeparts (old.taken - 1)) (old.taken + 1) before fault × (new.taken ≡ old.taken)
-
--- What `advance` gives while more may come: a piece, whose line was the first of what was to come; the end, where nothing was to come; or a fault of
--- the line at hand.
+-- What `advance` gives while more may come: a piece, whose line was the first of what was to come; the end; or a fault of the line at hand.
 abbrev pub Advances : WireState → WireState → Option (List ℕ) → Option (List ℕ) → Result (Option Side) CaptureFault → Type 0
 Advances old new before after (Ok (Some side)) =
     IsPiece (piece side new.bytes) × (old.pieces < MAX_PIECES) × (new.pieces ≡ old.pieces + 1) × (new.phase ≡ phases.Reading)

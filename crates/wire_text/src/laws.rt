@@ -25,8 +25,8 @@ pub fn known_wire()
         IsReadSoFar (Some bytes) wire come → IsAtEnd come → IsWireText wire bytes }
 {}
 
-/// A text has one list of pieces. What it begins with is a beginning of them, behind which no line departs; nor does the head of any text that begins
-/// with some.
+/// A text has one list of pieces. What it begins with is a beginning of them, behind which no line departs; nor does the head of any text that
+/// begins with some.
 pub fn one_wire()
     ensures same { (bytes : List ℕ) (wire other : Wire) → IsWireText wire bytes → IsWireText other bytes → wire ≡ other }
     ensures begun { (bytes rest : List ℕ) (begun all : Wire) →
@@ -37,8 +37,8 @@ pub fn one_wire()
         BeginsWithWire bytes begun rest → ¬ (WireHeadDeparts kind bytes) }
 {}
 
-/// A line departs in one way at most, and so does the first line of a text from a head; and a text departs behind one list of pieces alone, of which
-/// everything that it begins with is a beginning.
+/// A line departs in one way at most, and so does the first line of a text from a head; and a text departs behind one list of pieces alone, of
+/// which everything that it begins with is a beginning.
 pub fn one_wire_departure()
     ensures piece { (pieces : ℕ) (bytes : List ℕ) (a b : Kind) → PieceDeparts pieces a bytes → PieceDeparts pieces b bytes → a ≡ b }
     ensures first { (bytes rest rest' : List ℕ) (wire begun : Wire) (kind : Kind) →

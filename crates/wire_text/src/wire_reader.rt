@@ -6,8 +6,8 @@ ghost use Rattle.capture.specs.Faulty.{CountsReads, is_failed_read};
 ghost use Rattle.capture.specs.Lines.{IsCutBehind, to_come};
 ghost use Rattle.capture.specs.Reader.{WhereReadFails};
 ghost use Rattle.wire_text.specs.declared.limit.TheConstants.{MAX_PIECE, MAX_PIECES};
-ghost use Rattle.wire_text.specs.Reader.{Advances, Opens, TakesPiece};
-ghost use Rattle.wire_text.specs.inner.Fields.{pieced_in};
+ghost use Rattle.wire_text.specs.Reader.{Advances, Opens};
+ghost use Rattle.wire_text.specs.inner.Fields.{TakesPiece, pieced_in};
 
 use crate::limit::{MAX_PIECE, MAX_PIECES};
 use crate::words::{head_of, piece_into};
@@ -99,10 +99,10 @@ fn take_piece<R: Read>(
 impl WireReader {
     /// Reads the head, `ddwire 1 ADDRA ADDRB`.
     ///
-    /// Faults, after which the reader has given what was read ahead: `Departs` at line 1, with `TooLong` where more than 131,081 bytes stand before the
-    /// first LF or the end, and with `Syntax` where the first line has no LF, as in an empty text, or is no head; `Read` where a call of the reader
-    /// failed, and at any other answer its count of them stands; `OutOfMemory` where there is no memory for the reader's block or for its room for a
-    /// piece. Where a read failed the reader had given no whole line.
+    /// Faults, after which the reader has given what was read ahead: `Departs` at line 1, with `TooLong` where more than 131,081 bytes stand before
+    /// the first LF or the end, and with `Syntax` where the first line has no LF, as in an empty text, or is no head; `Read` where a call of the
+    /// reader failed, and at any other answer its count of them stands; `OutOfMemory` where there is no memory for the reader's block or for its room
+    /// for a piece. Where a read failed the reader had given no whole line.
     pub fn open<R: Read>(alloc: Global, reader: &mut Tally<R>) -> Result<WireReader, CaptureFault>
         ensures opens { Opens (R.remaining (tally_lent reader.old)) (R.remaining (tally_lent reader.new)) result }
         ensures cut { WhereReadFails (is_failed_read result)
@@ -168,9 +168,9 @@ impl WireReader {
     /// never answers `OutOfMemory`.
     ///
     /// Piece i, counted from 0, stands on line i + 2. `Departs` names that line, with the first of these kinds: `TooMany` after 1,000,000,000,000
-    /// pieces, whatever the line holds; `TooLong` at more than 131,081 bytes before its LF or the end; `Syntax` where it has no LF, or is no piece's, as
-    /// one that has no byte. `Read` comes where a call of the reader failed, behind a piece of a line; at any other answer its count of them stands as
-    /// it stood.
+    /// pieces, whatever the line holds; `TooLong` at more than 131,081 bytes before its LF or the end; `Syntax` where it has no LF, or is no
+    /// piece's, as one that has no byte. `Read` comes where a call of the reader failed, behind a piece of a line; at any other answer its count of
+    /// them stands as it stood.
     #[inline(always)]
     pub fn advance<R: Read>(&mut self, reader: &mut Tally<R>) -> Result<Option<Side>, CaptureFault>
         ensures advances { self.old.phase ≡ Phase.Reading → Advances self.old self.new

@@ -26,8 +26,8 @@ fn side_of(line: &[u8]) -> Option<(Side, &[u8])>
     None
 }
 
-/// Reads the line's piece in two parts: its side, and its bytes, which are written to the front of the room, with how many they are; `None` where the
-/// line is no piece's. The line is given without its LF. Takes no memory.
+/// Reads the line's piece in two parts: its side, and its bytes, which are written to the front of the room, with how many they are; `None` where
+/// the line is no piece's. The line is given without its LF. Takes no memory.
 pub(crate) fn piece_into(line: &[u8], room: &mut [u8]) -> Option<(Side, usize)>
     requires line { length line.now ≤ MAX_LINE }
     requires room { length room.old ≡ MAX_PIECE }

@@ -3,6 +3,7 @@ use Rattle.std.specs.Prelude.{◌≡◌, ℕ, ◌<◌, ◌≤◌, ◌⊎◌, Opt
 use Rattle.framer.specs.declared.room.Room.TheInside.{Inside}
 use Rattle.framer.specs.declared.limit.TheConstants.{MAX_FRAME}
 use Rattle.framer.specs.declared.kind.Kind.{Kind}
+use Rattle.framer.specs.declared.front.Front.{Front}
 use Rattle.framer.specs.declared.front.Front.TheVariants.{Whole, Cut}
 use Rattle.framer.specs.Framing.{front, kind_of}
 use Rattle.framer.specs.Given.{FramerState}
@@ -29,3 +30,8 @@ IsBegun bytes = (front bytes ≡ Cut) ⊎ (front bytes ≡ Whole (length bytes))
 abbrev pub Completes : List ℕ → Option Kind → Type 0
 Completes bytes (Some kind) = (front bytes ≡ Whole (length bytes)) × (kind_of (slice_index bytes 0) ≡ Some kind)
 Completes bytes None = IsHeld bytes
+
+-- what stands at a place: a whole unit of this length, or one that is cut or nothing
+abbrev pub StandsAt : Front → Option ℕ → Type 0
+StandsAt found (Some len) = found ≡ Whole len
+StandsAt found None = found ≡ Cut
