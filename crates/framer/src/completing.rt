@@ -1,7 +1,7 @@
 //! A unit that is cut, and the bytes that come next.
 
 ghost use Rattle.std.specs.Prelude.{◌≡◌, ◌≤◌, ◌+◌, ◌++◌, ◌⊎◌, [], length, take, drop, None, ℕ, List};
-ghost use Rattle.framer.specs.Framing.{behind_strays, framing};
+ghost use Rattle.framer.specs.Given.{Passes};
 ghost use Rattle.framer.specs.inner.Held.{Completes, IsBegun, IsHeld};
 ghost use Rattle.framer.specs.declared.limit.TheConstants.{HEADER_LEN};
 
@@ -21,8 +21,7 @@ pub(crate) struct Taken {
 #[inline(always)]
 pub(crate) fn complete_header(room: &mut Room, piece: &[u8]) -> Taken
     requires { IsHeld room.old.held }
-    ensures same { framing (room.old.held ++ piece.now)
-        ≡ behind_strays result.strays (framing (room.new.held ++ drop result.count piece.now)) }
+    ensures passes { Passes (room.old.held ++ piece.now) result.strays (room.new.held ++ drop result.count piece.now) }
     ensures begun { IsBegun room.new.held }
     ensures used { (room.new.held ≡ []) ⊎ ((HEADER_LEN ≤ length room.new.held) ⊎ (result.count ≡ length piece.now)) }
     ensures within { result.count ≤ length piece.now }
@@ -48,7 +47,7 @@ pub(crate) fn complete_header(room: &mut Room, piece: &[u8]) -> Taken
 // Drops the bytes that stand before what may be a unit, and answers how many of them were stray.
 fn settle(room: &mut Room) -> usize
     requires { length room.old.held ≤ HEADER_LEN }
-    ensures same { (more : List ℕ) → framing (room.old.held ++ more) ≡ behind_strays result (framing (room.new.held ++ more)) }
+    ensures passes { (more : List ℕ) → Passes (room.old.held ++ more) result (room.new.held ++ more) }
     ensures begun { IsBegun room.new.held }
     ensures few { result + length room.new.held ≤ length room.old.held }
 {

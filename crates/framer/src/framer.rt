@@ -1,8 +1,8 @@
 //! A framer.
 
-ghost use Rattle.std.specs.Prelude.{◌≡◌, ◌≤◌, ◌<◌, ◌+◌, ◌^◌, ◌++◌, [], length, ℕ, List, IfOk};
-ghost use Rattle.framer.specs.Framing.{behind_strays, framing, only_left};
-ghost use Rattle.framer.specs.Given.{Finds};
+ghost use Rattle.std.specs.Prelude.{◌≡◌, ◌<◌, ◌+◌, ◌^◌, ◌++◌, [], length, ℕ, List, IfOk};
+ghost use Rattle.framer.specs.Framing.{framing, only_left};
+ghost use Rattle.framer.specs.Given.{Finds, Passes};
 ghost use Rattle.framer.specs.declared.limit.TheConstants.{MAX_FRAME};
 
 use crate::completing::{complete_header, complete_unit};
@@ -121,8 +121,7 @@ impl Framer {
     fn next_in<'a>(&mut self, strays: usize, piece: &'a [u8]) -> Found<'a>
         requires empty { self.old.held ≡ [] }
         requires few { strays + length piece.now < 2 ^ 64 }
-        ensures { (bytes : List ℕ) → framing bytes ≡ behind_strays strays (framing piece.entry.now) → length piece.entry.now ≤ length bytes →
-            Finds bytes self.new result }
+        ensures { (bytes : List ℕ) → Passes bytes strays piece.entry.now → Finds bytes self.new result }
     {
         let passed = pass(piece);
         let strays = strays + passed.strays;

@@ -1,7 +1,8 @@
 //! What stands at the front of some bytes.
 
 ghost use Rattle.std.specs.Prelude.{◌≡◌, ◌≤◌, ◌<◌, ◌+◌, length, take, drop, slice_index, Some, None};
-ghost use Rattle.framer.specs.Framing.{behind_strays, framing, front, front_of_kind, kind_of};
+ghost use Rattle.framer.specs.Framing.{front, front_of_kind, kind_of};
+ghost use Rattle.framer.specs.Given.{Passes};
 ghost use Rattle.framer.specs.inner.Held.{StandsAt};
 ghost use Rattle.framer.specs.declared.front.Front.TheVariants.{Cut, Whole};
 ghost use Rattle.framer.specs.declared.limit.TheConstants.{MAX_FRAME};
@@ -80,7 +81,7 @@ pub(crate) struct Passed {
 /// Passes over the bytes that stand before the first unit, whole or cut.
 #[inline(always)]
 pub(crate) fn pass(bytes: &[u8]) -> Passed
-    ensures same { framing bytes.now ≡ behind_strays result.strays (framing (drop result.at bytes.now)) }
+    ensures passes { Passes bytes.now result.strays (drop result.at bytes.now) }
     ensures found { StandsAt (front (drop result.at bytes.now)) result.len }
     ensures within { result.at ≤ length bytes.now }
     ensures few { result.strays ≤ result.at }

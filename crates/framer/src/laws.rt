@@ -6,8 +6,8 @@ ghost use Rattle.ddcmp_msg.specs.Message.{MessageValue, IsBytes};
 ghost use Rattle.ddcmp_msg.specs.Spelling.{IsUnit};
 ghost use Rattle.framer.specs.declared.limit.TheConstants.{MAX_FRAME};
 ghost use Rattle.framer.specs.declared.kind.Kind.{Kind as UnitKind};
-ghost use Rattle.framer.specs.Framing.{Framing, behind_strays, framing, joined, only_left};
-ghost use Rattle.framer.specs.Given.{IsUnitFound};
+ghost use Rattle.framer.specs.Framing.{Framing, framing, joined, only_left};
+ghost use Rattle.framer.specs.Given.{IsUnitFound, NoneFound};
 ghost use Rattle.framer.specs.SoFar.{IsFramedSoFar, nothing, with_strays, with_unit};
 ghost use Rattle.framer.specs.Written.{IsFrame, IsGap, IsPlaced, Placed, line_of, units_of};
 
@@ -30,9 +30,8 @@ pub fn framed_on()
     ensures start { IsFramedSoFar [] nothing [] }
     ensures unit { (all come : List ℕ) (found : Framing) (kind : UnitKind) (strays : ℕ) (unit rest : List ℕ) →
         IsFramedSoFar all found come → IsUnitFound come kind strays unit rest → IsFramedSoFar all (with_unit found strays unit) rest }
-    ensures more { (all come held : List ℕ) (found : Framing) (strays : ℕ) → IsFramedSoFar all found come →
-        framing come ≡ behind_strays strays (only_left held) → framing held ≡ only_left held →
-        IsFramedSoFar all (with_strays found strays) held }
+    ensures more { (all come held : List ℕ) (found : Framing) (strays : ℕ) →
+        IsFramedSoFar all found come → NoneFound come strays held → IsFramedSoFar all (with_strays found strays) held }
     ensures piece { (all held piece : List ℕ) (found : Framing) → IsFramedSoFar all found held → framing held ≡ only_left held →
         IsFramedSoFar (all ++ piece) found (held ++ piece) }
     ensures whole { (all held : List ℕ) (found : Framing) → IsFramedSoFar all found held → framing held ≡ only_left held →

@@ -32,7 +32,6 @@ const NO_HEAD: CaptureFault = CaptureFault::Departs {
 /// ddwire 1 1.1 1.2        node_a 1025, node_b 1026
 /// a 9696050601            Ok(Some(Side::A)), bytes 96 96 05 06 01
 /// b 05                    Ok(Some(Side::B)), bytes 05
-///                         Ok(None)
 /// b -                     Departs, syntax, line 4: a piece has at least one byte
 /// ```
 #[derive(Drop)]

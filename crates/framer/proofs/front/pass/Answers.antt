@@ -3,9 +3,12 @@ use Rattle.std.proofs.lemmas.List.{take_rest, drop_all}
 use Rattle.framer.specs.declared.front.Front.TheVariants.{Between, Stray}
 use Rattle.framer.specs.Framing.{front}
 use Rattle.framer.proofs.Fronts.{front_nil}
-use Rattle.framer.proofs.CutUnits.{pass_between, pass_stray}
+use Rattle.framer.proofs.Passing.{pass_between, pass_stray, passes_none}
 use Rattle.framer.proofs.front.pass.Goals as goal
 use Rattle.framer.proofs.front.pass.Goals.{in-Between, in-Stray}
+
+pub loop-at-init : goal.loop-at-init
+loop-at-init c = (passes_none c.args.bytes.now, omega arith)
 
 pub loop-at-preserved : goal.loop-at-preserved
 loop-at-preserved c =
