@@ -1,16 +1,13 @@
 -- A unit that is cut, with the bytes that come next.
-use Rattle.std.proofs.Common.{◌≡◌, ℕ, ◌+◌, ◌<◌, ◌≤◌, ◌⊎◌, Option, Some, None, List, [], ◌∷◌, ◌++◌, length, get_or, take, drop, refl, sym, ap}
+use Rattle.std.proofs.Common.{◌≡◌, ℕ, ◌+◌, ◌<◌, ◌≤◌, ◌⊎◌, Option, Some, None, List, [], ◌++◌, length, get_or, ap}
 use Rattle.std.proofs.Common.{subst, ◌∙◌, inl, inr, arith}
-use Rattle.std.proofs.lemmas.List.{length-append, length-drop, append-nil, append_assoc, take-append-le, get_or_append_left, drop_more}
-use Rattle.std.proofs.lemmas.List.{take_all, take_at, drop_at, take-append-drop, get_or-take}
+use Rattle.std.proofs.lemmas.List.{length-append, take-append-le, get_or_append_left}
 use Rattle.framer.specs.declared.kind.Kind.{Kind}
-use Rattle.framer.specs.declared.front.Front.TheVariants.{Between, Stray, Whole, Cut}
-use Rattle.framer.specs.Framing.{Framing, kind_of, unit_len, front, framing, only_left, behind_strays, behind_unit, joined}
-use Rattle.framer.specs.Given.{IsUnitFound}
+use Rattle.framer.specs.declared.front.Front.TheVariants.{Whole}
+use Rattle.framer.specs.Framing.{kind_of, unit_len, front}
 use Rattle.framer.specs.inner.Held.{IsHeld, IsBegun, StandsAt}
 use Rattle.framer.proofs.Fronts.{Begins, IsWhole, IsCut, begins_whole, begins_cut, whole_parts, whole_len, cut_parts, unit_len-append}
-use Rattle.framer.proofs.Fronts.{front_more, front_nil}
-use Rattle.framer.proofs.Framings.{framing-append, framing-between, framing-stray, framing-whole, framing-cut, strays_both, strays_joined}
+use Rattle.framer.proofs.Fronts.{front_nil}
 
 -- ---- the header
 

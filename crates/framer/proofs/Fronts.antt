@@ -67,7 +67,8 @@ pub front_start : (byte : ℕ) (bytes : List ℕ) (kind : Kind) → kind_of byte
 unfolding front
 front_start byte bytes kind e = rw (starts_none byte kind e, e) refl
 
-pub begins_whole : (kind : Kind) (bytes : List ℕ) → Begins kind bytes → unit_len kind bytes ≤ length bytes → front bytes ≡ Whole (unit_len kind bytes)
+pub begins_whole : (kind : Kind) (bytes : List ℕ) → Begins kind bytes → unit_len kind bytes ≤ length bytes →
+    front bytes ≡ Whole (unit_len kind bytes)
 begins_whole kind [] b h = absurd (omega (arith, b.long))
 begins_whole kind (byte ∷ bytes) b h =
     front_start byte bytes kind b.start ∙
@@ -154,7 +155,8 @@ unit_len-append Control bytes more h = refl
 unit_len-append Data bytes more h = rw (get_or_append_left bytes more 0 1 (omega arith), get_or_append_left bytes more 0 2 (omega arith)) refl
 unit_len-append Maintenance bytes more h = rw (get_or_append_left bytes more 0 1 (omega arith), get_or_append_left bytes more 0 2 (omega arith)) refl
 
-kind_more : (kind : Kind) (bytes more : List ℕ) → (front_of_kind kind bytes ≡ Cut → ⊥) → front_of_kind kind (bytes ++ more) ≡ front_of_kind kind bytes
+kind_more : (kind : Kind) (bytes more : List ℕ) → (front_of_kind kind bytes ≡ Cut → ⊥) →
+    front_of_kind kind (bytes ++ more) ≡ front_of_kind kind bytes
 kind_more kind bytes more =
     kind_cases kind bytes (λ f. (f ≡ Cut → ⊥) → front_of_kind kind (bytes ++ more) ≡ f)
     (λ _ other. absurd (other refl))

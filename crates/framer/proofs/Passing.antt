@@ -1,10 +1,10 @@
 -- Bytes that are passed over, and what is found behind them.
-use Rattle.std.proofs.Common.{◌≡◌, ℕ, zero, ◌+◌, ◌<◌, ◌≤◌, Some, List, [], ◌∷◌, ◌++◌, length, get_or, take, drop, refl, sym, ap, subst, ◌∙◌, arith}
+use Rattle.std.proofs.Common.{◌≡◌, ℕ, ◌+◌, ◌<◌, ◌≤◌, Some, List, [], ◌∷◌, ◌++◌, length, get_or, take, drop, refl, sym, ap, subst, ◌∙◌, arith}
 use Rattle.std.proofs.lemmas.List.{length-append, length-drop, append-nil, append_assoc, drop_more, take_all, take_at, drop_at, take-append-drop}
 use Rattle.std.proofs.lemmas.List.{get_or-take}
 use Rattle.framer.specs.declared.kind.Kind.{Kind}
 use Rattle.framer.specs.declared.front.Front.TheVariants.{Between, Stray, Whole, Cut}
-use Rattle.framer.specs.Framing.{Framing, kind_of, front, framing, only_left, behind_strays, behind_unit, joined}
+use Rattle.framer.specs.Framing.{Framing, kind_of, front, framing, behind_strays, behind_unit, joined}
 use Rattle.framer.specs.Given.{EndsWith, Passes, IsUnitFound, NoneFound}
 use Rattle.framer.specs.inner.Held.{IsHeld}
 use Rattle.framer.proofs.Fronts.{whole_len, front_more}
@@ -77,7 +77,8 @@ header_step start room held new piece count strays more h p is settled =
     let next : room ++ drop count piece ≡ held ++ rest =
     ap (λ (b : List ℕ). room ++ b) (drop_more piece count 0 h) ∙ sym (append_assoc room (get_or piece count 0 ∷ []) rest)
     ∙ ap (λ (b : List ℕ). b ++ rest) (sym is) in
-    passes_on start (held ++ rest) (new ++ rest) strays more (passes_same start (room ++ drop count piece) (held ++ rest) strays p next) (settled rest)
+    passes_on start (held ++ rest) (new ++ rest) strays more (passes_same start (room ++ drop count piece) (held ++ rest) strays p next)
+    (settled rest)
 
 -- ---- what is found
 
@@ -99,9 +100,10 @@ unit_found bytes piece at strays passed len kind p next whole start =
     let come = drop at piece in
     let w = whole_len come len whole in
     let parts = take-append-drop len come in
+    let all = passes_on bytes piece come strays passed p next in
     let within = ends_len bytes piece p.ends in
     record {
-      passed = passes_same bytes come (take len come ++ drop len come) (strays + passed) (passes_on bytes piece come strays passed p next) (sym parts);
+      passed = passes_same bytes come (take len come ++ drop len come) (strays + passed) all (sym parts);
       framed = ap framing parts ∙ framing-whole come len whole;
       kind_is = rw (get_or-take len come 0 0 (omega arith)) start;
       shorter = omega (arith, length-drop len come, length-drop at piece);

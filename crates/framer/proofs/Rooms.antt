@@ -3,7 +3,8 @@ use Rattle.std.proofs.Common.{◌≡◌, ℕ, ◌+◌, ◌-◌, ◌≤◌, List,
 use Rattle.std.specs.List.{copy_within}
 use Rattle.std.proofs.lemmas.List.{length-drop, length-take-le, take_at, drop-take}
 
-pub kept_end : (xs : List ℕ) (count len : ℕ) → count ≤ len → len ≤ length xs → take (len - count) (copy_within xs count len 0) ≡ drop count (take len xs)
+pub kept_end : (xs : List ℕ) (count len : ℕ) → count ≤ len → len ≤ length xs →
+    take (len - count) (copy_within xs count len 0) ≡ drop count (take len xs)
 kept_end xs count len h within =
     let n = len - count in
     let e : len ≡ count + n = omega arith in

@@ -15,7 +15,8 @@ pub use framer::{Found, Framer};
 pub use front::Front;
 pub use kind::Kind;
 pub use laws::{
-    cuts_change_nothing, found_are_frames, left_is_short, messages_are_frames, written_is_found,
+    cuts_change_nothing, found_are_frames, framed_on, left_is_short, messages_are_frames,
+    written_is_found,
 };
 pub use limit::MAX_FRAME;
 

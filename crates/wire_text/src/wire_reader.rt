@@ -100,8 +100,8 @@ impl WireReader {
     ///
     /// Faults, after which the reader has given what was read ahead: `Departs` at line 1, with `TooLong` where more than 131,081 bytes stand before
     /// the first LF or the end, and with `Syntax` where the first line has no LF, as in an empty text, or is no head; `Read` where a call of the
-    /// reader failed, and at any other answer its count of them stands; `OutOfMemory` where there is no memory for the reader's block or for its room
-    /// for a piece. Where a read failed the reader had given no whole line.
+    /// reader failed, and at any other answer its count of them stands; `OutOfMemory` where there is no memory for the reader's block or for its
+    /// room for a piece. Where a read failed the reader had given no whole line.
     pub fn open<R: Read>(alloc: Global, reader: &mut Tally<R>) -> Result<WireReader, CaptureFault>
         ensures opens { Opens (R.remaining (tally_lent reader.old)) (R.remaining (tally_lent reader.new)) result }
         ensures cut { WhereReadFails (is_failed_read result)

@@ -1,5 +1,5 @@
-use Rattle.std.proofs.Common.{◌≡◌, ℕ, ◌≤◌, ◌+◌, List, [], ◌++◌, length, take, drop, sym, ap, subst, ◌∙◌, arith}
-use Rattle.std.proofs.lemmas.List.{take_rest, drop_all, length-append, length-drop, nil_from_length}
+use Rattle.std.proofs.Common.{◌≡◌, ℕ, ◌+◌, List, [], ◌++◌, length, take, drop, sym, ap, subst, ◌∙◌, arith}
+use Rattle.std.proofs.lemmas.List.{take_rest, drop_all, nil_from_length}
 use Rattle.framer.specs.Given.{FramerState, Passes}
 use Rattle.framer.specs.inner.Held.{IsHeld}
 use Rattle.framer.proofs.CutUnits.{held_none, begun_short, used_up}

@@ -1,5 +1,5 @@
 use Rattle.std.proofs.Common.{◌≡◌, ℕ, ◌-◌, List, [], ◌++◌, length, get_or, take, drop, sym, ap, ◌∙◌, arith}
-use Rattle.std.proofs.lemmas.List.{take_rest, length-take, length-drop}
+use Rattle.std.proofs.lemmas.List.{take_rest}
 use Rattle.framer.specs.Framing.{front, kind_of}
 use Rattle.framer.specs.Given.{FramerState}
 use Rattle.framer.proofs.Fronts.{whole_len}
