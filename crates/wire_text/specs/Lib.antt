@@ -1,0 +1,4 @@
+pub mod WireText
+pub mod Reader
+pub mod SoFar
+pub mod inner

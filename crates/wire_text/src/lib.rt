@@ -1,0 +1,18 @@
+//! The text of what passed on a line: a head with the addresses of both nodes, and a line for each piece of bytes, in the order in which they
+//! passed.
+//!
+//! The crate decides which bytes are such a text, which pieces they spell, and where and how a text departs from the format. It never touches a
+//! file or a clock, nor what the pieces mean: where a unit begins in them is `framer`'s.
+#![tactic(auto)]
+
+mod laws;
+mod limit;
+mod wire_reader;
+mod words;
+
+pub use laws::{known_wire, one_wire, one_wire_departure, wire_read_on};
+pub use limit::{MAX_PIECE, MAX_PIECES};
+pub use wire_reader::WireReader;
+
+#[cfg(test)]
+mod tests;
