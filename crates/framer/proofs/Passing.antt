@@ -8,7 +8,8 @@ use Rattle.framer.specs.Framing.{Framing, kind_of, front, framing, behind_strays
 use Rattle.framer.specs.Given.{EndsWith, Passes, IsUnitFound, NoneFound}
 use Rattle.framer.specs.inner.Held.{IsHeld}
 use Rattle.framer.proofs.Fronts.{whole_len, front_more}
-use Rattle.framer.proofs.Framings.{framing-append, framing-between, framing-stray, framing-whole, framing-cut, strays_none, strays_both, strays_joined}
+use Rattle.framer.proofs.Framings.{framing-append, framing-between, framing-stray, framing-whole, framing-cut, strays_none, strays_both}
+use Rattle.framer.proofs.Framings.{strays_joined}
 
 -- ---- what bytes end with
 

@@ -19,7 +19,8 @@ module _ (look : LinkOf WireFlow → Option ℕ) where
   set_same (x ∷ links) zero m h = refl
   set_same (x ∷ links) (suc n) m h = set_same links n m (omega arith)
 
-  pub set_other : (links : List (LinkOf WireFlow)) (n k : ℕ) (m : LinkOf WireFlow) → (k ≡ n → ⊥) → look_at look (set links n m) k ≡ look_at look links k
+  pub set_other : (links : List (LinkOf WireFlow)) (n k : ℕ) (m : LinkOf WireFlow) → (k ≡ n → ⊥) → look_at look (set links n m) k
+      ≡ look_at look links k
   set_other [] n k m apart = refl
   set_other (x ∷ links) zero zero m apart = absurd (apart refl)
   set_other (x ∷ links) zero (suc k) m apart = refl
@@ -54,7 +55,8 @@ own_forgotten_by links m k (Some l) true is same =
     ∙ set_same own_of links m (forgotten wire_flows l) (slice_get_within links m l is)
 own_forgotten_by links m k (Some l) false is apart = set_other own_of links m k (forgotten wire_flows l) (λ e. eqb-false m k apart (sym e))
 
-pub own_forgotten : (links : List (LinkOf WireFlow)) (holder : Option ℕ) (k : ℕ) → look_at own_of (forgotten_at holder links) k ≡ lost holder k (look_at own_of links k)
+pub own_forgotten : (links : List (LinkOf WireFlow)) (holder : Option ℕ) (k : ℕ) → look_at own_of (forgotten_at holder links) k
+    ≡ lost holder k (look_at own_of links k)
 own_forgotten links None k = refl
 own_forgotten links (Some m) k = own_forgotten_by links m k (slice_get links m) (eqb m k) refl refl
 

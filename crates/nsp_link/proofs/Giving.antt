@@ -1,5 +1,6 @@
 -- An own address that is given: to a link that begins, or to one that is answered; the ended link that had it loses it.
-use Rattle.std.proofs.Common.{◌≡◌, ℕ, zero, suc, ◌<◌, ◌≤◌, Bool, true, false, ◌&&◌, not, cond, Option, Some, None, List, [], ◌∷◌, ◌++◌, length, get_or, set, refl}
+use Rattle.std.proofs.Common.{◌≡◌, ℕ, zero, suc, ◌<◌, ◌≤◌, Bool, true, false, ◌&&◌, not, cond, Option, Some, None, List, [], ◌∷◌, ◌++◌, length}
+use Rattle.std.proofs.Common.{get_or, set, refl}
 use Rattle.std.proofs.Common.{sym, subst, ap, ◌∙◌, arith, eqb}
 use Rattle.std.specs.Prelude.{slice_get, position}
 use Rattle.std.proofs.lemmas.Option.{slice_get_within, slice_get_read}
@@ -47,7 +48,8 @@ module _ (links : List (LinkOf WireFlow)) (h c : ℕ → Option ℕ) (r : ℕ �
           here = ap (λ (k : ℕ). look_at own_of (forgotten_at (h own) links ++ m ∷ []) k) (sym (length_forgotten links (h own))) ∙
               push_here own_of (forgotten_at (h own) links) m ∙ owns
 
-          others : (k : ℕ) → (k ≡ length links → ⊥) → look_at own_of (forgotten_at (h own) links ++ m ∷ []) k ≡ lost (h own) k (look_at own_of links k)
+          others : (k : ℕ) → (k ≡ length links → ⊥) → look_at own_of (forgotten_at (h own) links ++ m ∷ []) k
+              ≡ lost (h own) k (look_at own_of links k)
           others k apart = push_other own_of (forgotten_at (h own) links) m k (λ e. apart (e ∙ length_forgotten links (h own))) ∙
               own_forgotten links (h own) k
 
@@ -58,7 +60,8 @@ module _ (links : List (LinkOf WireFlow)) (h c : ℕ → Option ℕ) (r : ℕ �
                 let at = eqb-true k (length left) is in
                 absurd (begun q (sym (ap (look_at begun_from (left ++ m ∷ [])) at ∙ push_here begun_from left m) ∙ e))
             by_number false is =
-                callers q ∙ index.calls k q (sym (push_other begun_from left m k (eqb-false k (length left) is) ∙ begun_forgotten links (h own) k) ∙ e)
+                callers q ∙ index.calls k q (sym (push_other begun_from left m k (eqb-false k (length left) is)
+                ∙ begun_forgotten links (h own) k) ∙ e)
 
           reaches : (q : ℕ) → r' q ≡ counted (lives_to q) (forgotten_at (h own) links ++ m ∷ [])
           reaches q =
@@ -178,7 +181,8 @@ pub answered_index : (phase : Phase) (own n : ℕ) (l m : LinkOf WireFlow) (item
     ((q : ℕ) → h' q ≡ cond (eqb own q) (Some n) (h q)) → IsIndexed ys h' c' r' w'
 answered_index phase own n l m items ys h c h' c' r r' w w' index there was unowned is live answers known same callers counts wait given =
     subst (λ (xs : List (LinkOf WireFlow)). IsIndexed xs h' c' r' w') (sym same)
-    (indexed_answer items h c r w index own m (ap (λ (k : LinkOf WireFlow). k.port.own) is) n l there unowned h' c' r' w' callers counts wait begun lives
+    (indexed_answer items h c r w index own m (ap (λ (k : LinkOf WireFlow). k.port.own) is) n l there unowned h' c' r' w' callers counts wait
+    begun lives
     (ap (λ (k : LinkOf WireFlow). is_calling k.port.phase) is ∙ known) given) where
       both : is_live phase ≡ is_live l.port.phase
       both = live ∙ sym (called_lives l.port.phase was)

@@ -134,7 +134,8 @@ module _ {D : Type 0} (links : List (LinkOf D)) (holder caller : ℕ → Option 
     held own e = index.has n own (ap (look_in own_of) there ∙ is_at-eq l.port.own own e)
 
     begun : (far : ℕ) → is_begun l.port ≡ true → is_at l.port.far far ≡ true → caller far ≡ Some n
-    begun far e known = index.calls n far (ap (look_in begun_from) there ∙ ap (λ (b : Bool). cond b l.port.far None) e ∙ is_at-eq l.port.far far known)
+    begun far e known = index.calls n far (ap (look_in begun_from) there ∙ ap (λ (b : Bool). cond b l.port.far None) e
+        ∙ is_at-eq l.port.far far known)
 
     sees : (test : LinkTest) → is_of_one test ≡ true → passes test l.port ≡ true → candidate test holder caller ≡ Some n
     sees (HasAddress own) of e = held own e
@@ -199,7 +200,8 @@ module _ {D : Type 0} (links : List (LinkOf D)) (holder caller : ℕ → Option 
   is_known far None (Nowhere _ none) = sym (ap not (eq-eqb (counted (lives_to far) links) 0 (counted_none (lives_to far) links none)))
 
   pub known_found : (far : ℕ) → is_some (position (lives_to far) links) ≡ not (eqb (reached far) 0)
-  known_found far = is_known far (position (lives_to far) links) (found (lives_to far) links) ∙ ap (λ (k : ℕ). not (eqb k 0)) (sym (index.reaches far))
+  known_found far = is_known far (position (lives_to far) links) (found (lives_to far) links)
+      ∙ ap (λ (k : ℕ). not (eqb k 0)) (sym (index.reaches far))
 
 pub none_lives : {D : Type 0} (far : ℕ) (links : List (LinkOf D)) → position (lives_to far) links ≡ None → counted (lives_to far) links ≡ 0
 none_lives {D} far links e = by_found (position (lives_to far) links) (found (lives_to far) links) e where

@@ -168,7 +168,8 @@ impl Index {
     /// One of the links that know this address of the other side lives no more.
     pub fn leave(&mut self, far: u16)
         requires { 0 < times (hashed.get nat_eq self.old.reached far) }
-        ensures reached { (q : ℕ) → (if eqb far q then suc (times (hashed.get nat_eq self.new.reached q)) else times (hashed.get nat_eq self.new.reached q))
+        ensures reached { (q : ℕ) → (if eqb far q then suc (times (hashed.get nat_eq self.new.reached q)) else times
+            (hashed.get nat_eq self.new.reached q))
             ≡ times (hashed.get nat_eq self.old.reached q) }
         ensures holders { self.new.holders ≡ self.old.holders }
         ensures callers { self.new.callers ≡ self.old.callers }

@@ -1,5 +1,6 @@
 -- One end alone along its capture: what was read, what was made of it, and what an answer then says.
-use Rattle.std.proofs.Common.{◌≡◌, ℕ, ◌+◌, ◌<◌, ◌≤◌, ◌^◌, inl, inr, List, [], ◌∷◌, ◌++◌, length, Option, Some, Ok, Err, refl, sym, ap, ap₂, subst, ◌∙◌}
+use Rattle.std.proofs.Common.{◌≡◌, ℕ, ◌+◌, ◌<◌, ◌≤◌, ◌^◌, inl, inr, List, [], ◌∷◌, ◌++◌, length, Option, Some, Ok, Err, refl, sym, ap, ap₂, subst}
+use Rattle.std.proofs.Common.{◌∙◌}
 use Rattle.std.proofs.Common.{arith, length-append, append-nil, append_assoc}
 use Rattle.std.proofs.lemmas.List.Sums.{count_by-le-length}
 use Rattle.std.specs.Option.{IfSome}
@@ -110,7 +111,8 @@ module _ (top : JudgeTop) where
 
     -- what becomes of all records that begin so
     behind : (rest : List Record) (step : StepAlone WireLayers) → step_alone top.alone (node_of_end end) r ≡ step →
-        begins (head_in new) ((h.records ++ r ∷ []) ++ rest) ≡ goes_on step number (λ (next : WireLayersNode). ends_from top.alone next (number + 1) rest)
+        begins (head_in new) ((h.records ++ r ∷ []) ++ rest)
+        ≡ goes_on step number (λ (next : WireLayersNode). ends_from top.alone next (number + 1) rest)
     behind rest step is =
         ap (λ (head : Head). begins head ((h.records ++ r ∷ []) ++ rest)) same_head
         ∙ ap (begins (head_in old)) (append_assoc h.records (r ∷ []) rest)
@@ -139,9 +141,10 @@ module _ (top : JudgeTop) where
       named = omega (arith, length-append h.records (r ∷ []), h.count);
       refusal = refusal;
       is_reason = named;
-      refused = λ all goes. ap (top.end.judged (head_in new)) goes.1 ∙ subst (λ (e : EndingAlone WireLayers). EndsSo top e (top.end.judged (head_in new)
-          ((h.records ++ r ∷ []) ++ goes.0))) (behind goes.0 (Refuses (accused_view accused) refusal) is)
-          (ends (head_in new) ((h.records ++ r ∷ []) ++ goes.0));
+      refused = λ all goes.
+          ap (top.end.judged (head_in new)) goes.1
+          ∙ subst (λ (e : EndingAlone WireLayers). EndsSo top e (top.end.judged (head_in new) ((h.records ++ r ∷ []) ++ goes.0)))
+          (behind goes.0 (Refuses (accused_view accused) refusal) is) (ends (head_in new) ((h.records ++ r ∷ []) ++ goes.0));
     }
 
   -- ---- all that was read was made

@@ -14,8 +14,8 @@ use capture::{one_head_and_list, whole_text};
 use dna_node::layers_run_as_stations;
 
 /// The same two captures are judged alike in whichever format their texts are, as of a capture and of what it was converted to. What `judge`
-/// (and `judge_line`) answers of two such texts is a verdict, want of memory or a failed read; and all their verdicts are one: `Accepted` with the same
-/// counts, or `Refused` with the same side, record and reason.
+/// (and `judge_line`) answers of two such texts is a verdict, want of memory or a failed read; and all their verdicts are one: `Accepted` with the
+/// same counts, or `Refused` with the same side, record and reason.
 pub fn judged_in_any_format()
     ensures alike { (a b : WholeCapture) (bytes_a bytes_b other_a other_b : List ℕ) (verdict other : Judgement) →
         AreTexts a b bytes_a bytes_b → AreTexts a b other_a other_b →

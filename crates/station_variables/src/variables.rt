@@ -1,6 +1,7 @@
 //! The variables of a station, and its packets that are not acknowledged.
 
-ghost use Rattle.std.specs.Prelude.{◌≡◌, ◌+◌, ◌<◌, ◌≤◌, ◌==◌, ◌&&◌, ◌++◌, ◌∷◌, [], true, false, not, nat_lt, nat_le, length, slice_get, option_and_then, option_copied, IfOk, OnOk, OnErr};
+ghost use Rattle.std.specs.Prelude.{◌≡◌, ◌+◌, ◌<◌, ◌≤◌, ◌==◌, ◌&&◌, ◌++◌, ◌∷◌, [], true, false, not, nat_lt, nat_le, length, slice_get};
+ghost use Rattle.std.specs.Prelude.{option_and_then, option_copied, IfOk, OnOk, OnErr};
 ghost use Rattle.ddcmp_msg.specs.Message.{view};
 ghost use Rattle.dna_station.specs.Book.{has_packet, num_of};
 ghost use Rattle.dna_station.specs.Station.{wire};

@@ -1,13 +1,15 @@
 //! What a station's node may send, and what sending changes.
 
-ghost use Rattle.std.specs.Prelude.{◌≡◌, ◌<◌, ◌≤◌, ◌==◌, ◌+◌, ◌∷◌, [], IsTrue, true, false, None, Some, if◌then◌else◌, length, not, nat_lt, slice_get, IfOk, OnOk, OnErr, IfErr};
+ghost use Rattle.std.specs.Prelude.{◌≡◌, ◌<◌, ◌≤◌, ◌==◌, ◌+◌, ◌∷◌, [], IsTrue, true, false, None, Some, if◌then◌else◌, length, not, nat_lt};
+ghost use Rattle.std.specs.Prelude.{slice_get, IfOk, OnOk, OnErr, IfErr};
 ghost use Rattle.ddcmp_msg.specs.Message.{view};
 ghost use Rattle.dna_station.specs.Causes.{has_cause};
 ghost use Rattle.dna_station.specs.Table.{WINDOW, checks};
 ghost use Rattle.dna_station.specs.Book.{failed};
 ghost use Rattle.dna_station.specs.Station.{wire};
 ghost use Rattle.dna_station.specs.WireStation.{load};
-ghost use Rattle.dna_station.specs.WireBook.{is_held_packet, wire_is_new, wire_passes, sends_packet, wire_sending_refusal, wire_after_sending, gives_new};
+ghost use Rattle.dna_station.specs.WireBook.{is_held_packet, wire_is_new, wire_passes, sends_packet, wire_sending_refusal, wire_after_sending};
+ghost use Rattle.dna_station.specs.WireBook.{gives_new};
 ghost use Rattle.ddcmp_station.specs.Fault.{IsFault, is_of_repeats};
 ghost use Rattle.ddcmp_station.specs.Sent.{sent_as};
 

@@ -22,7 +22,8 @@ impl Layers {
     /// neither rule on those is asked.
     pub fn arrived_unknown(&mut self, arrival: Arrival, kept: bool) -> Result<(), StepFault>
         requires { load self.old.station < 2 ^ 63 }
-        ensures ok { OnOk result ((wire_layers_machine by_bytes).arrives self.old (with_link (Some of_no_link) (arrival_view arrival.entry)) kept ≡ Ok self.new) }
+        ensures ok { OnOk result ((wire_layers_machine by_bytes).arrives self.old (with_link (Some of_no_link)
+            (arrival_view arrival.entry)) kept ≡ Ok self.new) }
         ensures refused { IfErr result (IfRefused (λ refusal.
             (wire_layers_machine by_bytes).arrives self.old (with_link (Some of_no_link) (arrival_view arrival.entry)) kept ≡ Err refusal)) }
         ensures load { load self.new.station ≤ load self.old.station + 1 }
@@ -40,7 +41,8 @@ impl Layers {
     // This packet is kept: it goes to the links.
     fn keep_unknown(&mut self, packet: &[u8]) -> Result<(), StepFault>
         ensures ok { OnOk result (wire_keeps_packet by_bytes self.old of_no_link (spec.content packet.now) ≡ Ok self.new) }
-        ensures refused { IfErr result (IfRefused (λ refusal. wire_keeps_packet by_bytes self.old of_no_link (spec.content packet.now) ≡ Err refusal)) }
+        ensures refused { IfErr result (IfRefused (λ refusal. wire_keeps_packet by_bytes self.old of_no_link (spec.content packet.now)
+            ≡ Err refusal)) }
         ensures station { self.new.station ≡ self.old.station }
     {
         match content(packet) {

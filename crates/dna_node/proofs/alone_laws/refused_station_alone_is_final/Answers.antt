@@ -10,7 +10,9 @@ returns c = record {
   a_passes = passes_a stations_see;
   b_passes = passes_b stations_see;
   of_a = λ head_a head_b of_a further of_b place accused reason refused run.
-      final station_end (new_wire_node head_a) of_a further place accused reason refused (passes_a stations_see head_a head_b (of_a ++ further) of_b run);
+      final station_end (new_wire_node head_a) of_a further place accused reason refused (passes_a stations_see head_a head_b
+      (of_a ++ further) of_b run);
   of_b = λ head_a head_b of_a of_b further place accused reason refused run.
-      final station_end (new_wire_node head_b) of_b further place accused reason refused (passes_b stations_see head_a head_b of_a (of_b ++ further) run);
+      final station_end (new_wire_node head_b) of_b further place accused reason refused (passes_b stations_see head_a head_b of_a
+      (of_b ++ further) run);
 }

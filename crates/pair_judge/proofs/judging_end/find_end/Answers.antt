@@ -21,7 +21,8 @@ loop-number-init g c =
 
 pub make-requires-clause-room : goal.make-requires-clause-room
 make-requires-clause-room g c =
-    room g.T.Top.top _ _ c.loop-number.capture c.loop-number.end c.loop-number.number c.loop-number.invariant.0 (omega (arith, c.loop-number-test.true))
+    room g.T.Top.top _ _ c.loop-number.capture c.loop-number.end c.loop-number.number c.loop-number.invariant.0
+    (omega (arith, c.loop-number-test.true))
 
 pub returns-in-Ok-Fails-clause-answer : goal.returns-in-Ok-Fails-clause-answer
 returns-in-Ok-Fails-clause-answer g c =
@@ -71,7 +72,8 @@ loop-number-preserved g c =
     let gives = rw c.in-Ok-Some.field-0-is at c.in-Ok-Some.ensures.gives h.reading in
     let made = rw (c.in-Ok-Done.field-0-is, c.bytes.ensures) at c.in-Ok-Done.ensures in (
       made_on g.T.Top.top _ _ _ c.loop-number.capture c.advance.new.self c.loop-number.end c.loop-number.number
-          (record_with c.in-Ok-Some.entry c.advance.new.self.bytes) h c.advance.ensures.head.0 c.advance.ensures.head.1 gives laws c.make.new.self made,
+          (record_with c.in-Ok-Some.entry c.advance.new.self.bytes) h c.advance.ensures.head.0 c.advance.ensures.head.1 gives laws
+          c.make.new.self made,
       c.in-Ok-Some.ensures.reads ∙ c.loop-number.invariant.1,
     )
 

@@ -16,7 +16,8 @@ stop_waiting-requires g c =
     let k = c.index.result.now in
     some_wait l.links.items _ _ _ _ c.self.invariant c.args.number k k
     (link_there l.node l.peer l.links.items c.args.self.now c.self.view_is c.args.number c.index.result.now c.requires.within c.index.ensures)
-    (c.requires.calling k (link_found l.node l.peer l.links.items c.args.self.now c.self.view_is c.args.number c.index.result.now c.requires.within c.index.ensures))
+    (c.requires.calling k (link_found l.node l.peer l.links.items c.args.self.now c.self.view_is c.args.number c.index.result.now
+    c.requires.within c.index.ensures))
 
 pub reach-requires-clause-few : goal.reach-requires-clause-few
 reach-requires-clause-few g c =
@@ -30,8 +31,10 @@ invariant_of-self g c =
     let l = c.self.inside in
     let far = c.args.far in
     let k = c.index.result.now in
-    let there = link_there l.node l.peer l.links.items c.args.self.now c.self.view_is c.args.number c.index.result.now c.requires.within c.index.ensures in
-    let calling = c.requires.calling k (link_found l.node l.peer l.links.items c.args.self.now c.self.view_is c.args.number c.index.result.now c.requires.within c.index.ensures) in
+    let there = link_there l.node l.peer l.links.items c.args.self.now c.self.view_is c.args.number c.index.result.now c.requires.within
+    c.index.ensures in
+    let calling = c.requires.calling k (link_found l.node l.peer l.links.items c.args.self.now c.self.view_is c.args.number c.index.result.now
+    c.requires.within c.index.ensures) in
     let same : c.index_mut.result.now ≡ k =
     one_link l.links.items l.links.items c.args.number c.index_mut.result.now k k refl c.index_mut.ensures.value there refl in
     confirmed_index l.node l.peer l.links.items c.args.self.now c.self.view_is c.args.number c.index.result.now c.requires.within c.index.ensures

@@ -24,15 +24,18 @@ forget-requires-clause-reaches g c = λ far known.
     let k = c.index.result.now in
     some_reached l.links.items _ _ _ _ c.self.invariant c.args.number k k
     (link_there l.node l.peer l.links.items c.args.self.now c.self.view_is c.args.number c.index.result.now c.requires.within c.index.ensures)
-    far (c.requires.live k (link_found l.node l.peer l.links.items c.args.self.now c.self.view_is c.args.number c.index.result.now c.requires.within c.index.ensures))
+    far (c.requires.live k (link_found l.node l.peer l.links.items c.args.self.now c.self.view_is c.args.number c.index.result.now
+    c.requires.within c.index.ensures))
     (eq-is_at k.port.far far (sym (ap (λ (p : Port). p.far) c.port-port.ensures.port) ∙ known))
 
 pub invariant_of-self : goal.invariant_of-self
 invariant_of-self g c =
     let l = c.self.inside in
     let k = c.index.result.now in
-    let there = link_there l.node l.peer l.links.items c.args.self.now c.self.view_is c.args.number c.index.result.now c.requires.within c.index.ensures in
-    let lives = c.requires.live k (link_found l.node l.peer l.links.items c.args.self.now c.self.view_is c.args.number c.index.result.now c.requires.within c.index.ensures) in
+    let there = link_there l.node l.peer l.links.items c.args.self.now c.self.view_is c.args.number c.index.result.now c.requires.within
+    c.index.ensures in
+    let lives = c.requires.live k (link_found l.node l.peer l.links.items c.args.self.now c.self.view_is c.args.number c.index.result.now
+    c.requires.within c.index.ensures) in
     let same : c.index_mut.result.now ≡ k =
     one_link l.links.items l.links.items c.args.number c.index_mut.result.now k k refl c.index_mut.ensures.value there refl in
     ended_index l.node l.peer l.links.items c.args.self.now c.self.view_is c.args.number c.index.result.now c.requires.within c.index.ensures

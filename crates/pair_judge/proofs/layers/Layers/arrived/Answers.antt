@@ -17,7 +17,8 @@ pub returns-in-Ok-Some-clause-refused : goal.returns-in-Ok-Some-clause-refused
 returns-in-Ok-Some-clause-refused c =
     let taken = sym c.in-Ok-Some.ensures.taken ∙ ap option_copied c.in-Ok-Some.field-0-is in
     rw (← c.self.view_is)
-    (on_refusal c.keep.result (λ refusal. arrives_kept judged (record { station = c.self.inside.station; links = c.self.inside.links }) c.args.link.now
+    (on_refusal c.keep.result (λ refusal. arrives_kept judged (record { station = c.self.inside.station; links = c.self.inside.links })
+    c.args.link.now
     c.args.kept (arrival_view c.args.arrival) c.in-Ok-Some.packet.now _ _ (Err refusal) c.in-Ok-Some.ensures.allowed taken c.in-Ok-Some.ensures.ok
     c.tag_of.ensures) c.keep.ensures.refused)
 
