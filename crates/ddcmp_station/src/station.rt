@@ -6,6 +6,7 @@ ghost use Rattle.dna_station.specs.WireStation.{new_wire_station, wire_after_eve
 ghost use Rattle.ddcmp_station.specs.Fault.{IsRefused};
 
 mod arriving;
+mod asking;
 mod sending;
 
 use crate::StationFault;
