@@ -3,8 +3,10 @@ pub mod Sent
 pub mod Comes
 pub mod Packets
 pub mod Arrives
+pub mod Meets
 pub mod Events
 pub mod Advances
+pub mod Left
 pub mod Courses
 pub mod Turns
 pub mod Halting

@@ -6,6 +6,7 @@ ghost use Rattle.dna_links.specs.WireLinks.{new_wire_links};
 
 mod alone;
 mod arriving;
+mod left;
 mod sending;
 mod user;
 

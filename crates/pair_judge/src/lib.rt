@@ -26,6 +26,7 @@ mod refusal;
 mod sending;
 mod spare;
 mod step_fault;
+mod stopped;
 mod summary;
 mod tags;
 mod top;
