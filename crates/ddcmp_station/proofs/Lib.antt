@@ -1,1 +1,3 @@
 mod Sendable
+mod Shown
+mod Failing

@@ -2,4 +2,6 @@
 pub mod Arrival
 pub mod Fault
 pub mod Sent
+pub mod View
+pub mod Failed
 pub mod inner

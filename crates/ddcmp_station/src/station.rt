@@ -7,7 +7,9 @@ ghost use Rattle.ddcmp_station.specs.Fault.{IsRefused};
 
 mod arriving;
 mod asking;
+mod failing;
 mod sending;
+mod viewing;
 
 use crate::StationFault;
 use crate::causes::Causes;
