@@ -19,3 +19,4 @@ pub mod Alike
 pub mod Seen
 pub mod Alone
 pub mod LineToo
+pub mod Ends

@@ -7,5 +7,6 @@ pub mod Finding
 pub mod Faulty
 pub mod Refusal
 pub mod Judged
+pub mod Ends
 pub mod Events
 pub mod inner

@@ -13,5 +13,5 @@ pub mod Making
 pub mod Course
 pub mod Reached
 pub mod Opened
-pub mod Stopped
 pub mod Answer
+pub mod Stopped

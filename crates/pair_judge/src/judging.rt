@@ -14,6 +14,8 @@ ghost use Rattle.pair_judge.specs.Judged.{IfTold, IsAcceptance, IsExact, IsFault
 ghost use Rattle.pair_judge.specs.inner.Opened.{OpensAt};
 ghost use Rattle.pair_judge.specs.inner.Stopped.{IsStoppedIn};
 
+mod with_ends;
+
 use crate::course::{Ahead, Course};
 use crate::end::End;
 use crate::fault::JudgeFault;
@@ -31,6 +33,7 @@ use dna_station::{Head, captures_deliver_in_order};
 use std::alloc::Global;
 use std::io::Read;
 use wire_base::{Side, Tally};
+pub use with_ends::judge_with_ends;
 
 // Each turn makes one record of a side or ends.
 const MOST_TURNS: u64 = 2 * MAX_RECORDS + 1;

@@ -8,6 +8,7 @@ mod alone;
 mod arriving;
 mod left;
 mod sending;
+mod shown;
 mod user;
 
 use ddcmp_station::HeldPacket;

@@ -12,6 +12,7 @@ mod fault;
 mod formats;
 mod held_link;
 mod held_unit;
+mod judged_ends;
 mod judged_nodes;
 mod judging;
 mod layers;
@@ -36,7 +37,8 @@ mod verdict;
 
 pub use fault::{JudgeFault, TextFault};
 pub use formats::{judged_in_any_format, line_is_judged_too};
-pub use judging::{judge, judge_line};
+pub use judged_ends::JudgedEnds;
+pub use judging::{judge, judge_line, judge_with_ends};
 pub use reason::Reason;
 pub use refusal::refused_captures;
 pub use summary::{SideSummary, Summary};

@@ -1,10 +1,12 @@
 -- Both sides where the judge stops.
 use Rattle.std.specs.Prelude.{ℕ, List, Option}
 use Rattle.capture.specs.declared.record.Record.{Record}
+use Rattle.pair_judge.specs.declared.judged_ends.JudgedEnds.{JudgedEnds}
 use Rattle.pair_judge.specs.declared.judging.Found.{Found}
 use Rattle.pair_judge.specs.declared.stopped.Stopped.{Stopped}
 use Rattle.pair_judge.specs.Finding.{IsFoundIn}
 use Rattle.pair_judge.specs.Summary.{summary_at}
+use Rattle.pair_judge.specs.inner.Answer.{verdict_of}
 use Rattle.pair_judge.specs.inner.Course.{IsRead, along}
 use Rattle.pair_judge.specs.inner.Reached.{StopsFor}
 use Rattle.pair_judge.specs.inner.Wire.{IfLeft, JudgeTop}
@@ -13,6 +15,10 @@ module _ (top : JudgeTop) where
   -- its finding, with the counts of both sides
   abbrev pub found_of : Stopped → Found
   found_of s = record { finding = s.finding; summary = record { a = summary_at top.links s.a.end; b = summary_at top.links s.b.end } }
+
+  -- with what is answered of that
+  abbrev pub ends_of : Stopped → JudgedEnds
+  ends_of s = record { verdict = verdict_of (found_of s); a = s.a; b = s.b }
 
   -- The finding is that of the two texts. So much of them was read and made; and where a refused step leaves both layers, both ends stand for
   -- the world in which the named record is refused, or waits
