@@ -12,3 +12,4 @@ mod Forgotten
 mod Beginning
 mod Giving
 mod Ended
+mod Shown

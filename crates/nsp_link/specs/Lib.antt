@@ -2,4 +2,5 @@
 pub mod Fault
 pub mod Flow
 pub mod Phases
+pub mod View
 pub mod inner

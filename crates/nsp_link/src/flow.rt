@@ -14,6 +14,7 @@ ghost use Rattle.nsp_link.specs.Fault.{IsFault};
 
 mod receiving;
 mod sending;
+mod shown;
 
 use crate::last_sent::LastSent;
 use crate::{LinkFault, LinkRefusal};

@@ -17,6 +17,8 @@ ghost use Rattle.nsp_link.specs.Fault.{IsFault};
 ghost use Rattle.nsp_link.specs.Flow.{is_held};
 ghost use Rattle.nsp_link.specs.inner.Index.{Stays};
 
+mod shown;
+
 use crate::flow::Flow;
 use crate::{LinkFault, LinkRefusal, LinkTag, Piece};
 use dna_links::{Phase, Port};

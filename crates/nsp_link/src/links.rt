@@ -11,6 +11,7 @@ mod arriving;
 mod begin;
 mod change;
 mod sending;
+mod shown;
 mod user;
 
 use crate::index::Index;
