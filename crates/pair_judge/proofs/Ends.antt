@@ -29,12 +29,13 @@ use Rattle.pair_judge.specs.declared.line.Line.{Line}
 use Rattle.pair_judge.specs.declared.stopped.Stopped.{Stopped}
 use Rattle.pair_judge.specs.declared.summary.Summary.{Summary}
 use Rattle.pair_judge.specs.declared.summary.SideSummary.{SideSummary}
-use Rattle.pair_judge.specs.Ends.{NodeHalf, NodeWorld, ShowsNode, StandsFor, StandsThere, ahead_at, record_ahead, sent_on}
+use Rattle.pair_judge.specs.Ends.{NodeHalf, NodeWorld, ShowsNode, StandsFor, StandsThere, record_ahead}
 use Rattle.pair_judge.specs.Ends as ends
 use Rattle.pair_judge.specs.Finding.{of_side}
 use Rattle.pair_judge.specs.Heads.{head_of}
 use Rattle.pair_judge.specs.Reason.{reason_of}
 use Rattle.pair_judge.specs.inner.Answer.{answer_of, verdict_of}
+use Rattle.pair_judge.specs.inner.Ends.{sent_on, shown_end}
 use Rattle.pair_judge.specs.inner.Course.{IsWaiting, Track, along, read_of, waiting}
 use Rattle.pair_judge.specs.inner.Making.{StandsFor as StandsForHalf}
 use Rattle.pair_judge.specs.inner.Reached.{IsShown, ShowsHalf, StopsAt, StopsFor}
@@ -108,7 +109,8 @@ module _ (laws : EndLaws) (own : End) (incoming : Line) (w : JudgeHalf) (half : 
 
 -- ---- where the judge stops
 
-module _ (laws : EndLaws) (text_a text_b : Option (List ℕ)) (s : Stopped) (i : IsStoppedIn links_on_top_left text_a text_b s) where
+module _ (laws : EndLaws) (text_a text_b : Option (List ℕ)) (s : Stopped)
+    (i : IsStoppedIn links_on_top_left text_a text_b s) where
   abbrev track_a : Track
   track_a = along text_a s.a i.come_a i.made_a
 
@@ -128,7 +130,7 @@ module _ (laws : EndLaws) (text_a text_b : Option (List ℕ)) (s : Stopped) (i :
 
   ahead_is : (side : Side) (next : Record) →
       IsWaiting (of_side side track_a track_b).course.capture.bytes (of_side side track_a track_b).course.ahead next →
-      ahead_at side (ends_of links_on_top_left s) ≡ Some next
+      (of_side side (shown_end s.a s.b.end.line.gone) (shown_end s.b s.a.end.line.gone)).ahead ≡ Some next
   ahead_is A next w = is_ahead s.a.capture.bytes s.a.ahead next w
   ahead_is B next w = is_ahead s.b.capture.bytes s.b.ahead next w
 

@@ -13,5 +13,6 @@ pub mod Making
 pub mod Course
 pub mod Reached
 pub mod Opened
+pub mod Ends
 pub mod Answer
 pub mod Stopped

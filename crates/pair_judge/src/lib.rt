@@ -25,6 +25,7 @@ mod reason;
 mod receipt;
 mod refusal;
 mod sending;
+mod side_end;
 mod spare;
 mod step_fault;
 mod stopped;

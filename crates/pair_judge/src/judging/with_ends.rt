@@ -13,7 +13,7 @@ ghost use Rattle.pair_judge.specs.inner.Tops.{links_on_top_left};
 
 use super::{Found, stop, verdict};
 use crate::fault::JudgeFault;
-use crate::judged_ends::JudgedEnds;
+use crate::judged_ends::{JudgedEnds, ends_with};
 use crate::stopped::Stopped;
 use crate::summary::Summary;
 use crate::top::{LinksOnTopLeft, Top};
@@ -73,5 +73,5 @@ fn with_verdict(stopped: Stopped) -> JudgedEnds
         finding: stopped.finding,
         summary,
     };
-    JudgedEnds::new(verdict(found), stopped)
+    ends_with(verdict(found), stopped)
 }

@@ -1,8 +1,7 @@
 use Rattle.std.proofs.Common.{sym, subst, Ok}
 use Rattle.wire_base.specs.Tally.{tally_lent}
-use Rattle.pair_judge.specs.declared.judged_ends.JudgedEnds.{JudgedEnds}
 use Rattle.dna_node.specs.Kind.{both_layers}
-use Rattle.pair_judge.specs.Ends.{StandsFor, verdict_in}
+use Rattle.pair_judge.specs.Ends.{ShownEnds, StandsFor, verdict_in}
 use Rattle.pair_judge.specs.Judged.{IfTold, IsAcceptance, IsExact, IsRefusalWhere}
 use Rattle.pair_judge.specs.inner.Stopped.{found_of}
 use Rattle.pair_judge.specs.inner.Tops.{links_on_top_left}
@@ -16,7 +15,7 @@ returns-in-Ok-clause-exact g c =
     let laws : WholeLaws = record { ended = w.ended; goes_on = w.goes_on; departs_nowhere = w.departs_nowhere; head_stands = w.head_stands } in
     let text_a = g.R.Read.remaining (tally_lent c.args.a.now) in
     let text_b = g.S.Read.remaining (tally_lent c.args.b.now) in
-    subst (λ (ends : JudgedEnds). IfTold text_a text_b (λ bytes_a bytes_b. IsExact both_layers bytes_a bytes_b (verdict_in (Ok ends))))
+    subst (λ (ends : ShownEnds). IfTold text_a text_b (λ bytes_a bytes_b. IsExact both_layers bytes_a bytes_b (verdict_in (Ok ends))))
     (sym c.with_verdict.ensures)
     (exact_of_found both_layers laws text_a text_b (found_of links_on_top_left c.in-Ok.stopped) c.in-Ok.ensures.stopped.found)
 
@@ -45,7 +44,7 @@ returns-in-Ok-clause-accepted g c =
     } in
     let text_a = g.R.Read.remaining (tally_lent c.args.a.now) in
     let text_b = g.S.Read.remaining (tally_lent c.args.b.now) in
-    subst (λ (ends : JudgedEnds). IfTold text_a text_b (λ bytes_a bytes_b. IsAcceptance both_layers bytes_a bytes_b (verdict_in (Ok ends))))
+    subst (λ (ends : ShownEnds). IfTold text_a text_b (λ bytes_a bytes_b. IsAcceptance both_layers bytes_a bytes_b (verdict_in (Ok ends))))
     (sym c.with_verdict.ensures)
     (accepted_of_found both_layers laws runs text_a text_b (found_of links_on_top_left c.in-Ok.stopped) c.in-Ok.ensures.stopped.found)
 
@@ -53,7 +52,7 @@ pub returns-in-Ok-clause-refused : goal.returns-in-Ok-clause-refused
 returns-in-Ok-clause-refused g c =
     let text_a = g.R.Read.remaining (tally_lent c.args.a.now) in
     let text_b = g.S.Read.remaining (tally_lent c.args.b.now) in
-    subst (λ (ends : JudgedEnds). IsRefusalWhere both_layers text_a text_b (verdict_in (Ok ends))) (sym c.with_verdict.ensures)
+    subst (λ (ends : ShownEnds). IsRefusalWhere both_layers text_a text_b (verdict_in (Ok ends))) (sym c.with_verdict.ensures)
     (refused_of_found both_layers text_a text_b (found_of links_on_top_left c.in-Ok.stopped) c.in-Ok.ensures.stopped.found)
 
 pub returns-in-Ok-clause-stands : goal.returns-in-Ok-clause-stands
@@ -61,7 +60,7 @@ returns-in-Ok-clause-stands g c =
     let text_a = g.R.Read.remaining (tally_lent c.args.a.now) in
     let text_b = g.S.Read.remaining (tally_lent c.args.b.now) in
     let stations = c.layers_run_as_stations.ensures.run in
-    subst (λ (ends : JudgedEnds). StandsFor text_a text_b ends ends.verdict) (sym c.with_verdict.ensures)
+    subst (λ (ends : ShownEnds). StandsFor text_a text_b ends ends.verdict) (sym c.with_verdict.ensures)
     (stands_there (record {
       shown = c.shows.ensures;
       ordered_a = λ head_a head_b w of_a of_b run.
