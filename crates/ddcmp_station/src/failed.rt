@@ -2,7 +2,7 @@
 
 use crate::view::OpenCauses;
 use ddcmp_msg::NakReason;
-use dna_station::State;
+use dna_station::{State, Tag};
 
 /// The first check that a message does not pass which a station's node sent (DDCMP 4.1, startup state table, data transfer), with what is
 /// seen there and what is allowed.
@@ -44,4 +44,30 @@ pub enum FailedSending {
         seen: NakReason,
         open_causes: OpenCauses,
     },
+}
+
+/// The first check that an arrival does not pass (DDCMP 4.1, startup state table, data transfer), with what is seen there and what is
+/// allowed.
+#[derive(Clone, Copy, Debug, PartialEq, Eq)]
+pub enum FailedArrival {
+    /// The message was sent in another pair of starts (reason 13): seen is its tag. Allowed: one that goes with the station's own tag as
+    /// the row of the message needs.
+    Period {
+        needs: PeriodNeed,
+        seen: Tag,
+        own: Tag,
+    },
+    /// A packet is said to be kept, and none is taken (reason 12). Allowed: that it is not kept.
+    Keep,
+}
+
+/// What the row of a message needs of the periods.
+#[derive(Clone, Copy, Debug, PartialEq, Eq)]
+pub enum PeriodNeed {
+    /// Nothing.
+    Anything,
+    /// The message answers the receiver's present period: that is the partner in its tag.
+    Fresh,
+    /// Besides, it comes from the receiver's partner: that is the period in its tag.
+    OfPair,
 }

@@ -1,10 +1,13 @@
 //! What holds of what is shown of a station, and of the check that a message does not pass. `L` is the type of the labels that a node puts
 //! beside packets.
 
-ghost use Rattle.std.specs.Prelude.{◌≡◌, ◌+◌, ◌<◌, ◌≤◌, true, Some, List, length, slice_get};
+ghost use Rattle.std.specs.Prelude.{◌≡◌, ◌+◌, ◌<◌, ◌≤◌, Bool, true, false, Some, None, List, length, slice_get};
 ghost use Rattle.ddcmp_msg.specs.Message.{MessageValue};
 ghost use Rattle.ddcmp_msg.specs.declared.nak_reason.NakReason.{NakReason};
+ghost use Rattle.dna_station.specs.declared.tag.Tag.{Tag};
+ghost use Rattle.dna_station.specs.Book.{keep_refusal};
 ghost use Rattle.dna_station.specs.Bounds.{IsOrdered};
+ghost use Rattle.dna_station.specs.Rules.{meets};
 ghost use Rattle.dna_station.specs.Causes.{has_cause};
 ghost use Rattle.dna_station.specs.Cut.{AreLabelled, cut};
 ghost use Rattle.dna_station.specs.Station.{Station, wire};
@@ -35,4 +38,12 @@ pub fn allowed_passes<L>()
         slice_get w.variables.held w.variables.ahead ≡ Some packet → wire_passes w (with_body m packet.body) table.AsFirstGiven ≡ true }
     ensures outstanding { (w : WireStation L) (m : MessageValue) → 0 < length w.variables.held → wire_passes w m table.SomeOutstanding ≡ true }
     ensures room { (w : WireStation L) (m : MessageValue) → length w.variables.held ≤ 254 → wire_passes w m table.RoomIfNew ≡ true }
+{}
+
+/// With what is allowed in the place of what is seen, the check is passed that an arrival did not pass: the message with a tag that goes with
+/// the station's own one as its row needs; or a receipt whose packet was not kept.
+pub fn allowed_arrives()
+    ensures fresh { (own tag : Tag) → tag.partner ≡ Some own.period → meets table.Fresh own tag ≡ true }
+    ensures of_pair { (own tag : Tag) → own.partner ≡ Some tag.period → tag.partner ≡ Some own.period → meets table.OfPair own tag ≡ true }
+    ensures not_kept { (takes : Bool) → keep_refusal takes false ≡ None }
 {}

@@ -14,9 +14,9 @@ mod view;
 
 pub use arrival::Arrival;
 pub use dna_station::{State, StationEvent, StationRefusal, Tag};
-pub use failed::FailedSending;
+pub use failed::{FailedArrival, FailedSending, PeriodNeed};
 pub use fault::StationFault;
-pub use laws::{allowed_passes, view_shows_truth};
+pub use laws::{allowed_arrives, allowed_passes, view_shows_truth};
 pub use sent_as::SentAs;
 pub use station::{HeldPacket, Station};
 pub use view::{OpenCauses, StationView};

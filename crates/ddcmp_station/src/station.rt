@@ -8,6 +8,7 @@ ghost use Rattle.ddcmp_station.specs.Fault.{IsRefused};
 mod arriving;
 mod asking;
 mod failing;
+mod failing_arrival;
 mod sending;
 mod viewing;
 
