@@ -40,6 +40,7 @@ use Rattle.pair_judge.specs.inner.Course.{IsWaiting, Track, along, read_of, wait
 use Rattle.pair_judge.specs.inner.Making.{StandsFor as StandsForHalf}
 use Rattle.pair_judge.specs.inner.Reached.{IsShown, ShowsHalf, StopsAt, StopsFor}
 use Rattle.pair_judge.specs.inner.Reached as reached
+use Rattle.pair_judge.specs.inner.Order.{MadeRecord}
 use Rattle.pair_judge.specs.inner.Runs.{tag_of}
 use Rattle.pair_judge.specs.inner.Stopped.{IsStoppedIn, ends_of, found_of}
 use Rattle.pair_judge.specs.inner.Tops.{links_on_top_left}
@@ -109,8 +110,8 @@ module _ (laws : EndLaws) (own : End) (incoming : Line) (w : JudgeHalf) (half : 
 
 -- ---- where the judge stops
 
-module _ (laws : EndLaws) (text_a text_b : Option (List ℕ)) (s : Stopped)
-    (i : IsStoppedIn links_on_top_left text_a text_b s) where
+module _ (laws : EndLaws) (text_a text_b : Option (List ℕ)) (tells : List MadeRecord → Type 0) (s : Stopped)
+    (i : IsStoppedIn links_on_top_left text_a text_b tells s) where
   abbrev track_a : Track
   track_a = along text_a s.a i.come_a i.made_a
 

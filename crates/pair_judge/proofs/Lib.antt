@@ -8,6 +8,7 @@ pub mod Events
 pub mod Advances
 pub mod Left
 pub mod Courses
+pub mod Orders
 pub mod Turns
 pub mod Halting
 pub mod OneFinding

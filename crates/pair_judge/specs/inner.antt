@@ -1,4 +1,5 @@
 -- What contracts of private functions speak of, with what the toolchain wants of a type or a test; no public claim rests on it
+pub mod Order
 pub mod Wire
 pub mod Tops
 pub mod Packets

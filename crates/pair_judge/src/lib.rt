@@ -20,6 +20,7 @@ mod line;
 mod line_unit;
 mod making;
 mod noise;
+mod observer;
 mod packet;
 mod reason;
 mod receipt;

@@ -14,6 +14,7 @@ ghost use Rattle.pair_judge.specs.inner.Tops.{links_on_top_left};
 use super::{Found, stop, verdict};
 use crate::fault::JudgeFault;
 use crate::judged_ends::{JudgedEnds, ends_with};
+use crate::observer::Nobody;
 use crate::stopped::Stopped;
 use crate::summary::Summary;
 use crate::top::{LinksOnTopLeft, Top};
@@ -55,8 +56,8 @@ pub fn judge_with_ends<R: Read, S: Read>(
     numbers_within_bounds();
     view_shows_truth::<LinkTag>();
     LinksOnTopLeft::shows();
-    match stop::<LinksOnTopLeft, R, S>(alloc, a, b) {
-        Ok(stopped) => Ok(with_verdict(stopped)),
+    match stop::<LinksOnTopLeft, Nobody, R, S>(alloc, a, b, Nobody) {
+        Ok((stopped, _)) => Ok(with_verdict(stopped)),
         Err(fault) => Err(fault),
     }
 }

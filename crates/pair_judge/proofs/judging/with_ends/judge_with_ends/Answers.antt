@@ -68,7 +68,7 @@ returns-in-Ok-clause-stands g c =
       ordered_b = λ head_a head_b w of_a of_b run.
           (c.numbers_within_bounds.ensures.of_b head_a head_b _ of_a of_b (stations head_a head_b w of_a of_b run)).ordered;
       true_views = c.view_shows_truth.ensures;
-    }) text_a text_b c.in-Ok.stopped c.in-Ok.ensures.stopped)
+    }) text_a text_b _ c.in-Ok.stopped c.in-Ok.ensures.stopped)
 
 pub returns-in-Err-clause-exact : goal.returns-in-Err-clause-exact
 returns-in-Err-clause-exact g c =
