@@ -12,6 +12,7 @@ ghost use Rattle.dna_node.specs.Content as contents;
 ghost use Rattle.dna_play.specs.KeptPlay as steps;
 ghost use Rattle.dna_play.specs.Receipt as receipts;
 ghost use Rattle.player_end.specs.inner.Delivering.{arrives_as};
+ghost use Rattle.player_end.specs.inner.Index.{live_of};
 ghost use Rattle.player_end.specs.Stepping.{StopMeans, Stopped, with_lines};
 
 use super::End;
@@ -91,8 +92,8 @@ fn take<V: Window<GivenPiece, 4096> + Drop>(
     text: &mut Vec<u8>,
 ) -> Result<(), StepFault>
     requires { IfSome message (λ message. nsp.IsInRange (nsp.view message)) }
-    ensures ok { OnOk result (arrives_as (option_map nsp.view message.entry) text.old.items links.old ≡ Some (links.new, text.new.items)) }
-    ensures stop { IfErr result (λ fault. Stopped (arrives_as (option_map nsp.view message.entry) text.old.items links.old) fault) }
+    ensures ok { OnOk result (arrives_as (option_map nsp.view message.entry) text.old.items (live_of links.old) ≡ Some (live_of links.new, text.new.items)) }
+    ensures stop { IfErr result (λ fault. Stopped (arrives_as (option_map nsp.view message.entry) text.old.items (live_of links.old)) fault) }
 {
     match message {
         Some(message) => links.arrive(&message, text),
