@@ -200,6 +200,6 @@ module _ (s : KeptLinks) (n : ℕ) (turn : Turn) (chosen : link_choice s.confirm
         let stands = chosen_stands s.confirms s.links n turn chosen in
         let live = ended n stands.0 turn stands.1 stands.2 in
         map_ok r (λ (e : after ≡ changed (place_among n s.links) (turn_sent turn stands.0) (live_of s)). e ∙ sym (
-          ap (λ (o : Option LinkEnd). sent_at (place_among n s.links) o turn (live_of s))
-          (ap (slice_get (live_ends s.links)) (place_same n s.links) ∙ filter_get lives s.links n stands.0 stands.1 live)
+        ap (λ (o : Option LinkEnd). sent_at (place_among n s.links) o turn (live_of s))
+        (ap (slice_get (live_ends s.links)) (place_same n s.links) ∙ filter_get lives s.links n stands.0 stands.1 live)
         )) (made stands.0 stands.1)

@@ -2,7 +2,8 @@
 use Rattle.std.proofs.Common.{◌≡◌, Bool, true, false, Option, Some, None, option_map, List, Result, Ok, Err, refl, sym, subst, ap, ◌∙◌, IsSome}
 use Rattle.dna_station.specs.WireStation.{StationVariables}
 use Rattle.dna_play.specs.Owed.{Owed}
-use Rattle.dna_play.specs.NextSent.{LinkEnd, LinkChoice, Choice, SendStrt, SendStack, SendNak, SendRep, SendAgain, SendNew, SendAck, choice, link_choice}
+use Rattle.dna_play.specs.NextSent.{LinkEnd, LinkChoice, Choice, SendStrt, SendStack, SendNak, SendRep, SendAgain, SendNew, SendAck, choice}
+use Rattle.dna_play.specs.NextSent.{link_choice}
 use Rattle.dna_play.specs.Kept.{KeptLinks, KeptEnd, live_ends}
 use Rattle.dna_play.specs.KeptPlay.{sends, sends_choice}
 use Rattle.dna_play.specs.Stepped.{BadStep}
@@ -43,7 +44,10 @@ module _ (e : KeptEnd) (s : KeptLinks) (same : e.links ≡ live_of s)
 
   pub sends_others : (c : Choice) → all ≡ Some c → is_new c ≡ false → sends e ≡ sends_choice e (Some c)
   sends_others c is old =
-      ap (sends_choice e) (chosen ∙ ap (option_map (kept_choice s.links)) is) ∙ ap (λ (x : Choice). sends_choice e (Some x)) (same_choice s.links c old)
+      ap (sends_choice e) (chosen ∙ ap (option_map (kept_choice s.links)) is) ∙ ap (λ (x : Choice). sends_choice e (Some x))
+      (same_choice s.links c old)
 
   pub has_unit : (c : Choice) → all ≡ Some c → HasUnit e
   has_unit c is = subst IsSome (sym (chosen ∙ ap (option_map (kept_choice s.links)) is)) tt
+
+pub ruleset sent_live = (sends_none, sends_others, has_unit)

@@ -109,6 +109,7 @@ module _ (head : Head) (station : KeptStation) (s : KeptLinks) (addresses passed
         with_lines text (answers e partner change event) ≡ Ok (end_with head station after address passed, [], t)
     answers_lines after text t is line =
         ap (with_lines text) answers_made
-        ∙ made_lines (event address) (with_links (changed (place_among n s.links) (change address link) (live_of s)) (record e { addresses = address }))
+        ∙ made_lines (event address) (with_links (changed (place_among n s.links) (change address link) (live_of s))
+        (record e { addresses = address }))
         text t line
         ∙ ap (λ (l : KeptLinks). Ok (with_links l (record e { addresses = address }), [], t)) (sym is)

@@ -1,5 +1,6 @@
 -- What the first link has to send that has anything, by the first mark.
-use Rattle.std.proofs.Common.{◌≡◌, ℕ, zero, suc, true, ◌+◌, ◌<◌, ◌≤◌, Option, Some, None, option_map, List, [], ◌∷◌, length, refl, sym, ap, ◌∙◌, arith, ◌⊎◌}
+use Rattle.std.proofs.Common.{◌≡◌, ℕ, zero, suc, true, ◌+◌, ◌<◌, ◌≤◌, Option, Some, None, option_map, List, [], ◌∷◌, length, refl, sym, ap, ◌∙◌}
+use Rattle.std.proofs.Common.{arith, ◌⊎◌}
 use Rattle.std.proofs.Common.{inl, inr}
 use Rattle.std.specs.Prelude.{slice_get, slice_set}
 use Rattle.std.proofs.lemmas.Bool.{cases_lt}
@@ -115,7 +116,8 @@ same_link m n t u e = (cc, cc)
 
 stands_by : (number : ℕ) (l : LinkEnd) (links : List LinkEnd) (n : ℕ) (turn : Turn) →
     (first_turn (number + 1) links ≡ Some (OfLink n turn) → Stands (number + 1) links n turn) →
-    (o : Option Turn) → turn_of l ≡ o → turn_or_next number o (first_turn (number + 1) links) ≡ Some (OfLink n turn) → Stands number (l ∷ links) n turn
+    (o : Option Turn) → turn_of l ≡ o → turn_or_next number o (first_turn (number + 1) links) ≡ Some (OfLink n turn) → Stands number (l ∷ links) n
+    turn
 stands_by number l links n turn later (Some t) is e =
     let same = same_link number n t turn e in
     (0, sym same.0 ∙ (omega arith), l, refl, is ∙ ap Some same.1)
@@ -151,5 +153,6 @@ module _ (confirms : List EndConfirm) (links : List LinkEnd)
   names (OfLink n turn) e =
       let stands = chosen_stands confirms links n turn e in (stands.0, stands.1, ended n stands.0 turn stands.1 stands.2)
 
-  pub message_among : (c : LinkChoice) → link_choice confirms links ≡ Some c → link_message (among_live links c) (live_ends links) ≡ link_message c links
+  pub message_among : (c : LinkChoice) → link_choice confirms links ≡ Some c → link_message (among_live links c) (live_ends links) ≡ link_message c
+      links
   message_among c e = ap (λ (x : LinkChoice). link_message x (live_ends links)) (among_same links c) ∙ link_message_live links c (names c e)

@@ -35,7 +35,7 @@ const FORWARD: u8 = 0;
 
 impl<W: Window<HeldPacket, 256> + Drop, V: Window<GivenPiece, 4096> + Drop> End<W, V> {
     /// Sends one unit, which is the answer. `BadStep`: it has none to send, for which no memory is asked.
-    #[tactic(auto, using(crate::proofs::Choosing::chosen_packets))]
+    #[tactic(auto, using(crate::proofs::Choosing::chosen_packets, crate::proofs::Sends::sent_live))]
     pub fn send(&mut self, text: &mut Vec<u8>) -> Result<Vec<u8>, StepFault>
         ensures ok { IfOk result (λ unit. with_lines text.old.items (kept.sends self.old) ≡ Ok (self.new, unit.items ∷ [], text.new.items)) }
         ensures short { IfOk result (λ unit. length unit.items ≤ MAX_MESSAGE) }

@@ -36,8 +36,10 @@ impl<V: Window<GivenPiece, 4096> + Drop> LinkEnds<V> {
     /// line of each message behind the text. `BadStep`: such a message has more than 65,535 bytes, and no line.
     pub fn arrive(&mut self, message: &Nsp<'_>, text: &mut Vec<u8>) -> Result<(), StepFault>
         requires { nsp.IsInRange (nsp.view message.now) }
-        ensures ok { OnOk result (delivers (nsp.view message.now) text.old.items (arrives (nsp.view message.now) (live_of self.old)) ≡ Some (live_of self.new, text.new.items)) }
-        ensures stop { IfErr result (λ fault. Stopped (delivers (nsp.view message.now) text.old.items (arrives (nsp.view message.now) (live_of self.old))) fault) }
+        ensures ok { OnOk result (delivers (nsp.view message.now) text.old.items (arrives (nsp.view message.now) (live_of self.old)) ≡ Some
+            (live_of self.new, text.new.items)) }
+        ensures stop { IfErr result (λ fault. Stopped
+            (delivers (nsp.view message.now) text.old.items (arrives (nsp.view message.now) (live_of self.old))) fault) }
     {
         match message {
             Nsp::DataSegment(segment) => self.segment_came(segment, text),
@@ -82,7 +84,8 @@ impl<V: Window<GivenPiece, 4096> + Drop> LinkEnds<V> {
     #[tactic(auto, using(crate::proofs::Searching::found_ends))]
     fn connect_initiate(&mut self, far: u16) -> Result<(), AllocError>
         ensures { OnOk result (live_of self.new ≡ kept.with_end (LinkTest.LiveTo far) (live_of self.old)
-            (kept.begun (kept.called far) (live_of self.old)) (λ place link. kept.changed place (kept.called_again link.port.phase link) (live_of self.old))) }
+            (kept.begun (kept.called far) (live_of self.old)) (λ place link. kept.changed place (kept.called_again link.port.phase link)
+            (live_of self.old))) }
     {
         let Some(number) = self.find(LinkTest::LiveTo { far }) else {
             let link = LinkEnd::called(self.alloc, far);
@@ -142,7 +145,8 @@ impl<V: Window<GivenPiece, 4096> + Drop> LinkEnds<V> {
         requires within { number < length self.old.links }
         requires lives { LivesAt number self.old }
         ensures { (link : KeptLink) → slice_get self.old.links number ≡ Some link
-            → live_of self.new ≡ kept.changed (place_among number self.old.links) (kept.confirmed_again (is_running link.port.phase) link) (live_of self.old) }
+            → live_of self.new ≡ kept.changed (place_among number self.old.links) (kept.confirmed_again (is_running link.port.phase) link)
+            (live_of self.old) }
     {
         self.links[number].confirm_again();
         self.marks.mark(number);
@@ -151,7 +155,8 @@ impl<V: Window<GivenPiece, 4096> + Drop> LinkEnds<V> {
     // A DI: its link ends, and a DC is owed.
     #[tactic(auto, using(crate::proofs::Searching::found_ends))]
     fn disconnect(&mut self, own: u16, far: u16) -> Result<(), AllocError>
-        ensures { OnOk result (live_of self.new ≡ kept.ends_link own far (kept.confirming far own 41 (live_of self.old)) (kept.confirming far own 42) (live_of self.old)) }
+        ensures { OnOk result (live_of self.new ≡ kept.ends_link own far (kept.confirming far own 41 (live_of self.old))
+            (kept.confirming far own 42) (live_of self.old)) }
     {
         let reason = if self.end(own, far) {
             DISCONNECTED
@@ -172,8 +177,10 @@ impl<V: Window<GivenPiece, 4096> + Drop> LinkEnds<V> {
     // The link with these addresses, or the one in Calling with the own address, ends; the answer is whether there is one.
     #[tactic(auto, using(crate::proofs::Searching::found_ends))]
     fn end(&mut self, own: u16, far: u16) -> bool
-        ensures yes { result ≡ true → (otherwise : KeptLinks) (more : KeptLinks → KeptLinks) → kept.ends_link own far otherwise more (live_of self.old) ≡ more (live_of self.new) }
-        ensures no { result ≡ false → (otherwise : KeptLinks) (more : KeptLinks → KeptLinks) → kept.ends_link own far otherwise more (live_of self.old) ≡ otherwise }
+        ensures yes { result ≡ true → (otherwise : KeptLinks) (more : KeptLinks → KeptLinks) → kept.ends_link own far otherwise more
+            (live_of self.old) ≡ more (live_of self.new) }
+        ensures no { result ≡ false → (otherwise : KeptLinks) (more : KeptLinks → KeptLinks) → kept.ends_link own far otherwise more
+            (live_of self.old) ≡ otherwise }
         ensures same { result ≡ false → self.new ≡ self.old }
     {
         if let Some(number) = self.find(LinkTest::TheLink { own, far }) {
@@ -277,9 +284,12 @@ impl<V: Window<GivenPiece, 4096> + Drop> LinkEnds<V> {
         requires acks { AllByRecursion IsAckWord segment.now.acks.items }
         requires number { segment.now.number < 4096 }
         ensures ok { (link : KeptLink) → slice_get self.old.links number ≡ Some link → OnOk result (delivers_at segment.now.dstaddr text.old.items
-            (kept.delivering_at (place_among number self.old.links) (kept.took_segment (segment_view segment.now) link) (live_of self.old)) ≡ Some (live_of self.new, text.new.items)) }
-        ensures stop { (link : KeptLink) → slice_get self.old.links number ≡ Some link → IfErr result (λ fault. Stopped (delivers_at segment.now.dstaddr
-            text.old.items (kept.delivering_at (place_among number self.old.links) (kept.took_segment (segment_view segment.now) link) (live_of self.old))) fault) }
+            (kept.delivering_at (place_among number self.old.links) (kept.took_segment (segment_view segment.now) link) (live_of self.old)) ≡ Some
+            (live_of self.new, text.new.items)) }
+        ensures stop { (link : KeptLink) → slice_get self.old.links number ≡ Some link → IfErr result
+            (λ fault. Stopped (delivers_at segment.now.dstaddr
+            text.old.items (kept.delivering_at (place_among number self.old.links) (kept.took_segment (segment_view segment.now) link)
+            (live_of self.old))) fault) }
     {
         let made = self.links[number].receive(self.alloc, segment, text);
         self.marks.mark(number);

@@ -26,8 +26,8 @@ impl<V: Window<GivenPiece, 4096> + Drop> LinkEnds<V> {
         self.begin(link)
     }
 
-    /// The call of the link with this number is answered: it goes to this phase, gets this own address, and owes this. Where memory is refused, nothing
-    /// changes.
+    /// The call of the link with this number is answered: it goes to this phase, gets this own address, and owes this. Where memory is refused,
+    /// nothing changes.
     pub fn answer_at(
         &mut self,
         number: usize,
@@ -39,7 +39,8 @@ impl<V: Window<GivenPiece, 4096> + Drop> LinkEnds<V> {
         requires lives { LivesAt number self.old }
         requires phase { is_live phase ≡ true }
         ensures { (link : KeptLink) → slice_get self.old.links number ≡ Some link
-            → OnOk result (live_of self.new ≡ kept.changed (place_among number self.old.links) (kept.answered phase (turn_view turn) own link) (live_of self.old)) }
+            → OnOk result (live_of self.new ≡ kept.changed (place_among number self.old.links) (kept.answered phase (turn_view turn) own link)
+            (live_of self.old)) }
     {
         self.owns.insert(own, number)?;
         self.links[number].answer(phase, turn, own);
@@ -63,7 +64,8 @@ impl<V: Window<GivenPiece, 4096> + Drop> LinkEnds<V> {
     pub fn close_at(&mut self, number: usize)
         requires within { number < length self.old.links }
         requires lives { LivesAt number self.old }
-        ensures { (link : KeptLink) → slice_get self.old.links number ≡ Some link → live_of self.new ≡ kept.changed (place_among number self.old.links) (kept.closed link) (live_of self.old) }
+        ensures { (link : KeptLink) → slice_get self.old.links number ≡ Some link → live_of self.new ≡ kept.changed
+            (place_among number self.old.links) (kept.closed link) (live_of self.old) }
     {
         self.links[number].close();
         self.marks.mark(number);

@@ -26,9 +26,9 @@ returns-in-New-clause-ok g c =
     let all = ap (choice i.station.variables i.station.owed) (sym c.choice-next.ensures.choice) ∙ sym c.in-Some.ensures
     ∙ ap (λ (x : Choice). Some (choice_view x)) c.in-New.is in
     rw (
-      ap sends (sym c.self.view_is)
-      ∙ sends_of_links (end_with i.head i.station i.links i.addresses i.passed) i.links refl c.choice-next.ensures.live message all
-      ∙ ap (λ (t : KeptLinks). sends_new i.head i.station t i.addresses i.passed message) (sym c.choice-next.ensures.same)
+    ap sends (sym c.self.view_is)
+    ∙ sends_of_links (end_with i.head i.station i.links i.addresses i.passed) i.links refl c.choice-next.ensures.live message all
+    ∙ ap (λ (t : KeptLinks). sends_new i.head i.station t i.addresses i.passed message) (sym c.choice-next.ensures.same)
     ) (c.send_new.ensures.ok i.addresses i.passed)
 
 pub returns-in-New-clause-stop : goal.returns-in-New-clause-stop
@@ -38,10 +38,7 @@ returns-in-New-clause-stop g c =
     let all = ap (choice i.station.variables i.station.owed) (sym c.choice-next.ensures.choice) ∙ sym c.in-Some.ensures
     ∙ ap (λ (x : Choice). Some (choice_view x)) c.in-New.is in
     rw (
-      ap sends (sym c.self.view_is)
-      ∙ sends_of_links (end_with i.head i.station i.links i.addresses i.passed) i.links refl c.choice-next.ensures.live message all
-      ∙ ap (λ (t : KeptLinks). sends_new i.head i.station t i.addresses i.passed message) (sym c.choice-next.ensures.same)
+    ap sends (sym c.self.view_is)
+    ∙ sends_of_links (end_with i.head i.station i.links i.addresses i.passed) i.links refl c.choice-next.ensures.live message all
+    ∙ ap (λ (t : KeptLinks). sends_new i.head i.station t i.addresses i.passed message) (sym c.choice-next.ensures.same)
     ) (c.send_new.ensures.stop i.addresses i.passed)
-
-pub returns-in-Strt : goal.returns-in-Strt
-returns-in-Strt g c = ?

@@ -14,4 +14,6 @@ returns g c =
     let link = c.in-Some-link._link.now in
     let at : slice_get s.links number ≡ Some link = sym c.in-Some-link.ensures in
     c.take_acks_at.ensures link at
-    ∙ sym (with_found (ActedOn c.args.own c.args.far) s (live_of s) (λ place (l : LinkEnd). changed place (took_acks c.args.words.now l) (live_of s)) number link refl (sym c.in-Some.ensures.number) at (c.in-Some.ensures.lives link at))
+    ∙ sym (with_found (ActedOn c.args.own c.args.far) s (live_of s)
+    (λ place (l : LinkEnd). changed place (took_acks c.args.words.now l) (live_of s)) number link refl (sym c.in-Some.ensures.number) at
+    (c.in-Some.ensures.lives link at))

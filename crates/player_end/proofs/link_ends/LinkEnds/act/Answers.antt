@@ -14,4 +14,5 @@ returns g c =
     let link = c.in-Some-link._link.now in
     let at : slice_get s.links number ≡ Some link = sym c.in-Some-link.ensures in
     c.act_at.ensures link at
-    ∙ sym (with_found (ActedOn c.args.own c.args.far) s (live_of s) (λ place (l : LinkEnd). changed place (acted_on l.variables l) (live_of s)) number link refl (sym c.in-Some.ensures.number) at (c.in-Some.ensures.lives link at))
+    ∙ sym (with_found (ActedOn c.args.own c.args.far) s (live_of s) (λ place (l : LinkEnd). changed place (acted_on l.variables l) (live_of s))
+    number link refl (sym c.in-Some.ensures.number) at (c.in-Some.ensures.lives link at))

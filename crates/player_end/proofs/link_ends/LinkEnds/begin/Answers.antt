@@ -26,12 +26,14 @@ pub invariant_of-self-2 : goal.invariant_of-self-2
 invariant_of-self-2 g c =
     let l = c.self.inside in
     let marks = c.reserve.new.self.marks.items in
-    let before = subst (λ (ms : List ℕ). IsIndexed l.links.items (has l.owns.pairs) (has l.fars.pairs) ms) (sym c.reserve.ensures.same) c.self.invariant in
+    let before = subst (λ (ms : List ℕ). IsIndexed l.links.items (has l.owns.pairs) (has l.fars.pairs) ms) (sym c.reserve.ensures.same)
+    c.self.invariant in
     subst (λ (links : List LinkEnd). IsIndexed links (has c.know.new.owns.pairs) (has c.know.new.fars.pairs) c.begin.new.self.marks.items)
     (sym c.in-Ok.ensures.items)
     (subst (λ (ms : List ℕ). IsIndexed (l.links.items ++ c.args.link ∷ []) (has c.know.new.owns.pairs) (has c.know.new.fars.pairs) ms)
     (sym c.begin.ensures)
-    (begun_indexed l.links.items (has l.owns.pairs) (has l.fars.pairs) marks before c.args.link (has c.know.new.owns.pairs) (has c.know.new.fars.pairs)
+    (begun_indexed l.links.items (has l.owns.pairs) (has l.fars.pairs) marks before c.args.link (has c.know.new.owns.pairs)
+    (has c.know.new.fars.pairs)
     c.requires
     (λ q is. subst (λ (n : ℕ). has c.know.new.owns.pairs q n ≡ true) (let ok = l.links.ok in omega (arith, c.len-number.ensures, ok))
     (c.in_ok-know.ensures.own q (ap (λ (p : Port). p.own) c.port.ensures ∙ is)))

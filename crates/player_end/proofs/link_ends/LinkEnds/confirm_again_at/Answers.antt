@@ -11,7 +11,8 @@ invariant_of-self g c =
     let l = c.self.inside in
     kept_index l.links.items l.confirms.items c.args.self.now c.self.view_is c.args.number c.index_mut.result.now c.requires.within
     c.index_mut.ensures.value
-    c.requires.lives c.confirm_again.new.self _ c.confirm_again.ensures (keeps_confirmed c.index_mut.result.now) (has l.owns.pairs) (has l.fars.pairs) l.marks.marks.items _ c.self.invariant c.mark.ensures
+    c.requires.lives c.confirm_again.new.self _ c.confirm_again.ensures (keeps_confirmed c.index_mut.result.now) (has l.owns.pairs)
+    (has l.fars.pairs) l.marks.marks.items _ c.self.invariant c.mark.ensures
 
 pub returns : goal.returns
 returns g c =

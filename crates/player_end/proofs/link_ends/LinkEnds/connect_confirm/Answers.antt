@@ -19,7 +19,8 @@ returns-in-Some g c =
     map_ok c.confirm_at.result (λ e. e ∙ sym (with_found (CallingAt c.args.own) s
     (with_end (TheLink c.args.own c.args.far) (live_of s) (live_of s)
     (λ place (l : LinkEnd). changed place (confirmed_again (is_running l.port.phase) l) (live_of s)))
-    (λ place (l : LinkEnd). changed place (confirmed c.args.far l) (live_of s)) number link refl (sym c.in-Some.ensures.number) at (c.in-Some.ensures.lives link at))) (c.confirm_at.ensures link at)
+    (λ place (l : LinkEnd). changed place (confirmed c.args.far l) (live_of s)) number link refl (sym c.in-Some.ensures.number) at
+    (c.in-Some.ensures.lives link at))) (c.confirm_at.ensures link at)
 
 pub unreachable-requires-in_default-link-2 : goal.unreachable-requires-in_default-link-2
 unreachable-requires-in_default-link-2 g c =

@@ -15,4 +15,5 @@ returns g c =
     let at : slice_get s.links number ≡ Some link = sym c.in-Some-link.ensures in
     c.call_again_at.ensures link at
     ∙ sym (with_found (LiveTo c.args.far) s (begun (called c.args.far) (live_of s))
-    (λ place (l : LinkEnd). changed place (called_again l.port.phase l) (live_of s)) number link refl (sym c.in-Some.ensures.number) at (c.in-Some.ensures.lives link at))
+    (λ place (l : LinkEnd). changed place (called_again l.port.phase l) (live_of s)) number link refl (sym c.in-Some.ensures.number) at
+    (c.in-Some.ensures.lives link at))

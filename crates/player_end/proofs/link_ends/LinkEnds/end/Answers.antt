@@ -16,7 +16,8 @@ returns-in-Some-clause-yes g c = λ e otherwise more.
     let at : slice_get s.links number ≡ Some link = sym c.in-Some-link.ensures in
     with_found (TheLink c.args.own c.args.far) s
     (with_end (CallingAt c.args.own) (live_of s) otherwise (λ place (l : LinkEnd). more (ended place (live_of s))))
-    (λ place (l : LinkEnd). more (ended place (live_of s))) number link refl (sym c.in-Some.ensures.number) at (c.in-Some.ensures.lives link at) ∙ ap more (sym c.end_at.ensures)
+    (λ place (l : LinkEnd). more (ended place (live_of s))) number link refl (sym c.in-Some.ensures.number) at (c.in-Some.ensures.lives link at) ∙
+    ap more (sym c.end_at.ensures)
 
 pub unreachable-requires-in_default-link-2 : goal.unreachable-requires-in_default-link-2
 unreachable-requires-in_default-link-2 g c =

@@ -25,6 +25,7 @@ returns g c = λ link there.
     map_ok c.hand_in-made.result
     (λ e. live_made l.links.items l.confirms.items c.args.self.now c.self.view_is c.args.number c.index_mut.result.now c.requires.within
     c.index_mut.ensures.value
-    c.requires.lives (handed c.args.message.now) c.hand_in-made.new.self e (kept.live (l_lives l.links.items l.confirms.items c.args.self.now c.self.view_is c.args.number c.index_mut.result.now c.requires.within
+    c.requires.lives (handed c.args.message.now) c.hand_in-made.new.self e
+    (kept.live (l_lives l.links.items l.confirms.items c.args.self.now c.self.view_is c.args.number c.index_mut.result.now c.requires.within
     c.index_mut.ensures.value
     c.requires.lives)) link there) c.hand_in-made.ensures.ok

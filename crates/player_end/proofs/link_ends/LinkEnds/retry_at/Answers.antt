@@ -7,7 +7,8 @@ pub invariant_of-self : goal.invariant_of-self
 invariant_of-self g c =
     let l = c.self.inside in
     let k = c.index_mut.result.now in
-    let kept = same_port k c.retry-made.new.self (retried_same l.links.items l.confirms.items c.args.self.now c.self.view_is c.args.number c.index_mut.result.now c.requires.within
+    let kept = same_port k c.retry-made.new.self (retried_same l.links.items l.confirms.items c.args.self.now c.self.view_is c.args.number
+    c.index_mut.result.now c.requires.within
     c.index_mut.ensures.value
     c.requires.lives c.retry-made.result c.retry-made.new.self c.retry-made.ensures.yes c.retry-made.ensures.same) in
     index_made l.links.items l.confirms.items c.args.self.now c.self.view_is c.args.number c.index_mut.result.now c.requires.within

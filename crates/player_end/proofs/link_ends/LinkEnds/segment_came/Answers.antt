@@ -33,7 +33,8 @@ returns-clause-ok g c =
     let at : slice_get s.links number ≡ Some link = sym c.in-Some-link.ensures in
     map_ok c.take_segment_at.result (λ e. ap (delivers (DataSegment seg) c.args.text.now.items)
     (with_found (ActedOn seg.dstaddr seg.srcaddr) s (delivering_none (live_of s))
-    (λ place (l : LinkEnd). delivering_at place (took_segment seg l) (live_of s)) number link refl (sym c.in-Some.ensures.number) at (c.in-Some.ensures.lives link at)) ∙ e) (c.take_segment_at.ensures.ok link at)
+    (λ place (l : LinkEnd). delivering_at place (took_segment seg l) (live_of s)) number link refl (sym c.in-Some.ensures.number) at
+    (c.in-Some.ensures.lives link at)) ∙ e) (c.take_segment_at.ensures.ok link at)
 
 pub returns-clause-stop : goal.returns-clause-stop
 returns-clause-stop g c =
@@ -44,4 +45,5 @@ returns-clause-stop g c =
     let at : slice_get s.links number ≡ Some link = sym c.in-Some-link.ensures in
     subst (λ (d : Delivering). IfErr c.take_segment_at.result (λ fault. Stopped (delivers (DataSegment seg) c.args.text.now.items d) fault))
     (sym (with_found (ActedOn seg.dstaddr seg.srcaddr) s (delivering_none (live_of s))
-    (λ place (l : LinkEnd). delivering_at place (took_segment seg l) (live_of s)) number link refl (sym c.in-Some.ensures.number) at (c.in-Some.ensures.lives link at))) (c.take_segment_at.ensures.stop link at)
+    (λ place (l : LinkEnd). delivering_at place (took_segment seg l) (live_of s)) number link refl (sym c.in-Some.ensures.number) at
+    (c.in-Some.ensures.lives link at))) (c.take_segment_at.ensures.stop link at)

@@ -9,7 +9,8 @@ invariant_of-self g c =
     let l = c.self.inside in
     kept_index l.links.items l.confirms.items c.args.self.now c.self.view_is c.args.number c.index_mut.result.now c.requires.within
     c.index_mut.ensures.value
-    c.requires.lives c.take_acks.new.self _ c.take_acks.ensures (keeps_acks c.args.words.now c.index_mut.result.now) (has l.owns.pairs) (has l.fars.pairs) l.marks.marks.items _ c.self.invariant c.mark.ensures
+    c.requires.lives c.take_acks.new.self _ c.take_acks.ensures (keeps_acks c.args.words.now c.index_mut.result.now) (has l.owns.pairs)
+    (has l.fars.pairs) l.marks.marks.items _ c.self.invariant c.mark.ensures
 
 pub returns : goal.returns
 returns g c =

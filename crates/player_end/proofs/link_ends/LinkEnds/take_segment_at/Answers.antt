@@ -9,7 +9,8 @@ invariant_of-self g c =
     index_made l.links.items l.confirms.items c.args.self.now c.self.view_is c.args.number c.index_mut.result.now c.requires.within
     c.index_mut.ensures.value
     c.requires.lives (has l.owns.pairs) (has l.fars.pairs) l.marks.marks.items _ c.self.invariant c.mark.ensures c.receive-made.new.self
-    (c.receive-made.ensures.lives (l_lives l.links.items l.confirms.items c.args.self.now c.self.view_is c.args.number c.index_mut.result.now c.requires.within
+    (c.receive-made.ensures.lives (l_lives l.links.items l.confirms.items c.args.self.now c.self.view_is c.args.number c.index_mut.result.now
+    c.requires.within
     c.index_mut.ensures.value c.requires.lives)) c.receive-made.ensures.own c.receive-made.ensures.far
 
 pub returns-clause-ok : goal.returns-clause-ok
@@ -18,7 +19,8 @@ returns-clause-ok g c = λ link there.
     received_made l.links.items l.confirms.items c.args.self.now c.self.view_is c.args.number c.index_mut.result.now c.requires.within
     c.index_mut.ensures.value
     c.requires.lives (segment_view c.args.segment.now) _ c.args.text.now.items _ c.receive-made.result c.receive-made.new.self link there
-    (c.receive-made.ensures.lives (l_lives l.links.items l.confirms.items c.args.self.now c.self.view_is c.args.number c.index_mut.result.now c.requires.within
+    (c.receive-made.ensures.lives (l_lives l.links.items l.confirms.items c.args.self.now c.self.view_is c.args.number c.index_mut.result.now
+    c.requires.within
     c.index_mut.ensures.value c.requires.lives)) c.receive-made.ensures.ok c.receive-made.ensures.left
 
 pub returns-clause-stop : goal.returns-clause-stop

@@ -10,7 +10,8 @@ use Rattle.player_end.proofs.link_ends.composing.first_turn.Goals as goal
 pub returns-in_default-clause-turn : goal.returns-in_default-clause-turn
 returns-in_default-clause-turn g c =
     let marks = c.loop-from.marks.marks.items in
-    sym (no_turn c.args.links.now.items marks c.loop-from.invariant.0 (length marks) (omega (arith, c.loop-from.invariant.1)) c.in_default.ensures.none)
+    sym (no_turn c.args.links.now.items marks c.loop-from.invariant.0 (length marks) (omega (arith, c.loop-from.invariant.1))
+    c.in_default.ensures.none)
 
 pub returns-in-Some-turn_at-clause-turn : goal.returns-in-Some-turn_at-clause-turn
 returns-in-Some-turn_at-clause-turn g c =
@@ -28,10 +29,11 @@ loop-from-preserved g c =
     let number = c.in-Some.number in
     let now : c.unmark.new.self.marks.items ≡ slice_set marks number 0 =
     c.unmark.ensures ∙ ap (λ (ms : List ℕ). slice_set ms number 0) c.in-Some.ensures.same in (
-      subst (λ (ms : List ℕ). AreMarked links ms) (sym now) (still_marked links marks c.loop-from.invariant.0 number (sym c.in_default-turn_at.ensures)),
+      subst (λ (ms : List ℕ). AreMarked links ms) (sym now)
+          (still_marked links marks c.loop-from.invariant.0 number (sym c.in_default-turn_at.ensures)),
       ap length now ∙ set_length marks number 0 ∙ c.loop-from.invariant.1,
       subst (λ (ms : List ℕ). IsUnmarkedBelow (number + 1) ms) (sym now)
-      (unmarked_through links marks c.loop-from.invariant.0 number c.in-Some.ensures.within c.in-Some.ensures.first),
+          (unmarked_through links marks c.loop-from.invariant.0 number c.in-Some.ensures.within c.in-Some.ensures.first),
     )
 
 pub returns-clause-turn : goal.returns-clause-turn
