@@ -48,6 +48,6 @@ module _ (e : KeptEnd) (s : KeptLinks) (same : e.links ≡ live_of s)
       (same_choice s.links c old)
 
   pub has_unit : (c : Choice) → all ≡ Some c → HasUnit e
-  has_unit c is = subst IsSome (sym (chosen ∙ ap (option_map (kept_choice s.links)) is)) tt
+  has_unit c is = subst IsSome (sym (chosen ∙ ap (option_map (kept_choice s.links)) is)) refl
 
 pub ruleset sent_live = (sends_none, sends_others, has_unit)

@@ -16,6 +16,6 @@ returns-clause-ok g c =
     ap (λ (x : KeptEnd). with_lines c.args.text.now.items (rejects x c.args.partner)) (sym c.self.view_is)
     ∙ answers_lines i.head i.station i.links i.addresses i.passed c.args.partner c.in-Some.number link (sym c.in-Some.ensures.number)
     (sym c.in-Some-link.ensures) (answered Disconnecting DisconnectTurn) (events.Reject c.args.partner) c.in-Some-next_address.link
-    c.in-Some-next_address.ensures.next
-    c.in-Some-next_address.ensures.room c.answer_at.new.self c.args.text.now.items c.put.new.text.items
+    (rw (sym c.self.view_is) at c.in-Some-next_address.ensures.next)
+    (rw (sym c.self.view_is) at c.in-Some-next_address.ensures.room) c.answer_at.new.self c.args.text.now.items c.put.new.text.items
     (c.in-Ok.ensures link (sym c.in-Some-link.ensures)) c.in_ok-put.ensures.ok
