@@ -7,10 +7,11 @@ use Rattle.capture.specs.declared.limit.TheConstants.{MAX_LINK}
 use Rattle.dna_links.specs.declared.port.LinkTest.TheVariants.{CalledBy}
 use Rattle.dna_play.specs.NextSent.{LinkEnd}
 use Rattle.dna_play.specs.Stepped.{Stop, BadStep, Full}
-use Rattle.dna_play.specs.Kept.{KeptEnd}
-use Rattle.dna_play.specs.KeptLinks.{changed, place_of}
+use Rattle.dna_play.specs.Kept.{KeptEnd, KeptLinks}
+use Rattle.dna_play.specs.KeptLinks.{changed, place_of, with_end}
 use Rattle.dna_play.specs.KeptPlay.{KeptStepped, answers, giving, made, with_links}
-use Rattle.player_end.proofs.Searching.{with_found}
+use Rattle.player_end.specs.inner.Index.{live_of, place_among}
+use Rattle.player_end.proofs.Searching.{with_passed}
 
 -- no address is left
 full : (e : KeptEnd) (next : KeptEnd → (address : ℕ) → Result KeptStepped Stop) → MAX_LINK ≤ e.addresses → giving e next ≡ Err Full
@@ -26,11 +27,12 @@ module _ (e : KeptEnd) (change : (address : ℕ) → LinkEnd → LinkEnd) (event
   abbrev given : ℕ → LinkEnd → KeptEnd → (address : ℕ) → Result KeptStepped Stop
   given place link end address = made (event address) (with_links (changed place (change address link) e.links) end)
 
-  pub answer_full : (partner place : ℕ) (link : LinkEnd) →
-      place_of (CalledBy partner) e.links.links ≡ Some place → slice_get e.links.links place ≡ Some link →
+  pub answer_full : (s : KeptLinks) → e.links ≡ live_of s → (partner n : ℕ) (link : LinkEnd) →
+      place_of (CalledBy partner) s.links ≡ Some n → slice_get s.links n ≡ Some link →
       MAX_LINK ≤ e.addresses → answers e partner change event ≡ Err Full
-  answer_full partner place link found there h =
-      with_found (CalledBy partner) e.links (Err BadStep) (λ (p : ℕ) (l : LinkEnd). giving e (given p l)) place link found there
-      ∙ full e (given place link) h
+  answer_full s same partner n link found there h =
+      ap (λ (links : KeptLinks). with_end (CalledBy partner) links (Err BadStep) (λ (p : ℕ) (l : LinkEnd). giving e (given p l))) same
+      ∙ with_passed (CalledBy partner) s (Err BadStep) (λ (p : ℕ) (l : LinkEnd). giving e (given p l)) n link refl found there
+      ∙ full e (given (place_among n s.links) link) h
 
 pub ruleset answered = (answer_full)

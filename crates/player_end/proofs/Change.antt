@@ -1,23 +1,31 @@
--- What a link that changes in its place makes of the links.
-use Rattle.std.proofs.Common.{◌≡◌, ℕ, zero, suc, ◌<◌, ◌≤◌, Option, Some, None, Bool, true, false, Result, Ok, Err, OnOk, List, [], ◌∷◌, length}
-use Rattle.std.proofs.Common.{get_or, set, refl, sym, subst, ap, ◌∙◌, arith}
-use Rattle.std.specs.Prelude.{slice_get}
-use Rattle.std.proofs.lemmas.Option.{slice_get_read}
-use Rattle.dna_play.specs.LinkOwed.{EndConfirm, Turn, retried}
-use Rattle.dna_play.specs.NextSent.{LinkEnd, LinkChoice, OfLink}
-use Rattle.dna_play.specs.Kept.{KeptLinks}
-use Rattle.dna_play.specs.KeptLinks.{after_sent, changed, sent_at, turn_sent}
-use Rattle.player_end.specs.inner.Links.{changed_to, retried_end}
-
--- no link stands here
-behind_all : (links : List LinkEnd) (place : ℕ) → slice_get links place ≡ None → length links ≤ place
-behind_all [] place e = omega arith
-behind_all (l ∷ links) zero e = absurd cc
-behind_all (l ∷ links) (suc place) e = let later = behind_all links place e in omega (arith, later)
+-- What a link that changes in its place makes of the links that live.
+use Rattle.std.proofs.Common.{◌≡◌, ℕ, zero, suc, ◌<◌, ◌≤◌, Option, Some, None, Bool, true, false, Result, Ok, Err, OnOk, List, [], ◌∷◌, ◌++◌, length}
+use Rattle.std.proofs.Common.{get_or, set, refl, sym, subst, ap, ◌∙◌, arith, cond, IfErr}
+use Rattle.std.specs.Prelude.{slice_get, slice_set}
+use Rattle.std.proofs.lemmas.Option.{slice_get_read, same_Some}
+use Rattle.dna_links.specs.declared.port.Port.{Port}
+use Rattle.dna_links.specs.LookUps.{is_live}
+use Rattle.dna_play.specs.LinkOwed.{LinkOwed, EndConfirm, Turn, retried}
+use Rattle.dna_play.specs.NextSent.{LinkEnd, LinkChoice, OfLink, link_choice, turn_of}
+use Rattle.dna_play.specs.Kept.{KeptLinks, live_ends}
+use Rattle.dna_packet.specs.Nsp.{SegmentValue}
+use Rattle.dna_play.specs.KeptLinks.{Delivering, after_sent, begun, changed, delivering_at, ended, sent_at, took_segment, turn_sent, without_whole}
+use Rattle.player_end.specs.declared.fault.StepFault.{StepFault}
+use Rattle.player_end.specs.declared.fault.StepFault.TheVariants.{BadStep, Full, OutOfMemory}
+use Rattle.player_end.specs.Stepping.{Stopped}
+use Rattle.player_end.specs.inner.Delivering.{delivers_at, lines_of}
+use Rattle.dna_play.proofs.Stored.LiveLists.{place_in, filter_get, filter_set, filter_drop, filter_push}
+use Rattle.player_end.specs.inner.Index.{LivesAt, among_live, live_of, place_among}
+use Rattle.player_end.specs.inner.Links.{changed_to, gone, retried_end, with_change}
+use Rattle.player_end.specs.inner.Index.{IsIndexed}
+use Rattle.player_end.proofs.Indexed.{Knows, changed_indexed, same_indexed, set_indexed}
+use Rattle.player_end.proofs.Keeping.{Keeps, as_made}
+use Rattle.player_end.proofs.Searching.{lives, place_same}
+use Rattle.player_end.proofs.Turns.{chosen_stands}
 
 module _ (items : List LinkEnd) (confirms : List EndConfirm) (s : KeptLinks) (is : record { links = items; confirms = confirms } ≡ s) (n : ℕ)
     (l : LinkEnd) (within : n < length s.links) (there : l ≡ get_or items n l) where
-  shown_within : n < length items
+  pub shown_within : n < length items
   shown_within = subst (λ (t : KeptLinks). n < length t.links) (sym is) within
 
   pub link_there : slice_get items n ≡ Some l
@@ -26,43 +34,172 @@ module _ (items : List LinkEnd) (confirms : List EndConfirm) (s : KeptLinks) (is
   pub link_found : slice_get s.links n ≡ Some l
   link_found = ap (λ (t : KeptLinks). slice_get t.links n) (sym is) ∙ link_there
 
-  same_link : (link : LinkEnd) → slice_get s.links n ≡ Some link → l ≡ link
-  same_link link e = let both : Some l ≡ Some link = sym link_found ∙ e in cc
+  pub same_link : (link : LinkEnd) → slice_get s.links n ≡ Some link → l ≡ link
+  same_link link e = same_Some l link (sym link_found ∙ e)
 
-  -- it is the change of the link that is there
-  pub change_made : (f : LinkEnd → LinkEnd) (m : LinkEnd) → m ≡ f l → (link : LinkEnd) → slice_get s.links n ≡ Some link →
-      record { links = set items n m; confirms = confirms } ≡ changed n (f link) s
-  change_made f m e link found =
-      ap (λ (k : LinkEnd). changed n k (record { links = items; confirms = confirms })) (e ∙ ap f (same_link link found))
-      ∙ ap (λ (t : KeptLinks). changed n (f link) t) is
+  module _ (live : LivesAt n s) where
+    pub l_lives : is_live l.port.phase ≡ true
+    l_lives = live l link_found
 
-  -- its timer runs out
-  pub retry_made : (r : Bool) (m : LinkEnd) → (r ≡ true → retried_end l ≡ Some m) → (link : LinkEnd) → slice_get s.links n ≡ Some link → r ≡ true →
-      changed_to n (retried_end link) s ≡ Some (record { links = set items n m; confirms = confirms })
-  retry_made r m h link found e =
-      ap (λ (o : Option LinkEnd). changed_to n o s) (ap retried_end (sym (same_link link found)) ∙ h e)
-      ∙ ap (λ (t : KeptLinks). Some (changed n m t)) (sym is)
+    abbrev with_it : LinkEnd → KeptLinks
+    with_it m = record { links = set items n m; confirms = confirms }
+
+    pub set_made : (m : LinkEnd) → is_live m.port.phase ≡ true → live_of (with_it m) ≡ changed (place_among n s.links) m (live_of s)
+    set_made m still =
+        ap (λ (all : List LinkEnd). record { links = all; confirms = confirms }) (filter_set lives items n l m link_there l_lives still)
+        ∙ ap (λ (k : ℕ). changed k m (live_of (record { links = items; confirms = confirms }))) (sym (place_same n items))
+        ∙ ap (λ (t : KeptLinks). changed (place_among n t.links) m (live_of t)) is
+
+    -- it is the change of the link that is there
+    pub live_made : (f : LinkEnd → LinkEnd) (m : LinkEnd) → m ≡ f l → is_live m.port.phase ≡ true → (link : LinkEnd) →
+        slice_get s.links n ≡ Some link → live_of (with_it m) ≡ changed (place_among n s.links) (f link) (live_of s)
+    live_made f m e still link found =
+        set_made m still ∙ ap (λ (k : LinkEnd). changed (place_among n s.links) k (live_of s)) (e ∙ ap f (same_link link found))
+
+    -- the index stays one
+    module _ (h c : Knows) (marks marks' : List ℕ) (index : IsIndexed items h c marks) (marked : marks' ≡ slice_set marks n 1) (m : LinkEnd)
+        (still : is_live m.port.phase ≡ true) where
+      -- where it has the addresses that it had
+      pub index_made : m.port.own ≡ l.port.own → m.port.far ≡ l.port.far → IsIndexed (set items n m) h c marks'
+      index_made own far =
+          subst (λ (ms : List ℕ). IsIndexed (set items n m) h c ms) (sym marked)
+          (same_indexed items h c marks index n m shown_within still l link_there own far)
+
+      -- where it gets an own address
+      pub index_own : (h' : Knows) (own : ℕ) → m.port.own ≡ Some own → m.port.far ≡ l.port.far → h' own n ≡ true →
+          ((q k : ℕ) → h q k ≡ true → h' q k ≡ true) → IsIndexed (set items n m) h' c marks'
+      index_own h' own is far known more =
+          subst (λ (ms : List ℕ). IsIndexed (set items n m) h' c ms) (sym marked)
+          (changed_indexed items h c marks index n m shown_within still h' c
+          (λ q e. ap (λ (a : ℕ). h' a n) (same_Some q own (sym e ∙ is)) ∙ known) (λ q e. index.far n q l link_there (sym far ∙ e)) more (λ q k e. e))
+
+      -- where it gets to know a far one
+      pub index_far : (c' : Knows) (far : ℕ) → m.port.far ≡ Some far → m.port.own ≡ l.port.own → c' far n ≡ true →
+          ((q k : ℕ) → c q k ≡ true → c' q k ≡ true) → IsIndexed (set items n m) h c' marks'
+      index_far c' far is own known more =
+          subst (λ (ms : List ℕ). IsIndexed (set items n m) h c' ms) (sym marked)
+          (changed_indexed items h c marks index n m shown_within still h c' (λ q e. index.own n q l link_there (sym own ∙ e))
+          (λ q e. ap (λ (a : ℕ). c' a n) (same_Some q far (sym e ∙ is)) ∙ known) (λ q k e. e) more)
+
+    -- it is a change that leaves its addresses
+    module _ (m k : LinkEnd) (e : m ≡ k) (keeps : Keeps l k) where
+      pub kept_live : is_live m.port.phase ≡ true
+      kept_live = (as_made l m k e keeps).live l_lives
+
+      pub kept_index : (h c : Knows) (marks marks' : List ℕ) → IsIndexed items h c marks → marks' ≡ slice_set marks n 1 →
+          IsIndexed (set items n m) h c marks'
+      kept_index h c marks marks' index marked =
+          let same = as_made l m k e keeps in index_made h c marks marks' index marked m kept_live same.own same.far
+
+    -- it has ended, and no address of it is known
+    pub gone_index : (h c h' c' : Knows) (marks : List ℕ) → IsIndexed items h c marks →
+        ((q k : ℕ) → (k ≡ n → ⊥) → h q k ≡ true → h' q k ≡ true) → ((q k : ℕ) → (k ≡ n → ⊥) → c q k ≡ true → c' q k ≡ true) →
+        (m : LinkEnd) → m ≡ gone → IsIndexed (set items n m) h' c' marks
+    gone_index h c h' c' marks index owns fars m e =
+        subst (λ (k : LinkEnd). IsIndexed (set items n k) h' c' marks) (sym e)
+        (set_indexed items h c marks index n gone h' c' marks (λ q is. absurd cc) (λ q is. absurd cc) owns fars (λ turn is. absurd cc)
+        (λ turn is. absurd cc) (λ k other is. is) refl)
+
+    -- it ends
+    pub ended_made : (m : LinkEnd) → is_live m.port.phase ≡ false → live_of (with_it m) ≡ ended (place_among n s.links) (live_of s)
+    ended_made m over =
+        ap (λ (all : List LinkEnd). record { links = all; confirms = confirms }) (filter_drop lives items n l m link_there l_lives over)
+        ∙ ap (λ (k : ℕ). ended k (live_of (record { links = items; confirms = confirms }))) (sym (place_same n items))
+        ∙ ap (λ (t : KeptLinks). ended (place_among n t.links) (live_of t)) is
+
+    -- a segment comes, and what it makes whole goes to the user
+    lines_links : (b : Bool) (links : KeptLinks) (x t : List ℕ) → ◌≡◌ {A = Option (List ℕ)} (cond b (Some x) None) (Some t) →
+        ◌≡◌ {A = Option (KeptLinks × List ℕ)} (cond b (Some (links, x)) None) (Some (links, t))
+    lines_links true links x t e = ap (λ (y : List ℕ). Some (links, y)) (same_Some x t e)
+    lines_links false links x t e = absurd cc
+
+    lines_stop : (b : Bool) (links : KeptLinks) (x : List ℕ) (fault : StepFault) → Stopped {M = List ℕ} (cond b (Some x) None) fault →
+        Stopped {M = KeptLinks × List ℕ} (cond b (Some (links, x)) None) fault
+    lines_stop true links x BadStep h = absurd cc
+    lines_stop false links x BadStep h = refl
+    lines_stop b links x Full h = h
+    lines_stop b links x OutOfMemory h = tt
+
+    module _ (seg : SegmentValue) (own : ℕ) (text t : List ℕ) (r : Result (Unit {0}) StepFault) (m : LinkEnd)
+        (link : LinkEnd) (found : slice_get s.links n ≡ Some link) where
+      abbrev delivering : Delivering
+      delivering = delivering_at (place_among n s.links) (took_segment seg link) (live_of s)
+
+      pub received_made : is_live m.port.phase ≡ true → OnOk r (lines_of own text (took_segment seg l).variables.pieces ≡ Some t) →
+          OnOk r (m ≡ without_whole (took_segment seg l)) → OnOk r (delivers_at own text delivering ≡ Some (live_of (with_it m), t))
+      received_made still = go r
+        where
+          go : (x : Result (Unit {0}) StepFault) → OnOk x (lines_of own text (took_segment seg l).variables.pieces ≡ Some t) →
+              OnOk x (m ≡ without_whole (took_segment seg l)) → OnOk x (delivers_at own text delivering ≡ Some (live_of (with_it m), t))
+          go (Ok u) lines left =
+              lines_links _ delivering.links _ t
+              (ap (λ (k : LinkEnd). lines_of own text (took_segment seg k).variables.pieces) (sym (same_link link found)) ∙ lines)
+              ∙ ap (λ (links : KeptLinks). Some (links, t)) (sym (live_made (λ k. without_whole (took_segment seg k)) m left still link found))
+          go (Err e) lines left = lines
+
+      pub received_stops : IfErr r (λ fault. Stopped (lines_of own text (took_segment seg l).variables.pieces) fault) →
+          IfErr r (λ fault. Stopped (delivers_at own text delivering) fault)
+      received_stops h = go r h
+        where
+          go : (x : Result (Unit {0}) StepFault) → IfErr x (λ fault. Stopped (lines_of own text (took_segment seg l).variables.pieces) fault) →
+              IfErr x (λ fault. Stopped (delivers_at own text delivering) fault)
+          go (Ok u) g = g
+          go (Err fault) g = lines_stop _ delivering.links _ fault
+              (subst (λ (k : LinkEnd). Stopped (lines_of own text (took_segment seg k).variables.pieces) fault) (same_link link found) g)
+
+    -- its timer runs out
+    retried_port : (m : LinkEnd) → retried_end l ≡ Some m → m.port ≡ l.port
+    retried_port m e = go (retried l.port.phase) e
+      where
+        go : (o : Option (LinkOwed → LinkOwed)) → with_change o l ≡ Some m → m.port ≡ l.port
+        go None h = absurd cc
+        go (Some change) h = ap (λ (k : LinkEnd). k.port) (sym (same_Some (record l { owed = change l.owed }) m h))
+
+    pub retry_made : (r : Bool) (m : LinkEnd) → (r ≡ true → retried_end l ≡ Some m) → (link : LinkEnd) → slice_get s.links n ≡ Some link → r ≡ true →
+        changed_to (place_among n s.links) (retried_end link) (live_of s) ≡ Some (live_of (with_it m))
+    retry_made r m h link found e =
+        ap (λ (o : Option LinkEnd). changed_to (place_among n s.links) o (live_of s)) (ap retried_end (sym (same_link link found)) ∙ h e)
+        ∙ ap Some (sym (set_made m (ap (λ (p : Port). is_live p.phase) (retried_port m (h e)) ∙ l_lives)))
+
+    pub retried_same : (r : Bool) (m : LinkEnd) → (r ≡ true → retried_end l ≡ Some m) → (r ≡ false → m ≡ l) → m.port ≡ l.port
+    retried_same true m made same = retried_port m (made refl)
+    retried_same false m made same = ap (λ (k : LinkEnd). k.port) (same refl)
 
   pub no_retry : (r : Bool) → (r ≡ false → retried l.port.phase ≡ None) → (link : LinkEnd) → slice_get s.links n ≡ Some link → r ≡ false →
       retried link.port.phase ≡ None
   no_retry r h link found e = ap (λ (k : LinkEnd). retried k.port.phase) (sym (same_link link found)) ∙ h e
+
+-- one begins
+pub begun_made : (items : List LinkEnd) (confirms : List EndConfirm) (s : KeptLinks) → record { links = items; confirms = confirms } ≡ s →
+    (link : LinkEnd) → is_live link.port.phase ≡ true →
+    live_of (record { links = items ++ link ∷ []; confirms = confirms }) ≡ begun link (live_of s)
+begun_made items confirms s is link live =
+    ap (λ (all : List LinkEnd). record { links = all; confirms = confirms }) (filter_push lives items link live)
+    ∙ ap (λ (t : KeptLinks). begun link (live_of t)) is
 
 pub map_ok : {A E P Q : Type 0} (r : Result A E) → (P → Q) → OnOk r P → OnOk r Q
 map_ok (Ok x) f h = f h
 map_ok (Err e) f h = h
 
 -- one of them sent this
-module _ {E : Type 0} (s : KeptLinks) (place : ℕ) (turn : Turn) (r : Result (Unit {0}) E) (after : KeptLinks) where
-  sent_there : (o : Option LinkEnd) → slice_get s.links place ≡ o → place < length s.links → (n : LinkChoice) → OfLink place turn ≡ n →
-      ((link : LinkEnd) → slice_get s.links place ≡ Some link → OnOk r (after ≡ changed place (turn_sent turn link) s)) →
-      OnOk r (after ≡ after_sent n s)
-  sent_there (Some link) at h n is made =
-      map_ok r (λ (e : after ≡ changed place (turn_sent turn link) s). e ∙ ap (λ (o : Option LinkEnd). sent_at place o turn s) (sym at) ∙
-      ap (λ (m : LinkChoice). after_sent m s) is)
-      (made link at)
-  sent_there None at h n is made = absurd (omega (arith, h, behind_all s.links place at))
+module _ (s : KeptLinks) (n : ℕ) (turn : Turn) (chosen : link_choice s.confirms s.links ≡ Some (OfLink n turn)) where
+  pub sent_within : n < length s.links
+  sent_within = let stands = chosen_stands s.confirms s.links n turn chosen in within s.links n stands.0 stands.1
+    where
+      within : (xs : List LinkEnd) (k : ℕ) (x : LinkEnd) → slice_get xs k ≡ Some x → k < length xs
+      within [] k x e = absurd cc
+      within (y ∷ xs) zero x e = omega arith
+      within (y ∷ xs) (suc k) x e = let later = within xs k x e in omega (arith, later)
 
-  pub sent_made : place < length s.links → (n : LinkChoice) → OfLink place turn ≡ n →
-      ((link : LinkEnd) → slice_get s.links place ≡ Some link → OnOk r (after ≡ changed place (turn_sent turn link) s)) →
-      OnOk r (after ≡ after_sent n s)
-  sent_made h n is made = sent_there (slice_get s.links place) refl h n is made
+  module _ {E : Type 0} (ended : (k : ℕ) (link : LinkEnd) (t : Turn) → slice_get s.links k ≡ Some link →
+      turn_of link ≡ Some t → is_live link.port.phase ≡ true) (r : Result (Unit {0}) E) (after : KeptLinks) where
+    pub sent_made : ((link : LinkEnd) → slice_get s.links n ≡ Some link →
+        OnOk r (after ≡ changed (place_among n s.links) (turn_sent turn link) (live_of s))) →
+        OnOk r (after ≡ after_sent (among_live s.links (OfLink n turn)) (live_of s))
+    sent_made made =
+        let stands = chosen_stands s.confirms s.links n turn chosen in
+        let live = ended n stands.0 turn stands.1 stands.2 in
+        map_ok r (λ (e : after ≡ changed (place_among n s.links) (turn_sent turn stands.0) (live_of s)). e ∙ sym (
+        ap (λ (o : Option LinkEnd). sent_at (place_among n s.links) o turn (live_of s))
+        (ap (slice_get (live_ends s.links)) (place_same n s.links) ∙ filter_get lives s.links n stands.0 stands.1 live)
+        )) (made stands.0 stands.1)

@@ -1,106 +1,107 @@
--- A search among the links, one after the other, and what is found.
-use Rattle.std.proofs.Common.{◌≡◌, ℕ, suc, zero, ◌+◌, ◌≤◌, Bool, true, false, cond, Option, Some, None, List, [], ◌∷◌, length, drop, refl, sym, ap}
-use Rattle.std.proofs.Common.{◌∙◌, add-one}
-use Rattle.std.specs.Prelude.{slice_get}
-use Rattle.std.specs.List.{position_from}
-use Rattle.std.proofs.lemmas.Iterator.Adapters.{position_from-zero}
-use Rattle.std.proofs.Math.ListN.{drop_of_length-le}
+-- What is found among all links is found among those that live, at its place there.
+use Rattle.std.proofs.Common.{◌≡◌, ℕ, zero, suc, Bool, true, false, cond, Option, Some, None, option_map, List, [], ◌∷◌, refl, sym, ap, ◌∙◌}
+use Rattle.std.specs.Prelude.{slice_get, position, IfSome}
+use Rattle.std.proofs.lemmas.Bool.{and_parts}
+use Rattle.std.proofs.lemmas.Option.{same_Some}
+use Rattle.dna_links.specs.declared.port.Port.{Port}
 use Rattle.dna_links.specs.declared.port.LinkTest.{LinkTest}
-use Rattle.dna_links.specs.LookUps.{passes}
-use Rattle.dna_play.specs.LinkOwed.{Turn}
-use Rattle.dna_play.specs.NextSent.{LinkEnd, OfLink, turn_or_next, first_turn}
-use Rattle.dna_play.specs.Kept.{KeptLinks}
+use Rattle.dna_links.specs.declared.port.LinkTest.TheVariants.{HasAddress, LiveAt, TheLink, LiveTo, OpenedAt, CallingAt, CalledBy, BegunBy, ActedOn}
+use Rattle.dna_links.specs.LookUps.{passes, is_live, is_at}
+use Rattle.dna_play.specs.NextSent.{LinkEnd, LinkChoice, Confirms, OfLink}
+use Rattle.dna_play.specs.Kept.{KeptLinks, live_ends}
 use Rattle.dna_play.specs.KeptLinks.{place_of, at_place, on_end, with_end}
-use Rattle.player_end.specs.inner.Links.{passes_there, turn_there}
+use Rattle.dna_play.proofs.Stored.LiveLists.{place_in, filter_get, position_filter, position_here, position_later}
+use Rattle.dna_play.proofs.Stored.LiveLinks.{live_at_lives, the_link_lives, live_to_lives, calling_at_lives, called_by_lives, acted_on_lives}
+use Rattle.dna_play.proofs.Stored.Choices as choices
+use Rattle.player_end.specs.inner.Index.{live_of, place_among, among_live, needs_life}
+use Rattle.player_end.specs.inner.Links.{passes_there}
 
--- what is left of a search, from this place on
-abbrev pub rest_from : LinkTest → ℕ → List LinkEnd → Option ℕ
-rest_from test place links = position_from (λ (l : LinkEnd). passes test l.port) place links
+abbrev pub lives : LinkEnd → Bool
+lives l = is_live l.port.phase
 
-opened_on : (i : ℕ) (links : List LinkEnd) (link : LinkEnd) → slice_get links i ≡ Some link → drop i links ≡ link ∷ drop (suc i) links
-opened_on zero [] link e = absurd cc
-opened_on zero (l ∷ links) link e = cc
-opened_on (suc i) [] link e = absurd cc
-opened_on (suc i) (l ∷ links) link e = opened_on i links link e
+-- the place among those that live, as the laws of the player count it
+pub place_same : (n : ℕ) (links : List LinkEnd) → place_among n links ≡ place_in lives n links
+place_same zero links = refl
+place_same (suc n) [] = refl
+place_same (suc n) (link ∷ links) = ap (λ (k : ℕ). cond (lives link) (suc k) k) (place_same n links)
 
-opened : (i : ℕ) (links : List LinkEnd) (link : LinkEnd) → slice_get links i ≡ Some link → drop i links ≡ link ∷ drop (i + 1) links
-opened i links link e = opened_on i links link e ∙ ap (λ (n : ℕ). link ∷ drop n links) (sym (add-one i))
+pub among_same : (links : List LinkEnd) (c : LinkChoice) → among_live links c ≡ choices.among_live links c
+among_same links (Confirms confirm) = refl
+among_same links (OfLink n turn) = ap (λ (k : ℕ). OfLink k turn) (place_same n links)
 
--- behind all links
-none_there : (i : ℕ) (links : List LinkEnd) → slice_get links i ≡ None → drop i links ≡ []
-none_there zero [] e = refl
-none_there zero (l ∷ links) e = absurd cc
-none_there (suc i) [] e = refl
-none_there (suc i) (l ∷ links) e = none_there i links e
+pub among_chosen : (links : List LinkEnd) (o : Option LinkChoice) → option_map (among_live links) o ≡ option_map (choices.among_live links) o
+among_chosen links None = refl
+among_chosen links (Some c) = ap Some (among_same links c)
 
-none_on : (i : ℕ) (links : List LinkEnd) → slice_get links i ≡ None → drop (suc i) links ≡ []
-none_on zero [] e = refl
-none_on zero (l ∷ links) e = absurd cc
-none_on (suc i) [] e = refl
-none_on (suc i) (l ∷ links) e = none_on i links e
+-- ---- tests that no ended link passes
 
-none_behind : (i : ℕ) (links : List LinkEnd) → slice_get links i ≡ None → drop (i + 1) links ≡ []
-none_behind i links e = ap (λ (n : ℕ). drop n links) (add-one i) ∙ none_on i links e
+pub test_lives : (test : LinkTest) → needs_life test ≡ true → (port : Port) → passes test port ≡ true → is_live port.phase ≡ true
+test_lives (HasAddress own) needs port e = absurd cc
+test_lives (LiveAt own) needs port e = live_at_lives own port e
+test_lives (TheLink own far) needs port e = the_link_lives own far port e
+test_lives (LiveTo far) needs port e = live_to_lives far port e
+test_lives (OpenedAt own) needs port e = (and_parts (is_live port.phase) _ e).0
+test_lives (CallingAt own) needs port e = calling_at_lives own port e
+test_lives (CalledBy far) needs port e = called_by_lives far port e
+test_lives (BegunBy far) needs port e = (and_parts (is_live port.phase) _ e).0
+test_lives (ActedOn own far) needs port e = acted_on_lives own far port e
 
--- ---- by a test
+pub passed_lives : (test : LinkTest) → needs_life test ≡ true → (o : Option LinkEnd) → passes_there test o ≡ true →
+    (link : LinkEnd) → o ≡ Some link → is_live link.port.phase ≡ true
+passed_lives test needs (Some l) e link is =
+    test_lives test needs link.port (ap (λ (k : LinkEnd). passes test k.port) (sym (same_Some l link is)) ∙ e)
+passed_lives test needs None e link is = absurd cc
 
-pub search_begins : (test : LinkTest) (links : List LinkEnd) → place_of test links ≡ rest_from test 0 links
-search_begins test links = position_from-zero (λ (l : LinkEnd). passes test l.port) links
-
-module _ (test : LinkTest) (i : ℕ) (links : List LinkEnd) where
-  search_by : (o : Option LinkEnd) → slice_get links i ≡ o → (b : Bool) → passes_there test o ≡ b →
-      rest_from test i (drop i links) ≡ cond b (Some i) (rest_from test (i + 1) (drop (i + 1) links))
-  search_by (Some link) is b e =
-      ap (rest_from test i) (opened i links link is)
-      ∙ ap (λ (c : Bool). cond c (Some i) (rest_from test (i + 1) (drop (i + 1) links))) e
-  search_by None is true e = absurd cc
-  search_by None is false e = ap (rest_from test i) (none_there i links is) ∙ sym (ap (rest_from test (i + 1)) (none_behind i links is))
-
-  pub search_hits : passes_there test (slice_get links i) ≡ true → rest_from test i (drop i links) ≡ Some i
-  search_hits e = search_by (slice_get links i) refl true e
-
-  pub search_goes_on : passes_there test (slice_get links i) ≡ false → rest_from test i (drop i links) ≡ rest_from test (i + 1) (drop (i + 1) links)
-  search_goes_on e = search_by (slice_get links i) refl false e
-
-  pub search_ends : length links ≤ i → rest_from test i (drop i links) ≡ None
-  search_ends h = ap (rest_from test i) (drop_of_length-le links h)
-
--- ---- by what a link has to send
-
-module _ (i : ℕ) (links : List LinkEnd) where
-  turn_by : (l : Option LinkEnd) → slice_get links i ≡ l → (o : Option Turn) → o ≡ turn_there l →
-      first_turn i (drop i links) ≡ turn_or_next i o (first_turn (i + 1) (drop (i + 1) links))
-  turn_by (Some link) is o e =
-      ap (first_turn i) (opened i links link is)
-      ∙ ap (λ (t : Option Turn). turn_or_next i t (first_turn (i + 1) (drop (i + 1) links))) (sym e)
-  turn_by None is (Some turn) e = absurd cc
-  turn_by None is None e = ap (first_turn i) (none_there i links is) ∙ sym (ap (first_turn (i + 1)) (none_behind i links is))
-
-  pub turn_hits : (turn : Turn) → ◌≡◌ {A = Option Turn} (Some turn) (turn_there (slice_get links i)) →
-      first_turn i (drop i links) ≡ Some (OfLink i turn)
-  turn_hits turn e = turn_by (slice_get links i) refl (Some turn) e
-
-  pub turn_goes_on : ◌≡◌ {A = Option Turn} None (turn_there (slice_get links i)) → first_turn i (drop i links) ≡ first_turn (i + 1)
-      (drop (i + 1) links)
-  turn_goes_on e = turn_by (slice_get links i) refl None e
-
-  pub turns_end : length links ≤ i → first_turn i (drop i links) ≡ None
-  turns_end h = ap (first_turn i) (drop_of_length-le links h)
+pub found_lives : (test : LinkTest) → needs_life test ≡ true → (links : List LinkEnd) (r : Option ℕ) →
+    IfSome r (λ n. passes_there test (slice_get links n) ≡ true) →
+    IfSome r (λ n. (link : LinkEnd) → slice_get links n ≡ Some link → is_live link.port.phase ≡ true)
+found_lives test needs links (Some n) e = passed_lives test needs (slice_get links n) e
+found_lives test needs links None e = e
 
 -- ---- what is found
 
-at_none : {R : Type 0} (links : List LinkEnd) (o : Option ℕ) (otherwise : R) (next : ℕ → LinkEnd → R) → o ≡ None →
-    at_place links o otherwise next ≡ otherwise
-at_none links o otherwise next e = ap (λ (p : Option ℕ). at_place links p otherwise next) e
+module _ (test : LinkTest) (s : KeptLinks) (needs : needs_life test ≡ true) where
+  place_live : place_of test (live_ends s.links) ≡ option_map (λ (n : ℕ). place_in lives n s.links) (place_of test s.links)
+  place_live = position_filter lives (λ (l : LinkEnd). passes test l.port) (λ l e. test_lives test needs l.port e) s.links
 
-pub with_none : {R : Type 0} (test : LinkTest) (s : KeptLinks) (otherwise : R) (next : ℕ → LinkEnd → R) → place_of test s.links ≡ None →
-    with_end test s otherwise next ≡ otherwise
-with_none test s otherwise next e = at_none s.links (place_of test s.links) otherwise next e
+pub with_none : {R : Type 0} (test : LinkTest) (s : KeptLinks) (otherwise : R) (next : ℕ → LinkEnd → R) → needs_life test ≡ true →
+    place_of test s.links ≡ None → with_end test (live_of s) otherwise next ≡ otherwise
+with_none test s otherwise next needs e =
+    ap (λ (p : Option ℕ). at_place (live_ends s.links) p otherwise next)
+    (place_live test s needs ∙ ap (option_map (λ (n : ℕ). place_in lives n s.links)) e)
 
-pub with_found : {R : Type 0} (test : LinkTest) (s : KeptLinks) (otherwise : R) (next : ℕ → LinkEnd → R) (place : ℕ) (link : LinkEnd) →
-    place_of test s.links ≡ Some place → slice_get s.links place ≡ Some link → with_end test s otherwise next ≡ next place link
-with_found test s otherwise next place link e is =
-    ap (λ (p : Option ℕ). at_place s.links p otherwise next) e
-    ∙ ap (λ (o : Option LinkEnd). on_end place o otherwise next) is
+pub with_found : {R : Type 0} (test : LinkTest) (s : KeptLinks) (otherwise : R) (next : ℕ → LinkEnd → R) (n : ℕ) (link : LinkEnd) →
+    needs_life test ≡ true → place_of test s.links ≡ Some n → slice_get s.links n ≡ Some link → is_live link.port.phase ≡ true →
+    with_end test (live_of s) otherwise next ≡ next (place_among n s.links) link
+with_found test s otherwise next n link needs e at live =
+    ap (λ (p : Option ℕ). at_place (live_ends s.links) p otherwise next)
+    (place_live test s needs ∙ ap (option_map (λ (k : ℕ). place_in lives k s.links)) e)
+    ∙ ap (λ (o : Option LinkEnd). on_end (place_in lives n s.links) o otherwise next) (filter_get lives s.links n link at live)
+    ∙ ap (λ (k : ℕ). next k link) (sym (place_same n s.links))
 
-pub ruleset found_ends = (with_none, with_found)
+-- what is found passes
+passed_by : {X : Type 0} (p : X → Bool) (y : X) (ys : List X) (n : ℕ) (x : X) →
+    ((m : ℕ) → position p ys ≡ Some m → slice_get ys m ≡ Some x → p x ≡ true) → (b : Bool) → p y ≡ b →
+    position p (y ∷ ys) ≡ Some n → slice_get (y ∷ ys) n ≡ Some x → p x ≡ true
+passed_by p y ys n x later true e found at =
+    let zero_is : 0 ≡ n = same_Some 0 n (sym (position_here p y ys e) ∙ found) in
+    let here : slice_get (y ∷ ys) 0 ≡ Some x = ap (slice_get (y ∷ ys)) zero_is ∙ at in
+    ap p (sym (same_Some y x here)) ∙ e
+passed_by p y ys n x later false e found at = go (position p ys) refl (sym (position_later p y ys e) ∙ found)
+  where
+    go : (o : Option ℕ) → position p ys ≡ o → option_map suc o ≡ Some n → p x ≡ true
+    go None is h = absurd cc
+    go (Some m) is h = later m is (ap (slice_get (y ∷ ys)) (same_Some (suc m) n h) ∙ at)
+
+position_passes : {X : Type 0} (p : X → Bool) (xs : List X) (n : ℕ) (x : X) → position p xs ≡ Some n → slice_get xs n ≡ Some x → p x ≡ true
+position_passes p [] n x found at = absurd cc
+position_passes p (y ∷ ys) n x found at = passed_by p y ys n x (λ m. position_passes p ys m x) (p y) refl found at
+
+pub with_passed : {R : Type 0} (test : LinkTest) (s : KeptLinks) (otherwise : R) (next : ℕ → LinkEnd → R) (n : ℕ) (link : LinkEnd) →
+    needs_life test ≡ true → place_of test s.links ≡ Some n → slice_get s.links n ≡ Some link →
+    with_end test (live_of s) otherwise next ≡ next (place_among n s.links) link
+with_passed test s otherwise next n link needs e at =
+    with_found test s otherwise next n link needs e at
+    (test_lives test needs link.port (position_passes (λ (l : LinkEnd). passes test l.port) s.links n link e at))
+
+pub ruleset found_ends = (with_none, with_passed)

@@ -16,8 +16,8 @@ pub struct EndConfirm {
 pub enum LinkChoice {
     /// The oldest DC that is owed.
     Confirms(EndConfirm),
-    /// Of the live link at this place, counted from 0.
-    OfLink { place: usize, turn: Turn },
+    /// Of the link with this number: as many links began before it.
+    OfLink { number: usize, turn: Turn },
 }
 
 /// The next unit.

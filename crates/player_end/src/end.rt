@@ -39,10 +39,11 @@ pub struct End<W: Window<HeldPacket, 256> + Drop, V: Window<GivenPiece, 4096> + 
 
 impl<W: Window<HeldPacket, 256> + Drop, V: Window<GivenPiece, 4096> + Drop> Model for End<W, V> {
     ghost use Rattle.dna_play.specs.Kept.{KeptEnd};
+    ghost use Rattle.player_end.specs.inner.Index.{live_of};
 
     ghost Value = { KeptEnd };
 
-    ghost view = { λ e. record { head = e.head; station = e.station; links = e.links; addresses = e.addresses; passed = e.passed } };
+    ghost view = { λ e. record { head = e.head; station = e.station; links = live_of e.links; addresses = e.addresses; passed = e.passed } };
 }
 
 impl<W: Window<HeldPacket, 256> + Drop, V: Window<GivenPiece, 4096> + Drop> End<W, V> {

@@ -6,6 +6,7 @@
 //! Its tests are `pair_tests`' `one_end`: there they need no second proof of what stands here.
 #![tactic(auto)]
 
+mod addresses;
 mod choice;
 mod debt;
 mod end;
@@ -15,6 +16,7 @@ mod held_packet;
 mod link_end;
 mod link_ends;
 mod link_owed;
+mod marks;
 mod owed;
 mod owed_confirm;
 mod station_end;

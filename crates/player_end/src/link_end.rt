@@ -3,7 +3,7 @@
 ghost use Rattle.std.specs.Prelude.{◌≡◌, true, false, Some, None, OnOk, OnErr};
 ghost use Rattle.dna_play.specs.LinkOwed as model;
 ghost use Rattle.dna_play.specs.KeptLinks as kept;
-ghost use Rattle.player_end.specs.inner.Links.{retried_end};
+ghost use Rattle.player_end.specs.inner.Links.{gone, retried_end};
 ghost use Rattle.player_end.specs.inner.Owing.{turn_view};
 
 mod acting;
@@ -93,6 +93,25 @@ impl<V: Window<GivenPiece, 4096> + Drop> LinkEnd<V> {
             received: Seq::of(0),
             pieces: Received::new(alloc),
             owed,
+        }
+    }
+
+    /// One that has ended: no look-up finds it, and it has nothing to send. Takes no memory.
+    pub fn gone(alloc: Global) -> Self
+        ensures { result ≡ gone }
+    {
+        LinkEnd {
+            port: Port {
+                phase: Phase::Ended,
+                opened: false,
+                own: None,
+                far: None,
+            },
+            unsent: Unsent::new(alloc),
+            outstanding: Outstanding::new(),
+            received: Seq::of(0),
+            pieces: Received::new(alloc),
+            owed: LinkOwed::nothing(),
         }
     }
 

@@ -1,40 +1,54 @@
 //! The links of an end.
 
-ghost use Rattle.std.specs.Prelude.{◌≡◌, ◌<◌, length, slice_get, option_copied, OnOk, OnErr, IfSome};
+ghost use Rattle.std.specs.Prelude.{◌≡◌, ◌<◌, ℕ, Some, true, length, slice_get, option_copied, OnOk, OnErr, IfSome};
+ghost use Rattle.dna_links.specs.LookUps.{is_live};
+ghost use Rattle.dna_play.specs.NextSent.{LinkEnd as KeptLink};
 ghost use Rattle.dna_play.specs.Kept.{no_kept_links};
 ghost use Rattle.dna_play.specs.KeptLinks.{place_of};
 ghost use Rattle.dna_play.specs.KeptLinks as kept;
-ghost use Rattle.player_end.specs.inner.Links.{passes_there};
+ghost use Rattle.player_end.specs.inner.Addresses.{has};
+ghost use Rattle.player_end.specs.inner.Index.{LivesAt, far_asked, live_of, needs_life, own_asked, place_among};
 
 mod arriving;
 mod composing;
+mod finding;
 mod user;
 
+use crate::addresses::Addresses;
 use crate::given_piece::GivenPiece;
 use crate::link_end::LinkEnd;
+use crate::marks::Marks;
 use crate::owed_confirm::OwedConfirm;
-use dna_links::LinkTest;
-use link_segments::passes;
+use dna_links::{LinkTest, Port};
+use finding::first_in;
 use std::alloc::{AllocError, Global};
 use std::collections::VecDeque;
 use std::marker::Model;
 use wire_base::Window;
 
-/// The links of an end that live, in the order in which they began, and the DCs that it owes, the oldest first. A link that ends is let
-/// go, so that no call looks at one which ended.
+/// The links of an end, and the DCs that it owes, the oldest first. Each link that ever began stays at its number, the count of those that
+/// began before it; one that ends gives its memory back, and no call looks at it again. A contract sees all of them, and by `live_of` those
+/// that live.
 #[derive(Drop)]
 pub struct LinkEnds<V: Window<GivenPiece, 4096> + Drop> {
     links: Vec<LinkEnd<V>>,
+    owns: Addresses,
+    fars: Addresses,
+    marks: Marks,
     confirms: VecDeque<OwedConfirm>,
     alloc: Global,
 }
 
 impl<V: Window<GivenPiece, 4096> + Drop> Model for LinkEnds<V> {
     ghost use Rattle.dna_play.specs.Kept.{KeptLinks};
+    ghost use Rattle.player_end.specs.inner.Addresses.{has};
+    ghost use Rattle.player_end.specs.inner.Index.{IsIndexed};
 
     ghost Value = { KeptLinks };
 
     ghost view = { λ l. record { links = l.links.items; confirms = l.confirms.items } };
+
+    ghost invariant = { λ l. IsIndexed l.links.items (has l.owns.pairs) (has l.fars.pairs) l.marks.marks.items };
 }
 
 impl<V: Window<GivenPiece, 4096> + Drop> LinkEnds<V> {
@@ -44,64 +58,121 @@ impl<V: Window<GivenPiece, 4096> + Drop> LinkEnds<V> {
     {
         LinkEnds {
             links: Vec::new(alloc),
+            owns: Addresses::new(alloc),
+            fars: Addresses::new(alloc),
+            marks: Marks::new(alloc),
             confirms: VecDeque::new(alloc),
             alloc,
         }
     }
 
-    /// The place of the first link that passes, counted from 0.
+    /// The number of the first link that passes a test which no link passes that has ended.
     pub fn find(&self, test: LinkTest) -> Option<usize>
-        ensures place { result ≡ place_of test self.now.links }
-        ensures within { IfSome result (λ place. place < length self.now.links) }
+        requires { needs_life test ≡ true }
+        ensures number { result ≡ place_of test self.now.links }
+        ensures within { IfSome result (λ number. number < length self.now.links) }
+        ensures lives { IfSome result (λ number. LivesAt number self.now) }
     {
-        for place in 0..self.len() {
-            if self.passes_at(test, place) {
-                return Some(place);
-            }
-        }
-        None
-    }
-
-    // Whether there is a link at this place that passes.
-    fn passes_at(&self, test: LinkTest, place: usize) -> bool
-        ensures { result ≡ passes_there test (slice_get self.now.links place) }
-    {
-        match self.link(place) {
-            Some(link) => passes(test, link.port()),
-            None => false,
+        match test {
+            LinkTest::HasAddress { own } => self.find_by_own(test, own),
+            LinkTest::LiveAt { own } => self.find_by_own(test, own),
+            LinkTest::TheLink { own, .. } => self.find_by_own(test, own),
+            LinkTest::OpenedAt { own } => self.find_by_own(test, own),
+            LinkTest::CallingAt { own } => self.find_by_own(test, own),
+            LinkTest::ActedOn { own, .. } => self.find_by_own(test, own),
+            LinkTest::LiveTo { far } => self.find_by_far(test, far),
+            LinkTest::CalledBy { far } => self.find_by_far(test, far),
+            LinkTest::BegunBy { far } => self.find_by_far(test, far),
         }
     }
 
-    // How many there are.
-    fn len(&self) -> usize
-        ensures { result ≡ length self.now.links }
+    // The same, of a test that asks for this own address.
+    fn find_by_own(&self, test: LinkTest, own: u16) -> Option<usize>
+        requires needs { needs_life test ≡ true }
+        requires asks { own_asked test ≡ Some own }
+        ensures number { result ≡ place_of test self.now.links }
+        ensures within { IfSome result (λ number. number < length self.now.links) }
+        ensures lives { IfSome result (λ number. LivesAt number self.now) }
     {
-        self.links.len()
+        first_in(&self.links, &self.owns, own, test)
     }
 
-    /// The link at this place.
-    pub fn link(&self, place: usize) -> Option<&LinkEnd<V>>
-        ensures { option_copied result ≡ slice_get self.now.links place }
+    // The same, of a test that asks for this far address.
+    fn find_by_far(&self, test: LinkTest, far: u16) -> Option<usize>
+        requires needs { needs_life test ≡ true }
+        requires asks { far_asked test ≡ Some far }
+        ensures number { result ≡ place_of test self.now.links }
+        ensures within { IfSome result (λ number. number < length self.now.links) }
+        ensures lives { IfSome result (λ number. LivesAt number self.now) }
     {
-        self.links.get(place)
+        first_in(&self.links, &self.fars, far, test)
     }
 
-    // A link begins. Where memory is refused, nothing changes.
+    /// The link with this number.
+    pub fn link(&self, number: usize) -> Option<&LinkEnd<V>>
+        ensures { option_copied result ≡ slice_get self.now.links number }
+    {
+        self.links.get(number)
+    }
+
+    // A link begins, and may have something to send. Where memory is refused, nothing changes.
     fn begin(&mut self, link: LinkEnd<V>) -> Result<(), AllocError>
-        ensures ok { OnOk result (self.new ≡ kept.begun link self.old) }
+        requires { is_live link.port.phase ≡ true }
+        ensures ok { OnOk result (live_of self.new ≡ kept.begun link (live_of self.old)) }
         ensures err { OnErr result (self.new ≡ self.old) }
     {
-        match self.links.push(link) {
-            Ok(()) => Ok(()),
-            Err(_) => Err(AllocError),
-        }
+        self.marks.reserve()?;
+        let number = self.links.len();
+        know(&mut self.owns, &mut self.fars, link.port(), number)?;
+        let Ok(()) = self.links.push(link) else {
+            return Err(AllocError);
+        };
+        self.marks.begin();
+        Ok(())
     }
 
-    // The link at this place ends: it is let go.
-    fn end_at(&mut self, place: usize)
-        requires { place < length self.old.links }
-        ensures { self.new ≡ kept.ended place self.old }
+    // The link with this number ends, and gives its memory back.
+    fn end_at(&mut self, number: usize)
+        requires within { number < length self.old.links }
+        requires lives { LivesAt number self.old }
+        ensures { live_of self.new ≡ kept.ended (place_among number self.old.links) (live_of self.old) }
     {
-        self.links.remove(place);
+        let port = self.links[number].port();
+        self.links[number] = LinkEnd::gone(self.alloc);
+        forget(&mut self.owns, &mut self.fars, port, number);
+    }
+}
+
+// The addresses of a link are known beside its number. Where memory is refused, those that were known are.
+fn know(
+    owns: &mut Addresses,
+    fars: &mut Addresses,
+    port: Port,
+    number: usize,
+) -> Result<(), AllocError>
+    ensures own { (q : ℕ) → port.own ≡ Some q → OnOk result (has owns.new.pairs q number ≡ true) }
+    ensures far { (q : ℕ) → port.far ≡ Some q → OnOk result (has fars.new.pairs q number ≡ true) }
+    ensures owns { (q other : ℕ) → has owns.old.pairs q other ≡ true → has owns.new.pairs q other ≡ true }
+    ensures fars { (q other : ℕ) → has fars.old.pairs q other ≡ true → has fars.new.pairs q other ≡ true }
+{
+    if let Some(own) = port.own {
+        owns.insert(own, number)?;
+    }
+    if let Some(far) = port.far {
+        fars.insert(far, number)?;
+    }
+    Ok(())
+}
+
+// The addresses of a link that ends are known no more; those of all others are.
+fn forget(owns: &mut Addresses, fars: &mut Addresses, port: Port, number: usize)
+    ensures owns { (q other : ℕ) → (other ≡ number → ⊥) → has owns.old.pairs q other ≡ true → has owns.new.pairs q other ≡ true }
+    ensures fars { (q other : ℕ) → (other ≡ number → ⊥) → has fars.old.pairs q other ≡ true → has fars.new.pairs q other ≡ true }
+{
+    if let Some(own) = port.own {
+        owns.remove(own, number);
+    }
+    if let Some(far) = port.far {
+        fars.remove(far, number);
     }
 }

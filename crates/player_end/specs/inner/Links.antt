@@ -5,16 +5,21 @@ use Rattle.dna_links.specs.declared.port.LinkTest.{LinkTest}
 use Rattle.dna_links.specs.LookUps.{passes}
 use Rattle.dna_links.specs.Flow.{distance}
 use Rattle.dna_links.specs.WireFlow.{LinkVariables, acknowledged_by_all}
-use Rattle.dna_play.specs.LinkOwed.{LinkOwed, Turn, lowered, retried}
+use Rattle.dna_links.specs.declared.port.Phase.TheVariants.{Ended}
+use Rattle.dna_play.specs.LinkOwed.{LinkOwed, Turn, lowered, nothing, retried}
 use Rattle.dna_play.specs.NextSent.{LinkEnd, turn_of}
 use Rattle.dna_play.specs.Kept.{KeptLinks}
-use Rattle.dna_play.specs.KeptLinks.{changed}
+use Rattle.dna_play.specs.KeptLinks.{changed, no_segments}
 
 -- ---- one link
 
 abbrev pub with_change : Option (LinkOwed → LinkOwed) → LinkEnd → Option LinkEnd
 with_change None link = None
 with_change (Some change) link = Some (record link { owed = change link.owed })
+
+-- what stays at the number of one that has ended
+abbrev pub gone : LinkEnd
+gone = record { port = record { phase = Ended; opened = false; own = None; far = None }; variables = no_segments; owed = nothing }
 
 -- its timer runs out, if it can
 abbrev pub retried_end : LinkEnd → Option LinkEnd

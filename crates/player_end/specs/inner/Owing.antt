@@ -33,7 +33,7 @@ confirm_view confirm = record { dst = confirm.dst; src = confirm.src; reason = c
 
 abbrev pub link_choice_view : LinkChoice → next.LinkChoice
 link_choice_view (link_choices.Confirms confirm) = next.Confirms (confirm_view confirm)
-link_choice_view (link_choices.OfLink place turn) = next.OfLink place (turn_view turn)
+link_choice_view (link_choices.OfLink number turn) = next.OfLink number (turn_view turn)
 
 abbrev pub choice_view : Choice → next.Choice
 choice_view choices.Strt = next.SendStrt

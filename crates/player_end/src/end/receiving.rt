@@ -12,6 +12,7 @@ ghost use Rattle.dna_node.specs.Content as contents;
 ghost use Rattle.dna_play.specs.KeptPlay as steps;
 ghost use Rattle.dna_play.specs.Receipt as receipts;
 ghost use Rattle.player_end.specs.inner.Delivering.{arrives_as};
+ghost use Rattle.player_end.specs.inner.Index.{live_of};
 ghost use Rattle.player_end.specs.Stepping.{StopMeans, Stopped, with_lines};
 
 use super::End;
@@ -52,7 +53,8 @@ impl<W: Window<HeldPacket, 256> + Drop, V: Window<GivenPiece, 4096> + Drop> End<
     /// These bytes come, which nobody sent; no unit is off the line. `BadStep`: no block check shows that they are damaged, or they are too
     /// long for a line of a capture.
     pub fn hear(&mut self, bytes: &[u8], text: &mut Vec<u8>) -> Result<(), StepFault>
-        ensures ok { OnOk result (with_lines text.old.items (steps.hears self.old bytes.now (reading bytes.now)) ≡ Ok (self.new, [], text.new.items)) }
+        ensures ok { OnOk result (with_lines text.old.items (steps.hears self.old bytes.now (reading bytes.now)) ≡ Ok
+            (self.new, [], text.new.items)) }
         ensures stop { IfErr result (λ fault. StopMeans (steps.hears self.old bytes.now (reading bytes.now)) fault) }
         ensures memory { result ≡ Err StepFault.OutOfMemory → IsOk (steps.hears self.old bytes.now (reading bytes.now)) }
     {
@@ -74,7 +76,8 @@ impl<W: Window<HeldPacket, 256> + Drop, V: Window<GivenPiece, 4096> + Drop> End<
         text: &mut Vec<u8>,
     ) -> Result<(), StepFault>
         requires { length bytes.now ≤ MAX_MESSAGE }
-        ensures ok { OnOk result (with_lines text.old.items (steps.heard self.old bytes.now (reading_view read.now)) ≡ Ok (self.new, [], text.new.items)) }
+        ensures ok { OnOk result (with_lines text.old.items (steps.heard self.old bytes.now (reading_view read.now)) ≡ Ok
+            (self.new, [], text.new.items)) }
         ensures err { IfErr result (λ fault. fault ≡ StepFault.OutOfMemory) }
     {
         put(text, Entry::Noise, bytes)?;
@@ -91,8 +94,9 @@ fn take<V: Window<GivenPiece, 4096> + Drop>(
     text: &mut Vec<u8>,
 ) -> Result<(), StepFault>
     requires { IfSome message (λ message. nsp.IsInRange (nsp.view message)) }
-    ensures ok { OnOk result (arrives_as (option_map nsp.view message.entry) text.old.items links.old ≡ Some (links.new, text.new.items)) }
-    ensures stop { IfErr result (λ fault. Stopped (arrives_as (option_map nsp.view message.entry) text.old.items links.old) fault) }
+    ensures ok { OnOk result (arrives_as (option_map nsp.view message.entry) text.old.items (live_of links.old) ≡ Some
+        (live_of links.new, text.new.items)) }
+    ensures stop { IfErr result (λ fault. Stopped (arrives_as (option_map nsp.view message.entry) text.old.items (live_of links.old)) fault) }
 {
     match message {
         Some(message) => links.arrive(&message, text),

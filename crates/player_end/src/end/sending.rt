@@ -1,14 +1,15 @@
 //! What an end sends.
 
-ghost use Rattle.std.specs.Prelude.{◌≡◌, ◌<◌, ◌≤◌, [], ◌∷◌, true, false, Ok, Err, Some, length, IfOk, IfErr};
+ghost use Rattle.std.specs.Prelude.{◌≡◌, ◌<◌, ◌≤◌, ℕ, [], ◌∷◌, true, false, Ok, Err, Some, length, IfOk, IfErr};
 ghost use Rattle.capture.specs.declared.limit.TheConstants.{MAX_MESSAGE};
 ghost use Rattle.dna_packet.specs.Packet.{packet_bytes};
 ghost use Rattle.dna_packet.specs.Packet as packets;
 ghost use Rattle.dna_play.specs.KeptPlay as kept;
 ghost use Rattle.dna_station.specs.Table.{WINDOW};
 ghost use Rattle.dna_station.specs.WireBook.{wire_is_new};
-ghost use Rattle.dna_play.specs.NextSent.{SendNew, link_choice};
+ghost use Rattle.dna_play.specs.NextSent.{link_choice};
 ghost use Rattle.player_end.specs.inner.Composing.{is_new};
+ghost use Rattle.player_end.specs.inner.Sending.{end_with, sends_new};
 ghost use Rattle.player_end.specs.inner.Owing.{choice_view, link_choice_view};
 ghost use Rattle.player_end.specs.Stepping.{HasUnit, StopMeans, with_lines};
 
@@ -18,6 +19,8 @@ use crate::choice::{Choice, LinkChoice};
 use crate::fault::StepFault;
 use crate::given_piece::GivenPiece;
 use crate::held_packet::HeldPacket;
+use crate::link_ends::LinkEnds;
+use crate::station_end::StationEnd;
 use capture::Entry;
 use dna_packet::{Packet, write_packet};
 use dna_station::Head;
@@ -32,7 +35,7 @@ const FORWARD: u8 = 0;
 
 impl<W: Window<HeldPacket, 256> + Drop, V: Window<GivenPiece, 4096> + Drop> End<W, V> {
     /// Sends one unit, which is the answer. `BadStep`: it has none to send, for which no memory is asked.
-    #[tactic(auto, using(crate::proofs::Choosing::chosen_packets))]
+    #[tactic(auto, using(crate::proofs::Choosing::chosen_packets, crate::proofs::Sends::sent_live))]
     pub fn send(&mut self, text: &mut Vec<u8>) -> Result<Vec<u8>, StepFault>
         ensures ok { IfOk result (λ unit. with_lines text.old.items (kept.sends self.old) ≡ Ok (self.new, unit.items ∷ [], text.new.items)) }
         ensures short { IfOk result (λ unit. length unit.items ≤ MAX_MESSAGE) }
@@ -44,7 +47,14 @@ impl<W: Window<HeldPacket, 256> + Drop, V: Window<GivenPiece, 4096> + Drop> End<
             return Err(StepFault::BadStep);
         };
         match choice {
-            Choice::New(message) => self.send_new(message, text),
+            Choice::New(message) => send_new(
+                self.head,
+                &mut self.station,
+                &mut self.links,
+                self.alloc,
+                message,
+                text,
+            ),
             Choice::Strt
             | Choice::Stack
             | Choice::Nak(_)
@@ -74,41 +84,47 @@ impl<W: Window<HeldPacket, 256> + Drop, V: Window<GivenPiece, 4096> + Drop> End<
         self.station.sent(choice);
         Ok(unit)
     }
+}
 
-    // A new packet with a message of the links.
-    #[tactic(auto, using(crate::proofs::Sent::sent_news))]
-    fn send_new(&mut self, message: LinkChoice, text: &mut Vec<u8>) -> Result<Vec<u8>, StepFault>
-        requires next { link_choice self.old.links.confirms self.old.links.links ≡ Some (link_choice_view message) }
-        requires new { wire_is_new self.old.station.variables ≡ true }
-        requires room { length self.old.station.variables.held < WINDOW }
-        ensures ok { IfOk result (λ unit. with_lines text.old.items (kept.sends_choice self.old (Some (SendNew (link_choice_view message))))
-            ≡ Ok (self.new, unit.items ∷ [], text.new.items)) }
-        ensures short { IfOk result (λ unit. length unit.items ≤ MAX_MESSAGE) }
-        ensures stop { IfErr result (λ fault. StopMeans (kept.sends_choice self.old (Some (SendNew (link_choice_view message)))) fault) }
-    {
-        let alloc = self.alloc;
-        let head = self.head;
-        let Ok(nsp) = self.links.message(message) else {
-            return Err(StepFault::OutOfMemory);
-        };
-        let Some(nsp) = nsp else {
-            return Err(StepFault::BadStep);
-        };
-        let Ok(packet) = packet_with(alloc, head, nsp.as_slice()) else {
-            return Err(StepFault::OutOfMemory);
-        };
-        let Ok(unit) = self.station.unit_with(alloc, packet.as_slice()) else {
-            return Err(StepFault::OutOfMemory);
-        };
-        put(text, Entry::Sent, unit.as_slice())?;
-        let Ok(()) = self.links.sent(message) else {
-            return Err(StepFault::OutOfMemory);
-        };
-        let Ok(()) = self.station.sent_new(packet, message) else {
-            return Err(StepFault::OutOfMemory);
-        };
-        Ok(unit)
-    }
+// A new packet with a message of the links, of an end that has given as many addresses and passed as many units.
+#[tactic(auto, using(crate::proofs::Sent::sent_news))]
+fn send_new<W: Window<HeldPacket, 256> + Drop, V: Window<GivenPiece, 4096> + Drop>(
+    head: Head,
+    station: &mut StationEnd<W>,
+    links: &mut LinkEnds<V>,
+    alloc: Global,
+    message: LinkChoice,
+    text: &mut Vec<u8>,
+) -> Result<Vec<u8>, StepFault>
+    requires next { link_choice links.old.confirms links.old.links ≡ Some (link_choice_view message) }
+    requires new { wire_is_new station.old.variables ≡ true }
+    requires room { length station.old.variables.held < WINDOW }
+    ensures ok { (addresses passed : ℕ) → IfOk result (λ unit. with_lines text.old.items (sends_new head station.old links.old addresses passed
+        (link_choice_view message)) ≡ Ok (end_with head station.new links.new addresses passed, unit.items ∷ [], text.new.items)) }
+    ensures short { IfOk result (λ unit. length unit.items ≤ MAX_MESSAGE) }
+    ensures stop { (addresses passed : ℕ) → IfErr result (λ fault. StopMeans (sends_new head station.old links.old addresses passed
+        (link_choice_view message)) fault) }
+{
+    let Ok(nsp) = links.message(message) else {
+        return Err(StepFault::OutOfMemory);
+    };
+    let Some(nsp) = nsp else {
+        return Err(StepFault::BadStep);
+    };
+    let Ok(packet) = packet_with(alloc, head, nsp.as_slice()) else {
+        return Err(StepFault::OutOfMemory);
+    };
+    let Ok(unit) = station.unit_with(alloc, packet.as_slice()) else {
+        return Err(StepFault::OutOfMemory);
+    };
+    put(text, Entry::Sent, unit.as_slice())?;
+    let Ok(()) = links.sent(message) else {
+        return Err(StepFault::OutOfMemory);
+    };
+    let Ok(()) = station.sent_new(packet, message) else {
+        return Err(StepFault::OutOfMemory);
+    };
+    Ok(unit)
 }
 
 // The packet of a message of the links, from this node to the other.

@@ -97,18 +97,22 @@ impl<W: Window<HeldPacket, 256> + Drop, V: Window<GivenPiece, 4096> + Drop> End<
         ensures stop { IfErr result (λ fault. StopMeans (kept.accepts self.old partner) fault) }
         ensures memory { result ≡ Err StepFault.OutOfMemory → IsOk (kept.accepts self.old partner) }
     {
-        let Some(place) = self.links.find(LinkTest::CalledBy { far: partner }) else {
+        let Some(number) = self.links.find(LinkTest::CalledBy { far: partner }) else {
             return Err(StepFault::BadStep);
         };
-        let Some(_link) = self.links.link(place) else {
+        let Some(_link) = self.links.link(number) else {
             unreachable!();
         };
         let Some(link) = self.next_address() else {
             return Err(StepFault::Full);
         };
         put(text, Entry::Accept { partner, link }, &[])?;
-        self.links
-            .answer_at(place, Phase::Confirming, Turn::Confirm, link);
+        let Ok(()) = self
+            .links
+            .answer_at(number, Phase::Confirming, Turn::Confirm, link)
+        else {
+            return Err(StepFault::OutOfMemory);
+        };
         self.addresses = link;
         Ok(())
     }
@@ -121,18 +125,22 @@ impl<W: Window<HeldPacket, 256> + Drop, V: Window<GivenPiece, 4096> + Drop> End<
         ensures stop { IfErr result (λ fault. StopMeans (kept.rejects self.old partner) fault) }
         ensures memory { result ≡ Err StepFault.OutOfMemory → IsOk (kept.rejects self.old partner) }
     {
-        let Some(place) = self.links.find(LinkTest::CalledBy { far: partner }) else {
+        let Some(number) = self.links.find(LinkTest::CalledBy { far: partner }) else {
             return Err(StepFault::BadStep);
         };
-        let Some(_link) = self.links.link(place) else {
+        let Some(_link) = self.links.link(number) else {
             unreachable!();
         };
         let Some(link) = self.next_address() else {
             return Err(StepFault::Full);
         };
         put(text, Entry::Reject { partner, link }, &[])?;
-        self.links
-            .answer_at(place, Phase::Disconnecting, Turn::Disconnect, link);
+        let Ok(()) = self
+            .links
+            .answer_at(number, Phase::Disconnecting, Turn::Disconnect, link)
+        else {
+            return Err(StepFault::OutOfMemory);
+        };
         self.addresses = link;
         Ok(())
     }
@@ -150,10 +158,10 @@ impl<W: Window<HeldPacket, 256> + Drop, V: Window<GivenPiece, 4096> + Drop> End<
         ensures stop { IfErr result (λ fault. StopMeans (kept.hands_in self.old link message.now) fault) }
         ensures memory { result ≡ Err StepFault.OutOfMemory → IsOk (kept.hands_in self.old link message.now) }
     {
-        let Some(place) = self.links.find(LinkTest::LiveAt { own: link }) else {
+        let Some(number) = self.links.find(LinkTest::LiveAt { own: link }) else {
             return Err(StepFault::BadStep);
         };
-        let Some(found) = self.links.link(place) else {
+        let Some(found) = self.links.link(number) else {
             unreachable!();
         };
         if !takes_messages(found.port().phase) {
@@ -162,7 +170,7 @@ impl<W: Window<HeldPacket, 256> + Drop, V: Window<GivenPiece, 4096> + Drop> End<
         if message.len() > MAX_MESSAGE {
             return Err(StepFault::BadStep);
         }
-        let Ok(()) = self.links.hand_in_at(place, message) else {
+        let Ok(()) = self.links.hand_in_at(number, message) else {
             return Err(StepFault::OutOfMemory);
         };
         put(text, Entry::In { link }, message)
@@ -175,17 +183,17 @@ impl<W: Window<HeldPacket, 256> + Drop, V: Window<GivenPiece, 4096> + Drop> End<
         ensures stop { IfErr result (λ fault. StopMeans (kept.closes self.old link) fault) }
         ensures memory { result ≡ Err StepFault.OutOfMemory → IsOk (kept.closes self.old link) }
     {
-        let Some(place) = self.links.find(LinkTest::LiveAt { own: link }) else {
+        let Some(number) = self.links.find(LinkTest::LiveAt { own: link }) else {
             return Err(StepFault::BadStep);
         };
-        let Some(found) = self.links.link(place) else {
+        let Some(found) = self.links.link(number) else {
             unreachable!();
         };
         if !is_connected(found.port().phase) {
             return Err(StepFault::BadStep);
         }
         put(text, Entry::Close { link }, &[])?;
-        self.links.close_at(place);
+        self.links.close_at(number);
         Ok(())
     }
 
@@ -197,13 +205,13 @@ impl<W: Window<HeldPacket, 256> + Drop, V: Window<GivenPiece, 4096> + Drop> End<
         ensures stop { IfErr result (λ fault. StopMeans (kept.retries self.old link) fault) }
         ensures memory { result ≡ Err StepFault.OutOfMemory → ⊥ }
     {
-        let Some(place) = self.links.find(LinkTest::LiveAt { own: link }) else {
+        let Some(number) = self.links.find(LinkTest::LiveAt { own: link }) else {
             return Err(StepFault::BadStep);
         };
-        let Some(_found) = self.links.link(place) else {
+        let Some(_found) = self.links.link(number) else {
             unreachable!();
         };
-        if !self.links.retry_at(place) {
+        if !self.links.retry_at(number) {
             return Err(StepFault::BadStep);
         }
         Ok(())

@@ -1,7 +1,11 @@
 //! What is whole of a link goes to its user.
 
-ghost use Rattle.std.specs.Prelude.{◌≡◌, ◌++◌, ◌≤◌, ◌<◌, Some, length, take, drop, OnOk, IfOk, IfErr};
+ghost use Rattle.std.specs.Prelude.{◌≡◌, ◌++◌, ◌≤◌, ◌<◌, true, Some, length, take, drop, OnOk, IfOk, IfErr};
+ghost use Rattle.std.specs.List.{AllByRecursion};
 ghost use Rattle.capture.specs.declared.limit.TheConstants.{MAX_MESSAGE};
+ghost use Rattle.dna_packet.specs.AckWord.{IsAckWord};
+ghost use Rattle.dna_packet.specs.Nsp.{segment_view};
+ghost use Rattle.dna_links.specs.LookUps.{is_live};
 ghost use Rattle.dna_links.specs.Pieces.{in_whole_messages};
 ghost use Rattle.dna_play.specs.KeptLinks as kept;
 ghost use Rattle.player_end.specs.inner.Delivering.{bodies, lines_of, up_line, IsTooLong};
@@ -11,17 +15,43 @@ use super::LinkEnd;
 use crate::fault::StepFault;
 use crate::given_piece::GivenPiece;
 use capture::{Entry, MAX_MESSAGE, put_line};
+use dna_packet::Segment;
 use link_segments::Received;
 use std::alloc::{AllocError, Global};
 use wire_base::Window;
 
 impl<V: Window<GivenPiece, 4096> + Drop> LinkEnd<V> {
-    /// Each message that is whole goes to the user, with its line behind the text, where `own` is the link's address here. `BadStep`:
-    /// one has more than 65,535 bytes, and so no line.
-    pub fn deliver(&mut self, alloc: Global, own: u16, text: &mut Vec<u8>) -> Result<(), StepFault>
+    /// A segment comes, and what it makes whole goes to the user, with a line of each message behind the text. `BadStep`: one has more than
+    /// 65,535 bytes, and so no line. After any fault it has the addresses that it had, and lives if it lived.
+    pub fn receive(
+        &mut self,
+        alloc: Global,
+        segment: &Segment<'_>,
+        text: &mut Vec<u8>,
+    ) -> Result<(), StepFault>
+        requires acks { AllByRecursion IsAckWord segment.now.acks.items }
+        requires number { segment.now.number < 4096 }
+        ensures ok { OnOk result (lines_of segment.now.dstaddr text.old.items (kept.took_segment (segment_view segment.now) self.old).variables.pieces
+            ≡ Some text.new.items) }
+        ensures left { OnOk result (self.new ≡ kept.without_whole (kept.took_segment (segment_view segment.now) self.old)) }
+        ensures stop { IfErr result (λ fault. Stopped (lines_of segment.now.dstaddr text.old.items
+            (kept.took_segment (segment_view segment.now) self.old).variables.pieces) fault) }
+        ensures own { self.new.port.own ≡ self.old.port.own }
+        ensures far { self.new.port.far ≡ self.old.port.far }
+        ensures lives { is_live self.old.port.phase ≡ true → is_live self.new.port.phase ≡ true }
+    {
+        let Ok(()) = self.take_segment(alloc, segment) else {
+            return Err(StepFault::OutOfMemory);
+        };
+        self.deliver(alloc, segment.dstaddr, text)
+    }
+
+    // Each message that is whole goes to the user, with its line behind the text, where `own` is the link's address here.
+    fn deliver(&mut self, alloc: Global, own: u16, text: &mut Vec<u8>) -> Result<(), StepFault>
         ensures ok { OnOk result (lines_of own text.old.items self.old.variables.pieces ≡ Some text.new.items) }
         ensures left { OnOk result (self.new ≡ kept.without_whole self.old) }
         ensures stop { IfErr result (λ fault. Stopped (lines_of own text.old.items self.old.variables.pieces) fault) }
+        ensures port { self.new.port ≡ self.old.port }
     {
         deliver_all(&mut self.pieces, alloc, own, text)
     }

@@ -11,6 +11,7 @@ ghost use Rattle.dna_play.specs.Kept.{KeptLinks};
 ghost use Rattle.dna_play.specs.KeptLinks.{arrives, message_came};
 ghost use Rattle.dna_play.specs.KeptLinks as kept;
 ghost use Rattle.player_end.specs.inner.Delivering.{delivers, delivers_at};
+ghost use Rattle.player_end.specs.inner.Index.{LivesAt, live_of, place_among};
 ghost use Rattle.player_end.specs.Stepping.{Stopped};
 
 use super::LinkEnds;
@@ -35,8 +36,10 @@ impl<V: Window<GivenPiece, 4096> + Drop> LinkEnds<V> {
     /// line of each message behind the text. `BadStep`: such a message has more than 65,535 bytes, and no line.
     pub fn arrive(&mut self, message: &Nsp<'_>, text: &mut Vec<u8>) -> Result<(), StepFault>
         requires { nsp.IsInRange (nsp.view message.now) }
-        ensures ok { OnOk result (delivers (nsp.view message.now) text.old.items (arrives (nsp.view message.now) self.old) ≡ Some (self.new, text.new.items)) }
-        ensures stop { IfErr result (λ fault. Stopped (delivers (nsp.view message.now) text.old.items (arrives (nsp.view message.now) self.old)) fault) }
+        ensures ok { OnOk result (delivers (nsp.view message.now) text.old.items (arrives (nsp.view message.now) (live_of self.old)) ≡ Some
+            (live_of self.new, text.new.items)) }
+        ensures stop { IfErr result (λ fault. Stopped
+            (delivers (nsp.view message.now) text.old.items (arrives (nsp.view message.now) (live_of self.old))) fault) }
     {
         match message {
             Nsp::DataSegment(segment) => self.segment_came(segment, text),
@@ -51,14 +54,11 @@ impl<V: Window<GivenPiece, 4096> + Drop> LinkEnds<V> {
 
     fn message_came(&mut self, message: &Nsp<'_>) -> Result<(), AllocError>
         requires { nsp.IsInRange (nsp.view message.now) }
-        ensures { OnOk result (self.new ≡ message_came (nsp.view message.now) self.old) }
+        ensures { OnOk result (live_of self.new ≡ message_came (nsp.view message.now) (live_of self.old)) }
     {
         match message {
             Nsp::ConnectInitiate(message) => self.connect_initiate(message.srcaddr),
-            Nsp::ConnectConfirm(message) => {
-                self.connect_confirm(message.dstaddr, message.srcaddr);
-                Ok(())
-            }
+            Nsp::ConnectConfirm(message) => self.connect_confirm(message.dstaddr, message.srcaddr),
             Nsp::DisconnectInitiate(message) => self.disconnect(message.dstaddr, message.srcaddr),
             Nsp::DisconnectConfirm(message) => {
                 self.end(message.dstaddr, message.srcaddr);
@@ -83,68 +83,80 @@ impl<V: Window<GivenPiece, 4096> + Drop> LinkEnds<V> {
     // A CI.
     #[tactic(auto, using(crate::proofs::Searching::found_ends))]
     fn connect_initiate(&mut self, far: u16) -> Result<(), AllocError>
-        ensures { OnOk result (self.new ≡ kept.with_end (LinkTest.LiveTo far) self.old (kept.begun (kept.called far) self.old)
-            (λ place link. kept.changed place (kept.called_again link.port.phase link) self.old)) }
+        ensures { OnOk result (live_of self.new ≡ kept.with_end (LinkTest.LiveTo far) (live_of self.old)
+            (kept.begun (kept.called far) (live_of self.old)) (λ place link. kept.changed place (kept.called_again link.port.phase link)
+            (live_of self.old))) }
     {
-        let Some(place) = self.find(LinkTest::LiveTo { far }) else {
+        let Some(number) = self.find(LinkTest::LiveTo { far }) else {
             let link = LinkEnd::called(self.alloc, far);
             return self.begin(link);
         };
-        let Some(_link) = self.link(place) else {
+        let Some(_link) = self.link(number) else {
             unreachable!();
         };
-        self.call_again_at(place);
+        self.call_again_at(number);
         Ok(())
     }
 
-    fn call_again_at(&mut self, place: usize)
-        requires { place < length self.old.links }
-        ensures { (link : KeptLink) → slice_get self.old.links place ≡ Some link
-            → self.new ≡ kept.changed place (kept.called_again link.port.phase link) self.old }
+    fn call_again_at(&mut self, number: usize)
+        requires within { number < length self.old.links }
+        requires lives { LivesAt number self.old }
+        ensures { (link : KeptLink) → slice_get self.old.links number ≡ Some link
+            → live_of self.new ≡ kept.changed (place_among number self.old.links) (kept.called_again link.port.phase link) (live_of self.old) }
     {
-        self.links[place].call_again();
+        self.links[number].call_again();
+        self.marks.mark(number);
     }
 
     // A CC.
     #[tactic(auto, using(crate::proofs::Searching::found_ends))]
-    fn connect_confirm(&mut self, own: u16, far: u16)
-        ensures { self.new ≡ kept.confirm_came own far self.old }
+    fn connect_confirm(&mut self, own: u16, far: u16) -> Result<(), AllocError>
+        ensures { OnOk result (live_of self.new ≡ kept.confirm_came own far (live_of self.old)) }
     {
-        if let Some(place) = self.find(LinkTest::CallingAt { own }) {
-            let Some(_link) = self.link(place) else {
+        if let Some(number) = self.find(LinkTest::CallingAt { own }) {
+            let Some(_link) = self.link(number) else {
                 unreachable!();
             };
-            self.confirm_at(place, far);
-            return;
+            return self.confirm_at(number, far);
         }
-        let Some(place) = self.find(LinkTest::TheLink { own, far }) else {
-            return;
+        let Some(number) = self.find(LinkTest::TheLink { own, far }) else {
+            return Ok(());
         };
-        let Some(_link) = self.link(place) else {
+        let Some(_link) = self.link(number) else {
             unreachable!();
         };
-        self.confirm_again_at(place);
+        self.confirm_again_at(number);
+        Ok(())
     }
 
-    fn confirm_at(&mut self, place: usize, far: u16)
-        requires { place < length self.old.links }
-        ensures { (link : KeptLink) → slice_get self.old.links place ≡ Some link → self.new ≡ kept.changed place (kept.confirmed far link) self.old }
+    fn confirm_at(&mut self, number: usize, far: u16) -> Result<(), AllocError>
+        requires within { number < length self.old.links }
+        requires lives { LivesAt number self.old }
+        ensures { (link : KeptLink) → slice_get self.old.links number ≡ Some link
+            → OnOk result (live_of self.new ≡ kept.changed (place_among number self.old.links) (kept.confirmed far link) (live_of self.old)) }
     {
-        self.links[place].confirm(far);
+        self.fars.insert(far, number)?;
+        self.links[number].confirm(far);
+        self.marks.mark(number);
+        Ok(())
     }
 
-    fn confirm_again_at(&mut self, place: usize)
-        requires { place < length self.old.links }
-        ensures { (link : KeptLink) → slice_get self.old.links place ≡ Some link
-            → self.new ≡ kept.changed place (kept.confirmed_again (is_running link.port.phase) link) self.old }
+    fn confirm_again_at(&mut self, number: usize)
+        requires within { number < length self.old.links }
+        requires lives { LivesAt number self.old }
+        ensures { (link : KeptLink) → slice_get self.old.links number ≡ Some link
+            → live_of self.new ≡ kept.changed (place_among number self.old.links) (kept.confirmed_again (is_running link.port.phase) link)
+            (live_of self.old) }
     {
-        self.links[place].confirm_again();
+        self.links[number].confirm_again();
+        self.marks.mark(number);
     }
 
     // A DI: its link ends, and a DC is owed.
     #[tactic(auto, using(crate::proofs::Searching::found_ends))]
     fn disconnect(&mut self, own: u16, far: u16) -> Result<(), AllocError>
-        ensures { OnOk result (self.new ≡ kept.ends_link own far (kept.confirming far own 41 self.old) (kept.confirming far own 42) self.old) }
+        ensures { OnOk result (live_of self.new ≡ kept.ends_link own far (kept.confirming far own 41 (live_of self.old))
+            (kept.confirming far own 42) (live_of self.old)) }
     {
         let reason = if self.end(own, far) {
             DISCONNECTED
@@ -165,71 +177,77 @@ impl<V: Window<GivenPiece, 4096> + Drop> LinkEnds<V> {
     // The link with these addresses, or the one in Calling with the own address, ends; the answer is whether there is one.
     #[tactic(auto, using(crate::proofs::Searching::found_ends))]
     fn end(&mut self, own: u16, far: u16) -> bool
-        ensures yes { result ≡ true → (otherwise : KeptLinks) (more : KeptLinks → KeptLinks) → kept.ends_link own far otherwise more self.old ≡ more self.new }
-        ensures no { result ≡ false → (otherwise : KeptLinks) (more : KeptLinks → KeptLinks) → kept.ends_link own far otherwise more self.old ≡ otherwise }
+        ensures yes { result ≡ true → (otherwise : KeptLinks) (more : KeptLinks → KeptLinks) → kept.ends_link own far otherwise more
+            (live_of self.old) ≡ more (live_of self.new) }
+        ensures no { result ≡ false → (otherwise : KeptLinks) (more : KeptLinks → KeptLinks) → kept.ends_link own far otherwise more
+            (live_of self.old) ≡ otherwise }
         ensures same { result ≡ false → self.new ≡ self.old }
     {
-        if let Some(place) = self.find(LinkTest::TheLink { own, far }) {
-            let Some(_link) = self.link(place) else {
+        if let Some(number) = self.find(LinkTest::TheLink { own, far }) {
+            let Some(_link) = self.link(number) else {
                 unreachable!();
             };
-            self.end_at(place);
+            self.end_at(number);
             return true;
         }
-        let Some(place) = self.find(LinkTest::CallingAt { own }) else {
+        let Some(number) = self.find(LinkTest::CallingAt { own }) else {
             return false;
         };
-        let Some(_link) = self.link(place) else {
+        let Some(_link) = self.link(number) else {
             unreachable!();
         };
-        self.end_at(place);
+        self.end_at(number);
         true
     }
 
     // Something that has no number which is read.
     #[tactic(auto, using(crate::proofs::Searching::found_ends))]
     fn act(&mut self, own: u16, far: u16)
-        ensures { self.new ≡ kept.acts own far (λ link. kept.acted_on link.variables link) self.old }
+        ensures { live_of self.new ≡ kept.acts own far (λ link. kept.acted_on link.variables link) (live_of self.old) }
     {
-        let Some(place) = self.find(LinkTest::ActedOn { own, far }) else {
+        let Some(number) = self.find(LinkTest::ActedOn { own, far }) else {
             return;
         };
-        let Some(_link) = self.link(place) else {
+        let Some(_link) = self.link(number) else {
             unreachable!();
         };
-        self.act_at(place);
+        self.act_at(number);
     }
 
-    fn act_at(&mut self, place: usize)
-        requires { place < length self.old.links }
-        ensures { (link : KeptLink) → slice_get self.old.links place ≡ Some link
-            → self.new ≡ kept.changed place (kept.acted_on link.variables link) self.old }
+    fn act_at(&mut self, number: usize)
+        requires within { number < length self.old.links }
+        requires lives { LivesAt number self.old }
+        ensures { (link : KeptLink) → slice_get self.old.links number ≡ Some link
+            → live_of self.new ≡ kept.changed (place_among number self.old.links) (kept.acted_on link.variables link) (live_of self.old) }
     {
-        self.links[place].act();
+        self.links[number].act();
+        self.marks.mark(number);
     }
 
     // A data acknowledgement.
     #[tactic(auto, using(crate::proofs::Searching::found_ends))]
     fn acks_came(&mut self, own: u16, far: u16, words: &[AckWord])
         requires { AllByRecursion IsAckWord words.now }
-        ensures { self.new ≡ kept.acts own far (kept.took_acks words.now) self.old }
+        ensures { live_of self.new ≡ kept.acts own far (kept.took_acks words.now) (live_of self.old) }
     {
-        let Some(place) = self.find(LinkTest::ActedOn { own, far }) else {
+        let Some(number) = self.find(LinkTest::ActedOn { own, far }) else {
             return;
         };
-        let Some(_link) = self.link(place) else {
+        let Some(_link) = self.link(number) else {
             unreachable!();
         };
-        self.take_acks_at(place, words);
+        self.take_acks_at(number, words);
     }
 
-    fn take_acks_at(&mut self, place: usize, words: &[AckWord])
-        requires within { place < length self.old.links }
+    fn take_acks_at(&mut self, number: usize, words: &[AckWord])
+        requires within { number < length self.old.links }
+        requires lives { LivesAt number self.old }
         requires acks { AllByRecursion IsAckWord words.now }
-        ensures { (link : KeptLink) → slice_get self.old.links place ≡ Some link
-            → self.new ≡ kept.changed place (kept.took_acks words.now link) self.old }
+        ensures { (link : KeptLink) → slice_get self.old.links number ≡ Some link
+            → live_of self.new ≡ kept.changed (place_among number self.old.links) (kept.took_acks words.now link) (live_of self.old) }
     {
-        self.links[place].take_acks(words);
+        self.links[number].take_acks(words);
+        self.marks.mark(number);
     }
 
     // A segment, and what it makes whole.
@@ -238,42 +256,43 @@ impl<V: Window<GivenPiece, 4096> + Drop> LinkEnds<V> {
         requires acks { AllByRecursion IsAckWord segment.now.acks.items }
         requires number { segment.now.number < 4096 }
         ensures ok { OnOk result (delivers (nsp.DataSegment (segment_view segment.now)) text.old.items
-            (arrives (nsp.DataSegment (segment_view segment.now)) self.old) ≡ Some (self.new, text.new.items)) }
+            (arrives (nsp.DataSegment (segment_view segment.now)) (live_of self.old)) ≡ Some (live_of self.new, text.new.items)) }
         ensures stop { IfErr result (λ fault. Stopped (delivers (nsp.DataSegment (segment_view segment.now)) text.old.items
-            (arrives (nsp.DataSegment (segment_view segment.now)) self.old)) fault) }
+            (arrives (nsp.DataSegment (segment_view segment.now)) (live_of self.old))) fault) }
     {
         let own = segment.dstaddr;
-        let Some(place) = self.find(LinkTest::ActedOn {
+        let Some(number) = self.find(LinkTest::ActedOn {
             own,
             far: segment.srcaddr,
         }) else {
             return Ok(());
         };
-        let Some(_link) = self.link(place) else {
+        let Some(_link) = self.link(number) else {
             unreachable!();
         };
-        self.take_segment_at(place, segment, text)
+        self.take_segment_at(number, segment, text)
     }
 
     fn take_segment_at(
         &mut self,
-        place: usize,
+        number: usize,
         segment: &Segment<'_>,
         text: &mut Vec<u8>,
     ) -> Result<(), StepFault>
-        requires within { place < length self.old.links }
+        requires within { number < length self.old.links }
+        requires lives { LivesAt number self.old }
         requires acks { AllByRecursion IsAckWord segment.now.acks.items }
         requires number { segment.now.number < 4096 }
-        ensures ok { (link : KeptLink) → slice_get self.old.links place ≡ Some link → OnOk result (delivers_at segment.now.dstaddr text.old.items
-            (kept.delivering_at place (kept.took_segment (segment_view segment.now) link) self.old) ≡ Some (self.new, text.new.items)) }
-        ensures stop { (link : KeptLink) → slice_get self.old.links place ≡ Some link → IfErr result (λ fault. Stopped (delivers_at segment.now.dstaddr
-            text.old.items (kept.delivering_at place (kept.took_segment (segment_view segment.now) link) self.old)) fault) }
+        ensures ok { (link : KeptLink) → slice_get self.old.links number ≡ Some link → OnOk result (delivers_at segment.now.dstaddr text.old.items
+            (kept.delivering_at (place_among number self.old.links) (kept.took_segment (segment_view segment.now) link) (live_of self.old)) ≡ Some
+            (live_of self.new, text.new.items)) }
+        ensures stop { (link : KeptLink) → slice_get self.old.links number ≡ Some link → IfErr result
+            (λ fault. Stopped (delivers_at segment.now.dstaddr
+            text.old.items (kept.delivering_at (place_among number self.old.links) (kept.took_segment (segment_view segment.now) link)
+            (live_of self.old))) fault) }
     {
-        let alloc = self.alloc;
-        let link = &mut self.links[place];
-        let Ok(()) = link.take_segment(alloc, segment) else {
-            return Err(StepFault::OutOfMemory);
-        };
-        link.deliver(alloc, segment.dstaddr, text)
+        let made = self.links[number].receive(self.alloc, segment, text);
+        self.marks.mark(number);
+        made
     }
 }

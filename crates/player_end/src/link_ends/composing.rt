@@ -5,70 +5,67 @@ ghost use Rattle.std.specs.Option.{option_map};
 ghost use Rattle.dna_packet.specs.Nsp.{nsp_bytes};
 ghost use Rattle.dna_packet.specs.Nsp as nsp;
 ghost use Rattle.dna_play.specs.NextSent.{LinkEnd as KeptLink, first_turn, link_choice, turn_of};
-ghost use Rattle.dna_play.specs.Compose.{link_message};
+ghost use Rattle.dna_play.specs.Compose.{link_message, message_at};
+ghost use Rattle.dna_play.specs.Kept.{live_ends};
 ghost use Rattle.dna_play.specs.KeptLinks.{after_sent};
 ghost use Rattle.dna_play.specs.KeptLinks as kept;
+ghost use Rattle.player_end.specs.inner.Index.{AreMarked, LivesAt, among_live, live_of, place_among};
 ghost use Rattle.player_end.specs.inner.Links.{turn_there};
 ghost use Rattle.player_end.specs.inner.Owing.{link_choice_view, turn_view};
 
 use super::LinkEnds;
 use crate::choice::{EndConfirm, LinkChoice};
 use crate::given_piece::GivenPiece;
+use crate::link_end::LinkEnd;
+use crate::marks::Marks;
 use crate::turn::Turn;
 use dna_packet::{DisconnectConfirm, Nsp, write_nsp};
 use std::alloc::AllocError;
 use wire_base::Window;
 
 impl<V: Window<GivenPiece, 4096> + Drop> LinkEnds<V> {
-    /// What they send next: the oldest DC; else what the first link has to send that has anything.
-    pub fn choice(&self) -> Option<LinkChoice>
-        ensures choice { option_map link_choice_view result ≡ link_choice self.now.confirms self.now.links }
+    /// What they send next: the oldest DC; else what the first link has to send that has anything. It changes no link.
+    pub fn choice(&mut self) -> Option<LinkChoice>
+        ensures choice { option_map link_choice_view result ≡ link_choice self.old.confirms self.old.links }
+        ensures live { link_choice self.old.confirms (live_ends self.old.links)
+            ≡ option_map (among_live self.old.links) (link_choice self.old.confirms self.old.links) }
+        ensures same { self.new ≡ self.old }
     {
         match self.confirms.front() {
             Some(confirm) => Some(LinkChoice::Confirms(confirm.get())),
-            None => self.first_turn(),
+            None => first_turn(&self.links, &mut self.marks),
         }
     }
 
-    fn first_turn(&self) -> Option<LinkChoice>
-        ensures { option_map link_choice_view result ≡ first_turn 0 self.now.links }
-    {
-        for place in 0..self.len() {
-            if let Some(turn) = self.turn_at(place) {
-                return Some(LinkChoice::OfLink { place, turn });
-            }
-        }
-        None
-    }
-
-    // What the link at this place has to send, if there is one.
-    fn turn_at(&self, place: usize) -> Option<Turn>
-        ensures { option_map turn_view result ≡ turn_there (slice_get self.now.links place) }
-    {
-        match self.link(place) {
-            Some(link) => link.turn(),
-            None => None,
-        }
-    }
-
-    /// The bytes of the message of a choice; `None` where there is no link at its place.
+    /// The bytes of the message of a choice, which is what they send next.
     pub fn message(&self, choice: LinkChoice) -> Result<Option<Vec<u8>>, AllocError>
+        requires { link_choice self.now.confirms self.now.links ≡ Some (link_choice_view choice) }
         ensures message { IfOk result (λ message. option_map (λ bytes. bytes.items) message
-            ≡ option_map nsp_bytes (link_message (link_choice_view choice) self.now.links)) }
+            ≡ option_map nsp_bytes (link_message (among_live self.now.links (link_choice_view choice)) (live_ends self.now.links))) }
         ensures short { IfOk result (λ message. IfSome message (λ bytes. length bytes.items ≤ 1024)) }
     {
+        let _ = &self.links;
         match choice {
             LinkChoice::Confirms(confirm) => {
                 let bytes = self.confirm_message(confirm)?;
                 Ok(Some(bytes))
             }
-            LinkChoice::OfLink { place, turn } => match self.links.get(place) {
-                Some(link) => {
-                    let bytes = link.message(self.alloc, turn)?;
-                    Ok(Some(bytes))
-                }
-                None => Ok(None),
-            },
+            LinkChoice::OfLink { number, turn } => self.message_of(number, turn),
+        }
+    }
+
+    // The bytes of the message of a turn of the link with this number, if there is one.
+    fn message_of(&self, number: usize, turn: Turn) -> Result<Option<Vec<u8>>, AllocError>
+        ensures message { IfOk result (λ message. option_map (λ bytes. bytes.items) message
+            ≡ option_map nsp_bytes (message_at (slice_get self.now.links number) (turn_view turn))) }
+        ensures short { IfOk result (λ message. IfSome message (λ bytes. length bytes.items ≤ 1024)) }
+    {
+        match self.links.get(number) {
+            Some(link) => {
+                let bytes = link.message(self.alloc, turn)?;
+                Ok(Some(bytes))
+            }
+            None => Ok(None),
         }
     }
 
@@ -89,28 +86,69 @@ impl<V: Window<GivenPiece, 4096> + Drop> LinkEnds<V> {
     /// The message of a choice, which is what they send next, was sent.
     pub fn sent(&mut self, choice: LinkChoice) -> Result<(), AllocError>
         requires { link_choice self.old.confirms self.old.links ≡ Some (link_choice_view choice) }
-        ensures { OnOk result (self.new ≡ after_sent (link_choice_view choice) self.old) }
+        ensures { OnOk result (live_of self.new ≡ after_sent (among_live self.old.links (link_choice_view choice)) (live_of self.old)) }
     {
         match choice {
             LinkChoice::Confirms(_) => {
                 self.confirms.pop_front();
                 Ok(())
             }
-            LinkChoice::OfLink { place, turn } => {
-                if place >= self.len() {
+            LinkChoice::OfLink { number, turn } => {
+                if number >= self.links.len() {
                     return Ok(());
                 }
-                self.sent_at(place, turn)
+                self.sent_at(number, turn)
             }
         }
     }
 
-    fn sent_at(&mut self, place: usize, turn: Turn) -> Result<(), AllocError>
-        requires within { place < length self.old.links }
-        requires next { (link : KeptLink) → slice_get self.old.links place ≡ Some link → turn_of link ≡ Some (turn_view turn) }
-        ensures { (link : KeptLink) → slice_get self.old.links place ≡ Some link
-            → OnOk result (self.new ≡ kept.changed place (kept.turn_sent (turn_view turn) link) self.old) }
+    fn sent_at(&mut self, number: usize, turn: Turn) -> Result<(), AllocError>
+        requires within { number < length self.old.links }
+        requires lives { LivesAt number self.old }
+        requires next { (link : KeptLink) → slice_get self.old.links number ≡ Some link → turn_of link ≡ Some (turn_view turn) }
+        ensures { (link : KeptLink) → slice_get self.old.links number ≡ Some link → OnOk result (live_of self.new
+            ≡ kept.changed (place_among number self.old.links) (kept.turn_sent (turn_view turn) link) (live_of self.old)) }
     {
-        self.links[place].sent(self.alloc, turn)
+        let made = self.links[number].sent(self.alloc, turn);
+        self.marks.mark(number);
+        made
+    }
+}
+
+// What the first link has to send that has anything. Links that were found to have nothing are marked no more.
+fn first_turn<V: Window<GivenPiece, 4096> + Drop>(
+    links: &Vec<LinkEnd<V>>,
+    marks: &mut Marks,
+) -> Option<LinkChoice>
+    requires marked { AreMarked links.now.items marks.old.marks.items }
+    requires long { length marks.old.marks.items ≡ length links.now.items }
+    ensures turn { option_map link_choice_view result ≡ first_turn 0 links.now.items }
+    ensures marked { AreMarked links.now.items marks.new.marks.items }
+    ensures long { length marks.new.marks.items ≡ length links.now.items }
+{
+    let mut from = 0;
+    while from < links.len() {
+        let Some(number) = marks.first() else {
+            return None;
+        };
+        if let Some(turn) = turn_at(links, number) {
+            return Some(LinkChoice::OfLink { number, turn });
+        }
+        marks.unmark(number);
+        from = number + 1;
+    }
+    None
+}
+
+// What the link with this number has to send, if there is one.
+fn turn_at<V: Window<GivenPiece, 4096> + Drop>(
+    links: &Vec<LinkEnd<V>>,
+    number: usize,
+) -> Option<Turn>
+    ensures { option_map turn_view result ≡ turn_there (slice_get links.now.items number) }
+{
+    match links.get(number) {
+        Some(link) => link.turn(),
+        None => None,
     }
 }

@@ -1,9 +1,11 @@
 //! What the user of the links does, and their timers.
 
 ghost use Rattle.std.specs.Prelude.{◌≡◌, ◌<◌, true, false, None, Some, length, slice_get, OnOk};
+ghost use Rattle.dna_links.specs.LookUps.{is_live};
 ghost use Rattle.dna_play.specs.LinkOwed.{retried};
 ghost use Rattle.dna_play.specs.NextSent.{LinkEnd as KeptLink};
 ghost use Rattle.dna_play.specs.KeptLinks as kept;
+ghost use Rattle.player_end.specs.inner.Index.{LivesAt, live_of, place_among};
 ghost use Rattle.player_end.specs.inner.Links.{retried_end, changed_to};
 ghost use Rattle.player_end.specs.inner.Owing.{turn_view};
 
@@ -18,44 +20,67 @@ use wire_base::Window;
 impl<V: Window<GivenPiece, 4096> + Drop> LinkEnds<V> {
     /// A link is opened, with this own address.
     pub fn open(&mut self, own: u16) -> Result<(), AllocError>
-        ensures { OnOk result (self.new ≡ kept.begun (kept.opened own) self.old) }
+        ensures { OnOk result (live_of self.new ≡ kept.begun (kept.opened own) (live_of self.old)) }
     {
         let link = LinkEnd::opened(self.alloc, own);
         self.begin(link)
     }
 
-    /// The call of the link at this place is answered: it goes to this phase, gets this own address, and owes this.
-    pub fn answer_at(&mut self, place: usize, phase: Phase, turn: Turn, own: u16)
-        requires { place < length self.old.links }
-        ensures { (link : KeptLink) → slice_get self.old.links place ≡ Some link
-            → self.new ≡ kept.changed place (kept.answered phase (turn_view turn) own link) self.old }
+    /// The call of the link with this number is answered: it goes to this phase, gets this own address, and owes this. Where memory is refused,
+    /// nothing changes.
+    pub fn answer_at(
+        &mut self,
+        number: usize,
+        phase: Phase,
+        turn: Turn,
+        own: u16,
+    ) -> Result<(), AllocError>
+        requires within { number < length self.old.links }
+        requires lives { LivesAt number self.old }
+        requires phase { is_live phase ≡ true }
+        ensures { (link : KeptLink) → slice_get self.old.links number ≡ Some link
+            → OnOk result (live_of self.new ≡ kept.changed (place_among number self.old.links) (kept.answered phase (turn_view turn) own link)
+            (live_of self.old)) }
     {
-        self.links[place].answer(phase, turn, own);
+        self.owns.insert(own, number)?;
+        self.links[number].answer(phase, turn, own);
+        self.marks.mark(number);
+        Ok(())
     }
 
-    /// A message is handed in to the link at this place.
-    pub fn hand_in_at(&mut self, place: usize, message: &[u8]) -> Result<(), AllocError>
-        requires { place < length self.old.links }
-        ensures { (link : KeptLink) → slice_get self.old.links place ≡ Some link
-            → OnOk result (self.new ≡ kept.changed place (kept.handed message.now link) self.old) }
+    /// A message is handed in to the link with this number.
+    pub fn hand_in_at(&mut self, number: usize, message: &[u8]) -> Result<(), AllocError>
+        requires within { number < length self.old.links }
+        requires lives { LivesAt number self.old }
+        ensures { (link : KeptLink) → slice_get self.old.links number ≡ Some link
+            → OnOk result (live_of self.new ≡ kept.changed (place_among number self.old.links) (kept.handed message.now link) (live_of self.old)) }
     {
-        self.links[place].hand_in(self.alloc, message)
+        let made = self.links[number].hand_in(self.alloc, message);
+        self.marks.mark(number);
+        made
     }
 
-    /// The user closes the link at this place.
-    pub fn close_at(&mut self, place: usize)
-        requires { place < length self.old.links }
-        ensures { (link : KeptLink) → slice_get self.old.links place ≡ Some link → self.new ≡ kept.changed place (kept.closed link) self.old }
+    /// The user closes the link with this number.
+    pub fn close_at(&mut self, number: usize)
+        requires within { number < length self.old.links }
+        requires lives { LivesAt number self.old }
+        ensures { (link : KeptLink) → slice_get self.old.links number ≡ Some link → live_of self.new ≡ kept.changed
+            (place_among number self.old.links) (kept.closed link) (live_of self.old) }
     {
-        self.links[place].close();
+        self.links[number].close();
+        self.marks.mark(number);
     }
 
-    /// The timer of the link at this place runs out; the answer is whether it can.
-    pub fn retry_at(&mut self, place: usize) -> bool
-        requires { place < length self.old.links }
-        ensures yes { (link : KeptLink) → slice_get self.old.links place ≡ Some link → result ≡ true → changed_to place (retried_end link) self.old ≡ Some self.new }
-        ensures no { (link : KeptLink) → slice_get self.old.links place ≡ Some link → result ≡ false → retried link.port.phase ≡ None }
+    /// The timer of the link with this number runs out; the answer is whether it can.
+    pub fn retry_at(&mut self, number: usize) -> bool
+        requires within { number < length self.old.links }
+        requires lives { LivesAt number self.old }
+        ensures yes { (link : KeptLink) → slice_get self.old.links number ≡ Some link → result ≡ true
+            → changed_to (place_among number self.old.links) (retried_end link) (live_of self.old) ≡ Some (live_of self.new) }
+        ensures no { (link : KeptLink) → slice_get self.old.links number ≡ Some link → result ≡ false → retried link.port.phase ≡ None }
     {
-        self.links[place].retry()
+        let made = self.links[number].retry();
+        self.marks.mark(number);
+        made
     }
 }

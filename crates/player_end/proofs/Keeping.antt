@@ -1,0 +1,82 @@
+-- What changes a link and leaves it the addresses that it has.
+use Rattle.std.proofs.Common.{◌≡◌, ℕ, Bool, true, false, Option, Some, None, List, Result, Ok, Err, OnOk, refl, sym, ap, ◌∙◌}
+use Rattle.std.specs.Prelude.{OnErr}
+use Rattle.std.specs.Prelude.{slice_get}
+use Rattle.dna_links.specs.declared.port.Phase.{Phase}
+use Rattle.dna_links.specs.declared.port.Phase.TheVariants.{Calling, Called, Confirming, Running, Disconnecting, Ended}
+use Rattle.dna_links.specs.declared.port.Port.{Port}
+use Rattle.dna_packet.specs.declared.ack_word.AckWord.{AckWord}
+use Rattle.dna_links.specs.LookUps.{is_live, is_running}
+use Rattle.dna_links.specs.Pieces.{Piece}
+use Rattle.dna_play.specs.LinkOwed.{Turn, ConnectAckTurn, InitiateTurn, ConfirmTurn, DisconnectTurn, DataAckTurn, SegmentTurn}
+use Rattle.dna_play.specs.NextSent.{LinkEnd}
+use Rattle.dna_play.specs.KeptLinks.{called_again, confirmed_again, acted_on, took_acks, handed, closed, turn_sent, gave, gave_by}
+
+pub record Keeps (l m : LinkEnd) : Type 0 where
+  pub live : is_live l.port.phase ≡ true → is_live m.port.phase ≡ true
+  pub own : m.port.own ≡ l.port.own
+  pub far : m.port.far ≡ l.port.far
+
+pub same_port : (l m : LinkEnd) → m.port ≡ l.port → Keeps l m
+same_port l m e = record {
+  live = λ h. ap (λ (p : Port). is_live p.phase) e ∙ h;
+  own = ap (λ (p : Port). p.own) e;
+  far = ap (λ (p : Port). p.far) e;
+}
+
+pub as_made : (l m k : LinkEnd) → m ≡ k → Keeps l k → Keeps l m
+as_made l m k e keeps = record {
+  live = λ h. ap (λ (x : LinkEnd). is_live x.port.phase) e ∙ keeps.live h;
+  own = ap (λ (x : LinkEnd). x.port.own) e ∙ keeps.own;
+  far = ap (λ (x : LinkEnd). x.port.far) e ∙ keeps.far;
+}
+
+-- it is made, or nothing changes
+pub either_made : {A E : Type 0} (l m k : LinkEnd) (r : Result A E) → OnOk r (m ≡ k) → OnErr r (m ≡ l) → Keeps l k → Keeps l m
+either_made l m k (Ok x) ok err keeps = as_made l m k ok keeps
+either_made l m k (Err e) ok err keeps = same_port l m (ap (λ (x : LinkEnd). x.port) err)
+
+called_port : (phase : Phase) (l : LinkEnd) → (called_again phase l).port ≡ l.port
+called_port Calling l = refl
+called_port Called l = refl
+called_port Confirming l = refl
+called_port Running l = refl
+called_port Disconnecting l = refl
+called_port Ended l = refl
+
+pub keeps_called : (l : LinkEnd) → Keeps l (called_again l.port.phase l)
+keeps_called l = same_port l (called_again l.port.phase l) (called_port l.port.phase l)
+
+confirmed_port : (b : Bool) (l : LinkEnd) → (confirmed_again b l).port ≡ l.port
+confirmed_port true l = refl
+confirmed_port false l = refl
+
+pub keeps_confirmed : (l : LinkEnd) → Keeps l (confirmed_again (is_running l.port.phase) l)
+keeps_confirmed l = same_port l (confirmed_again (is_running l.port.phase) l) (confirmed_port (is_running l.port.phase) l)
+
+pub keeps_handed : (message : List ℕ) (l : LinkEnd) → Keeps l (handed message l)
+keeps_handed message l = same_port l (handed message l) refl
+
+gave_port : (o : Option Piece) (l : LinkEnd) → (gave o l).port ≡ l.port
+gave_port (Some p) l = refl
+gave_port None l = refl
+
+by_port : (turn : Turn) (l : LinkEnd) → (gave_by turn l).port ≡ l.port
+by_port ConnectAckTurn l = refl
+by_port InitiateTurn l = refl
+by_port ConfirmTurn l = refl
+by_port DisconnectTurn l = refl
+by_port DataAckTurn l = refl
+by_port SegmentTurn l = gave_port (slice_get l.variables.outstanding l.owed.ahead) l
+
+pub keeps_sent : (turn : Turn) (l : LinkEnd) → Keeps l (turn_sent turn l)
+keeps_sent turn l = same_port l (turn_sent turn l) (by_port turn l)
+
+pub keeps_acted : (l : LinkEnd) → Keeps l (acted_on l.variables l)
+keeps_acted l = record { live = λ h. refl; own = refl; far = refl }
+
+pub keeps_acks : (words : List AckWord) (l : LinkEnd) → Keeps l (took_acks words l)
+keeps_acks words l = record { live = λ h. refl; own = refl; far = refl }
+
+pub keeps_closed : (l : LinkEnd) → Keeps l (closed l)
+keeps_closed l = record { live = λ h. refl; own = refl; far = refl }

@@ -1,0 +1,15 @@
+-- A new packet that an end sends, where it keeps all links that ever were.
+use Rattle.std.specs.Prelude.{ℕ, Result, Some}
+use Rattle.dna_station.specs.declared.head.Head.{Head}
+use Rattle.dna_play.specs.NextSent.{LinkChoice, SendNew}
+use Rattle.dna_play.specs.Stepped.{Stop}
+use Rattle.dna_play.specs.Kept.{KeptStation, KeptLinks, KeptEnd}
+use Rattle.dna_play.specs.KeptPlay.{KeptStepped, sends_choice}
+use Rattle.player_end.specs.inner.Index.{among_live, live_of}
+
+module _ (head : Head) (station : KeptStation) (links : KeptLinks) (addresses passed : ℕ) where
+  abbrev pub end_with : KeptEnd
+  end_with = record { head = head; station = station; links = live_of links; addresses = addresses; passed = passed }
+
+  abbrev pub sends_new : LinkChoice → Result KeptStepped Stop
+  sends_new message = sends_choice end_with (Some (SendNew (among_live links.links message)))
