@@ -1,1 +1,4 @@
 mod Sendable
+mod Shown
+mod Failing
+mod FailingArrival

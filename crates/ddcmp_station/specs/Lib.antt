@@ -3,4 +3,6 @@ pub mod Arrival
 pub mod Fault
 pub mod PeriodRules
 pub mod Sent
+pub mod View
+pub mod Failed
 pub mod inner

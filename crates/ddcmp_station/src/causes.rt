@@ -2,8 +2,10 @@
 
 ghost use Rattle.std.specs.Prelude.{◌≡◌, ◌+◌, ◌^◌, ◌<◌, ◌≤◌, true};
 ghost use Rattle.dna_station.specs.Causes.{no_causes, with_cause, has_cause, without_cause};
+ghost use Rattle.ddcmp_station.specs.View.{open_of};
 ghost use Rattle.ddcmp_station.specs.inner.Counts.{open_causes};
 
+use crate::view::OpenCauses;
 use ddcmp_msg::NakReason;
 use std::marker::Model;
 
@@ -53,6 +55,18 @@ impl Causes {
             NakReason::RepResponse => self.rep_response > 0,
             NakReason::NoBuffer => self.no_buffer > 0,
             NakReason::Overrun | NakReason::MessageTooLong | NakReason::HeaderFormat => true,
+        }
+    }
+
+    /// How many are open, by their reason.
+    pub fn open(&self) -> OpenCauses
+        ensures { result ≡ open_of self.now }
+    {
+        OpenCauses {
+            header_check: self.header_check,
+            data_check: self.data_check,
+            rep_response: self.rep_response,
+            no_buffer: self.no_buffer,
         }
     }
 

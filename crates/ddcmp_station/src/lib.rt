@@ -5,12 +5,18 @@
 
 mod arrival;
 mod causes;
+mod failed;
 mod fault;
+mod laws;
 mod sent_as;
 mod station;
+mod view;
 
 pub use arrival::Arrival;
 pub use dna_station::{State, StationEvent, StationRefusal, Tag};
+pub use failed::{FailedArrival, FailedSending, PeriodNeed};
 pub use fault::StationFault;
+pub use laws::{allowed_arrives, allowed_passes, view_shows_truth};
 pub use sent_as::SentAs;
 pub use station::{HeldPacket, Station};
+pub use view::{OpenCauses, StationView};

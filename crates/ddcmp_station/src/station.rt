@@ -7,7 +7,11 @@ ghost use Rattle.dna_station.specs.WireStation.{new_wire_station, wire_after_eve
 ghost use Rattle.ddcmp_station.specs.Fault.{IsRefused};
 
 mod arriving;
+mod asking;
+mod failing;
+mod failing_arrival;
 mod sending;
+mod viewing;
 
 use crate::StationFault;
 use crate::causes::Causes;

@@ -13,3 +13,4 @@ mod Forgotten
 mod Beginning
 mod Giving
 mod Ended
+mod Shown

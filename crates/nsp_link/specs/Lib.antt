@@ -4,4 +4,5 @@ pub mod Flow
 pub mod Given
 pub mod PartnerRules
 pub mod Phases
+pub mod View
 pub mod inner

@@ -15,6 +15,7 @@ ghost use Rattle.nsp_link.specs.Given.{given_of};
 
 mod receiving;
 mod sending;
+mod shown;
 
 use crate::last_sent::LastSent;
 use crate::{Given, LinkFault, LinkRefusal};

@@ -39,6 +39,13 @@ impl LastSent {
         }
     }
 
+    /// Its number, 0 to 4,095.
+    pub fn number(self) -> u16
+        ensures { result ≡ self.last }
+    {
+        self.last.value()
+    }
+
     /// The last one behind these words, where each may be sent: it names a number from the last one sent through the highest received,
     /// or, in a segment that is sent again, an earlier one, which it leaves as it is. Words of the other subchannel are not judged.
     #[tactic(auto, using(crate::proofs::Words::words))]

@@ -8,13 +8,17 @@ mod flow;
 mod given;
 mod index;
 mod last_sent;
+mod laws;
 mod link;
 mod links;
 mod phase;
+mod view;
 
 pub use dna_links::{LinkEvent, LinkTag};
 pub use dna_station::LinkRefusal;
 pub use fault::LinkFault;
 pub use given::Given;
+pub use laws::link_view_shows_truth;
 pub use link_segments::Piece;
 pub use links::Links;
+pub use view::{LinkNumbers, LinkView};

@@ -18,6 +18,8 @@ ghost use Rattle.nsp_link.specs.Flow.{is_held};
 ghost use Rattle.nsp_link.specs.Given.{given_of};
 ghost use Rattle.nsp_link.specs.inner.Index.{Stays};
 
+mod shown;
+
 use crate::flow::Flow;
 use crate::{Given, LinkFault, LinkRefusal, LinkTag, Piece};
 use dna_links::{Phase, Port};

@@ -13,6 +13,7 @@ mod begin;
 mod change;
 mod partner;
 mod sending;
+mod shown;
 mod user;
 
 use crate::index::Index;

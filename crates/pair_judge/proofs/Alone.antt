@@ -1,6 +1,7 @@
 -- What the wire nodes with nothing on top show of stations on true numbers: without the links, which nothing meets, they are the wire stations.
-use Rattle.std.proofs.Common.{◌≡◌, List, [], Result, Ok, Err, refl, sym, ap, ◌∙◌}
-use Rattle.two_nodes.specs.Nodes.{Outcome, Run, advance}
+use Rattle.std.proofs.Common.{◌≡◌, List, [], length, Result, Ok, Err, refl, sym, ap, ◌∙◌}
+use Rattle.std.proofs.lemmas.List.{length-map}
+use Rattle.two_nodes.specs.Nodes.{Outcome, Run, World, advance}
 use Rattle.two_nodes.specs.Nodes.Outcome.{Waits, Refused}
 use Rattle.two_nodes.specs.Cutting.{Cut, Commutes, cut_half, cut_outcome, cut_world}
 use Rattle.two_nodes.specs.Kept.{IsKept}
@@ -16,7 +17,7 @@ use Rattle.dna_station.specs.Machine.{step}
 use Rattle.dna_station.specs.Pair.{pair}
 use Rattle.dna_station.specs.Seen.{IsSeen}
 use Rattle.dna_station.specs.WireStation.{WireStation}
-use Rattle.dna_station.specs.WireNode.{WireNode, WireUnit, seen, wire_machine, wire_pair, wire_start}
+use Rattle.dna_station.specs.WireNode.{WireNode, WireUnit, cut_unit, seen, wire_machine, wire_pair, wire_start}
 use Rattle.dna_station.proofs.Cut.Machines.{DoTheSame, cut_result, cut_sent, machine_cut, record_same}
 use Rattle.dna_node.specs.WireLayers.{LayersTag, WireLayers, WireLayersNode, WireLayersUnit, with_wire_station, wire_layers_start}
 use Rattle.pair_judge.specs.inner.Reached.{IsShown}
@@ -89,6 +90,18 @@ shown_alone head_a head_b w of_a of_b s = record {
   waits_b = λ r is. waits_there seen (advance pair.node_b s.world.b s.world.a r) (sym (s.same_b r) ∙ same w.b w.a r ∙ waits_wire _ is);
   links_a = refl;
   links_b = refl;
+  shows_a = record {
+    station = ap (λ (x : World (WireNode LinkTag) WireUnit). x.a.state.station) s.is_cut;
+    front = ap (λ (x : World (WireNode LinkTag) WireUnit). x.a.state.front) s.is_cut;
+    sent = sym (length-map w.a.sent wire.of_unit) ∙ ap (λ (x : World (WireNode LinkTag) WireUnit). length x.a.sent) s.is_cut
+        ∙ length-map s.world.a.sent cut_unit;
+  };
+  shows_b = record {
+    station = ap (λ (x : World (WireNode LinkTag) WireUnit). x.b.state.station) s.is_cut;
+    front = ap (λ (x : World (WireNode LinkTag) WireUnit). x.b.state.front) s.is_cut;
+    sent = sym (length-map w.b.sent wire.of_unit) ∙ ap (λ (x : World (WireNode LinkTag) WireUnit). length x.b.sent) s.is_cut
+        ∙ length-map s.world.b.sent cut_unit;
+  };
 }
   where
     refused_wire : (o : Outcome WireLayersNode WireLayersUnit StepRefusal) (refusal : StepRefusal) → o ≡ Refused refusal →

@@ -80,7 +80,7 @@ pub on_ok : {X Z : Type 0} {P Q : Type 0} (r : Result X Z) → (P → Q) → OnO
 on_ok (Ok x) follows holds = follows holds
 on_ok (Err fault) follows holds = tt
 
-if_refused : {P Q : StepRefusal → Type 0} (fault : StepFault) → ((refusal : StepRefusal) → P refusal → Q refusal) → IfRefused P fault →
+pub if_refused : {P Q : StepRefusal → Type 0} (fault : StepFault) → ((refusal : StepRefusal) → P refusal → Q refusal) → IfRefused P fault →
     IfRefused Q fault
 if_refused (Refused refusal) follows holds = follows refusal holds
 if_refused OutOfMemory follows holds = tt

@@ -1,5 +1,5 @@
 -- How the judge ends: its finding is that of all captures that go on behind what was read.
-use Rattle.std.proofs.Common.{◌≡◌, ℕ, Bool, true, false, List, [], ◌∷◌, ◌++◌, Option, sym, ap, subst, ◌∙◌, append-nil, append_assoc}
+use Rattle.std.proofs.Common.{◌≡◌, ℕ, Bool, true, false, List, [], ◌∷◌, ◌++◌, length, Option, refl, sym, ap, subst, ◌∙◌, append-nil, append_assoc}
 use Rattle.capture.specs.declared.record.Record.{Record}
 use Rattle.capture.specs.Entries.{record_with}
 use Rattle.capture.specs.SoFar.{TheEnd, GoesOn, GoesOnBy}
@@ -21,9 +21,11 @@ use Rattle.dna_node.specs.Kind.{NodeKind, KindNode}
 use Rattle.dna_node.specs.WireLayers.{WireLayers}
 use Rattle.pair_judge.specs.declared.end.End.{End}
 use Rattle.pair_judge.specs.declared.summary.SideSummary.{SideSummary}
-use Rattle.pair_judge.specs.inner.Reached.{HasReached, IsFound, IsShown, IsStopped}
+use Rattle.pair_judge.specs.inner.Reached.{BecomesThere, HasReached, IsFound, IsShown, IsStopped, StopsAt, StopsFor}
 use Rattle.pair_judge.specs.Summary.{counts_of, summary_at, summary_of, summary_with}
-use Rattle.pair_judge.specs.inner.Wire.{JudgeTop}
+use Rattle.pair_judge.specs.inner.Wire.{IfLeft, JudgeTop}
+use Rattle.pair_judge.proofs.Left.{left_any}
+use Rattle.pair_judge.proofs.Turns.{IsSame, reached_still}
 
 -- ---- what goes on behind what was read
 
@@ -38,14 +40,6 @@ module _ (t : Track) (made : List Record) (all : List Record) where
   goes_any goes =
       let b = goes_behind t.course.ahead t.come (made ++ waiting t.course.capture.bytes t.course.ahead) all goes in
       (waiting t.course.capture.bytes t.course.ahead ++ b.0, b.1 ∙ append_assoc made (waiting t.course.capture.bytes t.course.ahead) b.0)
-
-  pub goes_read : (r : Record) → GoesOn (read_of (having_made t (made ++ r ∷ []))) all → (rest : List Record) × (all ≡ made ++ r ∷ rest)
-  goes_read r goes =
-      let b = goes_behind t.course.ahead t.come ((made ++ r ∷ []) ++ waiting t.course.capture.bytes t.course.ahead) all goes in (
-        waiting t.course.capture.bytes t.course.ahead ++ b.0,
-        b.1 ∙ append_assoc (made ++ r ∷ []) (waiting t.course.capture.bytes t.course.ahead) b.0 ∙
-            append_assoc made (r ∷ []) (waiting t.course.capture.bytes t.course.ahead ++ b.0),
-      )
 
   pub goes_waits : (r : Record) → IsWaiting t.course.capture.bytes t.course.ahead r → GoesOn (read_of (having_made t made)) all →
       (rest : List Record) × (all ≡ made ++ r ∷ rest)
@@ -74,6 +68,30 @@ module _ (kind : NodeKind) where
       same_b) v)
 
 module _ (top : JudgeTop) where
+  -- ---- where the judge stops: a record was read and not made, and both ends stand where they stood
+
+  pub stops_a : (a b : Track) (old_a old_b : End) (cause : Cause) (r : Record) (h : HasReached top old_a old_b a.made b.made) →
+      IsSame old_a a.course.end old_a.line → IsSame old_b b.course.end old_b.line → IsWaiting a.course.capture.bytes a.course.ahead r →
+      BecomesThere top cause h.world.a h.world.b r → StopsAt top a b A (length a.made) cause
+  stops_a a b old_a old_b cause r h same_a same_b ahead becomes = record {
+    reached = reached_still top old_a a.course.end old_b b.course.end a.made b.made h same_a same_b;
+    next = r;
+    ahead = ahead;
+    becomes = becomes;
+    place_is = refl;
+  }
+
+  pub stops_b : (a b : Track) (old_a old_b : End) (cause : Cause) (r : Record) (h : HasReached top old_a old_b a.made b.made) →
+      IsSame old_a a.course.end old_a.line → IsSame old_b b.course.end old_b.line → IsWaiting b.course.capture.bytes b.course.ahead r →
+      BecomesThere top cause h.world.b h.world.a r → StopsAt top a b B (length b.made) cause
+  stops_b a b old_a old_b cause r h same_a same_b ahead becomes = record {
+    reached = reached_still top old_a a.course.end old_b b.course.end a.made b.made h same_a same_b;
+    next = r;
+    ahead = ahead;
+    becomes = becomes;
+    place_is = refl;
+  }
+
   -- ---- the endings
 
   -- the two sides, and the heads and records of the run so far
@@ -86,77 +104,85 @@ module _ (top : JudgeTop) where
         (subst (λ (of_b : List Record). IsFinding top.kind head_a head_b xs of_b finding) (sym eb) v))
 
     -- a's next record is refused
-    pub a_fails : (refusal : StepRefusal) (r : Record) → IsRead (having_made a (a.made ++ r ∷ [])) → IsRead b →
+    pub a_fails : (refusal : StepRefusal) (r : Record) → IsRead a → IsWaiting a.course.capture.bytes a.course.ahead r → IsRead b →
+        IfLeft top.leaves (StopsFor top a b (Refused A place (Step refusal))) →
         ((rest_a rest_b : List Record) → IsFinding top.kind head_a head_b (a.made ++ r ∷ rest_a) (b.made ++ rest_b) (Refused A place (Step
         refusal))) →
         IsFound top a b (Refused A place (Step refusal))
-    a_fails refusal r read_a read_b law = record {
-      made_a = a.made ++ r ∷ [];
+    a_fails refusal r read_a ahead_a read_b stops law = record {
+      made_a = a.made;
       made_b = b.made;
       read_a = read_a;
       read_b = read_b;
       is_finding = λ all_a all_b goes_a goes_b.
-          let x = goes_read a a.made all_a r goes_a in
+          let x = goes_waits a a.made all_a r ahead_a goes_a in
           let y = goes_any b b.made all_b goes_b in
           finding_at all_a all_b (a.made ++ r ∷ x.0) (b.made ++ y.0) (Refused A place (Step refusal)) x.1 y.1 (law x.0 y.0);
       ends = tt;
+      stops = stops;
       counts = λ e. cc;
     }
 
     -- b's next record is refused, and a waits
-    pub b_fails_behind : (refusal : StepRefusal) (p r : Record) → IsRead a → IsRead (having_made b (b.made ++ r ∷ [])) →
-        IsWaiting a.course.capture.bytes a.course.ahead p
+    pub b_fails_behind : (refusal : StepRefusal) (p r : Record) → IsRead a → IsRead b → IsWaiting b.course.capture.bytes b.course.ahead r →
+        IfLeft top.leaves (StopsFor top a b (Refused B place (Step refusal))) → IsWaiting a.course.capture.bytes a.course.ahead p
         → ((rest_a rest_b : List Record) → IsFinding top.kind head_a head_b (a.made ++ p ∷ rest_a) (b.made ++ r ∷ rest_b) (Refused B place (Step
         refusal))) →
         IsFound top a b (Refused B place (Step refusal))
-    b_fails_behind refusal p r read_a read_b ahead_a law = record {
+    b_fails_behind refusal p r read_a read_b ahead_b stops ahead_a law = record {
       made_a = a.made;
-      made_b = b.made ++ r ∷ [];
+      made_b = b.made;
       read_a = read_a;
       read_b = read_b;
       is_finding = λ all_a all_b goes_a goes_b.
           let x = goes_waits a a.made all_a p ahead_a goes_a in
-          let y = goes_read b b.made all_b r goes_b in
+          let y = goes_waits b b.made all_b r ahead_b goes_b in
           finding_at all_a all_b (a.made ++ p ∷ x.0) (b.made ++ r ∷ y.0) (Refused B place (Step refusal)) x.1 y.1 (law x.0 y.0);
       ends = tt;
+      stops = stops;
       counts = λ e. cc;
     }
 
     -- or a has ended
-    pub b_fails_last : (refusal : StepRefusal) (r : Record) → IsRead a → IsRead (having_made b (b.made ++ r ∷ [])) → a.course.ahead ≡ Ended
+    pub b_fails_last : (refusal : StepRefusal) (r : Record) → IsRead a → IsRead b → IsWaiting b.course.capture.bytes b.course.ahead r →
+        IfLeft top.leaves (StopsFor top a b (Refused B place (Step refusal))) → a.course.ahead ≡ Ended
         → ((rest_b : List Record) → IsFinding top.kind head_a head_b a.made (b.made ++ r ∷ rest_b) (Refused B place (Step refusal))) →
         IsFound top a b (Refused B place (Step refusal))
-    b_fails_last refusal r read_a read_b ended law = record {
+    b_fails_last refusal r read_a read_b ahead_b stops ended law = record {
       made_a = a.made;
-      made_b = b.made ++ r ∷ [];
+      made_b = b.made;
       read_a = read_a;
       read_b = read_b;
       is_finding = λ all_a all_b goes_a goes_b.
-          let y = goes_read b b.made all_b r goes_b in
+          let y = goes_waits b b.made all_b r ahead_b goes_b in
           finding_at all_a all_b a.made (b.made ++ r ∷ y.0) (Refused B place (Step refusal)) (goes_ended a a.made all_a ended goes_a) y.1 (law y.0);
       ends = tt;
+      stops = stops;
       counts = λ e. cc;
     }
 
     -- whichever it is, where a's course was this one before its line was released
     pub b_fails : (refusal : StepRefusal) (r : Record) (waits : Bool) (own : Course) (incoming : Line) → own.capture ≡ a.course.capture →
         own.ahead ≡ a.course.ahead → IsStopped top waits own incoming
-        → IsRead a → IsRead (having_made b (b.made ++ r ∷ []))
+        → IsRead a → IsRead b → IsWaiting b.course.capture.bytes b.course.ahead r →
+        IfLeft top.leaves (StopsFor top a b (Refused B place (Step refusal)))
         → ((p : Record) (rest_a rest_b : List Record) → WaitsAt top own.end incoming p → IsFinding top.kind head_a head_b (a.made ++ p ∷ rest_a)
         (b.made ++ r ∷ rest_b) (Refused B place (Step refusal)))
         → ((rest_b : List Record) → IsFinding top.kind head_a head_b a.made (b.made ++ r ∷ rest_b) (Refused B place (Step refusal)))
         → IsFound top a b (Refused B place (Step refusal))
-    b_fails refusal r true own incoming capture ahead held read_a read_b behind last =
-        b_fails_behind refusal held.next r read_a read_b (rw (sym capture, sym ahead) held.ahead)
+    b_fails refusal r true own incoming capture ahead held read_a read_b ahead_b stops behind last =
+        b_fails_behind refusal held.next r read_a read_b ahead_b stops (rw (sym capture, sym ahead) held.ahead)
         (λ rest_a rest_b. behind held.next rest_a rest_b held.waits)
-    b_fails refusal r false own incoming capture ahead ended read_a read_b behind last = b_fails_last refusal r read_a read_b (sym ahead ∙ ended) last
+    b_fails refusal r false own incoming capture ahead ended read_a read_b ahead_b stops behind last =
+        b_fails_last refusal r read_a read_b ahead_b stops (sym ahead ∙ ended) last
 
     -- both wait
     pub both_wait : (r s : Record) → IsRead a → IsRead b → IsWaiting a.course.capture.bytes a.course.ahead r →
         IsWaiting b.course.capture.bytes b.course.ahead s →
+        IfLeft top.leaves (StopsFor top a b (Refused A place NoOrder)) →
         ((rest_a rest_b : List Record) → IsFinding top.kind head_a head_b (a.made ++ r ∷ rest_a) (b.made ++ s ∷ rest_b) (Refused A place NoOrder)) →
         IsFound top a b (Refused A place NoOrder)
-    both_wait r s read_a read_b ahead_a ahead_b law = record {
+    both_wait r s read_a read_b ahead_a ahead_b stops law = record {
       made_a = a.made;
       made_b = b.made;
       read_a = read_a;
@@ -166,14 +192,16 @@ module _ (top : JudgeTop) where
           let y = goes_waits b b.made all_b s ahead_b goes_b in
           finding_at all_a all_b (a.made ++ r ∷ x.0) (b.made ++ s ∷ y.0) (Refused A place NoOrder) x.1 y.1 (law x.0 y.0);
       ends = tt;
+      stops = stops;
       counts = λ e. cc;
     }
 
     -- a waits and b has ended
     pub a_waits : (r : Record) → IsRead a → IsRead b → IsWaiting a.course.capture.bytes a.course.ahead r → b.course.ahead ≡ Ended →
+        IfLeft top.leaves (StopsFor top a b (Refused A place NoSuchUnit)) →
         ((rest_a : List Record) → IsFinding top.kind head_a head_b (a.made ++ r ∷ rest_a) b.made (Refused A place NoSuchUnit)) →
         IsFound top a b (Refused A place NoSuchUnit)
-    a_waits r read_a read_b ahead_a ahead_b law = record {
+    a_waits r read_a read_b ahead_a ahead_b stops law = record {
       made_a = a.made;
       made_b = b.made;
       read_a = read_a;
@@ -182,14 +210,16 @@ module _ (top : JudgeTop) where
           let x = goes_waits a a.made all_a r ahead_a goes_a in
           finding_at all_a all_b (a.made ++ r ∷ x.0) b.made (Refused A place NoSuchUnit) x.1 (goes_ended b b.made all_b ahead_b goes_b) (law x.0);
       ends = at_the_end b.course.ahead b.come ahead_b;
+      stops = stops;
       counts = λ e. cc;
     }
 
     -- b waits and a has ended
     pub b_waits : (r : Record) → IsRead a → IsRead b → a.course.ahead ≡ Ended → IsWaiting b.course.capture.bytes b.course.ahead r →
+        IfLeft top.leaves (StopsFor top a b (Refused B place NoSuchUnit)) →
         ((rest_b : List Record) → IsFinding top.kind head_a head_b a.made (b.made ++ r ∷ rest_b) (Refused B place NoSuchUnit)) →
         IsFound top a b (Refused B place NoSuchUnit)
-    b_waits r read_a read_b ahead_a ahead_b law = record {
+    b_waits r read_a read_b ahead_a ahead_b stops law = record {
       made_a = a.made;
       made_b = b.made;
       read_a = read_a;
@@ -198,6 +228,7 @@ module _ (top : JudgeTop) where
           let y = goes_waits b b.made all_b r ahead_b goes_b in
           finding_at all_a all_b a.made (b.made ++ r ∷ y.0) (Refused B place NoSuchUnit) (goes_ended a a.made all_a ahead_a goes_a) y.1 (law y.0);
       ends = at_the_end a.course.ahead a.come ahead_a;
+      stops = stops;
       counts = λ e. cc;
     }
 
@@ -224,6 +255,7 @@ module _ (top : JudgeTop) where
           (subst (λ (of_b : List Record). IsFinding top.kind a.course.end.head b.course.end.head a.made of_b Accepted)
           (sym (goes_ended b b.made all_b ahead_b goes_b)) (record { verdict = (law.world, law.run); first = tt }));
       ends = (at_the_end a.course.ahead a.come ahead_a, at_the_end b.course.ahead b.come ahead_b);
+      stops = left_any top.leaves tt;
       counts = λ e. record {
         run = (law.world, law.run);
         counts_a = counted_at a.course.end law.world.a.state (top.links reached.world.a.state.station) a.made reached.counts_a

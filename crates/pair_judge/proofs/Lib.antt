@@ -7,8 +7,10 @@ pub mod AcksAlone
 pub mod LineEnds
 pub mod LoneEnds
 pub mod LoneWalk
+pub mod Meets
 pub mod Events
 pub mod Advances
+pub mod Left
 pub mod Courses
 pub mod Turns
 pub mod Halting
@@ -22,3 +24,4 @@ pub mod Alike
 pub mod Seen
 pub mod Alone
 pub mod LineToo
+pub mod Ends

@@ -7,12 +7,12 @@ use Rattle.two_nodes.specs.Cutting.{Cut, cut_outcome}
 use Rattle.capture.specs.declared.record.Record.{Record}
 use Rattle.dna_station.specs.declared.head.Head.{Head}
 use Rattle.dna_station.specs.declared.refusal.StepRefusal.{StepRefusal}
-use Rattle.dna_node.specs.CutLayers.{layers_seen}
+use Rattle.dna_node.specs.CutLayers.{cut_layers_unit, layers_seen}
 use Rattle.dna_links.specs.CutLinks.{cut_link}
 use Rattle.dna_node.specs.LayersPair.{layers_pair}
 use Rattle.dna_node.specs.Seen.{IsSeenLayers}
 use Rattle.pair_judge.specs.inner.Reached.{IsShown}
-use Rattle.pair_judge.specs.inner.Tops.{links_on_top}
+use Rattle.pair_judge.specs.inner.Tops.{links_on_top, links_on_top_left}
 use Rattle.pair_judge.specs.inner.Wire.{JudgeWorld}
 
 module _ {S U T V : Type 0} (cut : Cut S U T V) where
@@ -27,7 +27,22 @@ module _ {S U T V : Type 0} (cut : Cut S U T V) where
   waits_there Waits e = refl
   waits_there (Refused reason) e = absurd (cc)
 
--- what the wire nodes over both layers show
+-- what the wire nodes over both layers show, whatever a refused step leaves
+pub shown_left : (head_a head_b : Head) (w : JudgeWorld) (of_a of_b : List Record) → IsShown links_on_top head_a head_b w of_a of_b →
+    IsShown links_on_top_left head_a head_b w of_a of_b
+shown_left head_a head_b w of_a of_b s = record {
+  world = s.world;
+  run = s.run;
+  refused_a = s.refused_a;
+  refused_b = s.refused_b;
+  waits_a = s.waits_a;
+  waits_b = s.waits_b;
+  links_a = s.links_a;
+  links_b = s.links_b;
+  shows_a = record { station = s.shows_a.station; front = s.shows_a.front; sent = s.shows_a.sent };
+  shows_b = record { station = s.shows_b.station; front = s.shows_b.front; sent = s.shows_b.sent };
+}
+
 pub shown : (head_a head_b : Head) (w : JudgeWorld) (of_a of_b : List Record) → IsSeenLayers head_a head_b w of_a of_b →
     IsShown links_on_top head_a head_b w of_a of_b
 shown head_a head_b w of_a of_b s = record {
@@ -39,4 +54,14 @@ shown head_a head_b w of_a of_b s = record {
   waits_b = λ r is. waits_there layers_seen (advance layers_pair.node_b s.world.b s.world.a r) (sym (s.same_b r) ∙ is);
   links_a = ap (λ (x : JudgeWorld). length x.a.state.station.links.links) s.is_cut ∙ length-map s.world.a.state.station.links.links cut_link;
   links_b = ap (λ (x : JudgeWorld). length x.b.state.station.links.links) s.is_cut ∙ length-map s.world.b.state.station.links.links cut_link;
+  shows_a = record {
+    station = ap (λ (x : JudgeWorld). x.a.state.station) s.is_cut;
+    front = ap (λ (x : JudgeWorld). x.a.state.front) s.is_cut;
+    sent = ap (λ (x : JudgeWorld). length x.a.sent) s.is_cut ∙ length-map s.world.a.sent cut_layers_unit;
+  };
+  shows_b = record {
+    station = ap (λ (x : JudgeWorld). x.b.state.station) s.is_cut;
+    front = ap (λ (x : JudgeWorld). x.b.state.front) s.is_cut;
+    sent = ap (λ (x : JudgeWorld). length x.b.sent) s.is_cut ∙ length-map s.world.b.sent cut_layers_unit;
+  };
 }

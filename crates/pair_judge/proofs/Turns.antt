@@ -72,7 +72,7 @@ same_read text old new come made capture ahead head h = record {
 
 module _ (top : JudgeTop) where
   -- a run from the start with the heads of these ends
-  started_so : (a b a' b' : End) {made_a made_b : List Record} {w : JudgeWorld} → a'.head ≡ a.head → b'.head ≡ b.head →
+  pub started_so : (a b a' b' : End) {made_a made_b : List Record} {w : JudgeWorld} → a'.head ≡ a.head → b'.head ≡ b.head →
       Run (judge_pair top) (wire_layers_start a.head b.head) made_a made_b w → Run (judge_pair top) (wire_layers_start a'.head b'.head) made_a
       made_b w
   started_so a b a' b' {made_a} {made_b} {w} same_a same_b run =
@@ -119,8 +119,8 @@ module _ (top : JudgeTop) where
   }
 
   -- nothing was made
-  pub reached_still : (a a' b b' : End) (made_a made_b : List Record) → HasReached top a b made_a made_b → IsSame a a' a.line → IsSame b b' b.line →
-      HasReached top a' b' made_a made_b
+  abbrev pub reached_still : (a a' b b' : End) (made_a made_b : List Record) → HasReached top a b made_a made_b → IsSame a a' a.line →
+      IsSame b b' b.line → HasReached top a' b' made_a made_b
   reached_still a a' b b' made_a made_b h same_a same_b = record {
     world = h.world;
     run = started_so a b a' b' same_a.head same_b.head h.run;

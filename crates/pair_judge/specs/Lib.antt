@@ -9,5 +9,6 @@ pub mod Refusal
 pub mod Judged
 pub mod EndKind
 pub mod EndJudged
+pub mod Ends
 pub mod Events
 pub mod inner

@@ -13,5 +13,7 @@ pub mod Making
 pub mod Course
 pub mod Reached
 pub mod Opened
+pub mod Ends
 pub mod Answer
 pub mod LoneEnd
+pub mod Stopped

@@ -30,7 +30,8 @@ use wire_base::Tally;
 pub enum Ahead {
     /// A record that is not read yet, or the end.
     Unread,
-    /// A record that was read and waits for its unit: that of this entry and the bytes that the reader keeps.
+    /// A record that was read and not made, since it waits for its unit or can't be made: that of this entry and the bytes that the reader
+    /// keeps.
     Waits(Entry),
     /// Nothing: all records were made.
     Ended,
@@ -53,7 +54,7 @@ pub enum Advance {
     Blocked,
     /// There is none.
     Ended,
-    /// It can't be made.
+    /// It can't be made, and is kept as the record ahead.
     Fails(StepRefusal),
 }
 
@@ -166,7 +167,10 @@ impl Course {
                 self.ahead = Ahead::Waits(entry);
                 Ok(Advance::Blocked)
             }
-            Ok(Made::Fails(refusal)) => Ok(Advance::Fails(refusal)),
+            Ok(Made::Fails(refusal)) => {
+                self.ahead = Ahead::Waits(entry);
+                Ok(Advance::Fails(refusal))
+            }
             Err(AllocError) => Err(CaptureFault::OutOfMemory),
         }
     }

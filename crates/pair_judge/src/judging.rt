@@ -12,6 +12,9 @@ ghost use Rattle.pair_judge.specs.Faulty.{IsJudgeFault, is_failed_read_of};
 ghost use Rattle.pair_judge.specs.Finding.{IsFoundIn, of_side};
 ghost use Rattle.pair_judge.specs.Judged.{IfTold, IsAcceptance, IsExact, IsFaultyWhere, IsRefusalWhere};
 ghost use Rattle.pair_judge.specs.inner.Opened.{OpensAt};
+ghost use Rattle.pair_judge.specs.inner.Stopped.{IsStoppedIn};
+
+mod with_ends;
 
 use crate::course::{Ahead, Course};
 use crate::end::End;
@@ -19,6 +22,7 @@ use crate::fault::JudgeFault;
 use crate::layers::Layers;
 use crate::line::Line;
 use crate::reason::Reason;
+use crate::stopped::Stopped;
 use crate::summary::{SideSummary, Summary};
 use crate::top::{LinksOnTop, NothingOnTop, Top};
 use crate::turn::{side_fault, turn};
@@ -29,6 +33,7 @@ use dna_station::{Head, captures_deliver_in_order};
 use std::alloc::Global;
 use std::io::Read;
 use wire_base::{Side, Tally};
+pub use with_ends::judge_with_ends;
 
 // Each turn makes one record of a side or ends.
 const MOST_TURNS: u64 = 2 * MAX_RECORDS + 1;
@@ -144,6 +149,31 @@ fn find<T: Top, R: Read, S: Read>(
     ensures reads_a { CountsReads (is_failed_read_of Side.A result) (tally_faults a.old) (tally_faults a.new) }
     ensures reads_b { CountsReads (is_failed_read_of Side.B result) (tally_faults b.old) (tally_faults b.new) }
 {
+    let stopped = match stop::<T, R, S>(alloc, a, b) {
+        Ok(stopped) => stopped,
+        Err(fault) => return Err(fault),
+    };
+    let summary = Summary {
+        a: stopped.a.end.summary::<T>(),
+        b: stopped.b.end.summary::<T>(),
+    };
+    Ok(Found {
+        finding: stopped.finding,
+        summary,
+    })
+}
+
+// Finds the same, and keeps both sides as they are then.
+fn stop<T: Top, R: Read, S: Read>(
+    alloc: Global,
+    a: &mut Tally<R>,
+    b: &mut Tally<S>,
+) -> Result<Stopped, JudgeFault>
+    ensures stopped { IfOk result (IsStoppedIn T.top (R.remaining (tally_lent a.old)) (S.remaining (tally_lent b.old))) }
+    ensures fault { IfErr result (IsJudgeFault T.top.kind (R.remaining (tally_lent a.old)) (S.remaining (tally_lent b.old))) }
+    ensures reads_a { CountsReads (is_failed_read_of Side.A result) (tally_faults a.old) (tally_faults a.new) }
+    ensures reads_b { CountsReads (is_failed_read_of Side.B result) (tally_faults b.old) (tally_faults b.new) }
+{
     let mut course_a = match open::<T, R>(alloc, Side::A, a) {
         Ok(course) => course,
         Err(fault) => return Err(fault),
@@ -159,11 +189,11 @@ fn find<T: Top, R: Read, S: Read>(
         }
         match ending {
             Ok(finding) => {
-                let summary = Summary {
-                    a: course_a.end.summary::<T>(),
-                    b: course_b.end.summary::<T>(),
-                };
-                return Ok(Found { finding, summary });
+                return Ok(Stopped {
+                    finding,
+                    a: course_a,
+                    b: course_b,
+                });
             }
             Err(fault) => return Err(fault),
         }

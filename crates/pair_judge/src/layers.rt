@@ -7,8 +7,10 @@ ghost use Rattle.dna_links.specs.WireLinks.{new_wire_links};
 mod accusing;
 mod alone;
 mod arriving;
+mod left;
 mod one_end;
 mod sending;
+mod shown;
 mod user;
 
 use ddcmp_station::HeldPacket;

@@ -28,6 +28,7 @@ pub struct Line {
 
 impl Line {
     ghost use Rattle.ddcmp_msg.specs.Reading.{reading};
+    ghost use Rattle.pair_judge.specs.inner.Ends.{sent_on};
     ghost use Rattle.pair_judge.specs.inner.Lines.{held};
     ghost use Rattle.pair_judge.specs.inner.Unit.{unit_of, tags_of, IsSoundReading};
 
@@ -59,6 +60,13 @@ impl Line {
         self.tags.push(number, &tag.station)?;
         self.units.push_back_reserved(HeldUnit::new(own, &tag.link));
         Ok(())
+    }
+
+    /// How many units were sent: the next one has this number.
+    pub fn sent(&self) -> u64
+        ensures { result ≡ sent_on self.now }
+    {
+        self.gone + self.units.len() as u64
     }
 
     /// Whether the unit with this number was sent.

@@ -14,7 +14,7 @@ ghost use Rattle.pair_judge.specs.Summary.{HasRoom};
 ghost use Rattle.pair_judge.specs.declared.line.Line.{Line};
 ghost use Rattle.pair_judge.specs.inner.Memory.{MayEnter, MayKeep, MaySend, MayTakeMemory};
 ghost use Rattle.pair_judge.specs.inner.Making.{IfFails, IsEvent, LeavesWaiting, MadeIs, NeverWaits, StandsFor, move};
-ghost use Rattle.pair_judge.specs.inner.Wire.{JudgeHalf};
+ghost use Rattle.pair_judge.specs.inner.Wire.{IfLeft, JudgeHalf};
 
 use crate::end::End;
 use crate::line::Line;
@@ -58,6 +58,8 @@ pub fn make<T: Top>(
         MadeIs T.top made (move own.old own.new incoming.old incoming.new) (record_with entry bytes.now) mine theirs) }
     ensures waits { IfOk result (λ made. LeavesWaiting made (move own.old own.new incoming.old incoming.new)) }
     ensures counts { IfOk result (λ made. IfFails made (own.new.counts ≡ own.old.counts)) }
+    ensures still { IfOk result (λ made. IfFails made (IfLeft T.top.leaves (own.new ≡ own.old))) }
+    ensures same_line { IfOk result (λ made. IfFails made (incoming.new ≡ incoming.old)) }
     ensures memory { IfErr result (λ _. MayTakeMemory own.old.layers (record_with entry bytes.now)) }
     ensures head { own.new.head ≡ own.old.head }
 {
@@ -86,6 +88,7 @@ fn make_event_copied<T: Top>(own: &mut End, entry: Entry, bytes: &[u8]) -> Resul
         MadeIs T.top made (move own.old own.new incoming incoming) (record_with entry bytes.now) mine theirs) }
     ensures waits { IfOk result NeverWaits }
     ensures counts { IfOk result (λ made. IfFails made (own.new.counts ≡ own.old.counts)) }
+    ensures still { IfOk result (λ made. IfFails made (IfLeft T.top.leaves (own.new ≡ own.old))) }
     ensures memory { IfErr result (λ _. MayTakeMemory own.old.layers (record_with entry bytes.now)) }
     ensures head { own.new.head ≡ own.old.head }
 {
@@ -103,6 +106,7 @@ fn make_event<T: Top>(own: &mut End, entry: Entry, bytes: &[u8]) -> Result<Made,
         MadeIs T.top made (move own.old own.new incoming incoming) (record_with entry bytes.now) mine theirs) }
     ensures waits { IfOk result NeverWaits }
     ensures counts { IfOk result (λ made. IfFails made (own.new.counts ≡ own.old.counts)) }
+    ensures still { IfOk result (λ made. IfFails made (IfLeft T.top.leaves (own.new ≡ own.old))) }
     ensures memory { IfErr result (λ _. MayTakeMemory own.old.layers (record_with entry bytes.now)) }
     ensures head { own.new.head ≡ own.old.head }
 {
@@ -139,6 +143,7 @@ fn make_sent<T: Top>(alloc: Global, own: &mut End, bytes: &[u8]) -> Result<Made,
         MadeIs T.top made (move own.old own.new incoming incoming) (Record.Sent bytes.now) mine theirs) }
     ensures waits { IfOk result NeverWaits }
     ensures counts { IfOk result (λ made. IfFails made (own.new.counts ≡ own.old.counts)) }
+    ensures still { IfOk result (λ made. IfFails made (IfLeft T.top.leaves (own.new ≡ own.old))) }
     ensures memory { IfErr result (λ _. MaySend own.old.layers (reading bytes.now)) }
     ensures head { own.new.head ≡ own.old.head }
 {
@@ -169,6 +174,8 @@ fn make_received<T: Top>(
         MadeIs T.top made (move own.old own.new incoming.old incoming.new) (Record.Received hint kept bytes.now) mine theirs) }
     ensures waits { IfOk result (λ made. LeavesWaiting made (move own.old own.new incoming.old incoming.new)) }
     ensures counts { IfOk result (λ made. IfFails made (own.new.counts ≡ own.old.counts)) }
+    ensures still { IfOk result (λ made. IfFails made (IfLeft T.top.leaves (own.new ≡ own.old))) }
+    ensures same_line { IfOk result (λ made. IfFails made (incoming.new ≡ incoming.old)) }
     ensures memory { IfErr result (λ _. MayKeep kept (shows_damage (reading bytes.now))) }
     ensures head { own.new.head ≡ own.old.head }
 {
@@ -192,6 +199,7 @@ fn make_noise<T: Top>(own: &mut End, bytes: &[u8]) -> Made
         MadeIs T.top result (move own.old own.new incoming incoming) (Record.Noise bytes.now) mine theirs }
     ensures waits { NeverWaits result }
     ensures counts { IfFails result (own.new.counts ≡ own.old.counts) }
+    ensures still { IfFails result (IfLeft T.top.leaves (own.new ≡ own.old)) }
     ensures head { own.new.head ≡ own.old.head }
 {
     match hear::<T>(&mut own.layers, bytes) {
@@ -211,6 +219,7 @@ fn make_station_event<T: Top>(own: &mut End, event: StationEvent) -> Made
         MadeIs T.top result (move own.old own.new incoming incoming) (Record.User (event_of_station event)) mine theirs }
     ensures waits { NeverWaits result }
     ensures counts { IfFails result (own.new.counts ≡ own.old.counts) }
+    ensures still { IfFails result (IfLeft T.top.leaves (own.new ≡ own.old)) }
     ensures head { own.new.head ≡ own.old.head }
 {
     match T::start_or_halt(&mut own.layers, event) {
@@ -230,6 +239,7 @@ fn make_link_event<T: Top>(own: &mut End, event: LinkEvent) -> Result<Made, Allo
         MadeIs T.top made (move own.old own.new incoming incoming) (Record.User (event_of_links (view event.entry))) mine theirs) }
     ensures waits { IfOk result NeverWaits }
     ensures counts { IfOk result (λ made. IfFails made (own.new.counts ≡ own.old.counts)) }
+    ensures still { IfOk result (λ made. IfFails made (IfLeft T.top.leaves (own.new ≡ own.old))) }
     ensures memory { IfErr result (λ _. MayEnter own.old.layers.links (view event.entry)) }
     ensures head { own.new.head ≡ own.old.head }
 {

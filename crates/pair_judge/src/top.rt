@@ -1,6 +1,6 @@
 //! What stands on top of the stations that the judge runs: their links, or nothing.
 
-ghost use Rattle.std.specs.Prelude.{◌≡◌, ◌+◌, ◌^◌, ◌<◌, ◌≤◌, Ok, Err, List, None, Some, OnOk, IfOk, IfErr};
+ghost use Rattle.std.specs.Prelude.{◌≡◌, ◌+◌, ◌^◌, ◌<◌, ◌≤◌, Ok, Err, List, None, Some, OnOk, OnErr, IfOk, IfErr};
 ghost use Rattle.two_nodes.specs.Nodes.{Run};
 ghost use Rattle.ddcmp_msg.specs.Message.{MessageValue, view};
 ghost use Rattle.ddcmp_msg.specs.Reading.{ReadingValue};
@@ -21,8 +21,8 @@ ghost use Rattle.pair_judge.specs.inner.Reached.{IsShown};
 ghost use Rattle.pair_judge.specs.inner.Receipts.{is_damage};
 ghost use Rattle.pair_judge.specs.inner.Steps.{IfRefused, with_link};
 ghost use Rattle.pair_judge.specs.inner.Unit.{tags_of};
-ghost use Rattle.pair_judge.specs.inner.Wire.{EndsAlike, JudgeTop, JudgeWorld, judge_hears, judge_pair};
-ghost use Rattle.pair_judge.specs.inner.Tops.{links_on_top, nothing_on_top};
+ghost use Rattle.pair_judge.specs.inner.Wire.{EndsAlike, IfLeft, JudgeTop, JudgeWorld, judge_hears, judge_pair};
+ghost use Rattle.pair_judge.specs.inner.Tops.{links_on_top, links_on_top_left, nothing_on_top};
 
 use crate::held_link::HeldLink;
 use crate::layers::Layers;
@@ -45,12 +45,14 @@ pub trait Top {
         requires { load layers.old.station < 2 ^ 63 }
         ensures ok { OnOk result (top.machine.user layers.old (event_of_station event) ≡ Ok layers.new) }
         ensures refused { IfErr result (λ refusal. top.machine.user layers.old (event_of_station event) ≡ Err refusal) }
+        ensures still { OnErr result (IfLeft top.leaves (layers.new ≡ layers.old)) }
         ensures load { load layers.new.station ≤ load layers.old.station + 1 };
 
     /// An event of the links.
     fn at_links(layers: &mut Layers, event: LinkEvent) -> Result<(), StepFault>
         ensures ok { OnOk result (top.machine.user layers.old (event_of_links (link_view event.entry)) ≡ Ok layers.new) }
         ensures refused { IfErr result (IfRefused (λ refusal. top.machine.user layers.old (event_of_links (link_view event.entry)) ≡ Err refusal)) }
+        ensures still { IfErr result (IfRefused (λ refusal. IfLeft top.leaves (layers.new ≡ layers.old))) }
         ensures memory { IfErr result (IfNoMemory (MayEnter layers.old.links (link_view event.entry))) }
         ensures station { layers.new.station ≡ layers.old.station };
 
@@ -59,6 +61,7 @@ pub trait Top {
         ensures ok { IfOk result (λ tag. top.machine.sends layers.old (view message.now) ≡ Ok (layers.new, tags_of tag)) }
         ensures refused { IfErr result (IfRefused (λ refusal. top.machine.sends layers.old (view message.now) ≡ Err refusal)) }
         ensures allowed { OnOk result (wire_sending_refusal layers.old.station (view message.now) ≡ None) }
+        ensures still { IfErr result (IfRefused (λ refusal. IfLeft top.leaves (layers.new ≡ layers.old))) }
         ensures memory { IfErr result (IfNoMemory (wire_sending_refusal layers.old.station (view message.now) ≡ None)) }
         ensures load { load layers.new.station ≤ load layers.old.station };
 
@@ -73,6 +76,7 @@ pub trait Top {
         ensures ok { OnOk result (top.machine.arrives layers.old (with_link link.now (arrival_view arrival.entry)) kept ≡ Ok layers.new) }
         ensures refused { IfErr result (IfRefused (λ refusal.
             top.machine.arrives layers.old (with_link link.now (arrival_view arrival.entry)) kept ≡ Err refusal)) }
+        ensures still { IfErr result (IfRefused (λ refusal. IfLeft top.leaves (layers.new ≡ layers.old))) }
         ensures memory { IfErr result (IfNoMemory (MayKeep kept (is_damage (arrival_view arrival.entry)))) }
         ensures load { load layers.new.station ≤ load layers.old.station + 1 };
 
@@ -141,6 +145,61 @@ impl Top for LinksOnTop {
         kept: bool,
     ) -> Result<(), StepFault> {
         layers.arrived(arrival, link, kept)
+    }
+
+    fn arrived_unknown(layers: &mut Layers, arrival: Arrival, kept: bool) -> Result<(), StepFault> {
+        layers.arrived_unknown(arrival, kept)
+    }
+
+    fn wrong_unit(layers: &Layers, message: &Message) -> Option<StepRefusal> {
+        layers.wrong_unit(message)
+    }
+
+    fn wrong_taken(layers: &Layers, message: &Message) -> Option<StepRefusal> {
+        layers.wrong_taken(message)
+    }
+
+    fn links_begun(layers: &Layers) -> u64 {
+        layers.links_begun()
+    }
+
+    fn shows() {
+        wire_layers_see_right();
+    }
+
+    fn shows_alone() {}
+}
+
+/// The links of each side, on both layers, which a step that is refused leaves as they were: what the links say of a packet is asked before
+/// the station makes its step. For those who look at both ends where a record is refused.
+pub struct LinksOnTopLeft;
+
+impl Top for LinksOnTopLeft {
+    ghost top = { links_on_top_left };
+
+    #[inline(always)]
+    fn start_or_halt(layers: &mut Layers, event: StationEvent) -> Result<(), StepRefusal> {
+        layers.start_or_halt(event)
+    }
+
+    #[inline(always)]
+    fn at_links(layers: &mut Layers, event: LinkEvent) -> Result<(), StepFault> {
+        layers.at_links(event)
+    }
+
+    #[inline(always)]
+    fn sent(layers: &mut Layers, message: &Message) -> Result<UnitTag, StepFault> {
+        layers.sent_or_left(message)
+    }
+
+    #[inline(always)]
+    fn arrived(
+        layers: &mut Layers,
+        arrival: Arrival,
+        link: &HeldLink,
+        kept: bool,
+    ) -> Result<(), StepFault> {
+        layers.arrived_or_left(arrival, link, kept)
     }
 
     fn arrived_unknown(layers: &mut Layers, arrival: Arrival, kept: bool) -> Result<(), StepFault> {

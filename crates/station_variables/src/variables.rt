@@ -10,6 +10,8 @@ ghost use Rattle.dna_station.specs.WireStation.{no_numbers, with_label};
 ghost use Rattle.dna_station.specs.WireStation as wire_station;
 ghost use Rattle.dna_station.specs.WireBook.{acknowledges, is_held_packet, wire_is_next, wire_is_new, wire_responded};
 
+mod shown;
+
 use crate::{HeldPacket, PacketBytes};
 use ddcmp_msg::Message;
 use dna_station::State;

@@ -111,7 +111,7 @@ impl<T: Copy, W: Window<HeldPacket<T>, 256>> Station<T, W> {
 
     // Whether the periods of a message are what its row needs.
     #[inline(always)]
-    fn meets(&self, message: &Message, tag: Tag) -> bool
+    pub(super) fn meets(&self, message: &Message, tag: Tag) -> bool
         ensures { result ≡ meets (row self.now.variables.state (view message.now)).needs (wire_tag self.now) tag }
     {
         let fresh = is_period(tag.partner, self.period);
@@ -257,7 +257,7 @@ fn is_period(known: Option<u64>, period: u64) -> bool
 }
 
 // The data of a message, and none where it has none.
-fn body_of<'a>(message: Message<'a>) -> &'a [u8]
+pub(super) fn body_of<'a>(message: Message<'a>) -> &'a [u8]
     ensures { result.now ≡ arriving.body_of (view message.entry) }
 {
     match message {

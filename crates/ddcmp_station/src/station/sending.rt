@@ -123,7 +123,7 @@ impl<T: Copy, W: Window<HeldPacket<T>, 256>> Station<T, W> {
 
     // Why the message may not be sent, or `None` where it may.
     #[inline(always)]
-    fn refusal_to_send(&self, message: &Message) -> Option<StationRefusal>
+    pub(super) fn refusal_to_send(&self, message: &Message) -> Option<StationRefusal>
         ensures { result ≡ wire_sending_refusal self.now (view message.now) }
     {
         match self.variables.state() {

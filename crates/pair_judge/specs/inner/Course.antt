@@ -21,7 +21,7 @@ use Rattle.pair_judge.specs.declared.course.Advance.{Advance}
 use Rattle.pair_judge.specs.declared.course.Advance.TheVariants as answers
 use Rattle.pair_judge.specs.Heads.{head_of}
 use Rattle.pair_judge.specs.inner.Lines.{Shows}
-use Rattle.pair_judge.specs.inner.Wire.{judge_step, JudgeHalf, JudgeTop}
+use Rattle.pair_judge.specs.inner.Wire.{IfLeft, judge_step, JudgeHalf, JudgeTop}
 use Rattle.pair_judge.specs.inner.Making.{Move, StandsFor, IsMade}
 
 -- the reader has not failed, and has not come to the end unseen
@@ -33,13 +33,13 @@ MayReadAhead Unread capture = capture.phase ≡ Reading
 abbrev pub MayRead : Course → Type 0
 MayRead course = MayReadAhead course.ahead course.capture
 
--- the record that was read and not made, where the reader keeps these bytes
+-- the record that was read and not made, since it waits or can't be, where the reader keeps these bytes
 abbrev pub waiting : List ℕ → Ahead → List Record
 waiting bytes Unread = []
 waiting bytes (Waits entry) = record_with entry bytes ∷ []
 waiting bytes Ended = []
 
--- this record was read and waits, where the reader keeps its bytes
+-- this record was read and not made, where the reader keeps its bytes
 pub record IsWaiting (bytes : List ℕ) (ahead : Ahead) (r : Record) : Type 0 where
   pub entry : Entry
   pub ahead_is : ahead ≡ Waits entry
@@ -65,7 +65,7 @@ along text course come made = record { text = text; course = course; come = come
 abbrev pub having_made : Track → List Record → Track
 having_made t made = record t { made = made }
 
--- what was read of its text: the records that were made, and the one that waits
+-- what was read of its text: the records that were made, and the one that was not
 abbrev pub read_of : Track → ReadSoFar
 read_of t = so_far t.course.capture.form t.course.capture.own t.course.capture.peer (t.made ++ waiting t.course.capture.bytes t.course.ahead)
     (behind t.course.ahead t.come)
@@ -127,7 +127,9 @@ module _ (top : JudgeTop) where
   -- the next record can't be made
   pub record IsRefused (m : Move) (t : Track) (refusal : StepRefusal) : Type 0 where
     pub next : Record
-    pub read : IsRead (having_made t (t.made ++ next ∷ []))
+    pub read : IsRead t
+    pub ahead : IsWaiting t.course.capture.bytes t.course.ahead next
+    pub still : IfLeft top.leaves (IsStill m)
     pub counts : m.new.counts ≡ m.old.counts
     pub refused : (mine theirs : JudgeHalf) → StandsFor m.old m.before mine → Shows m.before theirs.sent →
         advance (judge_step top) mine theirs next ≡ any.Refused refusal

@@ -1,7 +1,8 @@
 -- Both sides of the judge beside the world that the records made so far led to, and what a turn leads to.
-use Rattle.std.specs.Prelude.{◌≡◌, ◌+◌, ◌≤◌, Bool, true, false, List, length, Option, Some, None, Result, Ok, Err}
-use Rattle.two_nodes.specs.Nodes.{Run, World, advance}
+use Rattle.std.specs.Prelude.{◌≡◌, ℕ, ◌+◌, ◌≤◌, Bool, true, false, List, length, Option, Some, None, Result, Ok, Err}
+use Rattle.two_nodes.specs.Nodes.{Half, Run, World, advance}
 use Rattle.two_nodes.specs.Nodes.Outcome.{Waits, Refused}
+use Rattle.wire_base.specs.declared.side.Side.{Side}
 use Rattle.capture.specs.declared.record.Record.{Record}
 use Rattle.capture.specs.SoFar.{GoesOn}
 use Rattle.dna_station.specs.declared.head.Head.{Head}
@@ -9,6 +10,9 @@ use Rattle.dna_station.specs.Machine.{step}
 use Rattle.dna_station.specs.declared.refusal.StepRefusal.{StepRefusal}
 use Rattle.dna_node.specs.declared.finding.Finding.{Finding}
 use Rattle.dna_node.specs.Kind.{KindNode, KindUnit, kind_pair, kind_start}
+use Rattle.dna_node.specs.declared.finding.Cause.{Cause}
+use Rattle.dna_node.specs.declared.finding.Cause.TheVariants.{Step, NoSuchUnit, NoOrder}
+use Rattle.dna_node.specs.declared.finding.Finding.TheVariants as findings
 use Rattle.dna_node.specs.declared.finding.Finding.TheVariants.{Accepted}
 use Rattle.pair_judge.specs.declared.line.Line.{Line}
 use Rattle.pair_judge.specs.declared.end.End.{End}
@@ -17,10 +21,10 @@ use Rattle.pair_judge.specs.declared.course.Course.{Course}
 use Rattle.pair_judge.specs.declared.fault.JudgeFault.{JudgeFault}
 use Rattle.dna_station.specs.WireStation.{load}
 use Rattle.dna_node.specs.WireLayers.{wire_layers_start}
-use Rattle.pair_judge.specs.inner.Wire.{judge_pair, judge_step, JudgeTop, JudgeWorld}
+use Rattle.pair_judge.specs.inner.Wire.{IfLeft, judge_pair, judge_step, JudgeHalf, JudgeTop, JudgeWorld}
 use Rattle.pair_judge.specs.inner.Making.{StandsFor}
 use Rattle.pair_judge.specs.inner.Course.{IsRead, Track, WaitsAt, IsWaiting, having_made, read_of}
-use Rattle.pair_judge.specs.Finding.{EndsWhere, IsCounted, IsFinding}
+use Rattle.pair_judge.specs.Finding.{EndsWhere, IsCounted, IsFinding, of_side}
 use Rattle.pair_judge.specs.Summary.{counts_of, summary_at}
 
 -- what a turn answers, with what it ends with
@@ -30,8 +34,14 @@ turned false (Ok finding) = Ok (Some finding)
 turned false (Err fault) = Err fault
 
 module _ (top : JudgeTop) where
-  -- These records, which led the wire nodes to this world, lead nodes of the kind to one in which the same records are refused and wait, and as many
-  -- links began there.
+  -- A half of the wire nodes is what is kept of this half
+  pub record ShowsHalf (own : JudgeHalf) (half : Half (KindNode top.kind) (KindUnit top.kind)) : Type 0 where
+    pub station : top.Shows own.state.station half.state.station
+    pub front : own.state.front ≡ half.state.front
+    pub sent : length own.sent ≡ length half.sent
+
+  -- These records, which led the wire nodes to this world, lead nodes of the kind to one in which the same records are refused and wait, of which
+  -- this world is what is kept, and in which as many links began.
   pub record IsShown (head_a head_b : Head) (w : JudgeWorld) (of_a of_b : List Record) : Type 0 where
     pub world : World (KindNode top.kind) (KindUnit top.kind)
     pub run : Run (kind_pair top.kind) (kind_start top.kind head_a head_b) of_a of_b world
@@ -43,6 +53,8 @@ module _ (top : JudgeTop) where
     pub waits_b : (r : Record) → advance (judge_step top) w.b w.a r ≡ Waits → advance (step top.kind.machine) world.b world.a r ≡ Waits
     pub links_a : top.links w.a.state.station ≡ top.kind.links world.a.state.station
     pub links_b : top.links w.b.state.station ≡ top.kind.links world.b.state.station
+    pub shows_a : ShowsHalf w.a world.a
+    pub shows_b : ShowsHalf w.b world.b
 
   -- some order of these records leads to a world that the two ends stand for
   pub record HasReached (a b : End) (made_a made_b : List Record) : Type 0 where
@@ -79,6 +91,25 @@ module _ (top : JudgeTop) where
     pub under_way : IsUnderWay (having_made a made_a) (having_made b made_b)
     pub one_more : length made_a + length made_b ≡ length a.made + length b.made + 1
 
+  -- what becomes of the named record, in the world that the run so far leads to
+  abbrev pub BecomesThere : Cause → (own other : JudgeHalf) → Record → Type 0
+  BecomesThere (Step refusal) own other r = advance (judge_step top) own other r ≡ Refused refusal
+  BecomesThere NoSuchUnit own other r = advance (judge_step top) own other r ≡ Waits
+  BecomesThere NoOrder own other r = advance (judge_step top) own other r ≡ Waits
+
+  -- The named record is the next of its side, and was read. Both ends stand for the world in which it is refused, or waits
+  pub record StopsAt (a b : Track) (side : Side) (place : ℕ) (cause : Cause) : Type 0 where
+    pub reached : HasReached a.course.end b.course.end a.made b.made
+    pub next : Record
+    pub ahead : IsWaiting (of_side side a b).course.capture.bytes (of_side side a b).course.ahead next
+    pub becomes : BecomesThere cause (of_side side reached.world.a reached.world.b) (of_side side reached.world.b reached.world.a) next
+    pub place_is : place ≡ length (of_side side a b).made
+
+  -- an acceptance names none
+  abbrev pub StopsFor : Track → Track → Finding → Type 0
+  StopsFor a b Accepted = Unit {0}
+  StopsFor a b (findings.Refused side place cause) = StopsAt a b side place cause
+
   -- The finding is that of all captures that go on behind what was read; an acceptance comes with the counts of all
   -- records.
   pub record IsFound (a b : Track) (finding : Finding) : Type 0 where
@@ -89,6 +120,7 @@ module _ (top : JudgeTop) where
     pub is_finding : (all_a all_b : List Record) → GoesOn (read_of (having_made a made_a)) all_a → GoesOn (read_of (having_made b made_b)) all_b
         → IsFinding top.kind a.course.end.head b.course.end.head all_a all_b finding
     pub ends : EndsWhere finding (read_of a).behind (read_of b).behind
+    pub stops : IfLeft top.leaves (StopsFor (having_made a made_a) (having_made b made_b) finding)
     pub counts : finding ≡ Accepted → IsCounted top.kind a.course.end.head b.course.end.head made_a made_b
         (record { a = summary_at top.links a.course.end; b = summary_at top.links b.course.end })
 

@@ -45,6 +45,12 @@ pub record Came : Type 0 where
 abbrev pub came : ℕ → Bool → List ℕ → Came
 came hint kept bytes = record { hint = hint; kept = kept; bytes = bytes }
 
+-- a fact of a receipt that can't be made
+abbrev pub IfFails : Receipt → Type 0 → Type 0
+IfFails (Done damaged) P = Unit {0}
+IfFails Waits P = Unit {0}
+IfFails (Fails refusal) P = P
+
 module _ (top : JudgeTop) where
   -- the unit of the hint was sent, and the node goes by it: to these layers and this line
   pub record IsReceived (m : LayersMove) (c : Came) (sent : List WireLayersUnit) : Type 0 where

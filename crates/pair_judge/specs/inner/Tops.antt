@@ -1,5 +1,5 @@
 -- What may stand on top of the stations that the judge runs.
-use Rattle.std.specs.Prelude.{Bool, None, Result, Ok, Err, length}
+use Rattle.std.specs.Prelude.{◌≡◌, Bool, true, false, None, Result, Ok, Err, length}
 use Rattle.ddcmp_msg.specs.Message.{MessageValue}
 use Rattle.capture.specs.declared.event.Event.{Event}
 use Rattle.dna_station.specs.declared.refusal.StepRefusal.{StepRefusal}
@@ -9,9 +9,13 @@ use Rattle.dna_station.specs.Rules.{PeriodRule, of_period, of_any_period}
 use Rattle.dna_station.specs.Book.{ArrivalValue}
 use Rattle.dna_station.specs.Machine.{Machine}
 use Rattle.dna_station.specs.WireStation.{WireStation}
-use Rattle.dna_station.specs.WireNode.{wire_machine}
+use Rattle.dna_station.specs.Station.{Station}
+use Rattle.dna_station.specs.Cut.{cut}
+use Rattle.dna_station.specs.WireNode.{unlabelled, wire_machine}
 use Rattle.dna_node.specs.Alone.{EndOf, layers_end, station_end, unknown_tag}
+use Rattle.dna_node.specs.CutLayers.{cut_layers}
 use Rattle.dna_node.specs.Kind.{both_layers, stations_alone}
+use Rattle.dna_node.specs.Layers.{Layers}
 use Rattle.dna_node.specs.Rules.{judged}
 use Rattle.dna_node.specs.WireLayers.{WireLayers, LayersTag, to_wire_station, wire_layers_machine, with_wire_station}
 use Rattle.pair_judge.specs.EndKind.{layers_alone, station_alone}
@@ -29,7 +33,13 @@ links_on_top = record {
   links = λ (s : WireLayers). length s.links.links;
   alone = layers_end;
   end = layers_alone;
+  leaves = false;
+  Shows = λ (w : WireLayers) (s : Layers). w ≡ cut_layers s;
 }
+
+-- the same, where a step that is refused leaves both layers as they were
+abbrev pub links_on_top_left : JudgeTop
+links_on_top_left = record links_on_top { leaves = true }
 
 -- ---- nothing: the links stay as they were before any record
 
@@ -65,4 +75,6 @@ nothing_on_top = record {
   links = λ (s : WireLayers). 0;
   alone = line_end;
   end = station_alone;
+  leaves = true;
+  Shows = λ (w : WireLayers) (s : Station). w.station ≡ cut (unlabelled s.packets) s;
 }

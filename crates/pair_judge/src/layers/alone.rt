@@ -1,6 +1,6 @@
 //! A station with nothing on top: its packets are any bytes, and are not read.
 
-ghost use Rattle.std.specs.Prelude.{◌≡◌, ◌+◌, ◌^◌, ◌<◌, ◌≤◌, Ok, Err, None, Some, OnOk, IfOk, IfErr};
+ghost use Rattle.std.specs.Prelude.{◌≡◌, ◌+◌, ◌^◌, ◌<◌, ◌≤◌, Ok, Err, None, Some, OnOk, OnErr, IfOk, IfErr};
 ghost use Rattle.ddcmp_msg.specs.Message.{view};
 ghost use Rattle.dna_station.specs.WireBook.{wire_sending_refusal};
 ghost use Rattle.dna_station.specs.WireStation.{load};
@@ -27,6 +27,7 @@ impl Layers {
         requires { load self.old.station < 2 ^ 63 }
         ensures ok { OnOk result (line_machine.user self.old (event_of_station event) ≡ Ok self.new) }
         ensures refused { IfErr result (λ refusal. line_machine.user self.old (event_of_station event) ≡ Err refusal) }
+        ensures err { OnErr result (self.new ≡ self.old) }
         ensures load { load self.new.station ≤ load self.old.station + 1 }
     {
         match self.station.user(event) {
@@ -42,6 +43,7 @@ impl Layers {
         ensures ok { IfOk result (λ tag. line_machine.sends self.old (view message.now) ≡ Ok (self.new, tags_of tag)) }
         ensures refused { IfErr result (IfRefused (λ refusal. line_machine.sends self.old (view message.now) ≡ Err refusal)) }
         ensures allowed { OnOk result (wire_sending_refusal self.old.station (view message.now) ≡ None) }
+        ensures err { OnErr result (self.new ≡ self.old) }
         ensures memory { IfErr result (IfNoMemory (wire_sending_refusal self.old.station (view message.now) ≡ None)) }
         ensures load { load self.new.station ≤ load self.old.station }
     {
@@ -69,6 +71,7 @@ impl Layers {
         ensures ok { OnOk result (line_machine.arrives self.old (with_link link.now (arrival_view arrival.entry)) kept ≡ Ok self.new) }
         ensures refused { IfErr result (IfRefused (λ refusal.
             line_machine.arrives self.old (with_link link.now (arrival_view arrival.entry)) kept ≡ Err refusal)) }
+        ensures err { OnErr result (self.new ≡ self.old) }
         ensures memory { IfErr result (IfNoMemory (MayKeep kept (is_damage (arrival_view arrival.entry)))) }
         ensures load { load self.new.station ≤ load self.old.station + 1 }
     {

@@ -1,6 +1,6 @@
 //! What comes to a side.
 
-ghost use Rattle.std.specs.Prelude.{◌≡◌, ◌+◌, ◌^◌, ◌<◌, ◌≤◌, Ok, Err, OnOk, IfErr};
+ghost use Rattle.std.specs.Prelude.{◌≡◌, ◌+◌, ◌^◌, ◌<◌, ◌≤◌, Ok, Err, OnOk, OnErr, IfErr};
 ghost use Rattle.dna_node.specs.Content as spec;
 ghost use Rattle.dna_node.specs.Rules.{judged};
 ghost use Rattle.dna_station.specs.WireStation.{load};
@@ -54,10 +54,11 @@ impl Layers {
 
     // This packet is kept, with this tag: it goes to the links.
     #[inline(never)]
-    fn keep(&mut self, packet: &[u8], tag: LinkTag) -> Result<(), StepFault>
+    pub(super) fn keep(&mut self, packet: &[u8], tag: LinkTag) -> Result<(), StepFault>
         ensures ok { OnOk result (wire_keeps_packet judged self.old tag (spec.content packet.now) ≡ Ok self.new) }
         ensures refused { IfErr result (IfRefused (λ refusal. wire_keeps_packet judged self.old tag (spec.content packet.now) ≡ Err refusal)) }
         ensures station { self.new.station ≡ self.old.station }
+        ensures err { OnErr result (self.new ≡ self.old) }
     {
         match content(packet) {
             Ok(Some(carried)) => self.take(carried, tag),
@@ -72,6 +73,7 @@ impl Layers {
         ensures ok { OnOk result (wire_keeps_packet judged self.old tag (lent_content carried.entry) ≡ Ok self.new) }
         ensures refused { IfErr result (IfRefused (λ refusal. wire_keeps_packet judged self.old tag (lent_content carried.entry) ≡ Err refusal)) }
         ensures station { self.new.station ≡ self.old.station }
+        ensures err { OnErr result (self.new ≡ self.old) }
     {
         match &read_nsp(carried.message) {
             Ok(message) => match self
@@ -90,7 +92,7 @@ impl Layers {
 }
 
 // The tag beside a packet. Each packet that was sent has one.
-fn tag_of(link: &HeldLink) -> LinkTag
+pub(super) fn tag_of(link: &HeldLink) -> LinkTag
     ensures { result ≡ tag_or_none link.now }
 {
     match link.get() {

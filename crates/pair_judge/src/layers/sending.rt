@@ -1,6 +1,6 @@
 //! What the node of a side sends.
 
-ghost use Rattle.std.specs.Prelude.{◌≡◌, ◌<◌, ◌≤◌, Ok, Err, Some, None, length, OnOk, IfOk, IfErr};
+ghost use Rattle.std.specs.Prelude.{◌≡◌, ◌<◌, ◌≤◌, Ok, Err, Some, None, length, OnOk, OnErr, IfOk, IfErr};
 ghost use Rattle.ddcmp_msg.specs.Message.{view};
 ghost use Rattle.dna_station.specs.declared.tag.Tag.{Tag};
 ghost use Rattle.dna_station.specs.Book.{body_of};
@@ -86,12 +86,13 @@ impl Layers {
 
     // The message that a packet carries is read, and the links send it.
     #[inline(always)]
-    fn send(&mut self, carried: Carried) -> Result<LinkTag, StepFault>
+    pub(super) fn send(&mut self, carried: Carried) -> Result<LinkTag, StepFault>
         ensures ok { IfOk result (λ link. (before : WireLayers) (after : WireStation LinkTag × Tag) → before.links ≡ self.old.links →
             wire_sends_first before after (lent_content carried.entry) ≡ Ok (first_tagged after self.new.links link)) }
         ensures refused { IfErr result (IfRefused (λ refusal. (before : WireLayers) (after : WireStation LinkTag × Tag) →
             before.links ≡ self.old.links → wire_sends_first before after (lent_content carried.entry) ≡ Err refusal)) }
         ensures station { self.new.station ≡ self.old.station }
+        ensures err { OnErr result (self.new ≡ self.old) }
     {
         match &read_nsp(carried.message) {
             Ok(message) => match self.links.sent(carried.dst, carried.src, message) {
@@ -107,7 +108,7 @@ impl Layers {
 }
 
 // The packet of a data message.
-pub fn packet_of<'a>(message: &Message<'a>) -> &'a [u8]
+pub(super) fn packet_of<'a>(message: &Message<'a>) -> &'a [u8]
     ensures { result.now ≡ body_of (view message.now) }
 {
     match message {

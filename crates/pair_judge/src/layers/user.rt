@@ -1,6 +1,6 @@
 //! What the user of a side does.
 
-ghost use Rattle.std.specs.Prelude.{◌≡◌, ◌+◌, ◌^◌, ◌<◌, ◌≤◌, Ok, Err, OnOk, IfErr};
+ghost use Rattle.std.specs.Prelude.{◌≡◌, ◌+◌, ◌^◌, ◌<◌, ◌≤◌, Ok, Err, OnOk, OnErr, IfErr};
 ghost use Rattle.dna_links.specs.User.{view};
 ghost use Rattle.dna_station.specs.WireStation.{load};
 ghost use Rattle.pair_judge.specs.Events.{event_of_station, event_of_links};
@@ -21,6 +21,7 @@ impl Layers {
         requires { load self.old.station < 2 ^ 63 }
         ensures ok { OnOk result (layers_run.user self.old (event_of_station event) ≡ Ok self.new) }
         ensures refused { IfErr result (λ refusal. layers_run.user self.old (event_of_station event) ≡ Err refusal) }
+        ensures err { OnErr result (self.new ≡ self.old) }
         ensures load { load self.new.station ≤ load self.old.station + 1 }
     {
         match self.station.user(event) {
@@ -35,6 +36,7 @@ impl Layers {
     pub fn at_links(&mut self, event: LinkEvent) -> Result<(), StepFault>
         ensures ok { OnOk result (layers_run.user self.old (event_of_links (view event.entry)) ≡ Ok self.new) }
         ensures refused { IfErr result (IfRefused (λ refusal. layers_run.user self.old (event_of_links (view event.entry)) ≡ Err refusal)) }
+        ensures err { OnErr result (self.new ≡ self.old) }
         ensures memory { IfErr result (IfNoMemory (MayEnter self.old.links (view event.entry))) }
         ensures station { self.new.station ≡ self.old.station }
     {

@@ -4,8 +4,9 @@ use Rattle.dna_node.specs.declared.finding.Cause.TheVariants.{Step}
 use Rattle.pair_judge.specs.declared.fault.JudgeFault.{JudgeFault}
 use Rattle.pair_judge.specs.Faulty.{IsJudgeFault}
 use Rattle.dna_node.specs.WireLayers.{wire_layers_start}
-use Rattle.pair_judge.proofs.Turns.{reached_by_a, same_read, next_place}
-use Rattle.pair_judge.proofs.Found.{at_place, a_fails}
+use Rattle.pair_judge.proofs.Left.{left_so}
+use Rattle.pair_judge.proofs.Turns.{reached_by_a, same_end, same_read, next_place}
+use Rattle.pair_judge.proofs.Found.{at_place, a_fails, stops_a}
 use Rattle.pair_judge.proofs.Faults.{faulty}
 use Rattle.pair_judge.proofs.turn.turn.Goals as goal
 
@@ -41,8 +42,11 @@ returns-in-Ok-Fails-clause-turn g c = λ text_a text_b made_a made_b under.
     rw c.refused.ensures
     (at_place g.T.Top.top _ _ A (Step c.in-Ok-Fails.refusal) _ _ place
     (a_fails g.T.Top.top _ _ c.args.a.now.end.head c.args.b.now.end.head c.advance.ensures.head refl (length made_a) c.in-Ok-Fails.refusal f.next
-    f.read
+    f.read f.ahead
     (same_read text_b c.args.b.now _ _ made_b refl refl refl under.read_b)
+    (left_so g.T.Top.top.leaves (λ still. stops_a g.T.Top.top _ _ c.args.a.now.end c.args.b.now.end (Step c.in-Ok-Fails.refusal) f.next h
+    (same_end c.args.a.now.end c.advance.new.self.end still.same_end)
+    (record { head = refl; layers = refl; counts = refl; line = still.same_line }) f.ahead refused) f.still)
     (λ rest_a rest_b. c.endings.ensures.a_refused _ _ h.world made_a rest_a made_b rest_b f.next c.in-Ok-Fails.refusal h.run refused)))
 
 pub returns-in-Err-clause-fault : goal.returns-in-Err-clause-fault

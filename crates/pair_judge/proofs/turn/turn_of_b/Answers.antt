@@ -7,7 +7,8 @@ use Rattle.pair_judge.specs.Faulty.{IsJudgeFault}
 use Rattle.pair_judge.specs.inner.Reached.{IsHeldUp, IsStopped}
 use Rattle.dna_node.specs.WireLayers.{wire_layers_start}
 use Rattle.pair_judge.proofs.Turns.{reached_by_b, reached_still, same_end, same_read, next_place}
-use Rattle.pair_judge.proofs.Found.{at_place, b_fails, both_wait, a_waits, b_waits, both_ended}
+use Rattle.pair_judge.proofs.Found.{at_place, b_fails, both_wait, a_waits, b_waits, both_ended, stops_a, stops_b}
+use Rattle.pair_judge.proofs.Left.{left_any, left_so}
 use Rattle.pair_judge.proofs.Faults.{faulty}
 use Rattle.pair_judge.proofs.turn.turn_of_b.Goals as goal
 
@@ -45,7 +46,10 @@ returns-in-Ok-Fails-clause-turn g c = λ text_a text_b come_a made_a made_b unde
     c.args.a_waits
     c.args.a.now c.args.b.now.end.line
     refl refl stopped
-    (same_read text_a c.args.a.now _ come_a made_a refl refl refl under.read_a) f.read
+    (same_read text_a c.args.a.now _ come_a made_a refl refl refl under.read_a) f.read f.ahead
+    (left_so g.T.Top.top.leaves (λ still. stops_b g.T.Top.top _ _ c.args.a.now.end c.args.b.now.end (Step c.in-Ok-Fails.refusal) f.next h
+    (record { head = refl; layers = refl; counts = refl; line = still.same_line })
+    (same_end c.args.b.now.end c.advance.new.self.end still.same_end) f.ahead refused) f.still)
     (λ p rest_a rest_b waits. c.endings.ensures.b_refused_behind _ _ h.world made_a rest_a made_b rest_b p f.next c.in-Ok-Fails.refusal h.run
     (waits h.world.a h.world.b h.stands_a h.stands_b.sent) refused)
     (λ rest_b. c.endings.ensures.b_refused_last _ _ h.world made_a made_b rest_b f.next c.in-Ok-Fails.refusal h.run refused)))
@@ -64,6 +68,9 @@ returns-in-Ok-Blocked-clause-turn g c = λ text_a text_b come_a made_a made_b un
     (at_place g.T.Top.top _ _ A NoOrder _ _ place
     (both_wait g.T.Top.top _ _ c.args.a.now.end.head c.args.b.now.end.head refl c.advance.ensures.head (length made_a) held.next m.next
     (same_read text_a c.args.a.now _ come_a made_a refl refl refl under.read_a) m.read held.ahead m.ahead
+    (left_any g.T.Top.top.leaves (stops_a g.T.Top.top _ _ c.args.a.now.end c.args.b.now.end NoOrder held.next h
+    (record { head = refl; layers = refl; counts = refl; line = m.still.same_line })
+    (same_end c.args.b.now.end c.advance.new.self.end m.still.same_end) held.ahead waits_a))
     (λ rest_a rest_b. c.endings.ensures.stuck _ _ h.world made_a rest_a made_b rest_b held.next m.next h.run waits_a waits_b)))
 
 pub returns-in-Ok-Blocked-2-clause-turn : goal.returns-in-Ok-Blocked-2-clause-turn
@@ -80,6 +87,9 @@ returns-in-Ok-Blocked-2-clause-turn g c = λ text_a text_b come_a made_a made_b 
     (at_place g.T.Top.top _ _ B NoSuchUnit _ _ place
     (b_waits g.T.Top.top _ _ c.args.a.now.end.head c.args.b.now.end.head refl c.advance.ensures.head (length made_b) m.next
     (same_read text_a c.args.a.now _ come_a made_a refl refl refl under.read_a) m.read ended m.ahead
+    (left_any g.T.Top.top.leaves (stops_b g.T.Top.top _ _ c.args.a.now.end c.args.b.now.end NoSuchUnit m.next h
+    (record { head = refl; layers = refl; counts = refl; line = m.still.same_line })
+    (same_end c.args.b.now.end c.advance.new.self.end m.still.same_end) m.ahead waits_b))
     (λ rest_b. c.endings.ensures.b_lacks _ _ h.world made_a made_b rest_b m.next h.run waits_b)))
 
 pub returns-in-Ok-Ended-clause-turn : goal.returns-in-Ok-Ended-clause-turn
@@ -96,6 +106,9 @@ returns-in-Ok-Ended-clause-turn g c = λ text_a text_b come_a made_a made_b unde
     (at_place g.T.Top.top _ _ A NoSuchUnit _ _ place
     (a_waits g.T.Top.top _ _ c.args.a.now.end.head c.args.b.now.end.head refl c.advance.ensures.head (length made_a) held.next
     (same_read text_a c.args.a.now _ come_a made_a refl refl refl under.read_a) m.read held.ahead m.ahead
+    (left_any g.T.Top.top.leaves (stops_a g.T.Top.top _ _ c.args.a.now.end c.args.b.now.end NoSuchUnit held.next h
+    (record { head = refl; layers = refl; counts = refl; line = m.still.same_line })
+    (same_end c.args.b.now.end c.advance.new.self.end m.still.same_end) held.ahead waits_a))
     (λ rest_a. c.endings.ensures.a_lacks _ _ h.world made_a rest_a made_b held.next h.run waits_a)))
 
 pub returns-in-Ok-Ended-2-clause-turn : goal.returns-in-Ok-Ended-2-clause-turn

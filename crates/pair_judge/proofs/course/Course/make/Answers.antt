@@ -3,7 +3,9 @@ use Rattle.capture.specs.Entries.{record_with}
 use Rattle.pair_judge.specs.declared.course.Ahead.TheVariants.{Waits}
 use Rattle.pair_judge.specs.declared.end.End.{End}
 use Rattle.pair_judge.specs.inner.Course.{IsRead, along}
+use Rattle.pair_judge.specs.inner.Making.{move}
 use Rattle.pair_judge.proofs.Courses.{put_back}
+use Rattle.pair_judge.proofs.Left.{left_still}
 use Rattle.pair_judge.proofs.course.Course.make.Goals as goal
 
 pub returns-in-Ok-Done-clause-advance : goal.returns-in-Ok-Done-clause-advance
@@ -28,9 +30,14 @@ returns-in-Ok-Waits-clause-advance g c = λ text come made read.
     }
 
 pub returns-in-Ok-Fails-clause-advance : goal.returns-in-Ok-Fails-clause-advance
-returns-in-Ok-Fails-clause-advance g c = λ text come made read. record {
-  next = record_with c.args.entry c.args.self.now.capture.bytes;
-  read = record { so_far = read.so_far; count = read.count; head = c.make.ensures.head ∙ read.head };
-  counts = rw c.in-Ok-Fails.field-0-is at c.in-Ok-Fails.ensures.counts;
-  refused = rw (c.in-Ok-Fails.field-0-is, c.bytes.ensures) at c.in-Ok-Fails.ensures.made;
-}
+returns-in-Ok-Fails-clause-advance g c = λ text come made read.
+    let back = put_back text c.args.self.now come made c.args.entry c.requires.unread read in
+    record {
+      next = record_with c.args.entry c.args.self.now.capture.bytes;
+      read = record { so_far = back.so_far; count = back.count; head = c.make.ensures.head ∙ back.head };
+      ahead = record { entry = c.args.entry; ahead_is = refl; is = refl };
+      still = left_still g.T.Top.top.leaves (move c.args.self.now.end _ c.args.incoming.now _)
+          (rw c.in-Ok-Fails.field-0-is at c.in-Ok-Fails.ensures.same_line) (rw c.in-Ok-Fails.field-0-is at c.in-Ok-Fails.ensures.still);
+      counts = rw c.in-Ok-Fails.field-0-is at c.in-Ok-Fails.ensures.counts;
+      refused = rw (c.in-Ok-Fails.field-0-is, c.bytes.ensures) at c.in-Ok-Fails.ensures.made;
+    }

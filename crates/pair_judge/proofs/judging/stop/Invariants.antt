@@ -3,7 +3,7 @@ use Rattle.wire_base.specs.Tally.{tally_faults, tally_lent}
 use Rattle.capture.specs.Lines.{to_come}
 use Rattle.pair_judge.specs.inner.Course.{along}
 use Rattle.pair_judge.proofs.Starts.{HasTaken}
-use Rattle.pair_judge.proofs.judging.find.Given as goal
+use Rattle.pair_judge.proofs.judging.stop.Given as goal
 
 abbrev pub invariant-loop : goal.invariant-loop
 invariant-loop g l =

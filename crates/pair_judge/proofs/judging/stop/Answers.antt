@@ -1,7 +1,7 @@
 use Rattle.std.proofs.Common.{refl, ◌∙◌, arith}
 use Rattle.wire_base.specs.Tally.{tally_lent}
 use Rattle.pair_judge.proofs.Starts.{found_in, started}
-use Rattle.pair_judge.proofs.judging.find.Goals as goal
+use Rattle.pair_judge.proofs.judging.stop.Goals as goal
 
 pub loop-init : goal.loop-init
 loop-init g c = (
@@ -18,13 +18,21 @@ pub returns-in-Err-open-clause-fault : goal.returns-in-Err-open-clause-fault
 returns-in-Err-open-clause-fault g c =
     c.in-Err-open.ensures.fault (g.R.Read.remaining (tally_lent c.args.a.now)) (g.S.Read.remaining (tally_lent c.args.b.now)) refl
 
-pub returns-in-Ok-ending-clause-found : goal.returns-in-Ok-ending-clause-found
-returns-in-Ok-ending-clause-found g c =
+pub returns-in-Ok-ending-clause-stopped : goal.returns-in-Ok-ending-clause-stopped
+returns-in-Ok-ending-clause-stopped g c =
     let h = c.loop.invariant.0 in
     let ended = rw c.in-Ok-ending.is at c.if-turn.ensures.turn in
-    found_in g.T.Top.top _ _ _ (ended (g.R.Read.remaining (tally_lent c.args.a.now)) (g.S.Read.remaining (tally_lent c.args.b.now)) h.made_a
-    h.made_b h.under_way)
-    c.summary.ensures c.summary-in-Ok-ending.ensures
+    let found = ended (g.R.Read.remaining (tally_lent c.args.a.now)) (g.S.Read.remaining (tally_lent c.args.b.now)) h.made_a h.made_b h.under_way in
+    record {
+      found = found_in g.T.Top.top _ _ _ found refl refl;
+      come_a = _;
+      come_b = _;
+      made_a = found.made_a;
+      made_b = found.made_b;
+      read_a = found.read_a;
+      read_b = found.read_b;
+      stops = found.stops;
+    }
 
 pub loop-preserved : goal.loop-preserved
 loop-preserved g c =

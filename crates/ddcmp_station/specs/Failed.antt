@@ -1,0 +1,127 @@
+-- The first check that is not passed, by its name in the table, with what is seen there and what is allowed.
+use Rattle.std.specs.Prelude.{ℕ, ◌+◌, Bool, true, false, not, if◌then◌else◌, Option, Some, None, List, [], ◌∷◌, length}
+use Rattle.ddcmp_msg.specs.Message.{MessageValue, Data, Ack, Nak, Rep}
+use Rattle.ddcmp_msg.specs.declared.nak_reason.NakReason.{NakReason}
+use Rattle.ddcmp_msg.specs.declared.nak_reason.NakReason.TheVariants.{HeaderFormat}
+use Rattle.dna_station.specs.declared.refusal.StationRefusal.{StationRefusal}
+use Rattle.dna_station.specs.declared.refusal.StationRefusal.TheVariants.{WrongState, WrongNumber, WrongResponse, WindowFull, Changed, NoCause}
+use Rattle.dna_station.specs.declared.refusal.StationRefusal.TheVariants.{WrongKeep, CrossedPeriod}
+use Rattle.dna_station.specs.declared.tag.Tag.{Tag}
+use Rattle.dna_station.specs.Table.{Check, checks, Needs, Anything, Fresh, OfPair, row}
+use Rattle.dna_station.specs.Table as table
+use Rattle.dna_station.specs.Rules.{meets}
+use Rattle.dna_station.specs.Book.{ArrivalValue, Sound, HeaderBad, DataBad, resp_of, num_of, takes_by}
+use Rattle.dna_station.specs.Station.{wire}
+use Rattle.dna_station.specs.WireStation.{WireStation}
+use Rattle.dna_station.specs.WireBook.{wire_book, wire_is_new, wire_passes, wire_tag}
+use Rattle.ddcmp_station.specs.View.{open_of}
+use Rattle.ddcmp_station.specs.declared.failed.FailedSending.{FailedSending}
+use Rattle.ddcmp_station.specs.declared.failed.FailedSending.TheVariants as failed
+use Rattle.ddcmp_station.specs.declared.failed.FailedArrival.{FailedArrival}
+use Rattle.ddcmp_station.specs.declared.failed.FailedArrival.TheVariants as arrivals
+use Rattle.ddcmp_station.specs.declared.failed.PeriodNeed.{PeriodNeed}
+use Rattle.ddcmp_station.specs.declared.failed.PeriodNeed.TheVariants as needed
+
+-- the reason of a NAK; a message that is none has none that needs a cause
+abbrev pub reason_in : MessageValue → NakReason
+reason_in (Nak flags reason resp) = reason
+reason_in m = HeaderFormat
+
+abbrev pub first_failing : (passes : Check → Bool) → (named : Check → FailedSending) → List Check → Option FailedSending
+first_failing passes named [] = None
+first_failing passes named (check ∷ next) = if passes check then first_failing passes named next else Some (named check)
+
+module _ {L : Type 0} where
+  -- A row for each check of the table
+  abbrev pub failing : WireStation L → MessageValue → Check → FailedSending
+  failing w m table.RespIsLast = failed.RespIsLast (resp_of m) w.variables.received
+  failing w m table.NumIsNext =
+      failed.NumIsNext (num_of m) (wire (w.variables.acknowledged + 1 + w.variables.ahead)) (not (wire_is_new w.variables))
+  failing w m table.NumIsHighest = failed.NumIsHighest (num_of m) (wire (w.variables.acknowledged + length w.variables.held))
+  failing w m table.SomeOutstanding = failed.SomeOutstanding
+  failing w m table.RoomIfNew = failed.RoomIfNew (length w.variables.held) 254
+  failing w m table.AsFirstGiven = failed.AsFirstGiven (num_of m)
+  failing w m table.CauseIsOpen = failed.CauseIsOpen (reason_in m) (open_of w.causes)
+
+  -- and one for a message that has no row
+  abbrev pub failed_of : WireStation L → MessageValue → Option (List Check) → Option FailedSending
+  failed_of w m None = Some (failed.State w.variables.state)
+  failed_of w m (Some list) = first_failing (wire_passes w m) (failing w m) list
+
+  abbrev pub failed_sending : WireStation L → MessageValue → Option FailedSending
+  failed_sending w m = failed_of w m (checks w.variables.state m)
+
+-- the refusal of each
+abbrev pub refusal_of_failed : FailedSending → StationRefusal
+refusal_of_failed (failed.State state) = WrongState
+refusal_of_failed (failed.RespIsLast seen allowed) = WrongResponse
+refusal_of_failed (failed.NumIsNext seen allowed again) = WrongNumber
+refusal_of_failed (failed.NumIsHighest seen allowed) = WrongNumber
+refusal_of_failed failed.SomeOutstanding = WrongState
+refusal_of_failed (failed.RoomIfNew seen allowed) = WindowFull
+refusal_of_failed (failed.AsFirstGiven number) = Changed
+refusal_of_failed (failed.CauseIsOpen seen causes) = NoCause
+
+-- ---- an arrival
+
+abbrev pub need_of : Needs → PeriodNeed
+need_of Anything = needed.Anything
+need_of Fresh = needed.Fresh
+need_of OfPair = needed.OfPair
+
+abbrev pub failed_keep : (takes kept : Bool) → Option FailedArrival
+failed_keep takes false = None
+failed_keep true true = None
+failed_keep false true = Some arrivals.Keep
+
+module _ {L : Type 0} where
+  abbrev pub needs_of : WireStation L → MessageValue → Needs
+  needs_of w m = (row w.variables.state m).needs
+
+  abbrev pub failed_arrival : WireStation L → ArrivalValue Tag → (kept : Bool) → Option FailedArrival
+  failed_arrival w (Sound m tag) kept =
+      if meets (needs_of w m) (wire_tag w) tag
+      then failed_keep (takes_by wire_book w m tag) kept
+      else Some (arrivals.Period (need_of (needs_of w m)) tag (wire_tag w))
+  failed_arrival w HeaderBad kept = failed_keep false kept
+  failed_arrival w DataBad kept = failed_keep false kept
+
+abbrev pub refusal_of_arrival : FailedArrival → StationRefusal
+refusal_of_arrival (arrivals.Period needs seen own) = CrossedPeriod
+refusal_of_arrival arrivals.Keep = WrongKeep
+
+-- ---- the same message with another field
+
+abbrev pub has_resp : MessageValue → Bool
+has_resp (Data flags resp num body) = true
+has_resp (Ack flags resp) = true
+has_resp (Nak flags reason resp) = true
+has_resp m = false
+
+abbrev pub has_num : MessageValue → Bool
+has_num (Data flags resp num body) = true
+has_num (Rep flags num) = true
+has_num m = false
+
+abbrev pub is_data : MessageValue → Bool
+is_data (Data flags resp num body) = true
+is_data m = false
+
+abbrev pub with_resp : MessageValue → ℕ → MessageValue
+with_resp (Data flags resp num body) allowed = Data flags allowed num body
+with_resp (Ack flags resp) allowed = Ack flags allowed
+with_resp (Nak flags reason resp) allowed = Nak flags reason allowed
+with_resp m allowed = m
+
+abbrev pub with_num : MessageValue → ℕ → MessageValue
+with_num (Data flags resp num body) allowed = Data flags resp allowed body
+with_num (Rep flags num) allowed = Rep flags allowed
+with_num m allowed = m
+
+abbrev pub with_reason : MessageValue → NakReason → MessageValue
+with_reason (Nak flags reason resp) allowed = Nak flags allowed resp
+with_reason m allowed = m
+
+abbrev pub with_body : MessageValue → List ℕ → MessageValue
+with_body (Data flags resp num body) allowed = Data flags resp num allowed
+with_body m allowed = m

@@ -1,0 +1,24 @@
+//! The numbers of the segments, to be shown.
+
+ghost use Rattle.std.specs.Prelude.{◌≡◌};
+ghost use Rattle.nsp_link.specs.View.{numbers_of};
+
+use super::Flow;
+use crate::view::LinkNumbers;
+use link_segments::Piece;
+use wire_base::Window;
+
+impl<W: Window<Piece, 4096> + Drop> Flow<W> {
+    /// The numbers as they are now. Takes no memory.
+    pub fn numbers(&self) -> LinkNumbers
+        ensures { result ≡ numbers_of self.now }
+    {
+        LinkNumbers {
+            given: self.outstanding.highest().value(),
+            acknowledged: self.outstanding.acknowledged().value(),
+            outstanding: self.outstanding.len(),
+            received: self.received.value(),
+            last_sent: self.last.number(),
+        }
+    }
+}

@@ -1,0 +1,36 @@
+//! What is shown of a link.
+
+ghost use Rattle.std.specs.Prelude.{◌≡◌};
+ghost use Rattle.nsp_link.specs.View.{view_of};
+
+use super::Link;
+use crate::Piece;
+use crate::view::{LinkNumbers, LinkView};
+use wire_base::Window;
+
+impl<W: Window<Piece, 4096> + Drop> Link<W> {
+    /// As it is now. Takes no memory.
+    pub fn view(&self) -> LinkView
+        ensures { result ≡ view_of self.now }
+    {
+        let numbers = match &self.flow {
+            Some(flow) => flow.numbers(),
+            None => NO_NUMBERS,
+        };
+        LinkView {
+            port: self.port,
+            partner: self.partner,
+            segsize: self.segsize,
+            numbers,
+        }
+    }
+}
+
+// Of a link that has ended.
+const NO_NUMBERS: LinkNumbers = LinkNumbers {
+    given: 0,
+    acknowledged: 0,
+    outstanding: 0,
+    received: 0,
+    last_sent: 0,
+};

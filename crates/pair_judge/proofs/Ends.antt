@@ -1,0 +1,201 @@
+-- Both ends where the judge stops show the world in which the named record is refused, or waits.
+use Rattle.std.proofs.Common.{◌≡◌, ℕ, ◌+◌, ◌-◌, ◌≤◌, List, [], ◌∷◌, ◌++◌, length, drop, map, Option, Some, refl, sym, ap, subst, ◌∙◌}
+use Rattle.std.proofs.Common.{arith, length-drop}
+use Rattle.std.specs.List.{slice_get}
+use Rattle.wire_base.specs.Side.{other_side}
+use Rattle.wire_base.specs.declared.side.Side.{Side}
+use Rattle.wire_base.specs.declared.side.Side.TheVariants.{A, B}
+use Rattle.two_nodes.specs.Nodes.{Run}
+use Rattle.capture.specs.declared.record.Record.{Record}
+use Rattle.dna_station.specs.declared.head.Head.{Head}
+use Rattle.dna_station.specs.Bounds.{IsOrdered}
+use Rattle.dna_station.specs.Cut.{AreLabelled, cut}
+use Rattle.dna_station.specs.Station.{Station}
+use Rattle.dna_station.specs.WireStation.{HeldPacket}
+use Rattle.dna_links.specs.CutLinks.{cut_links}
+use Rattle.dna_links.specs.Runs.{SentMessage}
+use Rattle.dna_links.specs.declared.tag.LinkTag.{LinkTag}
+use Rattle.dna_node.specs.declared.finding.Cause.{Cause}
+use Rattle.dna_node.specs.declared.finding.Cause.TheVariants.{Step, NoSuchUnit, NoOrder}
+use Rattle.dna_node.specs.declared.finding.Finding.{Finding}
+use Rattle.dna_node.specs.declared.finding.Finding.TheVariants.{Accepted, Refused}
+use Rattle.dna_node.specs.CutLayers.{tagged_packets, with_tags}
+use Rattle.dna_node.specs.Kind.{both_layers, kind_pair, kind_start}
+use Rattle.dna_node.specs.WireLayers.{WireLayers, wire_layers_start}
+use Rattle.ddcmp_station.specs.View.{true_view, view_of}
+use Rattle.pair_judge.specs.declared.course.Ahead.{Ahead}
+use Rattle.pair_judge.specs.declared.end.End.{End}
+use Rattle.pair_judge.specs.declared.line.Line.{Line}
+use Rattle.pair_judge.specs.declared.stopped.Stopped.{Stopped}
+use Rattle.pair_judge.specs.declared.summary.Summary.{Summary}
+use Rattle.pair_judge.specs.declared.summary.SideSummary.{SideSummary}
+use Rattle.pair_judge.specs.Ends.{NodeHalf, NodeWorld, ShowsNode, StandsFor, StandsThere, record_ahead}
+use Rattle.pair_judge.specs.Ends as ends
+use Rattle.pair_judge.specs.Finding.{of_side}
+use Rattle.pair_judge.specs.Heads.{head_of}
+use Rattle.pair_judge.specs.Reason.{reason_of}
+use Rattle.pair_judge.specs.inner.Answer.{answer_of, verdict_of}
+use Rattle.pair_judge.specs.inner.Ends.{sent_on, shown_end}
+use Rattle.pair_judge.specs.inner.Course.{IsWaiting, Track, along, read_of, waiting}
+use Rattle.pair_judge.specs.inner.Making.{StandsFor as StandsForHalf}
+use Rattle.pair_judge.specs.inner.Reached.{IsShown, ShowsHalf, StopsAt, StopsFor}
+use Rattle.pair_judge.specs.inner.Reached as reached
+use Rattle.pair_judge.specs.inner.Runs.{tag_of}
+use Rattle.pair_judge.specs.inner.Stopped.{IsStoppedIn, ends_of, found_of}
+use Rattle.pair_judge.specs.inner.Tops.{links_on_top_left}
+use Rattle.pair_judge.specs.inner.Wire.{JudgeHalf, JudgeWorld, judge_pair}
+use Rattle.pair_judge.proofs.Runs.{length-units_from}
+
+-- ---- lists
+
+bodies : (packets : List (List ℕ)) (messages : List (Option SentMessage)) →
+    map (λ (packet : HeldPacket LinkTag). packet.body) (with_tags packets messages) ≡ packets
+bodies [] messages = refl
+bodies (body ∷ packets) [] = ap (λ (l : List (List ℕ)). body ∷ l) (bodies packets [])
+bodies (body ∷ packets) (carried ∷ messages) = ap (λ (l : List (List ℕ)). body ∷ l) (bodies packets messages)
+
+last_there : (xs : List Record) (x : Record) → slice_get (xs ++ x ∷ []) (length xs) ≡ Some x
+last_there [] x = refl
+last_there (y ∷ xs) x = last_there xs x
+
+-- ---- the record ahead
+
+waits_alone : (bytes : List ℕ) (ahead : Ahead) (next : Record) → IsWaiting bytes ahead next → waiting bytes ahead ≡ next ∷ []
+waits_alone bytes ahead next w =
+    ap (λ (x : Ahead). waiting bytes x) w.ahead_is ∙ ap (λ (r : Record). r ∷ []) w.is
+
+is_ahead : (bytes : List ℕ) (ahead : Ahead) (next : Record) → IsWaiting bytes ahead next → record_ahead bytes ahead ≡ Some next
+is_ahead bytes ahead next w = ap (λ (x : Ahead). record_ahead bytes x) w.ahead_is ∙ ap Some w.is
+
+next_of : (t : Track) (place : ℕ) (next : Record) → IsWaiting t.course.capture.bytes t.course.ahead next → place ≡ length t.made →
+    slice_get (read_of t).records place ≡ Some next
+next_of t place next w is =
+    ap (λ (n : ℕ). slice_get (t.made ++ waiting t.course.capture.bytes t.course.ahead) n) is
+    ∙ ap (λ (rs : List Record). slice_get (t.made ++ rs) (length t.made)) (waits_alone t.course.capture.bytes t.course.ahead next w)
+    ∙ last_there t.made next
+
+-- the laws that the two ends rest on
+pub record EndLaws : Type 1 where
+  pub shown : (head_a head_b : Head) (w : JudgeWorld) (of_a of_b : List Record) →
+      Run (judge_pair links_on_top_left) (wire_layers_start head_a head_b) of_a of_b w → IsShown links_on_top_left head_a head_b w of_a of_b
+  pub ordered_a : (head_a head_b : Head) (w : NodeWorld) (of_a of_b : List Record) →
+      Run (kind_pair both_layers) (kind_start both_layers head_a head_b) of_a of_b w → IsOrdered w.a.state.station.station
+  pub ordered_b : (head_a head_b : Head) (w : NodeWorld) (of_a of_b : List Record) →
+      Run (kind_pair both_layers) (kind_start both_layers head_a head_b) of_a of_b w → IsOrdered w.b.state.station.station
+  pub true_views : (all : List (HeldPacket LinkTag)) (s : Station) → AreLabelled all s → IsOrdered s → view_of (cut all s) ≡ true_view s
+
+-- ---- an end shows the half that it stands for
+
+module _ (laws : EndLaws) (own : End) (incoming : Line) (w : JudgeHalf) (half : NodeHalf) (stands : StandsForHalf own incoming w)
+    (shows : ShowsHalf links_on_top_left w half) where
+  station_true : IsOrdered half.state.station.station → view_of own.layers.station ≡ true_view half.state.station.station
+  station_true ordered =
+      ap (λ (l : WireLayers). view_of l.station) (sym stands.layers ∙ shows.station)
+      ∙ laws.true_views (tagged_packets half.state.station) half.state.station.station (bodies half.state.station.station.packets _) ordered
+
+  links_true : own.layers.links ≡ cut_links half.state.station.links
+  links_true = ap (λ (l : WireLayers). l.links) (sym stands.layers ∙ shows.station)
+
+  sent_true : sent_on own.line ≡ length half.sent
+  sent_true =
+      let items = length-units_from (tag_of own.line.tags) own.line.gone own.line.units.items in
+      let rest = ap length stands.sent.rest ∙ length-drop own.line.gone w.sent in
+      let within = stands.sent.within in
+      let same = shows.sent in
+      omega arith
+
+  front_true : incoming.gone ≡ half.state.front
+  front_true = sym stands.front ∙ shows.front
+
+-- ---- where the judge stops
+
+module _ (laws : EndLaws) (text_a text_b : Option (List ℕ)) (s : Stopped)
+    (i : IsStoppedIn links_on_top_left text_a text_b s) where
+  abbrev track_a : Track
+  track_a = along text_a s.a i.come_a i.made_a
+
+  abbrev track_b : Track
+  track_b = along text_b s.b i.come_b i.made_b
+
+  place_at : (side : Side) (place : ℕ) → place ≡ length (of_side side track_a track_b).made → place ≡ length (of_side side i.made_a i.made_b)
+  place_at A place is = is
+  place_at B place is = is
+
+  next_at : (side : Side) (place : ℕ) (next : Record) →
+      IsWaiting (of_side side track_a track_b).course.capture.bytes (of_side side track_a track_b).course.ahead next →
+      place ≡ length (of_side side track_a track_b).made →
+      slice_get (of_side side (read_of track_a) (read_of track_b)).records place ≡ Some next
+  next_at A place next w is = next_of track_a place next w is
+  next_at B place next w is = next_of track_b place next w is
+
+  ahead_is : (side : Side) (next : Record) →
+      IsWaiting (of_side side track_a track_b).course.capture.bytes (of_side side track_a track_b).course.ahead next →
+      (of_side side (shown_end s.a s.b.end.line.gone) (shown_end s.b s.a.end.line.gone)).ahead ≡ Some next
+  ahead_is A next w = is_ahead s.a.capture.bytes s.a.ahead next w
+  ahead_is B next w = is_ahead s.b.capture.bytes s.b.ahead next w
+
+  becomes_at : (side : Side) (cause : Cause) (next : Record) (w : JudgeWorld) (x : IsShown links_on_top_left s.a.end.head s.b.end.head w i.made_a
+      i.made_b) → reached.BecomesThere links_on_top_left cause (of_side side w.a w.b) (of_side side w.b w.a) next →
+      ends.BecomesThere cause (of_side side x.world.a x.world.b) (of_side (other_side side) x.world.a x.world.b) next
+  becomes_at A (Step refusal) next w x is = x.refused_a next refusal is
+  becomes_at A NoSuchUnit next w x is = x.waits_a next is
+  becomes_at A NoOrder next w x is = x.waits_a next is
+  becomes_at B (Step refusal) next w x is = x.refused_b next refusal is
+  becomes_at B NoSuchUnit next w x is = x.waits_b next is
+  becomes_at B NoOrder next w x is = x.waits_b next is
+
+  -- with the heads that were read
+  run_there : (world : NodeWorld) → Run (kind_pair both_layers) (kind_start both_layers s.a.end.head s.b.end.head) i.made_a i.made_b world →
+      Run (kind_pair both_layers) (kind_start both_layers (head_of (read_of track_a)) (head_of (read_of track_b))) i.made_a i.made_b world
+  run_there world run =
+      subst (λ (h : Head). Run (kind_pair both_layers) (kind_start both_layers (head_of (read_of track_a)) h) i.made_a i.made_b world) i.read_b.head
+      (subst (λ (h : Head). Run (kind_pair both_layers) (kind_start both_layers h s.b.end.head) i.made_a i.made_b world) i.read_a.head run)
+
+  stands_at : (side : Side) (place : ℕ) (cause : Cause) → StopsAt links_on_top_left track_a track_b side place cause →
+      StandsThere text_a text_b (ends_of links_on_top_left s) side place (reason_of cause)
+  stands_at side place cause q =
+      let h = q.reached in
+      let x = laws.shown s.a.end.head s.b.end.head h.world i.made_a i.made_b h.run in
+      record {
+        read_a = read_of track_a;
+        read_b = read_of track_b;
+        from_a = i.read_a.so_far;
+        from_b = i.read_b.so_far;
+        made_a = i.made_a;
+        made_b = i.made_b;
+        begins_a = (waiting s.a.capture.bytes s.a.ahead, refl);
+        begins_b = (waiting s.b.capture.bytes s.b.ahead, refl);
+        place_is = place_at side place q.place_is;
+        world = x.world;
+        run = run_there x.world x.run;
+        next = q.next;
+        is_next = next_at side place q.next q.ahead q.place_is;
+        is_ahead = ahead_is side q.next q.ahead;
+        cause = cause;
+        is_reason = refl;
+        becomes = becomes_at side cause q.next h.world x q.becomes;
+        shows_a = record {
+          station = station_true laws s.a.end s.b.end.line h.world.a x.world.a h.stands_a x.shows_a
+              (laws.ordered_a s.a.end.head s.b.end.head x.world i.made_a i.made_b x.run);
+          links = links_true laws s.a.end s.b.end.line h.world.a x.world.a h.stands_a x.shows_a;
+          sent = sent_true laws s.a.end s.b.end.line h.world.a x.world.a h.stands_a x.shows_a;
+          front = front_true laws s.a.end s.b.end.line h.world.a x.world.a h.stands_a x.shows_a;
+        };
+        shows_b = record {
+          station = station_true laws s.b.end s.a.end.line h.world.b x.world.b h.stands_b x.shows_b
+              (laws.ordered_b s.a.end.head s.b.end.head x.world i.made_a i.made_b x.run);
+          links = links_true laws s.b.end s.a.end.line h.world.b x.world.b h.stands_b x.shows_b;
+          sent = sent_true laws s.b.end s.a.end.line h.world.b x.world.b h.stands_b x.shows_b;
+          front = front_true laws s.b.end s.a.end.line h.world.b x.world.b h.stands_b x.shows_b;
+        };
+        records_a = ap (λ (c : SideSummary). c.records) h.counts_a;
+        records_b = ap (λ (c : SideSummary). c.records) h.counts_b;
+      }
+
+  pub stands_there : StandsFor text_a text_b (ends_of links_on_top_left s) (verdict_of (found_of links_on_top_left s))
+  stands_there = by_finding s.finding _ i.stops
+    where
+      by_finding : (finding : Finding) (summary : Summary) → StopsFor links_on_top_left track_a track_b finding →
+          StandsFor text_a text_b (ends_of links_on_top_left s) (answer_of finding summary)
+      by_finding Accepted summary stops = tt
+      by_finding (Refused side place cause) summary stops = stands_at side place cause stops

@@ -1,0 +1,54 @@
+-- What both layers make of an arrival whose packet the links meet before the station does.
+use Rattle.std.proofs.Common.{◌≡◌, Bool, Option, Some, None, List, ℕ, Result, Ok, Err, refl, sym, ap, ◌∙◌}
+use Rattle.dna_station.specs.declared.tag.Tag.{Tag}
+use Rattle.dna_links.specs.declared.tag.LinkTag.{LinkTag}
+use Rattle.dna_links.specs.Links.{Carried}
+use Rattle.dna_links.specs.WireLinks.{WireLinks, wire_links_arrived}
+use Rattle.dna_station.specs.declared.link_refusal.LinkRefusal.{LinkRefusal}
+use Rattle.dna_station.specs.declared.refusal.StepRefusal.{StepRefusal}
+use Rattle.dna_station.specs.Book.{ArrivalValue}
+use Rattle.dna_station.specs.WireStation.{WireStation}
+use Rattle.dna_station.specs.WireBook.{wire_arrival_refusal, wire_after_arrival, wire_taken}
+use Rattle.dna_node.specs.Content.{content}
+use Rattle.dna_node.specs.Rules.{judged}
+use Rattle.dna_node.specs.WireLayers.{WireLayers, tag_or_none, wire_keeps_packet, with_wire_links}
+use Rattle.pair_judge.specs.inner.Steps.{with_link}
+use Rattle.pair_judge.specs.inner.Tops.{layers_run}
+use Rattle.pair_judge.proofs.Arrives.{arrives_kept}
+
+-- the station of what is answered
+abbrev under : WireStation LinkTag → Result WireLayers StepRefusal → Result WireLayers StepRefusal
+under after (Ok s) = Ok (record s { station = after })
+under after (Err refusal) = Err refusal
+
+module _ (s : WireLayers) (after : WireStation LinkTag) where
+  links_under : (r : Result WireLinks LinkRefusal) → with_wire_links (record s { station = after }) r ≡ under after (with_wire_links s r)
+  links_under (Ok links) = refl
+  links_under (Err refusal) = refl
+
+  -- what the links make of a packet has nothing of the station
+  keeps_under : (tag : LinkTag) (r : Result (Option Carried) StepRefusal) →
+      wire_keeps_packet judged (record s { station = after }) tag r ≡ under after (wire_keeps_packet judged s tag r)
+  keeps_under tag (Ok (Some packet)) = links_under (wire_links_arrived judged.partners s.links packet tag)
+  keeps_under tag (Ok None) = refl
+  keeps_under tag (Err refusal) = refl
+
+module _ (s : WireLayers) (link : Option LinkTag) (kept : Bool) (arrival : ArrivalValue Tag) (packet : List ℕ) (tag : LinkTag)
+    (free : wire_arrival_refusal judged.periods s.station arrival kept ≡ None) (taken : wire_taken s.station arrival kept ≡ Some packet)
+    (tag_is : tag ≡ tag_or_none link) where
+  -- the links took it
+  pub meets_kept : (met : WireLayers) → wire_keeps_packet judged s tag (content packet) ≡ Ok met → met.station ≡ s.station →
+      layers_run.arrives s (with_link link arrival) kept ≡ Ok (record met { station = wire_after_arrival met.station arrival kept })
+  meets_kept met keeps same =
+      let after = wire_after_arrival s.station arrival kept in
+      arrives_kept judged s link kept arrival packet after tag (Ok (record met { station = after })) free taken refl tag_is
+      (keeps_under s after tag (content packet) ∙ ap (under after) keeps)
+      ∙ ap (λ (w : WireStation LinkTag). Ok (record met { station = wire_after_arrival w arrival kept })) (sym same)
+
+  -- the links refused it
+  pub meets_refused : (refusal : StepRefusal) → wire_keeps_packet judged s tag (content packet) ≡ Err refusal →
+      layers_run.arrives s (with_link link arrival) kept ≡ Err refusal
+  meets_refused refusal refuses =
+      let after = wire_after_arrival s.station arrival kept in
+      arrives_kept judged s link kept arrival packet after tag (Err refusal) free taken refl tag_is
+      (keeps_under s after tag (content packet) ∙ ap (under after) refuses)

@@ -1,0 +1,34 @@
+-- Both sides where the judge stops.
+use Rattle.std.specs.Prelude.{ℕ, List, Option}
+use Rattle.capture.specs.declared.record.Record.{Record}
+use Rattle.pair_judge.specs.declared.judging.Found.{Found}
+use Rattle.pair_judge.specs.declared.stopped.Stopped.{Stopped}
+use Rattle.pair_judge.specs.Ends.{ShownEnds}
+use Rattle.pair_judge.specs.Finding.{IsFoundIn}
+use Rattle.pair_judge.specs.Summary.{summary_at}
+use Rattle.pair_judge.specs.inner.Answer.{verdict_of}
+use Rattle.pair_judge.specs.inner.Course.{IsRead, along}
+use Rattle.pair_judge.specs.inner.Ends.{shown_end}
+use Rattle.pair_judge.specs.inner.Reached.{StopsFor}
+use Rattle.pair_judge.specs.inner.Wire.{IfLeft, JudgeTop}
+
+module _ (top : JudgeTop) where
+  -- its finding, with the counts of both sides
+  abbrev pub found_of : Stopped → Found
+  found_of s = record { finding = s.finding; summary = record { a = summary_at top.links s.a.end; b = summary_at top.links s.b.end } }
+
+  -- with what is answered of that
+  abbrev pub ends_of : Stopped → ShownEnds
+  ends_of s = record { verdict = verdict_of (found_of s); a = shown_end s.a s.b.end.line.gone; b = shown_end s.b s.a.end.line.gone }
+
+  -- The finding is that of the two texts. So much of them was read and made; and where a refused step leaves both layers, both ends stand for
+  -- the world in which the named record is refused, or waits
+  pub record IsStoppedIn (text_a text_b : Option (List ℕ)) (s : Stopped) : Type 0 where
+    pub found : IsFoundIn top.kind text_a text_b (found_of s)
+    pub come_a : Option (List ℕ)
+    pub come_b : Option (List ℕ)
+    pub made_a : List Record
+    pub made_b : List Record
+    pub read_a : IsRead (along text_a s.a come_a made_a)
+    pub read_b : IsRead (along text_b s.b come_b made_b)
+    pub stops : IfLeft top.leaves (StopsFor top (along text_a s.a come_a made_a) (along text_b s.b come_b made_b) s.finding)

@@ -1,0 +1,121 @@
+//! A verdict with both ends as they are where it is given.
+
+ghost use Rattle.std.specs.Prelude.{◌≡◌, None, Some, IfSome, option_map, slice_get};
+ghost use Rattle.capture.specs.Entries.{record_with};
+ghost use Rattle.nsp_link.specs.View as link;
+ghost use Rattle.pair_judge.specs.Finding.{of_side};
+ghost use Rattle.pair_judge.specs.inner.Ends.{shown_end};
+
+use crate::side_end::SideEnd;
+use crate::stopped::Stopped;
+use crate::verdict::Verdict;
+use capture::Entry;
+use ddcmp_station::StationView;
+use nsp_link::LinkView;
+use std::marker::Model;
+use wire_base::Side;
+
+/// The judge's verdict on two captures, with both ends as they are where it is given. Where a record is refused, they stand where it
+/// comes next: nothing of it is in their numbers, also where the station alone would allow it. Where a record waits for a unit that is
+/// never sent, or both sides wait, they stand where they wait. A contract sees what is shown of both.
+#[derive(Drop)]
+pub struct JudgedEnds {
+    verdict: Verdict,
+    a: SideEnd,
+    b: SideEnd,
+}
+
+impl Model for JudgedEnds {
+    ghost use Rattle.pair_judge.specs.Ends.{ShownEnds};
+
+    ghost Value = { ShownEnds };
+
+    ghost view = { λ ends. record { verdict = ends.verdict; a = ends.a; b = ends.b } };
+}
+
+/// Both sides where the judge stops, with this verdict.
+pub fn ends_with(verdict: Verdict, stopped: Stopped) -> JudgedEnds
+    ensures { result ≡ record {
+      verdict = verdict;
+      a = shown_end stopped.a stopped.b.end.line.gone;
+      b = shown_end stopped.b stopped.a.end.line.gone;
+    } }
+{
+    let front_a = stopped.b.end.line.gone;
+    let front_b = stopped.a.end.line.gone;
+    JudgedEnds {
+        verdict,
+        a: SideEnd::of(stopped.a, front_a),
+        b: SideEnd::of(stopped.b, front_b),
+    }
+}
+
+impl JudgedEnds {
+    /// The verdict.
+    pub fn verdict(&self) -> Verdict
+        ensures { result ≡ self.now.verdict }
+    {
+        self.verdict
+    }
+
+    /// How many records of this side were made.
+    pub fn records(&self, side: Side) -> u64
+        ensures { result ≡ (of_side side self.now.a self.now.b).records }
+    {
+        match side {
+            Side::A => self.a.records(),
+            Side::B => self.b.records(),
+        }
+    }
+
+    /// The variables of this side's station (DDCMP 4.1, station variables).
+    pub fn station(&self, side: Side) -> StationView
+        ensures { result ≡ (of_side side self.now.a self.now.b).station }
+    {
+        match side {
+            Side::A => self.a.station(),
+            Side::B => self.b.station(),
+        }
+    }
+
+    /// The link of this side with this number, counted from 0 in the order in which they began (NSP 4.0, ports); `None` where there is none.
+    pub fn link(&self, side: Side, number: usize) -> Option<LinkView>
+        ensures { result ≡ option_map link.view_of (slice_get (of_side side self.now.a self.now.b).links.links number) }
+    {
+        match side {
+            Side::A => self.a.link(number),
+            Side::B => self.b.link(number),
+        }
+    }
+
+    /// How many units this side sent: its next one has this number.
+    pub fn sent(&self, side: Side) -> u64
+        ensures { result ≡ (of_side side self.now.a self.now.b).sent }
+    {
+        match side {
+            Side::A => self.a.sent(),
+            Side::B => self.b.sent(),
+        }
+    }
+
+    /// The lowest hint that the next receipt of this side may have: one above the last one, and 0 before any.
+    pub fn front(&self, side: Side) -> u64
+        ensures { result ≡ (of_side side self.now.a self.now.b).front }
+    {
+        match side {
+            Side::A => self.a.front(),
+            Side::B => self.b.front(),
+        }
+    }
+
+    /// The record of this side that was read and not made, as its entry and the bytes beside it; `None` where there is none.
+    pub fn ahead(&self, side: Side) -> Option<(Entry, &[u8])>
+        ensures some { IfSome result (λ ahead. (of_side side self.now.a self.now.b).ahead ≡ Some (record_with ahead.0 ahead.1.now)) }
+        ensures none { result ≡ None → (of_side side self.now.a self.now.b).ahead ≡ None }
+    {
+        match side {
+            Side::A => self.a.ahead(),
+            Side::B => self.b.ahead(),
+        }
+    }
+}

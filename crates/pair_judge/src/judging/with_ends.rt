@@ -1,0 +1,77 @@
+//! The judge of both layers, with both ends as they are where it gives its verdict.
+
+ghost use Rattle.std.specs.Prelude.{◌≡◌, IfOk};
+ghost use Rattle.wire_base.specs.Tally.{tally_faults, tally_lent};
+ghost use Rattle.wire_base.specs.declared.side.Side.{Side};
+ghost use Rattle.capture.specs.Faulty.{CountsReads};
+ghost use Rattle.dna_node.specs.Kind.{both_layers};
+ghost use Rattle.pair_judge.specs.Ends.{StandsFor, verdict_in};
+ghost use Rattle.pair_judge.specs.Faulty.{is_failed_read_of};
+ghost use Rattle.pair_judge.specs.Judged.{IfTold, IsAcceptance, IsExact, IsFaultyWhere, IsRefusalWhere};
+ghost use Rattle.pair_judge.specs.inner.Stopped.{ends_of};
+ghost use Rattle.pair_judge.specs.inner.Tops.{links_on_top_left};
+
+use super::{Found, stop, verdict};
+use crate::fault::JudgeFault;
+use crate::judged_ends::{JudgedEnds, ends_with};
+use crate::stopped::Stopped;
+use crate::summary::Summary;
+use crate::top::{LinksOnTopLeft, Top};
+use capture::whole_text;
+use ddcmp_station::view_shows_truth;
+use dna_links::LinkTag;
+use dna_node::{layers_deliver_in_order, layers_run_as_stations};
+use dna_station::{captures_deliver_in_order, numbers_within_bounds};
+use std::alloc::Global;
+use std::io::Read;
+use wire_base::Tally;
+
+/// Decides the same as `judge`, of whose answer all that is said there holds of this verdict, and gives both ends as they are then.
+///
+/// Where the verdict is `Refused`: all records of the named side before the named one, and some of the other side, lead two nodes to a world in
+/// which the named record is refused for this reason, or waits; and both ends show this world. The named record is the one ahead of its
+/// side.
+///
+/// It asks the links what they say of a packet before the station makes its step, which `judge` does not.
+pub fn judge_with_ends<R: Read, S: Read>(
+    alloc: Global,
+    a: &mut Tally<R>,
+    b: &mut Tally<S>,
+) -> Result<JudgedEnds, JudgeFault>
+    ensures exact { IfTold (R.remaining (tally_lent a.old)) (S.remaining (tally_lent b.old))
+        (λ bytes_a bytes_b. IsExact both_layers bytes_a bytes_b (verdict_in result)) }
+    ensures accepted { IfTold (R.remaining (tally_lent a.old)) (S.remaining (tally_lent b.old))
+        (λ bytes_a bytes_b. IsAcceptance both_layers bytes_a bytes_b (verdict_in result)) }
+    ensures refused { IsRefusalWhere both_layers (R.remaining (tally_lent a.old)) (S.remaining (tally_lent b.old)) (verdict_in result) }
+    ensures faulty { IsFaultyWhere both_layers (R.remaining (tally_lent a.old)) (S.remaining (tally_lent b.old)) (verdict_in result) }
+    ensures stands { IfOk result (λ ends. StandsFor (R.remaining (tally_lent a.old)) (S.remaining (tally_lent b.old)) ends ends.verdict) }
+    ensures reads_a { CountsReads (is_failed_read_of Side.A result) (tally_faults a.old) (tally_faults a.new) }
+    ensures reads_b { CountsReads (is_failed_read_of Side.B result) (tally_faults b.old) (tally_faults b.new) }
+{
+    whole_text();
+    captures_deliver_in_order();
+    layers_run_as_stations();
+    layers_deliver_in_order();
+    numbers_within_bounds();
+    view_shows_truth::<LinkTag>();
+    LinksOnTopLeft::shows();
+    match stop::<LinksOnTopLeft, R, S>(alloc, a, b) {
+        Ok(stopped) => Ok(with_verdict(stopped)),
+        Err(fault) => Err(fault),
+    }
+}
+
+// Both sides with what is answered of their finding.
+fn with_verdict(stopped: Stopped) -> JudgedEnds
+    ensures { result ≡ ends_of links_on_top_left stopped }
+{
+    let summary = Summary {
+        a: stopped.a.end.summary::<LinksOnTopLeft>(),
+        b: stopped.b.end.summary::<LinksOnTopLeft>(),
+    };
+    let found = Found {
+        finding: stopped.finding,
+        summary,
+    };
+    ends_with(verdict(found), stopped)
+}

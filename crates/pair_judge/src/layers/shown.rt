@@ -1,0 +1,25 @@
+//! What is shown of a side.
+
+ghost use Rattle.std.specs.Prelude.{◌≡◌, option_map, slice_get};
+ghost use Rattle.ddcmp_station.specs.View.{view_of};
+ghost use Rattle.nsp_link.specs.View as link;
+
+use super::Layers;
+use ddcmp_station::StationView;
+use nsp_link::LinkView;
+
+impl Layers {
+    /// The variables of the station as they are now.
+    pub fn station_view(&self) -> StationView
+        ensures { result ≡ view_of self.now.station }
+    {
+        self.station.view()
+    }
+
+    /// The link with this number, counted from 0 in the order in which they began, as it is now; `None` where there is none.
+    pub fn link_view(&self, number: usize) -> Option<LinkView>
+        ensures { result ≡ option_map link.view_of (slice_get self.now.links.links number) }
+    {
+        self.links.view(number)
+    }
+}

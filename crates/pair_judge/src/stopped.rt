@@ -1,0 +1,13 @@
+//! Where the judge stops.
+
+use crate::course::Course;
+use dna_node::Finding;
+
+/// The judge's finding, with both sides as it leaves them: all of its records but the named one were made, which is read and is the one
+/// ahead of its side.
+#[derive(Drop)]
+pub struct Stopped {
+    pub finding: Finding,
+    pub a: Course,
+    pub b: Course,
+}
