@@ -1,4 +1,4 @@
 mod Sendable
 mod Shown
-mod Failing
-mod FailingArrival
+pub mod Failing
+pub mod FailingArrival

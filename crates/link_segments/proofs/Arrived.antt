@@ -38,15 +38,15 @@ step_on zero (x ∷ xs) p e = ap (λ (o : Option Piece). o ∷ xs) e
 step_on (suc i) [] p e = absurd (cc)
 step_on (suc i) (x ∷ xs) p e = step_on i xs p e
 
-step : (i : ℕ) (xs : List (Option Piece)) (p : Piece) → piece_at i xs ≡ Some p → drop i xs ≡ Some p ∷ drop (i + 1) xs
+pub step : (i : ℕ) (xs : List (Option Piece)) (p : Piece) → piece_at i xs ≡ Some p → drop i xs ≡ Some p ∷ drop (i + 1) xs
 step i xs p e = step_on i xs p e ∙ ap (λ (n : ℕ). Some p ∷ drop n xs) (sym (add-one i))
 
 -- nothing is there, or what is there is missing
-data Stops : List (Option Piece) → Type 0 where
+pub data Stops : List (Option Piece) → Type 0 where
   NoMore : Stops []
   Missing : (later : List (Option Piece)) → Stops (None ∷ later)
 
-stops : (i : ℕ) (xs : List (Option Piece)) → piece_at i xs ≡ None → Stops (drop i xs)
+pub stops : (i : ℕ) (xs : List (Option Piece)) → piece_at i xs ≡ None → Stops (drop i xs)
 stops zero [] e = NoMore
 stops zero (None ∷ xs) e = Missing xs
 stops zero (Some p ∷ xs) e = absurd (cc)

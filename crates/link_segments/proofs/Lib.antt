@@ -2,5 +2,6 @@ mod Pieces
 mod Giving
 pub mod AckWords
 pub mod Arrived
+mod Measured
 pub mod Acknowledged
 pub mod Holding

@@ -1,5 +1,6 @@
 -- What a contract sees of the segments that are received and not delivered: which piece is missing, and which message is next.
-use Rattle.std.specs.Prelude.{ℕ, ◌+◌, Bool, true, false, Option, Some, None, List, slice_get, is_some, not, if◌then◌else◌, take, drop, length}
+use Rattle.std.specs.Prelude.{ℕ, ◌+◌, ◌-◌, ◌^◌, min, Bool, true, false, Option}
+use Rattle.std.specs.Prelude.{Some, None, List, slice_get, is_some, not, if◌then◌else◌, take, drop, length}
 use Rattle.std.specs.Option.{option_flatten}
 use Rattle.std.specs.Str.{bytes_eq}
 use Rattle.dna_links.specs.Pieces.{Piece, Whole, next_message}
@@ -38,3 +39,15 @@ next_count pieces = count_of (next_message pieces)
 abbrev pub more_pieces : ℕ → Option ℕ → Option ℕ
 more_pieces count None = None
 more_pieces count (Some pieces) = Some (count + pieces)
+
+-- how long the next message is, if all its pieces are there; no machine counts beyond 64 bits
+abbrev pub length_of : Option Whole → Option ℕ
+length_of None = None
+length_of (Some w) = Some (min (length w.message) (2 ^ 64 - 1))
+
+abbrev pub next_length : List (Option Piece) → Option ℕ
+next_length pieces = length_of (next_message pieces)
+
+abbrev pub more_bytes : ℕ → Option ℕ → Option ℕ
+more_bytes bytes None = None
+more_bytes bytes (Some more) = Some (min (bytes + more) (2 ^ 64 - 1))

@@ -47,6 +47,13 @@ impl Piece {
         })
     }
 
+    /// Whether it begins a message.
+    pub fn begins(&self) -> bool
+        ensures { result ≡ self.now.begins }
+    {
+        self.begins
+    }
+
     /// Whether it ends a message.
     pub fn ends(&self) -> bool
         ensures { result ≡ self.now.ends }

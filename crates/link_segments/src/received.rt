@@ -6,7 +6,7 @@ ghost use Rattle.std.specs.VecDeque.{deque_len, deque_capacity};
 ghost use Rattle.dna_links.specs.Pieces.{in_order, in_whole_messages};
 ghost use Rattle.dna_links.specs.Pieces as spec;
 ghost use Rattle.link_segments.specs.Received as received;
-ghost use Rattle.link_segments.specs.Received.{delivered_pieces, is_missing_at, next_count};
+ghost use Rattle.link_segments.specs.Received.{delivered_pieces, is_missing_at, next_count, next_length};
 
 use crate::Piece;
 use std::alloc::{AllocError, Global};
@@ -93,6 +93,24 @@ impl Received {
             };
             if piece.ends() {
                 return Some(index + 1);
+            }
+        }
+        None
+    }
+
+    /// How many bytes the next message has, if it is whole; at most `usize::MAX` are counted.
+    #[tactic(auto, using(crate::proofs::Measured::measured))]
+    pub fn next_length(&self) -> Option<usize>
+        ensures { result ≡ next_length self.now }
+    {
+        let mut bytes: usize = 0;
+        for index in 0..self.whole {
+            let Some(piece) = piece_at(&self.pieces, index) else {
+                return None;
+            };
+            bytes = bytes.saturating_add(piece.body().len());
+            if piece.ends() {
+                return Some(bytes);
             }
         }
         None

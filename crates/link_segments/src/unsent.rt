@@ -1,6 +1,6 @@
 //! What was handed in and is in no segment yet.
 
-ghost use Rattle.std.specs.Prelude.{◌≡◌, ◌≤◌, true, length, OnOk, OnErr};
+ghost use Rattle.std.specs.Prelude.{◌≡◌, ◌≤◌, true, length, slice_get, option_copied, OnOk, OnErr};
 ghost use Rattle.dna_packet.specs.Nsp.{segment_view};
 ghost use Rattle.dna_links.specs.Pieces as spec;
 ghost use Rattle.dna_links.specs.Pieces.{has_more};
@@ -95,6 +95,23 @@ impl Unsent {
             prove!(segment.body.len() <= left);
             self.begun = true;
             self.given += segment.body.len();
+        }
+    }
+
+    /// Whether a segment has begun the current message.
+    pub fn is_begun(&self) -> bool
+        ensures { result ≡ self.now.begun }
+    {
+        self.begun
+    }
+
+    /// What is left of the current message, if there is one.
+    pub fn rest(&self) -> Option<&[u8]>
+        ensures { option_copied result ≡ slice_get self.now.messages 0 }
+    {
+        match self.messages.front() {
+            Some(message) => Some(&message.as_slice()[self.given..]),
+            None => None,
         }
     }
 

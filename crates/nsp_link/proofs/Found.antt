@@ -57,7 +57,7 @@ none_there (Some x) e = absurd (cc)
 pub none_found : {D : Type 0} (test : LinkTest) (s : LinksOf D) (r : Bool) → r ≡ is_some (number_of test s) → r ≡ false → number_of test s ≡ None
 none_found test s r is e = none_there (number_of test s) (sym is ∙ e)
 
-some_there : {X : Type 0} (xs : List X) (n : ℕ) → n < length xs → slice_get xs n ≡ None → ⊥
+pub some_there : {X : Type 0} (xs : List X) (n : ℕ) → n < length xs → slice_get xs n ≡ None → ⊥
 some_there [] n h e = absurd (omega arith)
 some_there (x ∷ xs) zero h e = absurd (cc)
 some_there (x ∷ xs) (suc n) h e = some_there xs n (omega arith) e

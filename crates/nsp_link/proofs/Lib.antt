@@ -1,4 +1,9 @@
 mod Words
+mod FailedWords
+pub mod FailedSending
+pub mod FailedEvent
+pub mod FailedArrival
+mod FailedAllowed
 mod Named
 mod Delivery
 mod Acknowledged

@@ -1,7 +1,11 @@
 -- What a contract sees of the types of this crate; the rules stand in `dna_links`
+pub mod FailedArrival
+pub mod FailedEvent
+pub mod FailedSending
 pub mod Fault
 pub mod Flow
 pub mod Given
+pub mod Missing
 pub mod PartnerRules
 pub mod Phases
 pub mod View

@@ -6,6 +6,8 @@ ghost use Rattle.dna_packet.specs.AckWord.{IsAckWord};
 ghost use Rattle.dna_links.specs.Flow.{distance, is_of_data};
 ghost use Rattle.dna_links.specs.WireFlow.{all_named, last_named, is_ahead, is_behind, moved_to};
 
+pub(crate) mod failing;
+
 use dna_packet::AckWord;
 use link_segments::{REACH, is_of_data};
 use std::marker::Model;

@@ -3,6 +3,7 @@
 //! given or received, and at no order but the order of its calls.
 #![tactic(auto)]
 
+mod failed;
 mod fault;
 mod flow;
 mod given;
@@ -16,9 +17,13 @@ mod view;
 
 pub use dna_links::{LinkEvent, LinkTag};
 pub use dna_station::LinkRefusal;
+pub use failed::{
+    FailedLinkArrival, FailedLinkEvent, FailedLinkSending, MissingLink, NextPiece, Nodes, Numbers,
+    PieceShape,
+};
 pub use fault::LinkFault;
 pub use given::Given;
-pub use laws::link_view_shows_truth;
+pub use laws::{allowed_at_links, failed_as_refused, link_view_shows_truth};
 pub use link_segments::Piece;
 pub use links::Links;
 pub use view::{LinkNumbers, LinkView};

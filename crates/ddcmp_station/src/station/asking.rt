@@ -3,10 +3,10 @@
 ghost use Rattle.std.specs.Prelude.{◌≡◌, ◌&&◌, None, Some, IfOk, OnOk, IfErr};
 ghost use Rattle.std.specs.Option.{option_copied};
 ghost use Rattle.ddcmp_msg.specs.Message.{view};
-ghost use Rattle.dna_station.specs.Rules.{of_period};
 ghost use Rattle.dna_station.specs.Book as arriving;
 ghost use Rattle.dna_station.specs.WireBook.{gives_new, wire_sending_refusal, wire_arrival_refusal, wire_taken};
 ghost use Rattle.ddcmp_station.specs.Arrival.{arrival_view};
+ghost use Rattle.ddcmp_station.specs.PeriodRules.{period_rule};
 
 use super::arriving::body_of;
 use super::{HeldPacket, Station};
@@ -41,18 +41,19 @@ impl<T: Copy, W: Window<HeldPacket<T>, 256>> Station<T, W> {
     }
 
     /// What it would take of this arrival (DDCMP 4.1, startup state table, data transfer): the packet, if one would be taken. An error is
-    /// the refusal that [`Station::arrived`] would answer. Nothing changes.
-    pub fn may_arrive<'a>(
+    /// the refusal that [`Station::arrived`] would answer, with the same `OF_PAIR`. Nothing changes.
+    pub fn may_arrive<'a, const OF_PAIR: bool>(
         &self,
         arrival: Arrival<'a>,
         kept: bool,
     ) -> Result<Option<&'a [u8]>, StationRefusal>
-        ensures allowed { OnOk result (wire_arrival_refusal of_period self.now (arrival_view arrival.entry) kept ≡ None) }
+        ensures allowed { OnOk result (wire_arrival_refusal (period_rule OF_PAIR) self.now (arrival_view arrival.entry) kept ≡ None) }
         ensures taken { IfOk result (λ taken. option_copied taken ≡ wire_taken self.now (arrival_view arrival.entry) kept) }
-        ensures refused { IfErr result (λ refusal. wire_arrival_refusal of_period self.now (arrival_view arrival.entry) kept ≡ Some refusal) }
+        ensures refused { IfErr result (λ refusal. wire_arrival_refusal (period_rule OF_PAIR) self.now (arrival_view arrival.entry) kept ≡
+            Some refusal) }
     {
         match arrival {
-            Arrival::Sound(message, tag) => self.may_meet(message, tag, kept),
+            Arrival::Sound(message, tag) => self.may_meet::<OF_PAIR>(message, tag, kept),
             Arrival::HeaderBad | Arrival::DataBad => {
                 if kept {
                     return Err(StationRefusal::WrongKeep);
@@ -63,19 +64,21 @@ impl<T: Copy, W: Window<HeldPacket<T>, 256>> Station<T, W> {
     }
 
     // The same of a sound message.
-    fn may_meet<'a>(
+    fn may_meet<'a, const OF_PAIR: bool>(
         &self,
         message: Message<'a>,
         tag: Tag,
         kept: bool,
     ) -> Result<Option<&'a [u8]>, StationRefusal>
-        ensures allowed { OnOk result (wire_arrival_refusal of_period self.now (arriving.Sound (view message.entry) tag) kept ≡ None) }
+        ensures allowed { OnOk result (wire_arrival_refusal (period_rule OF_PAIR) self.now (arriving.Sound (view message.entry) tag) kept ≡ None) }
         ensures taken { IfOk result (λ taken. option_copied taken ≡ wire_taken self.now (arriving.Sound (view message.entry) tag) kept) }
         ensures refused { IfErr result (λ refusal.
-            wire_arrival_refusal of_period self.now (arriving.Sound (view message.entry) tag) kept ≡ Some refusal) }
+            wire_arrival_refusal (period_rule OF_PAIR) self.now (arriving.Sound (view message.entry) tag) kept ≡ Some refusal) }
     {
-        if !self.meets(&message, tag) {
-            return Err(StationRefusal::CrossedPeriod);
+        if OF_PAIR {
+            if !self.meets(&message, tag) {
+                return Err(StationRefusal::CrossedPeriod);
+            }
         }
         let takes = self.variables.can_take(&message);
         if !takes && kept {

@@ -68,7 +68,7 @@ impl<W: Window<Piece, 4096> + Drop> Flow<W> {
     }
 
     // Whether a segment has the number after the highest given.
-    fn is_new(&self, segment: &Segment) -> bool
+    pub(super) fn is_new(&self, segment: &Segment) -> bool
         ensures { result ≡ spec.is_new (segment_view segment.now) self.now.kept }
     {
         segment.number == self.outstanding.highest().next().value()

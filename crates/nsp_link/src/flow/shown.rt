@@ -1,6 +1,6 @@
 //! The numbers of the segments, to be shown.
 
-ghost use Rattle.std.specs.Prelude.{◌≡◌};
+ghost use Rattle.std.specs.Prelude.{◌≡◌, option_copied, slice_get};
 ghost use Rattle.nsp_link.specs.View.{numbers_of};
 
 use super::Flow;
@@ -20,5 +20,11 @@ impl<W: Window<Piece, 4096> + Drop> Flow<W> {
             received: self.received.value(),
             last_sent: self.last.number(),
         }
+    }
+    /// What is left of the current message, if there is one. Takes no memory.
+    pub fn rest(&self) -> Option<&[u8]>
+        ensures { option_copied result ≡ slice_get self.now.kept.unsent.messages 0 }
+    {
+        self.unsent.rest()
     }
 }

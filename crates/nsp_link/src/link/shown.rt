@@ -1,7 +1,7 @@
 //! What is shown of a link.
 
-ghost use Rattle.std.specs.Prelude.{◌≡◌};
-ghost use Rattle.nsp_link.specs.View.{view_of};
+ghost use Rattle.std.specs.Prelude.{◌≡◌, option_copied};
+ghost use Rattle.nsp_link.specs.View.{rest_of, view_of};
 
 use super::Link;
 use crate::Piece;
@@ -22,6 +22,16 @@ impl<W: Window<Piece, 4096> + Drop> Link<W> {
             partner: self.partner,
             segsize: self.segsize,
             numbers,
+        }
+    }
+
+    /// What is left of the message that it sends, if there is one. Takes no memory.
+    pub fn rest(&self) -> Option<&[u8]>
+        ensures { option_copied result ≡ rest_of self.now }
+    {
+        match &self.flow {
+            Some(flow) => flow.rest(),
+            None => None,
         }
     }
 }

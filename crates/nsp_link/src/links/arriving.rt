@@ -1,6 +1,6 @@
 //! What an arrival does to the links.
 
-ghost use Rattle.std.specs.Prelude.{◌≡◌, ◌<◌, Ok, Some, true, false, OnOk, OnErr, IfOk, IfErr};
+ghost use Rattle.std.specs.Prelude.{◌≡◌, ◌<◌, ◌==◌, ◌&&◌, Ok, Some, true, false, OnOk, OnErr, IfOk, IfErr};
 ghost use Rattle.std.specs.List.{AllByRecursion};
 ghost use Rattle.dna_packet.specs.AckWord.{IsAckWord};
 ghost use Rattle.dna_packet.specs.Nsp.{segment_view};
@@ -58,6 +58,17 @@ impl<W: Window<Piece, 4096> + Drop> Links<W> {
             return Err(LinkFault::Refused(LinkRefusal::WrongNode));
         }
         self.take::<OF_PAIR>(message, tag)
+    }
+
+    /// Whether a packet from node `src` to node `dst` comes from the other node to this one: else `arrived` refuses it with `WrongNode`. Takes no
+    /// memory.
+    pub fn comes_here(&self, dst: u16, src: u16) -> bool
+        ensures { result ≡ ((src == self.now.peer) && (dst == self.now.node)) }
+    {
+        if src != self.peer {
+            return false;
+        }
+        dst == self.node
     }
 
     // The same of a message that comes from the other node to this one.

@@ -247,7 +247,7 @@ fn tag_of<W: Window<Piece, 4096> + Drop>(number: usize, link: &Link<W>) -> LinkT
 }
 
 // The live link with these addresses.
-fn the_link(own: u16, far: u16) -> LinkTest
+pub(super) fn the_link(own: u16, far: u16) -> LinkTest
     ensures { result ≡ LinkTest.TheLink own far }
 {
     LinkTest::TheLink { own, far }

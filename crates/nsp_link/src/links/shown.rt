@@ -1,7 +1,7 @@
 //! What is shown of the links.
 
-ghost use Rattle.std.specs.Prelude.{◌≡◌, option_map, slice_get};
-ghost use Rattle.nsp_link.specs.View.{view_of};
+ghost use Rattle.std.specs.Prelude.{◌≡◌, option_map, option_and_then, option_copied, slice_get};
+ghost use Rattle.nsp_link.specs.View.{rest_of, view_of};
 
 use super::Links;
 use crate::Piece;
@@ -16,6 +16,16 @@ impl<W: Window<Piece, 4096> + Drop> Links<W> {
     {
         match self.links.get(number) {
             Some(link) => Some(link.view()),
+            None => None,
+        }
+    }
+    /// What is left of the message that the link with this number sends: bytes with which its next new segment has to begin; `None` where there
+    /// is no such link, or all that was handed in is given. Takes no memory.
+    pub fn rest(&self, number: usize) -> Option<&[u8]>
+        ensures { option_copied result ≡ option_and_then rest_of (slice_get self.now.links number) }
+    {
+        match self.links.get(number) {
+            Some(link) => link.rest(),
             None => None,
         }
     }

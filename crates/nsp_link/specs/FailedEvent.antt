@@ -1,0 +1,65 @@
+-- The first check that an event of the links' user does not pass, by its name, with what is seen there and what is allowed. The checks are those
+-- of `User` of `dna_links`, in their order.
+use Rattle.std.specs.Prelude.{ℕ, Bool, false, Option, Some, None, List, length}
+use Rattle.std.specs.Str.{bytes_eq}
+use Rattle.dna_station.specs.declared.link_refusal.LinkRefusal.{LinkRefusal}
+use Rattle.dna_station.specs.declared.link_refusal.LinkRefusal.TheVariants.{NoLink, LinkState, WrongDelivery, AddressInUse}
+use Rattle.dna_links.specs.declared.port.LinkTest.{LinkTest}
+use Rattle.dna_links.specs.declared.port.LinkTest.TheVariants.{HasAddress, LiveAt, CalledBy}
+use Rattle.dna_links.specs.Links.{LinkOf, with_link}
+use Rattle.dna_links.specs.LookUps.{is_connected, takes_messages}
+use Rattle.dna_links.specs.Pieces.{Piece, Whole, next_message}
+use Rattle.dna_links.specs.User.{LinkEventValue, Open, Accept, Reject, In, Up, Close}
+use Rattle.dna_links.specs.WireFlow.{WireFlow}
+use Rattle.dna_links.specs.WireLinks.{WireLinks}
+use Rattle.link_segments.specs.Received.{next_length}
+use Rattle.nsp_link.specs.FailedSending.{named}
+use Rattle.nsp_link.specs.Missing.{missing}
+use Rattle.nsp_link.specs.declared.failed.FailedLinkEvent.{FailedLinkEvent}
+use Rattle.nsp_link.specs.declared.failed.FailedLinkEvent.TheVariants as failed
+
+-- the link that this test finds, else none is as the event asks for
+abbrev pub on_link_asked : LinkTest → WireLinks → (ℕ → LinkOf WireFlow → Option FailedLinkEvent) → Option FailedLinkEvent
+on_link_asked test s next = with_link test s (Some (failed.NoLink (missing test s))) next
+
+-- an address that is given
+abbrev pub failed_address : (own : ℕ) → WireLinks → Option FailedLinkEvent
+failed_address own s = with_link (LiveAt own) s None (λ number link. Some (failed.AddressInUse own number))
+
+-- a message that is delivered is the next whole one
+abbrev pub is_whole : List ℕ → Option Whole → Bool
+is_whole message None = false
+is_whole message (Some w) = bytes_eq message w.message
+
+abbrev pub failed_delivery : (link : ℕ) → List ℕ → List (Option Piece) → Option FailedLinkEvent
+failed_delivery link message pieces =
+    named (is_whole message (next_message pieces)) (failed.Delivery link (length message) (next_length pieces)) None
+
+-- the call from this far address is answered, and gets this own one
+abbrev pub failed_answer : (far own : ℕ) → WireLinks → Option FailedLinkEvent
+failed_answer far own s = on_link_asked (CalledBy far) s (λ number link. failed_address own s)
+
+abbrev pub failed_handing_in : (own : ℕ) → WireLinks → Option FailedLinkEvent
+failed_handing_in own s = on_link_asked (LiveAt own) s (λ number link.
+    named (takes_messages link.port.phase) (failed.TakesMessages number link.port.phase) None)
+
+abbrev pub failed_close : (own : ℕ) → WireLinks → Option FailedLinkEvent
+failed_close own s = on_link_asked (LiveAt own) s (λ number link.
+    named (is_connected link.port.phase) (failed.IsConnected number link.port.phase) None)
+
+-- a row for each event
+abbrev pub failed_event : WireLinks → LinkEventValue → Option FailedLinkEvent
+failed_event s (Open own) = failed_address own s
+failed_event s (Accept far own) = failed_answer far own s
+failed_event s (Reject far own) = failed_answer far own s
+failed_event s (In own message) = failed_handing_in own s
+failed_event s (Up own message) = on_link_asked (HasAddress own) s (λ number link. failed_delivery number message link.flow.kept.pieces)
+failed_event s (Close own) = failed_close own s
+
+-- the refusal of each
+abbrev pub refusal_of_event : FailedLinkEvent → LinkRefusal
+refusal_of_event (failed.NoLink link) = NoLink
+refusal_of_event (failed.AddressInUse own link) = AddressInUse
+refusal_of_event (failed.TakesMessages link seen) = LinkState
+refusal_of_event (failed.IsConnected link seen) = LinkState
+refusal_of_event (failed.Delivery link seen allowed) = WrongDelivery

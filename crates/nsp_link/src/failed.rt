@@ -1,0 +1,162 @@
+//! Which check a message or an event does not pass, with what is seen and what is allowed.
+
+use crate::LinkTag;
+use dna_links::{LinkTest, Phase};
+
+/// The first check that a message does not pass which the node of the links sent (NSP 4.0, port states, data segments and acknowledgements),
+/// with what is seen there and what is allowed. Numbers of segments are those of messages, 0 to 4,095.
+#[derive(Clone, Copy, Debug, PartialEq, Eq)]
+pub enum FailedLinkSending {
+    /// The packet does not go from this node to the other one (reason 16).
+    Nodes {
+        seen: Nodes,
+        allowed: Nodes,
+    },
+    /// No live link is as the message asks for (reason 18).
+    NoLink(MissingLink),
+    /// The link with this number is in another phase than the message asks for (reason 19): Calling for a CI, Confirming for a CC, DI for a
+    /// DI, RUN for the others.
+    Phase {
+        link: u64,
+        seen: Phase,
+        allowed: Phase,
+    },
+    /// A DC goes between the addresses of this live link (reason 19). Allowed: those of none.
+    Live {
+        link: u64,
+    },
+    /// An acknowledgement word names a number that was not received, or one before the last that was sent (reason 21).
+    Acknowledgement {
+        seen: u16,
+        allowed: Numbers,
+    },
+    /// A new segment while so many are outstanding (reason 23). Allowed: at most so many.
+    Room {
+        seen: usize,
+        allowed: usize,
+    },
+    /// A new segment has more data bytes than the other side takes (reason 22), which is the SEGSIZE of its CI or CC.
+    Length {
+        seen: usize,
+        allowed: u16,
+    },
+    /// A new segment carries other bytes than the next ones that were handed in (reason 20); `None` where none are left.
+    NextPiece {
+        seen: PieceShape,
+        allowed: Option<NextPiece>,
+    },
+    /// A segment has neither the next number nor one that may go again (reason 20).
+    Number {
+        seen: u16,
+        allowed: Numbers,
+    },
+    /// The segment that goes again as this number carries something else than at its first sending (reason 20).
+    AsFirstGiven {
+        number: u16,
+        seen: PieceShape,
+        allowed: PieceShape,
+    },
+}
+
+/// The first check that a message does not pass which came to the node of the links (NSP 4.0, port states), with what is seen there and
+/// what is allowed.
+#[derive(Clone, Copy, Debug, PartialEq, Eq)]
+pub enum FailedLinkArrival {
+    /// The packet does not come from the other node to this one (reason 16).
+    Nodes {
+        seen: Nodes,
+        allowed: Nodes,
+    },
+    /// A CC belongs to another call (reason 25): seen is its tag. Allowed: the tag of a link whose partner is the link with this number.
+    OtherCall {
+        link: u64,
+        seen: LinkTag,
+    },
+    /// A message belongs to another pair of links (reason 25): seen is its tag. Allowed: the tag of this partner, whose partner is the link
+    /// with this number.
+    OtherPair {
+        link: u64,
+        partner: Option<u64>,
+        seen: LinkTag,
+    },
+}
+
+/// The first check that an event of the links' user does not pass (NSP 4.0, session control interface), with what is seen there and what is
+/// allowed.
+#[derive(Clone, Copy, Debug, PartialEq, Eq)]
+pub enum FailedLinkEvent {
+    /// No link is as the event asks for (reason 18).
+    NoLink(MissingLink),
+    /// The live link with this number has the address that is given (reason 26). Allowed: an address that no live link has.
+    AddressInUse {
+        own: u16,
+        link: u64,
+    },
+    /// A message is handed in at a link in this phase (reason 19). Allowed: Calling, Confirming and RUN.
+    TakesMessages {
+        link: u64,
+        seen: Phase,
+    },
+    /// A link in this phase is closed (reason 19). Allowed: Confirming and RUN.
+    IsConnected {
+        link: u64,
+        seen: Phase,
+    },
+    /// The message of so many bytes is not the next whole one that came at the link (reason 24). Allowed: the next whole one, of which at
+    /// most `usize::MAX` bytes are counted; `None` where none is whole yet.
+    Delivery {
+        link: u64,
+        seen: usize,
+        allowed: Option<usize>,
+    },
+}
+
+/// Between which nodes a packet goes.
+#[derive(Clone, Copy, Debug, PartialEq, Eq)]
+pub struct Nodes {
+    /// The address of the node that it is from.
+    pub source: u16,
+    /// The address of the node that it is for.
+    pub destination: u16,
+}
+
+/// A link that is asked for and that there is not.
+#[derive(Clone, Copy, Debug, PartialEq, Eq)]
+pub struct MissingLink {
+    /// What is asked of it.
+    pub wanted: LinkTest,
+    /// The live link that has the own address which is asked for, by its number; `None` too where none is asked for.
+    pub with_own: Option<u64>,
+    /// Whether a live link has the far address that is asked for; `false` too where none is.
+    pub with_far: bool,
+}
+
+/// Which numbers are allowed: those from `lowest` through `highest`, and again, where that is not `None`, those from it up to `lowest`. All
+/// go around behind 4,095.
+#[derive(Clone, Copy, Debug, PartialEq, Eq)]
+pub struct Numbers {
+    pub lowest: u16,
+    pub highest: u16,
+    pub again: Option<u16>,
+}
+
+/// What a segment carries, without its bytes.
+#[derive(Clone, Copy, Debug, PartialEq, Eq)]
+pub struct PieceShape {
+    /// Whether it begins a message (bit 5 of the flag byte).
+    pub begins: bool,
+    /// Whether it ends one (bit 6).
+    pub ends: bool,
+    /// How many data bytes it has.
+    pub length: usize,
+}
+
+/// What the next new segment has to carry: bytes at the front of what is left of the current message, all of them exactly if it ends the
+/// message, and none only where none are left.
+#[derive(Clone, Copy, Debug, PartialEq, Eq)]
+pub struct NextPiece {
+    /// Whether it begins the message: nothing of it was given yet.
+    pub begins: bool,
+    /// How many bytes are left of the message.
+    pub left: usize,
+}

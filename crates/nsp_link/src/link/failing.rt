@@ -1,0 +1,64 @@
+//! Which check a message of a link does not pass.
+
+ghost use Rattle.std.specs.Prelude.{◌≡◌, ◌<◌, true};
+ghost use Rattle.std.specs.List.{AllByRecursion};
+ghost use Rattle.dna_packet.specs.AckWord.{IsAckWord};
+ghost use Rattle.dna_packet.specs.Nsp.{segment_view};
+ghost use Rattle.dna_links.specs.LookUps.{is_live};
+ghost use Rattle.nsp_link.specs.FailedEvent.{failed_delivery};
+ghost use Rattle.nsp_link.specs.FailedSending as spec;
+
+use super::Link;
+use crate::Piece;
+use crate::failed::{FailedLinkEvent, FailedLinkSending};
+use dna_packet::{AckWord, Segment};
+use wire_base::Window;
+
+impl<W: Window<Piece, 4096> + Drop> Link<W> {
+    /// The check that this segment does not pass, if it were sent now; `None` where it may be sent. Takes no memory.
+    pub fn failed_segment(&self, segment: &Segment) -> Option<FailedLinkSending>
+        requires live { is_live self.now.port.phase ≡ true }
+        requires acks { AllByRecursion IsAckWord segment.now.acks.items }
+        requires number { segment.now.number < 4096 }
+        ensures { result ≡ spec.failed_segment self.now.segsize (segment_view segment.now) self.now.flow }
+    {
+        match &self.flow {
+            Some(flow) => flow.failed_segment(self.segsize, segment),
+            None => unreachable!(),
+        }
+    }
+
+    /// The check that these acknowledgement words do not pass, if they were sent alone now; `None` where they may be sent. Takes no memory.
+    pub fn failed_acks(&self, words: &[AckWord]) -> Option<FailedLinkSending>
+        requires live { is_live self.now.port.phase ≡ true }
+        requires acks { AllByRecursion IsAckWord words.now }
+        ensures { result ≡ spec.failed_acks words.now self.now.flow }
+    {
+        match &self.flow {
+            Some(flow) => flow.failed_acks(words),
+            None => unreachable!(),
+        }
+    }
+    /// The check that this message does not pass, if it were delivered now at this link, which has this number; `None` where it is the next
+    /// whole one. Takes no memory.
+    pub fn failed_delivery(&self, number: u64, message: &[u8]) -> Option<FailedLinkEvent>
+        ensures { result ≡ failed_delivery number message.now self.now.flow.kept.pieces }
+    {
+        let seen = message.len();
+        let Some(flow) = &self.flow else {
+            return Some(FailedLinkEvent::Delivery {
+                link: number,
+                seen,
+                allowed: None,
+            });
+        };
+        if flow.is_next_message(message) {
+            return None;
+        }
+        Some(FailedLinkEvent::Delivery {
+            link: number,
+            seen,
+            allowed: flow.next_length(),
+        })
+    }
+}
