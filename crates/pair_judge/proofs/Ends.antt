@@ -1,7 +1,8 @@
 -- Both ends where the judge stops show the world in which the named record is refused, or waits.
-use Rattle.std.proofs.Common.{◌≡◌, ℕ, ◌+◌, ◌-◌, ◌≤◌, List, [], ◌∷◌, ◌++◌, length, drop, map, Option, Some, refl, sym, ap, subst, ◌∙◌}
+use Rattle.std.proofs.Common.{◌≡◌, ℕ, ◌+◌, ◌-◌, ◌≤◌, List, [], ◌∷◌, ◌++◌, length, drop, map, Option, Some, refl, sym, ap, ap₂, subst, ◌∙◌}
 use Rattle.std.proofs.Common.{arith, length-drop}
 use Rattle.std.specs.List.{slice_get}
+use Rattle.std.specs.Option.{option_to_list}
 use Rattle.wire_base.specs.Side.{other_side}
 use Rattle.wire_base.specs.declared.side.Side.{Side}
 use Rattle.wire_base.specs.declared.side.Side.TheVariants.{A, B}
@@ -24,6 +25,7 @@ use Rattle.dna_node.specs.Kind.{both_layers, kind_pair, kind_start}
 use Rattle.dna_node.specs.WireLayers.{WireLayers, wire_layers_start}
 use Rattle.ddcmp_station.specs.View.{true_view, view_of}
 use Rattle.pair_judge.specs.declared.course.Ahead.{Ahead}
+use Rattle.pair_judge.specs.declared.course.Ahead.TheVariants.{Unread, Waits, Ended}
 use Rattle.pair_judge.specs.declared.end.End.{End}
 use Rattle.pair_judge.specs.declared.line.Line.{Line}
 use Rattle.pair_judge.specs.declared.stopped.Stopped.{Stopped}
@@ -40,6 +42,8 @@ use Rattle.pair_judge.specs.inner.Course.{IsWaiting, Track, along, read_of, wait
 use Rattle.pair_judge.specs.inner.Making.{StandsFor as StandsForHalf}
 use Rattle.pair_judge.specs.inner.Reached.{IsShown, ShowsHalf, StopsAt, StopsFor}
 use Rattle.pair_judge.specs.inner.Reached as reached
+use Rattle.pair_judge.specs.Order.{MadeRecord, records_of}
+use Rattle.pair_judge.specs.Watched.{WasTold}
 use Rattle.pair_judge.specs.inner.Runs.{tag_of}
 use Rattle.pair_judge.specs.inner.Stopped.{IsStoppedIn, ends_of, found_of}
 use Rattle.pair_judge.specs.inner.Tops.{links_on_top_left}
@@ -64,7 +68,7 @@ waits_alone : (bytes : List ℕ) (ahead : Ahead) (next : Record) → IsWaiting b
 waits_alone bytes ahead next w =
     ap (λ (x : Ahead). waiting bytes x) w.ahead_is ∙ ap (λ (r : Record). r ∷ []) w.is
 
-is_ahead : (bytes : List ℕ) (ahead : Ahead) (next : Record) → IsWaiting bytes ahead next → record_ahead bytes ahead ≡ Some next
+pub is_ahead : (bytes : List ℕ) (ahead : Ahead) (next : Record) → IsWaiting bytes ahead next → record_ahead bytes ahead ≡ Some next
 is_ahead bytes ahead next w = ap (λ (x : Ahead). record_ahead bytes x) w.ahead_is ∙ ap Some w.is
 
 next_of : (t : Track) (place : ℕ) (next : Record) → IsWaiting t.course.capture.bytes t.course.ahead next → place ≡ length t.made →
@@ -73,6 +77,11 @@ next_of t place next w is =
     ap (λ (n : ℕ). slice_get (t.made ++ waiting t.course.capture.bytes t.course.ahead) n) is
     ∙ ap (λ (rs : List Record). slice_get (t.made ++ rs) (length t.made)) (waits_alone t.course.capture.bytes t.course.ahead next w)
     ∙ last_there t.made next
+
+pub ahead_listed : (bytes : List ℕ) (ahead : Ahead) → waiting bytes ahead ≡ option_to_list (record_ahead bytes ahead)
+ahead_listed bytes Unread = refl
+ahead_listed bytes (Waits entry) = refl
+ahead_listed bytes Ended = refl
 
 -- the laws that the two ends rest on
 pub record EndLaws : Type 1 where
@@ -109,8 +118,8 @@ module _ (laws : EndLaws) (own : End) (incoming : Line) (w : JudgeHalf) (half : 
 
 -- ---- where the judge stops
 
-module _ (laws : EndLaws) (text_a text_b : Option (List ℕ)) (s : Stopped)
-    (i : IsStoppedIn links_on_top_left text_a text_b s) where
+module _ (laws : EndLaws) (text_a text_b : Option (List ℕ)) (tells : List MadeRecord → Type 0) (s : Stopped)
+    (i : IsStoppedIn links_on_top_left text_a text_b tells s) where
   abbrev track_a : Track
   track_a = along text_a s.a i.come_a i.made_a
 
@@ -145,11 +154,31 @@ module _ (laws : EndLaws) (text_a text_b : Option (List ℕ)) (s : Stopped)
   becomes_at B NoOrder next w x is = x.waits_b next is
 
   -- with the heads that were read
-  run_there : (world : NodeWorld) → Run (kind_pair both_layers) (kind_start both_layers s.a.end.head s.b.end.head) i.made_a i.made_b world →
-      Run (kind_pair both_layers) (kind_start both_layers (head_of (read_of track_a)) (head_of (read_of track_b))) i.made_a i.made_b world
-  run_there world run =
-      subst (λ (h : Head). Run (kind_pair both_layers) (kind_start both_layers (head_of (read_of track_a)) h) i.made_a i.made_b world) i.read_b.head
-      (subst (λ (h : Head). Run (kind_pair both_layers) (kind_start both_layers h s.b.end.head) i.made_a i.made_b world) i.read_a.head run)
+  run_there : (of_a of_b : List Record) (world : NodeWorld) →
+      Run (kind_pair both_layers) (kind_start both_layers s.a.end.head s.b.end.head) of_a of_b world →
+      Run (kind_pair both_layers) (kind_start both_layers (head_of (read_of track_a)) (head_of (read_of track_b))) of_a of_b world
+  run_there of_a of_b world run =
+      subst (λ (h : Head). Run (kind_pair both_layers) (kind_start both_layers (head_of (read_of track_a)) h) of_a of_b world) i.read_b.head
+      (subst (λ (h : Head). Run (kind_pair both_layers) (kind_start both_layers h s.b.end.head) of_a of_b world) i.read_a.head run)
+
+  -- what the observer was told
+  pub told_there : WasTold text_a text_b (ends_of links_on_top_left s) tells
+  told_there = record {
+    order = i.order;
+    is_told = i.told;
+    read_a = read_of track_a;
+    read_b = read_of track_b;
+    from_a = i.read_a.so_far;
+    from_b = i.read_b.so_far;
+    all_a = ap₂ (λ (made ahead : List Record). made ++ ahead) (sym i.in_order.of_a) (ahead_listed s.a.capture.bytes s.a.ahead);
+    all_b = ap₂ (λ (made ahead : List Record). made ++ ahead) (sym i.in_order.of_b) (ahead_listed s.b.capture.bytes s.b.ahead);
+    records_a = i.in_order.count_a ∙ ap length (sym i.in_order.of_a);
+    records_b = i.in_order.count_b ∙ ap length (sym i.in_order.of_b);
+    is_run = λ done rest is.
+        let ran = i.in_order.in_order done rest is in
+        let x = laws.shown s.a.end.head s.b.end.head ran.0 (records_of A done) (records_of B done) ran.1 in
+        (x.world, run_there (records_of A done) (records_of B done) x.world x.run);
+  }
 
   stands_at : (side : Side) (place : ℕ) (cause : Cause) → StopsAt links_on_top_left track_a track_b side place cause →
       StandsThere text_a text_b (ends_of links_on_top_left s) side place (reason_of cause)
@@ -167,7 +196,7 @@ module _ (laws : EndLaws) (text_a text_b : Option (List ℕ)) (s : Stopped)
         begins_b = (waiting s.b.capture.bytes s.b.ahead, refl);
         place_is = place_at side place q.place_is;
         world = x.world;
-        run = run_there x.world x.run;
+        run = run_there i.made_a i.made_b x.world x.run;
         next = q.next;
         is_next = next_at side place q.next q.ahead q.place_is;
         is_ahead = ahead_is side q.next q.ahead;

@@ -12,6 +12,7 @@ use Rattle.dna_node.specs.declared.finding.Cause.TheVariants.{Step, NoSuchUnit, 
 use Rattle.dna_node.specs.declared.finding.Finding.{Finding}
 use Rattle.dna_node.specs.declared.finding.Finding.TheVariants.{Accepted, Refused}
 use Rattle.pair_judge.specs.Finding.{IsFinding}
+use Rattle.pair_judge.specs.Order.{MadeRecord}
 use Rattle.pair_judge.specs.declared.course.Ahead.{Ahead}
 use Rattle.pair_judge.specs.declared.course.Ahead.TheVariants.{Unread, Waits, Ended}
 use Rattle.pair_judge.specs.inner.Course.{IsRead, Track, WaitsAt, behind, having_made, read_of, waiting, IsWaiting}
@@ -70,22 +71,26 @@ module _ (kind : NodeKind) where
 module _ (top : JudgeTop) where
   -- ---- where the judge stops: a record was read and not made, and both ends stand where they stood
 
-  pub stops_a : (a b : Track) (old_a old_b : End) (cause : Cause) (r : Record) (h : HasReached top old_a old_b a.made b.made) →
+  pub stops_a : {order : List MadeRecord} (a b : Track) (old_a old_b : End) (cause : Cause) (r : Record)
+      (h : HasReached top order old_a old_b a.made b.made) →
       IsSame old_a a.course.end old_a.line → IsSame old_b b.course.end old_b.line → IsWaiting a.course.capture.bytes a.course.ahead r →
       BecomesThere top cause h.world.a h.world.b r → StopsAt top a b A (length a.made) cause
-  stops_a a b old_a old_b cause r h same_a same_b ahead becomes = record {
-    reached = reached_still top old_a a.course.end old_b b.course.end a.made b.made h same_a same_b;
+  stops_a {order} a b old_a old_b cause r h same_a same_b ahead becomes = record {
+    order = order;
+    reached = reached_still top order old_a a.course.end old_b b.course.end a.made b.made h same_a same_b;
     next = r;
     ahead = ahead;
     becomes = becomes;
     place_is = refl;
   }
 
-  pub stops_b : (a b : Track) (old_a old_b : End) (cause : Cause) (r : Record) (h : HasReached top old_a old_b a.made b.made) →
+  pub stops_b : {order : List MadeRecord} (a b : Track) (old_a old_b : End) (cause : Cause) (r : Record)
+      (h : HasReached top order old_a old_b a.made b.made) →
       IsSame old_a a.course.end old_a.line → IsSame old_b b.course.end old_b.line → IsWaiting b.course.capture.bytes b.course.ahead r →
       BecomesThere top cause h.world.b h.world.a r → StopsAt top a b B (length b.made) cause
-  stops_b a b old_a old_b cause r h same_a same_b ahead becomes = record {
-    reached = reached_still top old_a a.course.end old_b b.course.end a.made b.made h same_a same_b;
+  stops_b {order} a b old_a old_b cause r h same_a same_b ahead becomes = record {
+    order = order;
+    reached = reached_still top order old_a a.course.end old_b b.course.end a.made b.made h same_a same_b;
     next = r;
     ahead = ahead;
     becomes = becomes;
@@ -119,6 +124,8 @@ module _ (top : JudgeTop) where
           let y = goes_any b b.made all_b goes_b in
           finding_at all_a all_b (a.made ++ r ∷ x.0) (b.made ++ y.0) (Refused A place (Step refusal)) x.1 y.1 (law x.0 y.0);
       ends = tt;
+      same_a = refl;
+      same_b = refl;
       stops = stops;
       counts = λ e. cc;
     }
@@ -139,6 +146,8 @@ module _ (top : JudgeTop) where
           let y = goes_waits b b.made all_b r ahead_b goes_b in
           finding_at all_a all_b (a.made ++ p ∷ x.0) (b.made ++ r ∷ y.0) (Refused B place (Step refusal)) x.1 y.1 (law x.0 y.0);
       ends = tt;
+      same_a = refl;
+      same_b = refl;
       stops = stops;
       counts = λ e. cc;
     }
@@ -157,6 +166,8 @@ module _ (top : JudgeTop) where
           let y = goes_waits b b.made all_b r ahead_b goes_b in
           finding_at all_a all_b a.made (b.made ++ r ∷ y.0) (Refused B place (Step refusal)) (goes_ended a a.made all_a ended goes_a) y.1 (law y.0);
       ends = tt;
+      same_a = refl;
+      same_b = refl;
       stops = stops;
       counts = λ e. cc;
     }
@@ -192,6 +203,8 @@ module _ (top : JudgeTop) where
           let y = goes_waits b b.made all_b s ahead_b goes_b in
           finding_at all_a all_b (a.made ++ r ∷ x.0) (b.made ++ s ∷ y.0) (Refused A place NoOrder) x.1 y.1 (law x.0 y.0);
       ends = tt;
+      same_a = refl;
+      same_b = refl;
       stops = stops;
       counts = λ e. cc;
     }
@@ -210,6 +223,8 @@ module _ (top : JudgeTop) where
           let x = goes_waits a a.made all_a r ahead_a goes_a in
           finding_at all_a all_b (a.made ++ r ∷ x.0) b.made (Refused A place NoSuchUnit) x.1 (goes_ended b b.made all_b ahead_b goes_b) (law x.0);
       ends = at_the_end b.course.ahead b.come ahead_b;
+      same_a = refl;
+      same_b = refl;
       stops = stops;
       counts = λ e. cc;
     }
@@ -228,12 +243,14 @@ module _ (top : JudgeTop) where
           let y = goes_waits b b.made all_b r ahead_b goes_b in
           finding_at all_a all_b a.made (b.made ++ r ∷ y.0) (Refused B place NoSuchUnit) (goes_ended a a.made all_a ahead_a goes_a) y.1 (law y.0);
       ends = at_the_end a.course.ahead a.come ahead_a;
+      same_a = refl;
+      same_b = refl;
       stops = stops;
       counts = λ e. cc;
     }
 
   -- both have ended
-  module _ (a b : Track) (reached : HasReached top a.course.end b.course.end a.made b.made)
+  module _ (a b : Track) {order : List MadeRecord} (reached : HasReached top order a.course.end b.course.end a.made b.made)
       (law : IsShown top a.course.end.head b.course.end.head reached.world a.made b.made) where
     counted_at : (end : End) (n : KindNode top.kind) (links : ℕ) (made : List Record) → end.counts ≡ counts_of made → top.links end.layers ≡ links →
         links ≡ top.kind.links n.station → summary_at top.links end ≡ summary_of top.kind n made
@@ -255,6 +272,8 @@ module _ (top : JudgeTop) where
           (subst (λ (of_b : List Record). IsFinding top.kind a.course.end.head b.course.end.head a.made of_b Accepted)
           (sym (goes_ended b b.made all_b ahead_b goes_b)) (record { verdict = (law.world, law.run); first = tt }));
       ends = (at_the_end a.course.ahead a.come ahead_a, at_the_end b.course.ahead b.come ahead_b);
+      same_a = refl;
+      same_b = refl;
       stops = left_any top.leaves tt;
       counts = λ e. record {
         run = (law.world, law.run);

@@ -2,6 +2,7 @@ pub mod Runs
 pub mod Sent
 pub mod Comes
 pub mod Packets
+pub mod FailedAsRefused
 pub mod Arrives
 pub mod AcksAlone
 pub mod LineEnds
@@ -12,6 +13,7 @@ pub mod Events
 pub mod Advances
 pub mod Left
 pub mod Courses
+pub mod Orders
 pub mod Turns
 pub mod Halting
 pub mod OneFinding
@@ -25,3 +27,4 @@ pub mod Seen
 pub mod Alone
 pub mod LineToo
 pub mod Ends
+pub mod EndsAlone

@@ -1,6 +1,7 @@
 -- What became of a record at one end alone is what its node makes of it.
 use Rattle.std.proofs.Common.{◌≡◌, ℕ, Bool, Option, Some, None, Result, Ok, Err, refl, sym, ap, ◌∙◌}
 use Rattle.std.specs.Prelude.{OnOk, IfOk, IfErr}
+use Rattle.std.specs.Result.{IsOk}
 use Rattle.ddcmp_msg.specs.Message.{MessageValue}
 use Rattle.dna_station.specs.declared.head.Head.{Head}
 use Rattle.dna_station.specs.declared.refusal.StepRefusal.{StepRefusal}
@@ -79,6 +80,18 @@ module _ (top : JudgeTop) (s : WireLayers) (kept : Bool) (m : MessageValue) wher
         ∙ ap (λ (r : Result WireLayers StepRefusal). then_unless_wrong (Some refusal) (meets (node_at head s before) front r)) met,
     tt,
   )
+
+  pub accused_met : (s' : WireLayers) (refusal : StepRefusal) → top.alone.wrong_unit s m ≡ None →
+      if_kept kept (top.alone.wrong_taken s m) ≡ Some refusal → IsOk arrives → SoundIs top (Fails OtherEnd refusal) s s' kept m
+  accused_met s' refusal unit taken ok = (
+    λ head before front. sound_by None (Some refusal) unit taken head before front ∙ stays head before front arrives ok,
+    tt,
+  )
+    where
+      stays : (head : Head) (before front : ℕ) (r : Result WireLayers StepRefusal) → IsOk r →
+          then_unless_wrong (Some refusal) (meets (node_at head s before) front r) ≡ Refuses alone.OtherEnd refusal
+      stays head before front (Ok next) ok = refl
+      stays head before front (Err first) ok = absurd (cc)
 
   -- and the layers refuse it first
   pub refused_first : (w : Option StepRefusal) (refusal : StepRefusal) (head : Head) (before front : ℕ) → top.alone.wrong_unit s m ≡ None →

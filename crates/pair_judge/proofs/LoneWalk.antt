@@ -10,7 +10,9 @@ use Rattle.capture.specs.declared.fault.CaptureFault.TheVariants.{Departs, Read,
 use Rattle.capture.specs.declared.limit.TheConstants.{MAX_RECORDS}
 use Rattle.capture.specs.declared.phase.Phase.TheVariants.{Reading}
 use Rattle.capture.specs.declared.record.Record.{Record}
+use Rattle.capture.specs.declared.entry.Entry.{Entry}
 use Rattle.capture.specs.declared.hint.HintForm.{HintForm}
+use Rattle.capture.specs.Entries.{record_with}
 use Rattle.capture.specs.Text.{form_after, record_line}
 use Rattle.capture.specs.Range.{IsRecord}
 use Rattle.capture.specs.Departing.{HeadDeparts, RecordDeparts}
@@ -23,7 +25,10 @@ use Rattle.dna_station.specs.Machine.{is_sent}
 use Rattle.dna_station.specs.WireStation.{load}
 use Rattle.dna_node.specs.WireLayers.{WireLayers, WireLayersNode, new_wire_layers_node}
 use Rattle.dna_node.specs.Alone.{EndingAlone, Passed, StepAlone, Makes, Refuses, ends_from, goes_on, step_alone}
+use Rattle.pair_judge.specs.declared.course.Ahead.TheVariants.{Waits, Ended}
 use Rattle.pair_judge.specs.declared.end_verdict.Accused.{Accused}
+use Rattle.pair_judge.specs.declared.end_verdict.EndVerdict.TheVariants as verdicts
+use Rattle.pair_judge.specs.declared.end_verdict.EndVerdict.TheVariants.{Refused}
 use Rattle.pair_judge.specs.declared.lone_end.LoneEnd.{LoneEnd}
 use Rattle.pair_judge.specs.declared.reason.Reason.{Reason}
 use Rattle.pair_judge.specs.declared.summary.SideSummary.{SideSummary}
@@ -31,9 +36,13 @@ use Rattle.pair_judge.specs.Counting.{is_damaged, is_delivery, is_kept, is_recei
 use Rattle.pair_judge.specs.EndJudged.{HasPassed, IsEndAnswer, IsRefusedAlone, accused_view}
 use Rattle.pair_judge.specs.Reason.{reason_of_step}
 use Rattle.pair_judge.specs.Summary.{HasRoomFor, counts_of, counted}
+use Rattle.pair_judge.specs.EndShown.{told_alone}
+use Rattle.pair_judge.specs.Order.{MadeRecord}
+use Rattle.pair_judge.specs.inner.EndStopped.{IsEndStopped}
 use Rattle.pair_judge.specs.inner.LoneEnd.{HasRoomAlone, IsMadeAlone, node_of_end, summary_of_end}
-use Rattle.pair_judge.specs.inner.Wire.{EndsAlike, EndsSo, JudgeTop}
+use Rattle.pair_judge.specs.inner.Wire.{EndsAlike, EndsSo, IfLeft, JudgeTop}
 use Rattle.pair_judge.proofs.Turns.{counts_of-push}
+use Rattle.pair_judge.proofs.Left.{left_any, left_so}
 
 -- the laws of a text that is read on
 pub record GrowingLaws : Type 0 where
@@ -82,7 +91,7 @@ module _ (top : JudgeTop) where
     station = omega (arith, h.load, few);
   }
 
-  pub started : (laws : GrowingLaws) (text after : Option (List ℕ)) (capture : CaptureState) (end : LoneEnd) → Opens text after (Ok capture) →
+  abbrev pub started : (laws : GrowingLaws) (text after : Option (List ℕ)) (capture : CaptureState) (end : LoneEnd) → Opens text after (Ok capture) →
       node_of_end end ≡ new_wire_layers_node (head_in capture) → end.counts ≡ counts_of [] →
       HasMade text (to_come capture.unread after) capture end 0
   started laws text after capture end opens node counts = record {
@@ -103,14 +112,14 @@ module _ (top : JudgeTop) where
     few : length h.records < MAX_RECORDS
     few = omega (arith, h.count, h.counted_there, gives.1)
 
-    read_on : IsReadSoFar text (so_far new.form new.own new.peer (h.records ++ r ∷ []) (ToCome after))
+    pub read_on : IsReadSoFar text (so_far new.form new.own new.peer (h.records ++ r ∷ []) (ToCome after))
     read_on = rw (own, peer, gives.5) (laws.one_more text before after old.form old.own old.peer h.records r h.read few gives.0 gives.4)
 
     same_head : head_in new ≡ head_in old
     same_head = ap₂ (λ (o p : ℕ). record { own = o; peer = p }) own peer
 
     -- what becomes of all records that begin so
-    behind : (rest : List Record) (step : StepAlone WireLayers) → step_alone top.alone (node_of_end end) r ≡ step →
+    pub behind : (rest : List Record) (step : StepAlone WireLayers) → step_alone top.alone (node_of_end end) r ≡ step →
         begins (head_in new) ((h.records ++ r ∷ []) ++ rest)
         ≡ goes_on step number (λ (next : WireLayersNode). ends_from top.alone next (number + 1) rest)
     behind rest step is =
@@ -119,7 +128,7 @@ module _ (top : JudgeTop) where
         ∙ h.made (r ∷ rest)
         ∙ ap (λ (s : StepAlone WireLayers). goes_on s number (λ (next : WireLayersNode). ends_from top.alone next (number + 1) rest)) is
 
-    pub made_on : (end' : LoneEnd) → IsMadeAlone top end end' r → HasMade text after new end' (number + 1)
+    abbrev pub made_on : (end' : LoneEnd) → IsMadeAlone top end end' r → HasMade text after new end' (number + 1)
     made_on end' m = record {
       records = h.records ++ r ∷ [];
       read = read_on;
@@ -130,6 +139,12 @@ module _ (top : JudgeTop) where
       counts = m.counts ∙ ap (λ (s : SideSummary). counted s r) h.counts ∙ sym (counts_of-push h.records r);
       load = omega (arith, m.load, h.load);
     }
+
+    -- the records before it led here
+    passes_before : begins (head_in new) h.records ≡ Passed (node_of_end end)
+    passes_before =
+        ap (λ (head : Head). begins head h.records) same_head
+        ∙ ap (begins (head_in old)) (sym (append-nil h.records)) ∙ h.made []
 
     -- or it is refused
     pub refused_at : (accused : Accused) (reason : Reason) (refusal : StepRefusal) → reason ≡ reason_of_step refusal →
@@ -145,6 +160,34 @@ module _ (top : JudgeTop) where
           ap (top.end.judged (head_in new)) goes.1
           ∙ subst (λ (e : EndingAlone WireLayers). EndsSo top e (top.end.judged (head_in new) ((h.records ++ r ∷ []) ++ goes.0)))
           (behind goes.0 (Refuses (accused_view accused) refusal) is) (ends (head_in new) ((h.records ++ r ∷ []) ++ goes.0));
+    }
+
+    pub stopped_at : (tells : List MadeRecord → Type 0) (entry : Entry) (end' : LoneEnd) (accused : Accused) (reason : Reason)
+        (refusal : StepRefusal) → record_with entry new.bytes ≡ r → reason ≡ reason_of_step refusal →
+        step_alone top.alone (node_of_end end) r ≡ Refuses (accused_view accused) refusal →
+        ((head : Head) (records : List Record) → EndsAlike top head records) → tells (told_alone h.records) → IfLeft top.leaves (end' ≡ end) →
+        IsEndStopped top text tells (record { verdict = Refused number accused reason; capture = new; end = end'; ahead = Waits entry })
+    stopped_at tells entry end' accused reason refusal is_entry named is ends told left = record {
+      answer = refused_at accused reason refusal named is ends;
+      read = so_far new.form new.own new.peer (h.records ++ r ∷ []) (ToCome after);
+      from = read_on;
+      made = h.records;
+      all = ap (λ (next : Record). h.records ++ next ∷ []) (sym is_entry);
+      told = told;
+      stands = left_so top.leaves (λ (same : end' ≡ end).
+          let counts = ap (λ (e : LoneEnd). e.counts) same ∙ h.counts in
+          record {
+            passes = passes_before ∙ ap (λ (e : LoneEnd). Passed (node_of_end e)) (sym same);
+            counts = counts;
+            stops = record {
+              place_is = sym h.count ∙ sym (ap (λ (s : SideSummary). s.records) counts);
+              next = r;
+              ahead = record { entry = entry; ahead_is = refl; is = is_entry };
+              refusal = refusal;
+              is_reason = named;
+              refused = subst (λ (e : LoneEnd). step_alone top.alone (node_of_end e) r ≡ Refuses (accused_view accused) refusal) (sym same) is;
+            };
+          }) left;
     }
 
   -- ---- all that was read was made
@@ -164,6 +207,23 @@ module _ (top : JudgeTop) where
       node = passes_so.0;
       passes = passes_so.1;
       counts = is ∙ ap₂ (λ (counts : SideSummary) (links : ℕ). record counts { links = links }) h.counts (sym passes_so.2);
+    }
+
+    pub stopped_ended : (laws : GrowingLaws) (tells : List MadeRecord → Type 0) (new : CaptureState) (summary : SideSummary) → IsAtEnd come →
+        summary ≡ summary_of_end top end → tells (told_alone h.records) →
+        IsEndStopped top text tells (record { verdict = verdicts.Passed summary; capture = new; end = end; ahead = Ended })
+    stopped_ended laws tells new summary at_end is told = record {
+      answer = passed laws summary at_end is;
+      read = so_far capture.form capture.own capture.peer h.records TheEnd;
+      from = laws.ended text come capture.form capture.own capture.peer h.records h.read at_end;
+      made = h.records;
+      all = sym (append-nil h.records);
+      told = told;
+      stands = left_any top.leaves (record {
+        passes = ap (begins (head_in capture)) (sym (append-nil h.records)) ∙ h.made [];
+        counts = h.counts;
+        stops = refl;
+      });
     }
 
     pub fault_at : (fault : CaptureFault) → FaultShows (RecordDeparts capture.form capture.records) (capture.records + 2) come fault →

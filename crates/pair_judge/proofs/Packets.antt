@@ -14,10 +14,10 @@ never e = absurd (cc)
 bit_4 : (rtflg : ℕ) → bit_and (rtflg / 16) 1 ≡ rtflg / 16 % 2
 bit_4 rtflg = and_mask (rtflg / 16) 1
 
-returned : (rtflg : ℕ) → IsBitSet rtflg 4 → is_returned rtflg ≡ true
+pub returned : (rtflg : ℕ) → IsBitSet rtflg 4 → is_returned rtflg ≡ true
 returned rtflg set = eq-eqb (rtflg / 16 % 2) 1 (sym (bit_4 rtflg) ∙ (bit_set_by_shift rtflg 4).1 set)
 
-not_returned : (rtflg : ℕ) → (IsBitSet rtflg 4 → ⊥) → is_returned rtflg ≡ false
+pub not_returned : (rtflg : ℕ) → (IsBitSet rtflg 4 → ⊥) → is_returned rtflg ≡ false
 not_returned rtflg clear = by_test (is_returned rtflg) refl
   where
     by_test : (b : Bool) → is_returned rtflg ≡ b → is_returned rtflg ≡ false

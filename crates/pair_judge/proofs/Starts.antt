@@ -19,19 +19,23 @@ use Rattle.pair_judge.specs.Heads.{head_of}
 use Rattle.capture.specs.declared.record.Record.{Record}
 use Rattle.pair_judge.specs.declared.course.Course.{Course}
 use Rattle.pair_judge.specs.declared.line.Line.{Line}
+use Rattle.pair_judge.specs.Order.{MadeRecord}
+use Rattle.pair_judge.proofs.Orders.{nothing_made}
 use Rattle.pair_judge.specs.inner.Course.{MayRead, Track, along, behind, having_made, read_of, waiting}
 use Rattle.pair_judge.specs.inner.Lines.{held, Shows}
 use Rattle.pair_judge.specs.inner.Making.{StandsFor}
 use Rattle.pair_judge.specs.inner.Reached.{IsFound, IsUnderWay}
 use Rattle.pair_judge.specs.inner.Opened.{OpensAt}
-use Rattle.pair_judge.specs.inner.Wire.{JudgeTop}
+use Rattle.pair_judge.specs.inner.Wire.{JudgeTop, judge_pair}
 
 module _ (top : JudgeTop) where
   -- as many records are made as turns were taken
-  pub record HasTaken (a b : Track) (turns : ℕ) : Type 0 where
+  pub record HasTaken (tells : List MadeRecord → Type 0) (a b : Track) (turns : ℕ) : Type 0 where
     pub made_a : List Record
     pub made_b : List Record
-    pub under_way : IsUnderWay top (having_made a made_a) (having_made b made_b)
+    pub order : List MadeRecord
+    pub told : tells order
+    pub under_way : IsUnderWay top order (having_made a made_a) (having_made b made_b)
     pub count : length made_a + length made_b ≡ turns
     pub may_read_a : MayRead a.course
     pub may_read_b : MayRead b.course
@@ -54,18 +58,23 @@ module _ (top : JudgeTop) where
   no_load : (course : Course) → course.end.layers ≡ (new_wire_layers_node course.end.head).station → load course.end.layers.station ≤ 0
   no_load course is = subst (λ (l : WireLayers). load l.station ≤ 0) (sym is) (omega arith)
 
-  pub started : (text_a text_b : Option (List ℕ)) (a b : Course) (come_a come_b : Option (List ℕ)) → OpensAt text_a a come_a →
-      OpensAt text_b b come_b →
-      HasTaken (along text_a a come_a []) (along text_b b come_b []) 0
-  started text_a text_b a b come_a come_b o p = record {
+  pub started : (tells : List MadeRecord → Type 0) → tells [] → (text_a text_b : Option (List ℕ)) (a b : Course) (come_a come_b : Option (List ℕ)) →
+      OpensAt text_a a come_a → OpensAt text_b b come_b →
+      HasTaken tells (along text_a a come_a []) (along text_b b come_b []) 0
+  started tells told text_a text_b a b come_a come_b o p = record {
     made_a = [];
     made_b = [];
+    order = [];
+    told = told;
     under_way = record {
       read_a = o.read;
       read_b = p.read;
       reached = record {
         world = wire_layers_start a.end.head b.end.head;
         run = Done;
+        in_order = nothing_made (judge_pair top) (wire_layers_start a.end.head b.end.head);
+        of_a = refl;
+        of_b = refl;
         stands_a = stands text_a text_b a b come_a come_b o p;
         stands_b = stands text_b text_a b a come_b come_a p o;
         counts_a = o.counts;

@@ -2,6 +2,7 @@
 pub mod Wire
 pub mod Tops
 pub mod Packets
+pub mod Lent
 pub mod Unit
 pub mod Held
 pub mod Runs
@@ -17,3 +18,4 @@ pub mod Ends
 pub mod Answer
 pub mod LoneEnd
 pub mod Stopped
+pub mod EndStopped

@@ -48,8 +48,8 @@ pub struct Course {
 /// What became of a side's next record.
 #[derive(Clone, Copy, Debug, PartialEq, Eq)]
 pub enum Advance {
-    /// It was made.
-    Made,
+    /// It was made: that of this entry and the bytes that the reader keeps.
+    Made(Entry),
     /// It waits for its unit.
     Blocked,
     /// There is none.
@@ -162,7 +162,7 @@ impl Course {
     {
         let alloc = self.capture.alloc();
         match make::<T>(alloc, &mut self.end, incoming, entry, self.capture.bytes()) {
-            Ok(Made::Done) => Ok(Advance::Made),
+            Ok(Made::Done) => Ok(Advance::Made(entry)),
             Ok(Made::Waits) => {
                 self.ahead = Ahead::Waits(entry);
                 Ok(Advance::Blocked)

@@ -6,6 +6,9 @@ ghost use Rattle.nsp_link.specs.View as link;
 ghost use Rattle.pair_judge.specs.Finding.{of_side};
 ghost use Rattle.pair_judge.specs.inner.Ends.{shown_end};
 
+mod failing;
+
+use crate::line::Line;
 use crate::side_end::SideEnd;
 use crate::stopped::Stopped;
 use crate::verdict::Verdict;
@@ -23,6 +26,8 @@ pub struct JudgedEnds {
     verdict: Verdict,
     a: SideEnd,
     b: SideEnd,
+    line_a: Line,
+    line_b: Line,
 }
 
 impl Model for JudgedEnds {
@@ -43,10 +48,14 @@ pub fn ends_with(verdict: Verdict, stopped: Stopped) -> JudgedEnds
 {
     let front_a = stopped.b.end.line.gone;
     let front_b = stopped.a.end.line.gone;
+    let (a, line_a) = SideEnd::of(stopped.a, front_a);
+    let (b, line_b) = SideEnd::of(stopped.b, front_b);
     JudgedEnds {
         verdict,
-        a: SideEnd::of(stopped.a, front_a),
-        b: SideEnd::of(stopped.b, front_b),
+        a,
+        b,
+        line_a,
+        line_b,
     }
 }
 

@@ -1,6 +1,6 @@
 //! The judge: both texts in turns, in one pass.
 
-ghost use Rattle.std.specs.Prelude.{◌≡◌, IfOk, IfErr, List, Option, ℕ, false};
+ghost use Rattle.std.specs.Prelude.{◌≡◌, IfOk, IfErr, List, [], Option, ℕ, false};
 ghost use Rattle.wire_base.specs.Side.{other_side};
 ghost use Rattle.wire_base.specs.Tally.{tally_faults, tally_lent};
 ghost use Rattle.wire_base.specs.declared.side.Side.{Side};
@@ -21,6 +21,7 @@ use crate::end::End;
 use crate::fault::JudgeFault;
 use crate::layers::Layers;
 use crate::line::Line;
+use crate::observer::{Nobody, Observer, Way};
 use crate::reason::Reason;
 use crate::stopped::Stopped;
 use crate::summary::{SideSummary, Summary};
@@ -33,7 +34,7 @@ use dna_station::{Head, captures_deliver_in_order};
 use std::alloc::Global;
 use std::io::Read;
 use wire_base::{Side, Tally};
-pub use with_ends::judge_with_ends;
+pub use with_ends::{Watched, judge_watched, judge_with_ends};
 
 // Each turn makes one record of a side or ends.
 const MOST_TURNS: u64 = 2 * MAX_RECORDS + 1;
@@ -149,7 +150,7 @@ fn find<T: Top, R: Read, S: Read>(
     ensures reads_a { CountsReads (is_failed_read_of Side.A result) (tally_faults a.old) (tally_faults a.new) }
     ensures reads_b { CountsReads (is_failed_read_of Side.B result) (tally_faults b.old) (tally_faults b.new) }
 {
-    let stopped = match stop::<T, R, S>(alloc, a, b) {
+    let (stopped, _) = match stop::<T, Nobody, R, S>(alloc, a, b, Nobody) {
         Ok(stopped) => stopped,
         Err(fault) => return Err(fault),
     };
@@ -163,13 +164,16 @@ fn find<T: Top, R: Read, S: Read>(
     })
 }
 
-// Finds the same, and keeps both sides as they are then.
-fn stop<T: Top, R: Read, S: Read>(
+// Finds the same while this one looks on, and keeps both sides as they are then.
+fn stop<T: Top, O: Observer, R: Read, S: Read>(
     alloc: Global,
     a: &mut Tally<R>,
     b: &mut Tally<S>,
-) -> Result<Stopped, JudgeFault>
-    ensures stopped { IfOk result (IsStoppedIn T.top (R.remaining (tally_lent a.old)) (S.remaining (tally_lent b.old))) }
+    observer: O,
+) -> Result<(Stopped, O), JudgeFault>
+    requires { O.told observer [] }
+    ensures stopped { IfOk result (λ stop. IsStoppedIn T.top (R.remaining (tally_lent a.old)) (S.remaining (tally_lent b.old))
+        (O.told stop.1) stop.0) }
     ensures fault { IfErr result (IsJudgeFault T.top.kind (R.remaining (tally_lent a.old)) (S.remaining (tally_lent b.old))) }
     ensures reads_a { CountsReads (is_failed_read_of Side.A result) (tally_faults a.old) (tally_faults a.new) }
     ensures reads_b { CountsReads (is_failed_read_of Side.B result) (tally_faults b.old) (tally_faults b.new) }
@@ -182,18 +186,22 @@ fn stop<T: Top, R: Read, S: Read>(
         Ok(course) => course,
         Err(fault) => return Err(fault),
     };
-    let mut ending = Ok(Finding::Accepted);
+    let mut way = Way {
+        observer,
+        ending: Ok(Finding::Accepted),
+    };
     for _ in 0..MOST_TURNS {
-        if turn::<T, R, S>(&mut course_a, &mut course_b, a, b, &mut ending) {
+        if turn::<T, O, R, S>(&mut course_a, &mut course_b, a, b, &mut way) {
             continue;
         }
-        match ending {
+        match way.ending {
             Ok(finding) => {
-                return Ok(Stopped {
+                let stopped = Stopped {
                     finding,
                     a: course_a,
                     b: course_b,
-                });
+                };
+                return Ok((stopped, way.observer));
             }
             Err(fault) => return Err(fault),
         }

@@ -1,22 +1,29 @@
 //! The judge of one end: one capture in one pass, without the other.
 
-ghost use Rattle.std.specs.Prelude.{◌≡◌, ◌≢◌, IfErr};
+ghost use Rattle.std.specs.Prelude.{◌≡◌, ◌≢◌, [], Err, IfOk, IfErr};
 ghost use Rattle.wire_base.specs.Tally.{tally_faults, tally_lent};
 ghost use Rattle.capture.specs.declared.fault.CaptureFault.TheVariants as CaptureFault;
 ghost use Rattle.capture.specs.Faulty.{CountsReads, is_failed_read};
 ghost use Rattle.pair_judge.specs.EndJudged.{IsEndAnswer, IsJudgedAlone};
 ghost use Rattle.pair_judge.specs.EndKind.{layers_alone, station_alone};
+ghost use Rattle.pair_judge.specs.EndShown.{StandsAlone};
+ghost use Rattle.pair_judge.specs.Watched.{only};
+ghost use Rattle.pair_judge.specs.inner.EndStopped.{IsEndStopped};
 
+use crate::course::Ahead;
 use crate::end_verdict::EndVerdict;
 use crate::lone_end::{LoneEnd, MadeAlone};
+use crate::observer::{Nobody, Observer};
 use crate::reason::Reason;
-use crate::top::{LinksOnTop, NothingOnTop, Top};
+use crate::side_end::SideEnd;
+use crate::stopped_end::StoppedEnd;
+use crate::top::{LinksOnTop, LinksOnTopLeft, NothingOnTop, Top};
 use capture::{CaptureFault, CaptureReader, MAX_RECORDS, text_read_on, whole_text};
 use dna_node::Cause;
 use dna_station::Head;
-use std::alloc::Global;
+use std::alloc::{AllocError, Global};
 use std::io::Read;
-use wire_base::Tally;
+use wire_base::{Side, Tally};
 
 /// Decides of the text that a reader gives up to its end whether it is a capture whose records a node of a pair can make, whatever the capture
 /// of the other end may be: what came is taken as what the other end sent, and of hints it is only asked that they rise.
@@ -53,9 +60,70 @@ pub fn judge_line_end<R: Read>(alloc: Global, a: &mut Tally<R>) -> Result<EndVer
     find_end::<NothingOnTop, R>(alloc, a)
 }
 
+/// The verdict on one end alone, with the end as it is there, and who was told of its records.
+#[derive(Drop)]
+pub struct WatchedEnd<O: Observer> {
+    pub verdict: EndVerdict,
+    pub end: SideEnd,
+    pub observer: O,
+}
+
+/// Decides the same as `judge_end`, of whose answer all that is said there holds of this verdict, while an observer is told of each record that is
+/// made, as one of side a; and gives the end as it is then.
+///
+/// Where the verdict is `Refused`, the records before the named one lead the node of this end to a state in which it refuses the named one for this
+/// reason, and the end shows this state; the named record is the one ahead. Where it is `Passed`, none is ahead, and the end shows the state after
+/// all records.
+///
+/// The faults are those of `judge_end`; `OutOfMemory` is answered also where the observer wants memory. At a fault the observer is dropped. It
+/// was told of nothing before.
+pub fn judge_end_watched<O: Observer, R: Read>(
+    alloc: Global,
+    a: &mut Tally<R>,
+    observer: O,
+) -> Result<WatchedEnd<O>, CaptureFault>
+    requires { O.told observer [] }
+    ensures judged { IsJudgedAlone layers_alone (R.remaining (tally_lent a.old)) (only result (λ watched. watched.verdict)) }
+    ensures stands { IfOk result (λ watched.
+        StandsAlone (R.remaining (tally_lent a.old)) watched.end watched.verdict (O.told watched.observer)) }
+    ensures first { IfErr result (λ fault. fault ≢ CaptureFault.Failed) }
+    ensures reads { CountsReads (is_failed_read result) (tally_faults a.old) (tally_faults a.new) }
+{
+    whole_text();
+    match stop_end::<LinksOnTopLeft, O, R>(alloc, a, observer) {
+        Ok((stopped, observer)) => {
+            let verdict = stopped.verdict;
+            let end = SideEnd::alone(stopped.capture, stopped.end, stopped.ahead);
+            Ok(WatchedEnd {
+                verdict,
+                end,
+                observer,
+            })
+        }
+        Err(fault) => Err(fault),
+    }
+}
+
 // The same over either top, of whatever the reader tells.
 fn find_end<T: Top, R: Read>(alloc: Global, a: &mut Tally<R>) -> Result<EndVerdict, CaptureFault>
     ensures answer { IsEndAnswer T.top.end (R.remaining (tally_lent a.old)) result }
+    ensures reads { CountsReads (is_failed_read result) (tally_faults a.old) (tally_faults a.new) }
+{
+    match stop_end::<T, Nobody, R>(alloc, a, Nobody) {
+        Ok((stopped, _)) => Ok(stopped.verdict),
+        Err(fault) => Err(fault),
+    }
+}
+
+// Finds the same while this observer is told of the records, and keeps the end as it is then.
+fn stop_end<T: Top, O: Observer, R: Read>(
+    alloc: Global,
+    a: &mut Tally<R>,
+    mut observer: O,
+) -> Result<(StoppedEnd, O), CaptureFault>
+    requires { O.told observer [] }
+    ensures stopped { IfOk result (λ stop. IsEndStopped T.top (R.remaining (tally_lent a.old)) (O.told stop.1) stop.0) }
+    ensures fault { IfErr result (λ fault. IsEndAnswer T.top.end (R.remaining (tally_lent a.old)) (Err fault)) }
     ensures reads { CountsReads (is_failed_read result) (tally_faults a.old) (tally_faults a.new) }
 {
     text_read_on();
@@ -74,17 +142,42 @@ fn find_end<T: Top, R: Read>(alloc: Global, a: &mut Tally<R>) -> Result<EndVerdi
     for number in 0..MAX_RECORDS + 1 {
         match capture.advance(a) {
             Ok(Some(entry)) => match end.make::<T>(entry, capture.bytes()) {
-                Ok(MadeAlone::Done) => {}
+                Ok(MadeAlone::Done) => match observer.made(Side::A, entry, capture.bytes()) {
+                    Ok(()) => {}
+                    Err(AllocError) => return Err(CaptureFault::OutOfMemory),
+                },
                 Ok(MadeAlone::Fails { accused, refusal }) => {
-                    return Ok(EndVerdict::Refused {
+                    let verdict = EndVerdict::Refused {
                         place: number,
                         accused,
                         reason: Reason::of_cause(Cause::Step(refusal)),
-                    });
+                    };
+                    let ahead = Ahead::Waits(entry);
+                    return Ok((
+                        StoppedEnd {
+                            verdict,
+                            capture,
+                            end,
+                            ahead,
+                        },
+                        observer,
+                    ));
                 }
                 Err(_) => return Err(CaptureFault::OutOfMemory),
             },
-            Ok(None) => return Ok(EndVerdict::Passed(end.summary::<T>())),
+            Ok(None) => {
+                let verdict = EndVerdict::Passed(end.summary::<T>());
+                let ahead = Ahead::Ended;
+                return Ok((
+                    StoppedEnd {
+                        verdict,
+                        capture,
+                        end,
+                        ahead,
+                    },
+                    observer,
+                ));
+            }
             Err(fault) => return Err(fault),
         }
     }

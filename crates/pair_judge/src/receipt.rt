@@ -84,7 +84,7 @@ pub fn receive<T: Top>(
 // What comes with these bytes for this unit: its message, or damage; or nothing that can come of it. The unit's own bytes are
 // known to be sound, and no check of them is computed again.
 #[inline(always)]
-fn coming<'a>(unit: &LineUnit<'_>, bytes: &'a [u8]) -> Option<Arrival<'a>>
+pub fn coming<'a>(unit: &LineUnit<'_>, bytes: &'a [u8]) -> Option<Arrival<'a>>
     ensures coming { option_map (λ arrival. with_link unit.now.known.link (arrival_view arrival)) result ≡ line.coming unit.now bytes.now }
     ensures damage { IfSome result (λ arrival. is_damage (arrival_view arrival) ≡ shows_damage (reading bytes.now)) }
 {

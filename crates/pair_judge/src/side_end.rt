@@ -1,90 +1,123 @@
-//! One end as it is where the verdict is given.
+//! One end as it is where a verdict is given.
 
 ghost use Rattle.std.specs.Prelude.{◌≡◌, None, Some, IfSome, option_map, slice_get};
 ghost use Rattle.capture.specs.Entries.{record_with};
 ghost use Rattle.nsp_link.specs.View as link;
+ghost use Rattle.pair_judge.specs.inner.EndStopped.{shown_lone};
 ghost use Rattle.pair_judge.specs.inner.Ends.{shown_end};
 
+mod failing;
+
 use crate::course::{Ahead, Course};
-use capture::Entry;
+use crate::layers::Layers;
+use crate::line::Line;
+use crate::lone_end::LoneEnd;
+use capture::{CaptureReader, Entry};
 use ddcmp_station::StationView;
 use nsp_link::LinkView;
 use std::marker::Model;
 
-/// One side as the judge leaves it, with the lowest hint that its next receipt may have. A contract sees what is shown of it.
+/// One end as its judge leaves it. A contract sees what is shown of it.
 #[derive(Drop)]
 pub struct SideEnd {
-    course: Course,
+    capture: CaptureReader,
+    ahead: Ahead,
+    layers: Layers,
+    records: u64,
+    sent: u64,
     front: u64,
 }
 
 impl Model for SideEnd {
-    ghost use Rattle.std.specs.Prelude.{◌+◌, length};
     ghost use Rattle.ddcmp_station.specs.View.{view_of};
     ghost use Rattle.pair_judge.specs.Ends.{ShownEnd, record_ahead};
 
     ghost Value = { ShownEnd };
 
     ghost view = { λ e. record {
-      records = e.course.end.counts.records;
-      station = view_of e.course.end.layers.station;
-      links = e.course.end.layers.links;
-      sent = e.course.end.line.gone + length e.course.end.line.units.items;
+      records = e.records;
+      station = view_of e.layers.station;
+      links = e.layers.links;
+      sent = e.sent;
       front = e.front;
-      ahead = record_ahead e.course.capture.bytes e.course.ahead;
+      ahead = record_ahead e.capture.bytes e.ahead;
     } };
 }
 
 impl SideEnd {
-    /// This side, whose next receipt may have this hint at the lowest.
-    pub fn of(course: Course, front: u64) -> Self
-        ensures { result ≡ shown_end course front }
+    /// This side, whose next receipt may have this hint at the lowest, and apart from it the line on which its units lie.
+    pub(crate) fn of(course: Course, front: u64) -> (Self, Line)
+        ensures { result.0 ≡ shown_end course front }
     {
-        SideEnd { course, front }
+        let sent = course.end.line.sent();
+        let records = course.end.counts.records;
+        let end = SideEnd {
+            capture: course.capture,
+            ahead: course.ahead,
+            layers: course.end.layers,
+            records,
+            sent,
+            front,
+        };
+        (end, course.end.line)
+    }
+
+    /// This end alone, with what is ahead of it.
+    pub(crate) fn alone(capture: CaptureReader, end: LoneEnd, ahead: Ahead) -> Self
+        ensures { result ≡ shown_lone capture end ahead }
+    {
+        SideEnd {
+            capture,
+            ahead,
+            layers: end.layers,
+            records: end.counts.records,
+            sent: end.counts.sent,
+            front: end.front,
+        }
     }
 
     /// How many of its records were made.
     pub fn records(&self) -> u64
         ensures { result ≡ self.now.records }
     {
-        self.course.end.counts.records
+        self.records
     }
 
-    /// The variables of its station.
+    /// The variables of its station (DDCMP 4.1, station variables).
     pub fn station(&self) -> StationView
         ensures { result ≡ self.now.station }
     {
-        self.course.end.layers.station_view()
+        self.layers.station_view()
     }
 
-    /// The link with this number, if there is one.
+    /// Its link with this number, counted from 0 in the order in which they began (NSP 4.0, ports); `None` where there is none.
     pub fn link(&self, number: usize) -> Option<LinkView>
         ensures { result ≡ option_map link.view_of (slice_get self.now.links.links number) }
     {
-        self.course.end.layers.link_view(number)
+        self.layers.link_view(number)
     }
 
-    /// How many units it sent.
+    /// How many units it sent: its next one has this number.
     pub fn sent(&self) -> u64
         ensures { result ≡ self.now.sent }
     {
-        self.course.end.line.sent()
+        self.sent
     }
 
-    /// The lowest hint that its next receipt may have.
+    /// The lowest hint that its next receipt may have: one above the last one, and 0 before any.
     pub fn front(&self) -> u64
         ensures { result ≡ self.now.front }
     {
         self.front
     }
 
-    /// The record that was read and not made, if one was.
+    /// The record that was read and not made, as its entry and the bytes beside it; `None` where there is none.
     pub fn ahead(&self) -> Option<(Entry, &[u8])>
         ensures some { IfSome result (λ ahead. self.now.ahead ≡ Some (record_with ahead.0 ahead.1.now)) }
         ensures none { result ≡ None → self.now.ahead ≡ None }
     {
-        match self.course.ahead {
-            Ahead::Waits(entry) => Some((entry, self.course.capture.bytes())),
+        match self.ahead {
+            Ahead::Waits(entry) => Some((entry, self.capture.bytes())),
             Ahead::Unread | Ahead::Ended => None,
         }
     }

@@ -1,6 +1,6 @@
 //! What stands on top of the stations that the judge runs: their links, or nothing.
 
-ghost use Rattle.std.specs.Prelude.{◌≡◌, ◌+◌, ◌^◌, ◌<◌, ◌≤◌, Ok, Err, List, None, Some, OnOk, OnErr, IfOk, IfErr};
+ghost use Rattle.std.specs.Prelude.{◌≡◌, ◌+◌, ◌^◌, ◌<◌, ◌≤◌, Ok, Err, List, None, Some, IsOk, OnOk, OnErr, IfOk, IfErr};
 ghost use Rattle.two_nodes.specs.Nodes.{Run};
 ghost use Rattle.ddcmp_msg.specs.Message.{MessageValue, view};
 ghost use Rattle.ddcmp_msg.specs.Reading.{ReadingValue};
@@ -88,7 +88,14 @@ pub trait Top {
             ≡ Ok layers.new) }
         ensures refused { IfErr result (IfRefused (λ refusal.
             top.alone.machine.arrives layers.old (with_link (Some of_no_link) (arrival_view arrival.entry)) kept ≡ Err refusal)) }
+        ensures still { IfErr result (IfRefused (λ refusal. IfLeft top.leaves (layers.new ≡ layers.old))) }
         ensures load { load layers.new.station ≤ load layers.old.station + 1 };
+
+    /// What `arrived_unknown` would refuse of this, asked without any change. Takes no memory.
+    fn may_arrive_unknown(layers: &Layers, arrival: Arrival, kept: bool) -> Result<(), StepRefusal>
+        ensures ok { OnOk result (IsOk (top.alone.machine.arrives layers.now (with_link (Some of_no_link) (arrival_view arrival.entry)) kept)) }
+        ensures refused { IfErr result (λ refusal.
+            top.alone.machine.arrives layers.now (with_link (Some of_no_link) (arrival_view arrival.entry)) kept ≡ Err refusal) };
 
     /// Why no right other end sends this message now, whether its packet is taken or not. Takes no memory.
     fn wrong_unit(layers: &Layers, message: &Message) -> Option<StepRefusal>
@@ -151,6 +158,14 @@ impl Top for LinksOnTop {
         layers.arrived_unknown(arrival, kept)
     }
 
+    fn may_arrive_unknown(
+        layers: &Layers,
+        arrival: Arrival,
+        kept: bool,
+    ) -> Result<(), StepRefusal> {
+        layers.may_arrive_unknown(arrival, kept)
+    }
+
     fn wrong_unit(layers: &Layers, message: &Message) -> Option<StepRefusal> {
         layers.wrong_unit(message)
     }
@@ -203,7 +218,15 @@ impl Top for LinksOnTopLeft {
     }
 
     fn arrived_unknown(layers: &mut Layers, arrival: Arrival, kept: bool) -> Result<(), StepFault> {
-        layers.arrived_unknown(arrival, kept)
+        layers.arrived_unknown_or_left(arrival, kept)
+    }
+
+    fn may_arrive_unknown(
+        layers: &Layers,
+        arrival: Arrival,
+        kept: bool,
+    ) -> Result<(), StepRefusal> {
+        layers.may_arrive_unknown(arrival, kept)
     }
 
     fn wrong_unit(layers: &Layers, message: &Message) -> Option<StepRefusal> {
@@ -258,6 +281,14 @@ impl Top for NothingOnTop {
 
     fn arrived_unknown(layers: &mut Layers, arrival: Arrival, kept: bool) -> Result<(), StepFault> {
         layers.arrived_unknown_alone(arrival, kept)
+    }
+
+    fn may_arrive_unknown(
+        layers: &Layers,
+        arrival: Arrival,
+        kept: bool,
+    ) -> Result<(), StepRefusal> {
+        layers.may_arrive_unknown_alone(arrival, kept)
     }
 
     fn wrong_unit(layers: &Layers, message: &Message) -> Option<StepRefusal> {

@@ -9,63 +9,77 @@ ghost use Rattle.capture.specs.Faulty.{CountsReads};
 ghost use Rattle.capture.specs.Lines.{to_come};
 ghost use Rattle.pair_judge.specs.inner.Course.{MayRead, along};
 ghost use Rattle.pair_judge.specs.Faulty.{IsJudgeFault, is_failed_read_of, side_fault_of};
+ghost use Rattle.pair_judge.specs.Order.{MadeRecord, TellsNext};
 ghost use Rattle.pair_judge.specs.Summary.{HasRoom};
-ghost use Rattle.pair_judge.specs.inner.Reached.{IsStopped, IsUnderWay, TurnIs, turned};
+ghost use Rattle.pair_judge.specs.inner.Reached.{IfEnds, IsStopped, IsUnderWay, TurnIs, turned};
 
 use crate::captures::endings;
 use crate::course::{Advance, Course};
 use crate::fault::{JudgeFault, TextFault};
 use crate::judged_nodes::JudgedNodes;
+use crate::observer::{Observer, Way};
 use crate::top::Top;
 use capture::CaptureFault;
 use dna_node::{Cause, Finding};
+use std::alloc::AllocError;
 use std::io::Read;
 use two_nodes::reading_on;
 use wire_base::{Side, Tally};
 
-/// Makes one record, or finds that the judge is at its end: `true` where it is not yet. What it ends with is written to `ending`, and only
+/// Makes one record, or finds that the judge is at its end: `true` where it is not yet. What it ends with is written to `way`, and only
 /// then, so that on the way of a record that is made no answer goes through memory.
 ///
-/// `Capture`: the next record of that side can't be read. `OutOfMemory`: there is no room for what the record sends, keeps or hands in.
-pub fn turn<T: Top, R: Read, S: Read>(
+/// `Capture`: the next record of that side can't be read. `OutOfMemory`: there is no room for what the record sends, keeps or hands in,
+/// or for what the observer keeps of it.
+pub fn turn<T: Top, O: Observer, R: Read, S: Read>(
     a: &mut Course,
     b: &mut Course,
     reader_a: &mut Tally<R>,
     reader_b: &mut Tally<S>,
-    ending: &mut Result<Finding, JudgeFault>,
+    way: &mut Way<O>,
 ) -> bool
     requires may_read_a { MayRead a.old }
     requires may_read_b { MayRead b.old }
     requires room_a { HasRoom a.old.end }
     requires room_b { HasRoom b.old.end }
-    ensures turn { IfOk (turned result ending.new) (λ turn. (text_a text_b : Option (List ℕ)) (made_a made_b : List Record) →
-        IsUnderWay T.top (along text_a a.old (to_come a.old.capture.unread (R.remaining (tally_lent reader_a.old))) made_a)
+    ensures turn { IfOk (turned result way.new.ending) (λ turn.
+        (order : List MadeRecord) (text_a text_b : Option (List ℕ)) (made_a made_b : List Record) →
+        IsUnderWay T.top order (along text_a a.old (to_come a.old.capture.unread (R.remaining (tally_lent reader_a.old))) made_a)
         (along text_b b.old (to_come b.old.capture.unread (S.remaining (tally_lent reader_b.old))) made_b) →
-        TurnIs T.top turn (along text_a a.new (to_come a.new.capture.unread (R.remaining (tally_lent reader_a.new))) made_a)
+        TurnIs T.top order (TellsNext O.told way.old.observer way.new.observer) turn
+        (along text_a a.new (to_come a.new.capture.unread (R.remaining (tally_lent reader_a.new))) made_a)
         (along text_b b.new (to_come b.new.capture.unread (S.remaining (tally_lent reader_b.new))) made_b)) }
-    ensures may_read { IfOk (turned result ending.new) (λ _. MayRead a.new × MayRead b.new) }
-    ensures fault { IfErr (turned result ending.new) (λ fault. (text_a text_b : Option (List ℕ)) (made_a made_b : List Record) →
-        IsUnderWay T.top (along text_a a.old (to_come a.old.capture.unread (R.remaining (tally_lent reader_a.old))) made_a)
+    ensures same_observer { IfOk (turned result way.new.ending) (λ turn. IfEnds turn (way.new.observer ≡ way.old.observer)) }
+    ensures may_read { IfOk (turned result way.new.ending) (λ _. MayRead a.new × MayRead b.new) }
+    ensures fault { IfErr (turned result way.new.ending) (λ fault.
+        (order : List MadeRecord) (text_a text_b : Option (List ℕ)) (made_a made_b : List Record) →
+        IsUnderWay T.top order (along text_a a.old (to_come a.old.capture.unread (R.remaining (tally_lent reader_a.old))) made_a)
         (along text_b b.old (to_come b.old.capture.unread (S.remaining (tally_lent reader_b.old))) made_b) →
         IsJudgeFault T.top.kind text_a text_b fault) }
-    ensures reads_a { CountsReads (is_failed_read_of Side.A (turned result ending.new)) (tally_faults reader_a.old) (tally_faults reader_a.new) }
-    ensures reads_b { CountsReads (is_failed_read_of Side.B (turned result ending.new)) (tally_faults reader_b.old) (tally_faults reader_b.new) }
+    ensures reads_a { CountsReads (is_failed_read_of Side.A (turned result way.new.ending)) (tally_faults reader_a.old) (tally_faults reader_a.new) }
+    ensures reads_b { CountsReads (is_failed_read_of Side.B (turned result way.new.ending)) (tally_faults reader_b.old) (tally_faults reader_b.new) }
 {
     endings::<T>();
     reading_on::<JudgedNodes<T>>();
     if a.is_held_up::<T>(&b.end.line) {
-        return turn_of_b::<T, S>(a, true, b, reader_b, ending);
+        return turn_of_b::<T, O, S>(a, true, b, reader_b, way);
     }
     match a.advance::<T, R>(&mut b.end.line, reader_a) {
-        Ok(Advance::Made) => true,
+        Ok(Advance::Made(entry)) => match way.observer.made(Side::A, entry, a.capture.bytes()) {
+            Ok(()) => true,
+            Err(AllocError) => {
+                way.ending = Err(JudgeFault::OutOfMemory);
+                false
+            }
+        },
         Ok(Advance::Fails(refusal)) => {
-            *ending = Ok(refused(Side::A, a, Cause::Step(refusal)));
+            way.ending = Ok(refused(Side::A, a, Cause::Step(refusal)));
             false
         }
-        Ok(Advance::Blocked) => turn_of_b::<T, S>(a, true, b, reader_b, ending),
-        Ok(Advance::Ended) => turn_of_b::<T, S>(a, false, b, reader_b, ending),
+        Ok(Advance::Blocked) => turn_of_b::<T, O, S>(a, true, b, reader_b, way),
+        Ok(Advance::Ended) => turn_of_b::<T, O, S>(a, false, b, reader_b, way),
         Err(fault) => {
-            *ending = Err(side_fault(Side::A, fault));
+            way.ending = Err(side_fault(Side::A, fault));
             false
         }
     }
@@ -73,56 +87,65 @@ pub fn turn<T: Top, R: Read, S: Read>(
 
 // Side b's turn, where side a waits or else has ended. If b can't go on either, the judge is at its end: nobody can go on, or
 // one side waits for a unit that the other, which has ended, never sends; or, where both have ended, the captures are a run.
-fn turn_of_b<T: Top, S: Read>(
+fn turn_of_b<T: Top, O: Observer, S: Read>(
     a: &mut Course,
     a_waits: bool,
     b: &mut Course,
     reader_b: &mut Tally<S>,
-    ending: &mut Result<Finding, JudgeFault>,
+    way: &mut Way<O>,
 ) -> bool
     requires may_read { MayRead b.old }
     requires room { HasRoom b.old.end }
-    ensures turn { IfOk (turned result ending.new) (λ turn. (text_a text_b come_a : Option (List ℕ)) (made_a made_b : List Record) →
-        IsUnderWay T.top (along text_a a.old come_a made_a)
+    ensures turn { IfOk (turned result way.new.ending) (λ turn.
+        (order : List MadeRecord) (text_a text_b come_a : Option (List ℕ)) (made_a made_b : List Record) →
+        IsUnderWay T.top order (along text_a a.old come_a made_a)
         (along text_b b.old (to_come b.old.capture.unread (S.remaining (tally_lent reader_b.old))) made_b) →
         IsStopped T.top a_waits a.old b.old.end.line →
-        TurnIs T.top turn (along text_a a.new come_a made_a)
+        TurnIs T.top order (TellsNext O.told way.old.observer way.new.observer) turn (along text_a a.new come_a made_a)
         (along text_b b.new (to_come b.new.capture.unread (S.remaining (tally_lent reader_b.new))) made_b)) }
     ensures same { (a.new.capture ≡ a.old.capture) × (a.new.ahead ≡ a.old.ahead) }
-    ensures may_read { IfOk (turned result ending.new) (λ _. MayRead b.new) }
-    ensures fault { IfErr (turned result ending.new) (λ fault. (text_a text_b come_a : Option (List ℕ)) (made_a made_b : List Record) →
-        IsUnderWay T.top (along text_a a.old come_a made_a)
+    ensures same_observer { IfOk (turned result way.new.ending) (λ turn. IfEnds turn (way.new.observer ≡ way.old.observer)) }
+    ensures may_read { IfOk (turned result way.new.ending) (λ _. MayRead b.new) }
+    ensures fault { IfErr (turned result way.new.ending) (λ fault.
+        (order : List MadeRecord) (text_a text_b come_a : Option (List ℕ)) (made_a made_b : List Record) →
+        IsUnderWay T.top order (along text_a a.old come_a made_a)
         (along text_b b.old (to_come b.old.capture.unread (S.remaining (tally_lent reader_b.old))) made_b) →
         IsJudgeFault T.top.kind text_a text_b fault) }
-    ensures reads { CountsReads (is_failed_read_of Side.B (turned result ending.new)) (tally_faults reader_b.old) (tally_faults reader_b.new) }
-    ensures other { is_failed_read_of Side.A (turned result ending.new) ≡ false }
+    ensures reads { CountsReads (is_failed_read_of Side.B (turned result way.new.ending)) (tally_faults reader_b.old) (tally_faults reader_b.new) }
+    ensures other { is_failed_read_of Side.A (turned result way.new.ending) ≡ false }
 {
     endings::<T>();
     reading_on::<JudgedNodes<T>>();
     match b.advance::<T, S>(&mut a.end.line, reader_b) {
-        Ok(Advance::Made) => true,
+        Ok(Advance::Made(entry)) => match way.observer.made(Side::B, entry, b.capture.bytes()) {
+            Ok(()) => true,
+            Err(AllocError) => {
+                way.ending = Err(JudgeFault::OutOfMemory);
+                false
+            }
+        },
         Ok(Advance::Fails(refusal)) => {
-            *ending = Ok(refused(Side::B, b, Cause::Step(refusal)));
+            way.ending = Ok(refused(Side::B, b, Cause::Step(refusal)));
             false
         }
         Ok(Advance::Blocked) if a_waits => {
-            *ending = Ok(refused(Side::A, a, Cause::NoOrder));
+            way.ending = Ok(refused(Side::A, a, Cause::NoOrder));
             false
         }
         Ok(Advance::Blocked) => {
-            *ending = Ok(refused(Side::B, b, Cause::NoSuchUnit));
+            way.ending = Ok(refused(Side::B, b, Cause::NoSuchUnit));
             false
         }
         Ok(Advance::Ended) if a_waits => {
-            *ending = Ok(refused(Side::A, a, Cause::NoSuchUnit));
+            way.ending = Ok(refused(Side::A, a, Cause::NoSuchUnit));
             false
         }
         Ok(Advance::Ended) => {
-            *ending = Ok(Finding::Accepted);
+            way.ending = Ok(Finding::Accepted);
             false
         }
         Err(fault) => {
-            *ending = Err(side_fault(Side::B, fault));
+            way.ending = Err(side_fault(Side::B, fault));
             false
         }
     }

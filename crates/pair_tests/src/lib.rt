@@ -3,6 +3,10 @@
 #![tactic(auto)]
 
 #[cfg(test)]
+mod failed_checks;
+#[cfg(test)]
+mod observers;
+#[cfg(test)]
 mod refusals;
 #[cfg(test)]
 mod run_laws;

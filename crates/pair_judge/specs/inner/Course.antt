@@ -110,8 +110,9 @@ module _ (top : JudgeTop) where
       advance (judge_step top) mine theirs r ≡ any.Waits
 
   -- the next record was made
-  pub record IsAdvanced (m : Move) (t : Track) : Type 0 where
+  pub record IsAdvanced (entry : Entry) (m : Move) (t : Track) : Type 0 where
     pub next : Record
+    pub is_entry : record_with entry t.course.capture.bytes ≡ next
     pub read : IsRead (having_made t (t.made ++ next ∷ []))
     pub unread : t.course.ahead ≡ Unread
     pub made_it : (mine theirs : JudgeHalf) → StandsFor m.old m.before mine → Shows m.before theirs.sent → IsMade top m next mine theirs
@@ -135,7 +136,7 @@ module _ (top : JudgeTop) where
         advance (judge_step top) mine theirs next ≡ any.Refused refusal
 
   abbrev pub AdvanceIs : Advance → Move → Track → Type 0
-  AdvanceIs answers.Made m t = IsAdvanced m t
+  AdvanceIs (answers.Made entry) m t = IsAdvanced entry m t
   AdvanceIs answers.Blocked m t = IsBlocked m t
   AdvanceIs answers.Ended m t = HasEnded m t
   AdvanceIs (answers.Fails refusal) m t = IsRefused m t refusal

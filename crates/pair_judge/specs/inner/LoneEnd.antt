@@ -45,12 +45,21 @@ module _ (top : JudgeTop) where
   MadeAloneIs Done old new r = IsMadeAlone old new r
   MadeAloneIs (Fails accused refusal) old new r = step_alone top.alone (node_of_end old) r ≡ Refuses (accused_view accused) refusal
 
+-- a fact of a record that can't be made
+abbrev pub IfFailsAlone : MadeAlone → Type 0 → Type 0
+IfFailsAlone Done P = Unit {0}
+IfFailsAlone (Fails accused refusal) P = P
+
 -- ---- what came, at whatever head and front
 
 abbrev pub CameBy : ((n : WireLayersNode) (front : ℕ) → StepAlone WireLayers) → Came → WireLayers → WireLayers → Type 0
 CameBy step (came.Done damaged) old new = (head : Head) (before front : ℕ) → step (node_at head old before) front ≡ Makes (node_at head new front)
 CameBy step (came.Fails accused refusal) old new =
     (head : Head) (before front : ℕ) → step (node_at head old before) front ≡ Refuses (accused_view accused) refusal
+
+abbrev pub IfCameFails : Came → Type 0 → Type 0
+IfCameFails (came.Done damaged) P = Unit {0}
+IfCameFails (came.Fails accused refusal) P = P
 
 abbrev pub ShowsDamage : Came → Bool → Type 0
 ShowsDamage (came.Done damaged) shows = damaged ≡ shows

@@ -1,8 +1,9 @@
 -- Both sides of the judge beside the world that the records made so far led to, and what a turn leads to.
-use Rattle.std.specs.Prelude.{◌≡◌, ℕ, ◌+◌, ◌≤◌, Bool, true, false, List, length, Option, Some, None, Result, Ok, Err}
+use Rattle.std.specs.Prelude.{◌≡◌, ℕ, ◌+◌, ◌≤◌, Bool, true, false, List, [], ◌∷◌, ◌++◌, length, Option, Some, None, Result, Ok, Err}
 use Rattle.two_nodes.specs.Nodes.{Half, Run, World, advance}
 use Rattle.two_nodes.specs.Nodes.Outcome.{Waits, Refused}
 use Rattle.wire_base.specs.declared.side.Side.{Side}
+use Rattle.wire_base.specs.declared.side.Side.TheVariants.{A, B}
 use Rattle.capture.specs.declared.record.Record.{Record}
 use Rattle.capture.specs.SoFar.{GoesOn}
 use Rattle.dna_station.specs.declared.head.Head.{Head}
@@ -25,7 +26,13 @@ use Rattle.pair_judge.specs.inner.Wire.{IfLeft, judge_pair, judge_step, JudgeHal
 use Rattle.pair_judge.specs.inner.Making.{StandsFor}
 use Rattle.pair_judge.specs.inner.Course.{IsRead, Track, WaitsAt, IsWaiting, having_made, read_of}
 use Rattle.pair_judge.specs.Finding.{EndsWhere, IsCounted, IsFinding, of_side}
+use Rattle.pair_judge.specs.Order.{MadeRecord, IsRunInOrder, records_of}
 use Rattle.pair_judge.specs.Summary.{counts_of, summary_at}
+
+-- a fact of a turn that ends
+abbrev pub IfEnds : Option Finding → Type 0 → Type 0
+IfEnds None P = Unit {0}
+IfEnds (Some finding) P = P
 
 -- what a turn answers, with what it ends with
 abbrev pub turned : (goes_on : Bool) → Result Finding JudgeFault → Result (Option Finding) JudgeFault
@@ -56,10 +63,13 @@ module _ (top : JudgeTop) where
     pub shows_a : ShowsHalf w.a world.a
     pub shows_b : ShowsHalf w.b world.b
 
-  -- some order of these records leads to a world that the two ends stand for
-  pub record HasReached (a b : End) (made_a made_b : List Record) : Type 0 where
+  -- these records, which can be made in this order, lead to a world that the two ends stand for
+  pub record HasReached (order : List MadeRecord) (a b : End) (made_a made_b : List Record) : Type 0 where
     pub world : JudgeWorld
     pub run : Run (judge_pair top) (wire_layers_start a.head b.head) made_a made_b world
+    pub in_order : IsRunInOrder (judge_pair top) (wire_layers_start a.head b.head) order
+    pub of_a : records_of A order ≡ made_a
+    pub of_b : records_of B order ≡ made_b
     pub stands_a : StandsFor a b.line world.a
     pub stands_b : StandsFor b a.line world.b
     pub counts_a : a.counts ≡ counts_of made_a
@@ -68,10 +78,10 @@ module _ (top : JudgeTop) where
     pub load_b : load b.layers.station ≤ length made_b
 
   -- of each text what was read is known, and what was made of it leads here
-  pub record IsUnderWay (a b : Track) : Type 0 where
+  pub record IsUnderWay (order : List MadeRecord) (a b : Track) : Type 0 where
     pub read_a : IsRead a
     pub read_b : IsRead b
-    pub reached : HasReached a.course.end b.course.end a.made b.made
+    pub reached : HasReached order a.course.end b.course.end a.made b.made
 
   -- the next record of a side waits
   pub record IsHeldUp (own : Course) (incoming : Line) : Type 0 where
@@ -84,11 +94,13 @@ module _ (top : JudgeTop) where
   IsStopped true own incoming = IsHeldUp own incoming
   IsStopped false own incoming = own.ahead ≡ Ended
 
-  -- of sides that had made so much before: one record more was made
-  pub record HasGoneOn (a b : Track) : Type 0 where
+  -- of sides that had made so much before, in this order: one record more was made, and the observer was told
+  pub record HasGoneOn (order : List MadeRecord) (tells : MadeRecord → Type 0) (a b : Track) : Type 0 where
     pub made_a : List Record
     pub made_b : List Record
-    pub under_way : IsUnderWay (having_made a made_a) (having_made b made_b)
+    pub made : MadeRecord
+    pub told : tells made
+    pub under_way : IsUnderWay (order ++ made ∷ []) (having_made a made_a) (having_made b made_b)
     pub one_more : length made_a + length made_b ≡ length a.made + length b.made + 1
 
   -- what becomes of the named record, in the world that the run so far leads to
@@ -99,7 +111,8 @@ module _ (top : JudgeTop) where
 
   -- The named record is the next of its side, and was read. Both ends stand for the world in which it is refused, or waits
   pub record StopsAt (a b : Track) (side : Side) (place : ℕ) (cause : Cause) : Type 0 where
-    pub reached : HasReached a.course.end b.course.end a.made b.made
+    pub order : List MadeRecord
+    pub reached : HasReached order a.course.end b.course.end a.made b.made
     pub next : Record
     pub ahead : IsWaiting (of_side side a b).course.capture.bytes (of_side side a b).course.ahead next
     pub becomes : BecomesThere cause (of_side side reached.world.a reached.world.b) (of_side side reached.world.b reached.world.a) next
@@ -115,6 +128,8 @@ module _ (top : JudgeTop) where
   pub record IsFound (a b : Track) (finding : Finding) : Type 0 where
     pub made_a : List Record
     pub made_b : List Record
+    pub same_a : made_a ≡ a.made
+    pub same_b : made_b ≡ b.made
     pub read_a : IsRead (having_made a made_a)
     pub read_b : IsRead (having_made b made_b)
     pub is_finding : (all_a all_b : List Record) → GoesOn (read_of (having_made a made_a)) all_a → GoesOn (read_of (having_made b made_b)) all_b
@@ -124,6 +139,14 @@ module _ (top : JudgeTop) where
     pub counts : finding ≡ Accepted → IsCounted top.kind a.course.end.head b.course.end.head made_a made_b
         (record { a = summary_at top.links a.course.end; b = summary_at top.links b.course.end })
 
-  abbrev pub TurnIs : Option Finding → Track → Track → Type 0
-  TurnIs None a b = HasGoneOn a b
-  TurnIs (Some finding) a b = IsFound a b finding
+  -- the records of these sides can be made in this order, and are counted
+  pub record IsInOrder (order : List MadeRecord) (a b : Track) : Type 0 where
+    pub in_order : IsRunInOrder (judge_pair top) (wire_layers_start a.course.end.head b.course.end.head) order
+    pub of_a : records_of A order ≡ a.made
+    pub of_b : records_of B order ≡ b.made
+    pub count_a : a.course.end.counts.records ≡ length a.made
+    pub count_b : b.course.end.counts.records ≡ length b.made
+
+  abbrev pub TurnIs : (order : List MadeRecord) → (tells : MadeRecord → Type 0) → Option Finding → Track → Track → Type 0
+  TurnIs order tells None a b = HasGoneOn order tells a b
+  TurnIs order tells (Some finding) a b = IsFound a b finding × IsInOrder order a b

@@ -9,7 +9,8 @@ use Rattle.pair_judge.specs.Summary.{summary_at}
 use Rattle.pair_judge.specs.inner.Answer.{verdict_of}
 use Rattle.pair_judge.specs.inner.Course.{IsRead, along}
 use Rattle.pair_judge.specs.inner.Ends.{shown_end}
-use Rattle.pair_judge.specs.inner.Reached.{StopsFor}
+use Rattle.pair_judge.specs.Order.{MadeRecord}
+use Rattle.pair_judge.specs.inner.Reached.{IsInOrder, StopsFor}
 use Rattle.pair_judge.specs.inner.Wire.{IfLeft, JudgeTop}
 
 module _ (top : JudgeTop) where
@@ -21,9 +22,9 @@ module _ (top : JudgeTop) where
   abbrev pub ends_of : Stopped → ShownEnds
   ends_of s = record { verdict = verdict_of (found_of s); a = shown_end s.a s.b.end.line.gone; b = shown_end s.b s.a.end.line.gone }
 
-  -- The finding is that of the two texts. So much of them was read and made; and where a refused step leaves both layers, both ends stand for
-  -- the world in which the named record is refused, or waits
-  pub record IsStoppedIn (text_a text_b : Option (List ℕ)) (s : Stopped) : Type 0 where
+  -- The finding is that of the two texts. So much of them was read and made, in an order that the observer was told; and where a refused step leaves
+  -- both layers, both ends stand for the world in which the named record is refused, or waits
+  pub record IsStoppedIn (text_a text_b : Option (List ℕ)) (tells : List MadeRecord → Type 0) (s : Stopped) : Type 0 where
     pub found : IsFoundIn top.kind text_a text_b (found_of s)
     pub come_a : Option (List ℕ)
     pub come_b : Option (List ℕ)
@@ -31,4 +32,7 @@ module _ (top : JudgeTop) where
     pub made_b : List Record
     pub read_a : IsRead (along text_a s.a come_a made_a)
     pub read_b : IsRead (along text_b s.b come_b made_b)
+    pub order : List MadeRecord
+    pub in_order : IsInOrder top order (along text_a s.a come_a made_a) (along text_b s.b come_b made_b)
+    pub told : tells order
     pub stops : IfLeft top.leaves (StopsFor top (along text_a s.a come_a made_a) (along text_b s.b come_b made_b) s.finding)

@@ -1,6 +1,6 @@
-//! The judge of both layers, with both ends as they are where it gives its verdict.
+//! The judge of both layers, with both ends as they are where it gives its verdict, and with one who is told of each record on the way there.
 
-ghost use Rattle.std.specs.Prelude.{◌≡◌, IfOk};
+ghost use Rattle.std.specs.Prelude.{◌≡◌, IfOk, []};
 ghost use Rattle.wire_base.specs.Tally.{tally_faults, tally_lent};
 ghost use Rattle.wire_base.specs.declared.side.Side.{Side};
 ghost use Rattle.capture.specs.Faulty.{CountsReads};
@@ -8,12 +8,14 @@ ghost use Rattle.dna_node.specs.Kind.{both_layers};
 ghost use Rattle.pair_judge.specs.Ends.{StandsFor, verdict_in};
 ghost use Rattle.pair_judge.specs.Faulty.{is_failed_read_of};
 ghost use Rattle.pair_judge.specs.Judged.{IfTold, IsAcceptance, IsExact, IsFaultyWhere, IsRefusalWhere};
+ghost use Rattle.pair_judge.specs.Watched.{WasTold, only};
 ghost use Rattle.pair_judge.specs.inner.Stopped.{ends_of};
 ghost use Rattle.pair_judge.specs.inner.Tops.{links_on_top_left};
 
 use super::{Found, stop, verdict};
 use crate::fault::JudgeFault;
 use crate::judged_ends::{JudgedEnds, ends_with};
+use crate::observer::{Nobody, Observer};
 use crate::stopped::Stopped;
 use crate::summary::Summary;
 use crate::top::{LinksOnTopLeft, Top};
@@ -25,6 +27,13 @@ use dna_station::{captures_deliver_in_order, numbers_within_bounds};
 use std::alloc::Global;
 use std::io::Read;
 use wire_base::Tally;
+
+/// Both ends where a verdict is given, and who was told of the records before it.
+#[derive(Drop)]
+pub struct Watched<O: Observer> {
+    pub ends: JudgedEnds,
+    pub observer: O,
+}
 
 /// Decides the same as `judge`, of whose answer all that is said there holds of this verdict, and gives both ends as they are then.
 ///
@@ -48,6 +57,40 @@ pub fn judge_with_ends<R: Read, S: Read>(
     ensures reads_a { CountsReads (is_failed_read_of Side.A result) (tally_faults a.old) (tally_faults a.new) }
     ensures reads_b { CountsReads (is_failed_read_of Side.B result) (tally_faults b.old) (tally_faults b.new) }
 {
+    match judge_watched::<Nobody, R, S>(alloc, a, b, Nobody) {
+        Ok(watched) => Ok(watched.ends),
+        Err(fault) => Err(fault),
+    }
+}
+
+/// Decides the same as `judge_with_ends`, of whose answer all that is said there holds, while an observer is told of each record that is made.
+///
+/// It was told of all that was read of both texts but the records ahead, in an order in which two nodes can make them: wherever one stops, the
+/// records before are a run. At a fault it is dropped.
+///
+/// The faults are those of `judge`; `OutOfMemory` is answered also where the observer wants memory. The observer was told of nothing before.
+pub fn judge_watched<O: Observer, R: Read, S: Read>(
+    alloc: Global,
+    a: &mut Tally<R>,
+    b: &mut Tally<S>,
+    observer: O,
+) -> Result<Watched<O>, JudgeFault>
+    requires { O.told observer [] }
+    ensures exact { IfTold (R.remaining (tally_lent a.old)) (S.remaining (tally_lent b.old))
+        (λ bytes_a bytes_b. IsExact both_layers bytes_a bytes_b (verdict_in (only result (λ watched. watched.ends)))) }
+    ensures accepted { IfTold (R.remaining (tally_lent a.old)) (S.remaining (tally_lent b.old))
+        (λ bytes_a bytes_b. IsAcceptance both_layers bytes_a bytes_b (verdict_in (only result (λ watched. watched.ends)))) }
+    ensures refused { IsRefusalWhere both_layers (R.remaining (tally_lent a.old)) (S.remaining (tally_lent b.old))
+        (verdict_in (only result (λ watched. watched.ends))) }
+    ensures faulty { IsFaultyWhere both_layers (R.remaining (tally_lent a.old)) (S.remaining (tally_lent b.old))
+        (verdict_in (only result (λ watched. watched.ends))) }
+    ensures stands { IfOk result (λ watched.
+        StandsFor (R.remaining (tally_lent a.old)) (S.remaining (tally_lent b.old)) watched.ends watched.ends.verdict) }
+    ensures told { IfOk result (λ watched.
+        WasTold (R.remaining (tally_lent a.old)) (S.remaining (tally_lent b.old)) watched.ends (O.told watched.observer)) }
+    ensures reads_a { CountsReads (is_failed_read_of Side.A result) (tally_faults a.old) (tally_faults a.new) }
+    ensures reads_b { CountsReads (is_failed_read_of Side.B result) (tally_faults b.old) (tally_faults b.new) }
+{
     whole_text();
     captures_deliver_in_order();
     layers_run_as_stations();
@@ -55,8 +98,11 @@ pub fn judge_with_ends<R: Read, S: Read>(
     numbers_within_bounds();
     view_shows_truth::<LinkTag>();
     LinksOnTopLeft::shows();
-    match stop::<LinksOnTopLeft, R, S>(alloc, a, b) {
-        Ok(stopped) => Ok(with_verdict(stopped)),
+    match stop::<LinksOnTopLeft, O, R, S>(alloc, a, b, observer) {
+        Ok((stopped, observer)) => Ok(Watched {
+            ends: with_verdict(stopped),
+            observer,
+        }),
         Err(fault) => Err(fault),
     }
 }

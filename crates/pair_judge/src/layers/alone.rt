@@ -1,6 +1,6 @@
 //! A station with nothing on top: its packets are any bytes, and are not read.
 
-ghost use Rattle.std.specs.Prelude.{◌≡◌, ◌+◌, ◌^◌, ◌<◌, ◌≤◌, Ok, Err, None, Some, OnOk, OnErr, IfOk, IfErr};
+ghost use Rattle.std.specs.Prelude.{◌≡◌, ◌+◌, ◌^◌, ◌<◌, ◌≤◌, Ok, Err, None, Some, IsOk, OnOk, OnErr, IfOk, IfErr};
 ghost use Rattle.ddcmp_msg.specs.Message.{view};
 ghost use Rattle.dna_station.specs.WireBook.{wire_sending_refusal};
 ghost use Rattle.dna_station.specs.WireStation.{load};
@@ -84,12 +84,26 @@ impl Layers {
             Err(StationFault::OutOfMemory) => unreachable!(),
         }
     }
+
+    /// What `arrived_unknown_alone` would refuse of this, asked without any change.
+    pub fn may_arrive_unknown_alone(&self, arrival: Arrival, kept: bool) -> Result<(), StepRefusal>
+        ensures ok { OnOk result (IsOk (line_end.machine.arrives self.now (with_link (Some of_no_link) (arrival_view arrival.entry)) kept)) }
+        ensures refused { IfErr result (λ refusal.
+            line_end.machine.arrives self.now (with_link (Some of_no_link) (arrival_view arrival.entry)) kept ≡ Err refusal) }
+    {
+        match self.station.may_arrive::<false>(arrival, kept) {
+            Ok(_) => Ok(()),
+            Err(refusal) => Err(StepRefusal::Station(refusal)),
+        }
+    }
+
     /// This came of a station whose capture nobody has, and the node kept the packet or did not. Takes no memory.
     pub fn arrived_unknown_alone(&mut self, arrival: Arrival, kept: bool) -> Result<(), StepFault>
         requires { load self.old.station < 2 ^ 63 }
         ensures ok { OnOk result (line_end.machine.arrives self.old (with_link (Some of_no_link) (arrival_view arrival.entry)) kept ≡ Ok self.new) }
         ensures refused { IfErr result (IfRefused (λ refusal.
             line_end.machine.arrives self.old (with_link (Some of_no_link) (arrival_view arrival.entry)) kept ≡ Err refusal)) }
+        ensures err { OnErr result (self.new ≡ self.old) }
         ensures load { load self.new.station ≤ load self.old.station + 1 }
     {
         match self.station.arrived::<false>(arrival, kept) {

@@ -3,9 +3,9 @@
 ghost use Rattle.std.specs.Prelude.{◌≡◌, ◌+◌, ◌^◌, ◌<◌, ◌≤◌, Ok, Err, None, true, false, OnOk, IfOk, IfErr};
 ghost use Rattle.ddcmp_msg.specs.Message.{view};
 ghost use Rattle.dna_station.specs.WireStation.{load};
-ghost use Rattle.dna_station.specs.Rules.{of_period};
 ghost use Rattle.dna_station.specs.WireBook.{gives_new, wire_after_arrival, wire_arrival_refusal, wire_sending_refusal};
 ghost use Rattle.ddcmp_station.specs.Arrival.{arrival_view};
+ghost use Rattle.ddcmp_station.specs.PeriodRules.{period_rule};
 ghost use Rattle.pair_judge.specs.inner.Memory.{IfNoMemory, MayKeep};
 ghost use Rattle.pair_judge.specs.inner.Receipts.{is_damage};
 ghost use Rattle.pair_judge.specs.inner.Steps.{IfRefused, with_link};
@@ -105,16 +105,16 @@ impl Layers {
         ensures memory { IfErr result (IfNoMemory (MayKeep kept (is_damage (arrival_view arrival.entry)))) }
         ensures load { load self.new.station ≤ load self.old.station + 1 }
     {
-        match self.station.may_arrive(arrival, kept) {
+        match self.station.may_arrive::<true>(arrival, kept) {
             Ok(Some(packet)) => match self.keep(packet, tag_of(link)) {
                 Ok(()) => {
-                    self.meet(arrival, kept);
+                    self.meet::<true>(arrival, kept);
                     Ok(())
                 }
                 Err(fault) => Err(fault),
             },
             Ok(None) => {
-                self.meet(arrival, kept);
+                self.meet::<true>(arrival, kept);
                 Ok(())
             }
             Err(refusal) => Err(StepFault::Refused(StepRefusal::Station(refusal))),
@@ -123,13 +123,13 @@ impl Layers {
 
     // The station meets what it does not refuse.
     #[inline(always)]
-    fn meet(&mut self, arrival: Arrival, kept: bool)
+    pub(super) fn meet<const OF_PAIR: bool>(&mut self, arrival: Arrival, kept: bool)
         requires load { load self.old.station < 2 ^ 63 }
-        requires allowed { wire_arrival_refusal of_period self.old.station (arrival_view arrival) kept ≡ None }
+        requires allowed { wire_arrival_refusal (period_rule OF_PAIR) self.old.station (arrival_view arrival) kept ≡ None }
         ensures met { self.new ≡ record self.old { station = wire_after_arrival self.old.station (arrival_view arrival.entry) kept } }
         ensures load { load self.new.station ≤ load self.old.station + 1 }
     {
-        match self.station.arrived::<true>(arrival, kept) {
+        match self.station.arrived::<OF_PAIR>(arrival, kept) {
             Ok(_) => {}
             Err(_) => unreachable!(),
         }

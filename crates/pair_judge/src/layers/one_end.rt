@@ -1,6 +1,6 @@
 //! What comes to an end whose other side is not known.
 
-ghost use Rattle.std.specs.Prelude.{◌≡◌, ◌+◌, ◌^◌, ◌<◌, ◌≤◌, Ok, Err, Some, OnOk, IfErr};
+ghost use Rattle.std.specs.Prelude.{◌≡◌, ◌+◌, ◌^◌, ◌<◌, ◌≤◌, Ok, Err, Some, OnOk, OnErr, IfErr};
 ghost use Rattle.dna_node.specs.Content as spec;
 ghost use Rattle.dna_node.specs.Rules.{by_bytes};
 ghost use Rattle.dna_station.specs.WireStation.{load};
@@ -39,11 +39,12 @@ impl Layers {
     }
 
     // This packet is kept: it goes to the links.
-    fn keep_unknown(&mut self, packet: &[u8]) -> Result<(), StepFault>
+    pub(super) fn keep_unknown(&mut self, packet: &[u8]) -> Result<(), StepFault>
         ensures ok { OnOk result (wire_keeps_packet by_bytes self.old of_no_link (spec.content packet.now) ≡ Ok self.new) }
         ensures refused { IfErr result (IfRefused (λ refusal. wire_keeps_packet by_bytes self.old of_no_link (spec.content packet.now)
             ≡ Err refusal)) }
         ensures station { self.new.station ≡ self.old.station }
+        ensures err { OnErr result (self.new ≡ self.old) }
     {
         match content(packet) {
             Ok(Some(carried)) => self.take_unknown(carried),
@@ -58,6 +59,7 @@ impl Layers {
         ensures refused { IfErr result (IfRefused (λ refusal. wire_keeps_packet by_bytes self.old of_no_link (lent_content carried.entry)
             ≡ Err refusal)) }
         ensures station { self.new.station ≡ self.old.station }
+        ensures err { OnErr result (self.new ≡ self.old) }
     {
         match &read_nsp(carried.message) {
             Ok(message) => match self

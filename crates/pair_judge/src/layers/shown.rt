@@ -1,6 +1,6 @@
 //! What is shown of a side.
 
-ghost use Rattle.std.specs.Prelude.{◌≡◌, option_map, slice_get};
+ghost use Rattle.std.specs.Prelude.{◌≡◌, option_map, option_and_then, option_copied, slice_get};
 ghost use Rattle.ddcmp_station.specs.View.{view_of};
 ghost use Rattle.nsp_link.specs.View as link;
 
@@ -21,5 +21,11 @@ impl Layers {
         ensures { result ≡ option_map link.view_of (slice_get self.now.links.links number) }
     {
         self.links.view(number)
+    }
+    /// What is left of the message that the link with this number sends, if there is one.
+    pub fn rest(&self, number: usize) -> Option<&[u8]>
+        ensures { option_copied result ≡ option_and_then link.rest_of (slice_get self.now.links.links number) }
+    {
+        self.links.rest(number)
     }
 }

@@ -6,7 +6,8 @@ ghost use Rattle.ddcmp_msg.specs.Reading.{reading};
 ghost use Rattle.dna_node.specs.Alone as alone;
 ghost use Rattle.dna_station.specs.WireStation.{load};
 ghost use Rattle.pair_judge.specs.EndJudged.{accused_view};
-ghost use Rattle.pair_judge.specs.inner.LoneEnd.{CameIs, MeetsIs, SoundIs};
+ghost use Rattle.pair_judge.specs.inner.LoneEnd.{CameIs, IfCameFails, MeetsIs, SoundIs};
+ghost use Rattle.pair_judge.specs.inner.Wire.{IfLeft};
 
 use crate::end_verdict::Accused;
 use crate::layers::Layers;
@@ -42,6 +43,7 @@ pub enum Came {
 pub fn receive<T: Top>(layers: &mut Layers, kept: bool, bytes: &[u8]) -> Result<Came, AllocError>
     requires { load layers.old.station < 2 ^ 63 }
     ensures came { IfOk result (λ came. CameIs T.top came layers.old layers.new kept (reading bytes.now)) }
+    ensures still { IfOk result (λ came. IfCameFails came (IfLeft T.top.leaves (layers.new ≡ layers.old))) }
     ensures load { load layers.new.station ≤ load layers.old.station + 1 }
 {
     match read_unit(bytes) {
@@ -63,20 +65,22 @@ fn receive_sound<T: Top>(
 ) -> Result<Came, AllocError>
     requires { load layers.old.station < 2 ^ 63 }
     ensures came { IfOk result (λ came. SoundIs T.top came layers.old layers.new kept (view message.entry)) }
+    ensures still { IfOk result (λ came. IfCameFails came (IfLeft T.top.leaves (layers.new ≡ layers.old))) }
     ensures load { load layers.new.station ≤ load layers.old.station + 1 }
 {
     T::shows_alone();
     if let Some(refusal) = T::wrong_unit(layers, &message) {
         return Ok(by_the_other(refusal));
     }
-    let wrong = wrong_if_kept::<T>(layers, kept, &message);
-    let arrived = T::arrived_unknown(layers, Arrival::Sound(message, UNKNOWN), kept);
-    let Some(refusal) = wrong else {
-        return met(arrived, false);
+    let Some(refusal) = wrong_if_kept::<T>(layers, kept, &message) else {
+        return met(
+            T::arrived_unknown(layers, Arrival::Sound(message, UNKNOWN), kept),
+            false,
+        );
     };
-    match arrived {
+    match T::may_arrive_unknown(layers, Arrival::Sound(message, UNKNOWN), kept) {
         Ok(()) => Ok(by_the_other(refusal)),
-        Err(fault) => met(Err(fault), false),
+        Err(first) => met(Err(StepFault::Refused(first)), false),
     }
 }
 

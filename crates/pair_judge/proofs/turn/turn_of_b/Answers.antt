@@ -6,14 +6,15 @@ use Rattle.pair_judge.specs.declared.fault.JudgeFault.{JudgeFault}
 use Rattle.pair_judge.specs.Faulty.{IsJudgeFault}
 use Rattle.pair_judge.specs.inner.Reached.{IsHeldUp, IsStopped}
 use Rattle.dna_node.specs.WireLayers.{wire_layers_start}
-use Rattle.pair_judge.proofs.Turns.{reached_by_b, reached_still, same_end, same_read, next_place}
+use Rattle.pair_judge.specs.Order.{made_by}
+use Rattle.pair_judge.proofs.Turns.{ordered, reached_by_b, reached_still, same_end, same_read, next_place}
 use Rattle.pair_judge.proofs.Found.{at_place, b_fails, both_wait, a_waits, b_waits, both_ended, stops_a, stops_b}
 use Rattle.pair_judge.proofs.Left.{left_any, left_so}
 use Rattle.pair_judge.proofs.Faults.{faulty}
 use Rattle.pair_judge.proofs.turn.turn_of_b.Goals as goal
 
-pub returns-in-Ok-Made-clause-turn : goal.returns-in-Ok-Made-clause-turn
-returns-in-Ok-Made-clause-turn g c = λ text_a text_b come_a made_a made_b under stopped.
+pub returns-in-Ok-clause-turn : goal.returns-in-Ok-clause-turn
+returns-in-Ok-clause-turn g c = λ order text_a text_b come_a made_a made_b under stopped.
     let advanced = rw c.in-Ok-Made.field-0-is at c.in-Ok-Made.ensures.advance in
     let m = advanced text_b made_b under.read_b in
     let h = under.reached in
@@ -23,10 +24,13 @@ returns-in-Ok-Made-clause-turn g c = λ text_a text_b come_a made_a made_b under
     record {
       made_a = made_a;
       made_b = made_b ++ m.next ∷ [];
+      made = made_by B m.next;
+      told = rw (c.bytes.ensures, m.is_entry) at c.in-Ok.ensures;
       under_way = record {
         read_a = same_read text_a c.args.a.now _ come_a made_a refl refl refl under.read_a;
         read_b = m.read;
-        reached = reached_by_b g.T.Top.top c.args.a.now.end _ c.args.b.now.end c.advance.new.self.end c.advance.new.incoming made_a made_b m.next h
+        reached = reached_by_b g.T.Top.top c.args.a.now.end _ c.args.b.now.end c.advance.new.self.end
+            c.advance.new.incoming order made_a made_b m.next h
             made
             (record { head = refl; layers = refl; counts = refl; line = refl }) run;
       };
@@ -34,28 +38,33 @@ returns-in-Ok-Made-clause-turn g c = λ text_a text_b come_a made_a made_b under
     }
 
 pub returns-in-Ok-Fails-clause-turn : goal.returns-in-Ok-Fails-clause-turn
-returns-in-Ok-Fails-clause-turn g c = λ text_a text_b come_a made_a made_b under stopped.
+returns-in-Ok-Fails-clause-turn g c = λ order text_a text_b come_a made_a made_b under stopped.
     let fails = rw c.in-Ok-Fails.field-0-is at c.in-Ok-Fails.ensures.advance in
     let f = fails text_b made_b under.read_b in
     let h = under.reached in
     let refused = f.refused h.world.b h.world.a h.stands_b h.stands_a.sent in
     let place : c.advance.new.self.end.counts.records ≡ length made_b =
     next_place c.advance.new.self.end.counts made_b (f.counts ∙ h.counts_b) in
-    rw c.refused.ensures (at_place g.T.Top.top _ _ B (Step c.in-Ok-Fails.refusal) _ _ place
-    (b_fails g.T.Top.top _ _ c.args.a.now.end.head c.args.b.now.end.head refl c.advance.ensures.head (length made_b) c.in-Ok-Fails.refusal f.next
-    c.args.a_waits
-    c.args.a.now c.args.b.now.end.line
-    refl refl stopped
-    (same_read text_a c.args.a.now _ come_a made_a refl refl refl under.read_a) f.read f.ahead
-    (left_so g.T.Top.top.leaves (λ still. stops_b g.T.Top.top _ _ c.args.a.now.end c.args.b.now.end (Step c.in-Ok-Fails.refusal) f.next h
-    (record { head = refl; layers = refl; counts = refl; line = still.same_line })
-    (same_end c.args.b.now.end c.advance.new.self.end still.same_end) f.ahead refused) f.still)
-    (λ p rest_a rest_b waits. c.endings.ensures.b_refused_behind _ _ h.world made_a rest_a made_b rest_b p f.next c.in-Ok-Fails.refusal h.run
-    (waits h.world.a h.world.b h.stands_a h.stands_b.sent) refused)
-    (λ rest_b. c.endings.ensures.b_refused_last _ _ h.world made_a made_b rest_b f.next c.in-Ok-Fails.refusal h.run refused)))
+    rw c.refused.ensures (
+      at_place g.T.Top.top _ _ B (Step c.in-Ok-Fails.refusal) _ _ place
+          (b_fails g.T.Top.top _ _ c.args.a.now.end.head c.args.b.now.end.head refl c.advance.ensures.head (length made_b)
+          c.in-Ok-Fails.refusal f.next
+          c.args.a_waits
+          c.args.a.now c.args.b.now.end.line
+          refl refl stopped
+          (same_read text_a c.args.a.now _ come_a made_a refl refl refl under.read_a) f.read f.ahead
+          (left_so g.T.Top.top.leaves (λ still. stops_b g.T.Top.top _ _ c.args.a.now.end c.args.b.now.end (Step c.in-Ok-Fails.refusal) f.next h
+          (record { head = refl; layers = refl; counts = refl; line = still.same_line })
+          (same_end c.args.b.now.end c.advance.new.self.end still.same_end) f.ahead refused) f.still)
+          (λ p rest_a rest_b waits. c.endings.ensures.b_refused_behind _ _ h.world made_a rest_a made_b rest_b p f.next c.in-Ok-Fails.refusal h.run
+          (waits h.world.a h.world.b h.stands_a h.stands_b.sent) refused)
+          (λ rest_b. c.endings.ensures.b_refused_last _ _ h.world made_a made_b rest_b f.next c.in-Ok-Fails.refusal h.run refused)),
+      ordered g.T.Top.top _ _ order c.args.a.now.end c.args.b.now.end h refl c.advance.ensures.head refl
+          f.counts,
+    )
 
 pub returns-in-Ok-Blocked-clause-turn : goal.returns-in-Ok-Blocked-clause-turn
-returns-in-Ok-Blocked-clause-turn g c = λ text_a text_b come_a made_a made_b under stopped.
+returns-in-Ok-Blocked-clause-turn g c = λ order text_a text_b come_a made_a made_b under stopped.
     let blocked = rw c.in-Ok-Blocked.field-0-is at c.in-Ok-Blocked.ensures.advance in
     let m = blocked text_b made_b under.read_b in
     let h = under.reached in
@@ -64,17 +73,20 @@ returns-in-Ok-Blocked-clause-turn g c = λ text_a text_b come_a made_a made_b un
     let waits_a = held.waits h.world.a h.world.b h.stands_a h.stands_b.sent in
     let waits_b = m.waits h.world.b h.world.a h.stands_b h.stands_a.sent in
     let place : c.args.a.now.end.counts.records ≡ length made_a = next_place c.args.a.now.end.counts made_a h.counts_a in
-    rw c.refused-in-Ok-Blocked.ensures
-    (at_place g.T.Top.top _ _ A NoOrder _ _ place
-    (both_wait g.T.Top.top _ _ c.args.a.now.end.head c.args.b.now.end.head refl c.advance.ensures.head (length made_a) held.next m.next
-    (same_read text_a c.args.a.now _ come_a made_a refl refl refl under.read_a) m.read held.ahead m.ahead
-    (left_any g.T.Top.top.leaves (stops_a g.T.Top.top _ _ c.args.a.now.end c.args.b.now.end NoOrder held.next h
-    (record { head = refl; layers = refl; counts = refl; line = m.still.same_line })
-    (same_end c.args.b.now.end c.advance.new.self.end m.still.same_end) held.ahead waits_a))
-    (λ rest_a rest_b. c.endings.ensures.stuck _ _ h.world made_a rest_a made_b rest_b held.next m.next h.run waits_a waits_b)))
+    rw c.refused-in-Ok-Blocked.ensures (
+      at_place g.T.Top.top _ _ A NoOrder _ _ place
+          (both_wait g.T.Top.top _ _ c.args.a.now.end.head c.args.b.now.end.head refl c.advance.ensures.head (length made_a) held.next m.next
+          (same_read text_a c.args.a.now _ come_a made_a refl refl refl under.read_a) m.read held.ahead m.ahead
+          (left_any g.T.Top.top.leaves (stops_a g.T.Top.top _ _ c.args.a.now.end c.args.b.now.end NoOrder held.next h
+          (record { head = refl; layers = refl; counts = refl; line = m.still.same_line })
+          (same_end c.args.b.now.end c.advance.new.self.end m.still.same_end) held.ahead waits_a))
+          (λ rest_a rest_b. c.endings.ensures.stuck _ _ h.world made_a rest_a made_b rest_b held.next m.next h.run waits_a waits_b)),
+      ordered g.T.Top.top _ _ order c.args.a.now.end c.args.b.now.end h refl c.advance.ensures.head refl
+          (same_end c.args.b.now.end c.advance.new.self.end m.still.same_end).counts,
+    )
 
 pub returns-in-Ok-Blocked-2-clause-turn : goal.returns-in-Ok-Blocked-2-clause-turn
-returns-in-Ok-Blocked-2-clause-turn g c = λ text_a text_b come_a made_a made_b under stopped.
+returns-in-Ok-Blocked-2-clause-turn g c = λ order text_a text_b come_a made_a made_b under stopped.
     let blocked = rw c.in-Ok-Blocked.field-0-is at c.in-Ok-Blocked.ensures.advance in
     let m = blocked text_b made_b under.read_b in
     let h = under.reached in
@@ -83,17 +95,20 @@ returns-in-Ok-Blocked-2-clause-turn g c = λ text_a text_b come_a made_a made_b 
     let waits_b = m.waits h.world.b h.world.a h.stands_b h.stands_a.sent in
     let place : c.advance.new.self.end.counts.records ≡ length made_b =
     next_place c.advance.new.self.end.counts made_b ((same_end _ _ m.still.same_end).counts ∙ h.counts_b) in
-    rw c.refused-in-Ok-Blocked-2.ensures
-    (at_place g.T.Top.top _ _ B NoSuchUnit _ _ place
-    (b_waits g.T.Top.top _ _ c.args.a.now.end.head c.args.b.now.end.head refl c.advance.ensures.head (length made_b) m.next
-    (same_read text_a c.args.a.now _ come_a made_a refl refl refl under.read_a) m.read ended m.ahead
-    (left_any g.T.Top.top.leaves (stops_b g.T.Top.top _ _ c.args.a.now.end c.args.b.now.end NoSuchUnit m.next h
-    (record { head = refl; layers = refl; counts = refl; line = m.still.same_line })
-    (same_end c.args.b.now.end c.advance.new.self.end m.still.same_end) m.ahead waits_b))
-    (λ rest_b. c.endings.ensures.b_lacks _ _ h.world made_a made_b rest_b m.next h.run waits_b)))
+    rw c.refused-in-Ok-Blocked-2.ensures (
+      at_place g.T.Top.top _ _ B NoSuchUnit _ _ place
+          (b_waits g.T.Top.top _ _ c.args.a.now.end.head c.args.b.now.end.head refl c.advance.ensures.head (length made_b) m.next
+          (same_read text_a c.args.a.now _ come_a made_a refl refl refl under.read_a) m.read ended m.ahead
+          (left_any g.T.Top.top.leaves (stops_b g.T.Top.top _ _ c.args.a.now.end c.args.b.now.end NoSuchUnit m.next h
+          (record { head = refl; layers = refl; counts = refl; line = m.still.same_line })
+          (same_end c.args.b.now.end c.advance.new.self.end m.still.same_end) m.ahead waits_b))
+          (λ rest_b. c.endings.ensures.b_lacks _ _ h.world made_a made_b rest_b m.next h.run waits_b)),
+      ordered g.T.Top.top _ _ order c.args.a.now.end c.args.b.now.end h refl c.advance.ensures.head refl
+          (same_end c.args.b.now.end c.advance.new.self.end m.still.same_end).counts,
+    )
 
 pub returns-in-Ok-Ended-clause-turn : goal.returns-in-Ok-Ended-clause-turn
-returns-in-Ok-Ended-clause-turn g c = λ text_a text_b come_a made_a made_b under stopped.
+returns-in-Ok-Ended-clause-turn g c = λ order text_a text_b come_a made_a made_b under stopped.
     let ended = rw c.in-Ok-Ended.field-0-is at c.in-Ok-Ended.ensures.advance in
     let m = ended text_b made_b under.read_b in
     let h = under.reached in
@@ -102,30 +117,36 @@ returns-in-Ok-Ended-clause-turn g c = λ text_a text_b come_a made_a made_b unde
     stopped in
     let waits_a = held.waits h.world.a h.world.b h.stands_a h.stands_b.sent in
     let place : c.args.a.now.end.counts.records ≡ length made_a = next_place c.args.a.now.end.counts made_a h.counts_a in
-    rw c.refused-in-Ok-Ended.ensures
-    (at_place g.T.Top.top _ _ A NoSuchUnit _ _ place
-    (a_waits g.T.Top.top _ _ c.args.a.now.end.head c.args.b.now.end.head refl c.advance.ensures.head (length made_a) held.next
-    (same_read text_a c.args.a.now _ come_a made_a refl refl refl under.read_a) m.read held.ahead m.ahead
-    (left_any g.T.Top.top.leaves (stops_a g.T.Top.top _ _ c.args.a.now.end c.args.b.now.end NoSuchUnit held.next h
-    (record { head = refl; layers = refl; counts = refl; line = m.still.same_line })
-    (same_end c.args.b.now.end c.advance.new.self.end m.still.same_end) held.ahead waits_a))
-    (λ rest_a. c.endings.ensures.a_lacks _ _ h.world made_a rest_a made_b held.next h.run waits_a)))
+    rw c.refused-in-Ok-Ended.ensures (
+      at_place g.T.Top.top _ _ A NoSuchUnit _ _ place
+          (a_waits g.T.Top.top _ _ c.args.a.now.end.head c.args.b.now.end.head refl c.advance.ensures.head (length made_a) held.next
+          (same_read text_a c.args.a.now _ come_a made_a refl refl refl under.read_a) m.read held.ahead m.ahead
+          (left_any g.T.Top.top.leaves (stops_a g.T.Top.top _ _ c.args.a.now.end c.args.b.now.end NoSuchUnit held.next h
+          (record { head = refl; layers = refl; counts = refl; line = m.still.same_line })
+          (same_end c.args.b.now.end c.advance.new.self.end m.still.same_end) held.ahead waits_a))
+          (λ rest_a. c.endings.ensures.a_lacks _ _ h.world made_a rest_a made_b held.next h.run waits_a)),
+      ordered g.T.Top.top _ _ order c.args.a.now.end c.args.b.now.end h refl c.advance.ensures.head refl
+          (same_end c.args.b.now.end c.advance.new.self.end m.still.same_end).counts,
+    )
 
 pub returns-in-Ok-Ended-2-clause-turn : goal.returns-in-Ok-Ended-2-clause-turn
-returns-in-Ok-Ended-2-clause-turn g c = λ text_a text_b come_a made_a made_b under stopped.
+returns-in-Ok-Ended-2-clause-turn g c = λ order text_a text_b come_a made_a made_b under stopped.
     let over = rw c.in-Ok-Ended.field-0-is at c.in-Ok-Ended.ensures.advance in
     let m = over text_b made_b under.read_b in
     let h = under.reached in
     let ended : c.args.a.now.ahead ≡ Ended = subst (λ (w : Bool). IsStopped g.T.Top.top w c.args.a.now c.args.b.now.end.line) c.if-a_waits-2.false
     stopped in
-    let now = reached_still g.T.Top.top c.args.a.now.end _ c.args.b.now.end c.advance.new.self.end made_a made_b h
+    let now = reached_still g.T.Top.top order c.args.a.now.end _ c.args.b.now.end c.advance.new.self.end made_a made_b h
     (record { head = refl; layers = refl; counts = refl; line = m.still.same_line })
-    (same_end c.args.b.now.end c.advance.new.self.end m.still.same_end) in
-    both_ended g.T.Top.top _ _ now (c.endings.ensures.accepted _ _ now.world made_a made_b now.run)
-    (same_read text_a c.args.a.now _ come_a made_a refl refl refl under.read_a) m.read ended m.ahead
+    (same_end c.args.b.now.end c.advance.new.self.end m.still.same_end) in (
+      both_ended g.T.Top.top _ _ now (c.endings.ensures.accepted _ _ now.world made_a made_b now.run)
+          (same_read text_a c.args.a.now _ come_a made_a refl refl refl under.read_a) m.read ended m.ahead,
+      ordered g.T.Top.top _ _ order c.args.a.now.end c.args.b.now.end h refl c.advance.ensures.head refl
+          (same_end c.args.b.now.end c.advance.new.self.end m.still.same_end).counts,
+    )
 
 pub returns-in-Err-clause-fault : goal.returns-in-Err-clause-fault
-returns-in-Err-clause-fault g c = λ text_a text_b come_a made_a made_b under.
+returns-in-Err-clause-fault g c = λ order text_a text_b come_a made_a made_b under.
     let h = under.reached in
     let shown = c.endings.ensures.accepted _ _ h.world made_a made_b h.run in
     subst (λ (fault : JudgeFault). IsJudgeFault g.T.Top.top.kind text_a text_b fault) (sym c.side_fault.ensures)

@@ -1,0 +1,214 @@
+-- The check that a message, an arrival or an event does not pass is the one for which both layers refuse it.
+use Rattle.std.proofs.Common.{◌≡◌, ℕ, Bool, true, false, cond, Option, Some, None, List, Result, Ok, Err, refl, sym, ap, ◌∙◌, option_map}
+use Rattle.capture.specs.declared.event.Event.{Event}
+use Rattle.capture.specs.declared.event.Event.TheVariants as events
+use Rattle.ddcmp_msg.specs.Message.{MessageValue}
+use Rattle.ddcmp_station.specs.Failed as of_station
+use Rattle.ddcmp_station.specs.declared.failed.FailedArrival.{FailedArrival}
+use Rattle.ddcmp_station.specs.declared.failed.FailedSending.{FailedSending}
+use Rattle.ddcmp_station.proofs.Failing.{refuses_same}
+use Rattle.ddcmp_station.proofs.FailingArrival.{arrival_same as station_arrival_same}
+use Rattle.dna_packet.specs.declared.fault.NspFault.{NspFault}
+use Rattle.dna_packet.specs.declared.fault.PacketFault.{PacketFault}
+use Rattle.dna_packet.specs.Nsp.{NspValue}
+use Rattle.dna_packet.specs.Packet.{PacketValue, Data, Control, IsReturned}
+use Rattle.dna_packet.specs.ReadingNsp.{nsp_at}
+use Rattle.dna_packet.specs.ReadingPacket.{packet_at}
+use Rattle.dna_station.specs.declared.link_refusal.LinkRefusal.{LinkRefusal}
+use Rattle.dna_station.specs.declared.refusal.StationRefusal.{StationRefusal}
+use Rattle.dna_station.specs.declared.refusal.StepRefusal.{StepRefusal}
+use Rattle.dna_station.specs.declared.refusal.StepRefusal.TheVariants.{BadPacket, BadNsp, Links as OfLinks, Station as OfStation}
+use Rattle.dna_station.specs.declared.state.State.{State}
+use Rattle.dna_station.specs.declared.state.State.TheVariants.{Halted, Istrt, Astrt, Running}
+use Rattle.dna_station.specs.declared.state.StationEvent.TheVariants.{Start, Halt}
+use Rattle.dna_station.specs.declared.tag.Tag.{Tag}
+use Rattle.dna_station.specs.Book.{ArrivalValue, Sound, HeaderBad, DataBad, body_of}
+use Rattle.dna_station.specs.Machine.{unless_refused}
+use Rattle.dna_station.specs.Table.{user_refusal}
+use Rattle.dna_station.specs.WireBook.{gives_new, wire_book, wire_sending_refusal, wire_after_sending, wire_arrival_refusal, wire_after_arrival}
+use Rattle.dna_station.specs.WireStation.{WireStation}
+use Rattle.dna_links.specs.declared.tag.LinkTag.{LinkTag}
+use Rattle.dna_links.specs.Links.{Carried}
+use Rattle.dna_links.specs.Sending.{Sent}
+use Rattle.dna_links.specs.User.{LinkEventValue, Open, Accept, Reject, In, Up, Close}
+use Rattle.dna_links.specs.WireFlow.{WireFlow}
+use Rattle.dna_links.specs.WireLinks.{WireLinks, wire_links_arrived, wire_links_sent, wire_links_user}
+use Rattle.dna_node.specs.declared.finding.Cause.{Cause}
+use Rattle.dna_node.specs.declared.finding.Cause.TheVariants.{Step}
+use Rattle.dna_node.specs.Content.{content, content_of, is_returned, link_event, message_in}
+use Rattle.dna_node.specs.Rules.{judged}
+use Rattle.dna_node.specs.WireLayers.{LayersTag, WireLayers, tag_or_none, to_wire_station, wire_keeps, wire_keeps_packet, wire_layers_machine}
+use Rattle.dna_node.specs.WireLayers.{wire_meets_on, wire_sends_again, wire_sends_first, wire_sends_on, with_tag, with_wire_links, with_wire_station}
+use Rattle.nsp_link.specs.FailedArrival as arrives
+use Rattle.nsp_link.specs.FailedEvent as happens
+use Rattle.nsp_link.specs.FailedSending as sends
+use Rattle.nsp_link.specs.FailedSending.{or_next}
+use Rattle.nsp_link.specs.Missing.{refusal_in}
+use Rattle.nsp_link.specs.declared.failed.FailedLinkArrival.{FailedLinkArrival}
+use Rattle.nsp_link.specs.declared.failed.FailedLinkEvent.{FailedLinkEvent}
+use Rattle.nsp_link.specs.declared.failed.FailedLinkSending.{FailedLinkSending}
+use Rattle.nsp_link.proofs.FailedArrival.{arrival_same as link_arrival_same}
+use Rattle.nsp_link.proofs.FailedEvent.{event_same}
+use Rattle.nsp_link.proofs.FailedSending.{sending_same}
+use Rattle.pair_judge.specs.FailedCheck.{Lent, lent_of, carried, cause_in, cause_of, failed_arrival, failed_at_links, failed_first, failed_kept}
+use Rattle.pair_judge.specs.FailedCheck.{failed_lent, failed_message, failed_nsp, failed_packet, failed_start, failed_user}
+use Rattle.pair_judge.specs.inner.Steps.{with_link}
+use Rattle.pair_judge.specs.declared.failed_check.FailedCheck.{FailedCheck}
+use Rattle.pair_judge.specs.declared.failed_check.FailedCheck.TheVariants.{LinkSending, LinkArrival, LinkEvent, StationSending, StationArrival}
+use Rattle.pair_judge.proofs.Packets.{returned, not_returned}
+
+-- ---- what a packet carries
+
+pub lends_nothing : (p : PacketValue) → IsReturned p → lent_of (Ok p) ≡ Ok None
+lends_nothing (Data rtflg dst src forward nsp) back =
+    ap (λ (b : Bool). Ok (cond b None (Some (record { dst = dst; src = src; message = nsp })))) (returned rtflg back)
+lends_nothing (Control bytes) back = absurd back
+
+pub lends_message : (rtflg dst src forward : ℕ) (nsp : List ℕ) → (IsReturned (Data rtflg dst src forward nsp) → ⊥) →
+    lent_of (Ok (Data rtflg dst src forward nsp)) ≡ Ok (Some (record { dst = dst; src = src; message = nsp }))
+lends_message rtflg dst src forward nsp there =
+    ap (λ (b : Bool). Ok (cond b None (Some (record { dst = dst; src = src; message = nsp })))) (not_returned rtflg there)
+
+abbrev caused : Option FailedCheck → Option Cause
+caused failed = option_map cause_of failed
+
+-- where a packet, its message and what the links say of that are met in this order
+module _ {R : Type 0} (linked : Carried → Option FailedCheck) (keeps : Result (Option Carried) StepRefusal → Result R StepRefusal)
+    (nothing : cause_in (keeps (Ok None)) ≡ None) (bad : (refusal : StepRefusal) → cause_in (keeps (Err refusal)) ≡ Some (Step refusal))
+    (some : (packet : Carried) → caused (linked packet) ≡ cause_in (keeps (Ok (Some packet)))) where
+  nsp_same : (dst src : ℕ) (r : Result NspValue NspFault) → caused (failed_nsp linked dst src r) ≡ cause_in (keeps (message_in dst src r))
+  nsp_same dst src (Ok m) = some (carried dst src m)
+  nsp_same dst src (Err fault) = sym (bad BadNsp)
+
+  back_same : (back : Bool) (dst src : ℕ) (nsp : List ℕ) →
+      caused (failed_lent linked (Ok (cond back None (Some (record { dst = dst; src = src; message = nsp }))))) ≡
+      cause_in (keeps (cond back (Ok None) (message_in dst src (nsp_at nsp))))
+  back_same true dst src nsp = sym nothing
+  back_same false dst src nsp = nsp_same dst src (nsp_at nsp)
+
+  lent_same : (r : Result PacketValue PacketFault) → caused (failed_lent linked (lent_of r)) ≡ cause_in (keeps (content_of r))
+  lent_same (Ok (Data rtflg dst src forward nsp)) = back_same (is_returned rtflg) dst src nsp
+  lent_same (Ok (Control bytes)) = sym nothing
+  lent_same (Err fault) = sym (bad BadPacket)
+
+  packet_same : (packet : List ℕ) → caused (failed_packet linked packet) ≡ cause_in (keeps (content packet))
+  packet_same packet = lent_same (packet_at packet)
+
+-- ---- a message
+
+-- what the station makes of an arrival has nothing of the tag of its packet
+pub without_link : (link : Option LinkTag) (arrival : ArrivalValue Tag) → to_wire_station (with_link link arrival) ≡ arrival
+without_link link (Sound m tag) = refl
+without_link link HeaderBad = refl
+without_link link DataBad = refl
+
+linked_same : (after : WireStation LinkTag × Tag) (o : Option FailedLinkSending) (r : Result (Sent WireFlow (Unit {0})) LinkRefusal) →
+    option_map sends.refusal_of_sending o ≡ refusal_in r → caused (option_map LinkSending o) ≡ cause_in (with_tag after r)
+linked_same after (Some failed) (Err refusal) same = ap (option_map (λ (e : LinkRefusal). Step (OfLinks e))) same
+linked_same after None (Ok made) same = refl
+linked_same after (Some failed) (Ok made) same = absurd (cc)
+linked_same after None (Err refusal) same = absurd (cc)
+
+first_same : (s : WireLayers) (m : MessageValue) (after : WireStation LinkTag × Tag) →
+    caused (failed_first s m) ≡ cause_in (wire_sends_on s m (Ok after))
+first_same s m after = by_new (gives_new s.station m) where
+  by_new : (b : Bool) →
+      caused (cond b (failed_packet (λ packet. option_map LinkSending (sends.failed_sending s.links packet)) (body_of m)) None) ≡
+      cause_in (cond b (wire_sends_first s after (content (body_of m))) (Ok (wire_sends_again s m after)))
+  by_new true =
+      packet_same (λ packet. option_map LinkSending (sends.failed_sending s.links packet)) (wire_sends_first s after) refl (λ refusal. refl)
+      (λ packet. linked_same after (sends.failed_sending s.links packet) (wire_links_sent s.links packet) (sending_same s.links packet))
+      (body_of m)
+  by_new false = refl
+
+message_by : (s : WireLayers) (m : MessageValue) (after : WireStation LinkTag × Tag) (o : Option FailedSending) (p : Option StationRefusal) →
+    option_map of_station.refusal_of_failed o ≡ p →
+    caused (or_next (option_map StationSending o) (failed_first s m)) ≡ cause_in (wire_sends_on s m (unless_refused p after))
+message_by s m after (Some failed) p same = ap (λ (q : Option StationRefusal). cause_in (wire_sends_on s m (unless_refused q after))) same
+message_by s m after None p same =
+    first_same s m after ∙ ap (λ (q : Option StationRefusal). cause_in (wire_sends_on s m (unless_refused q after))) same
+
+pub message_same : (s : WireLayers) (m : MessageValue) → caused (failed_message s m) ≡ cause_in ((wire_layers_machine judged).sends s m)
+message_same s m =
+    message_by s m (wire_after_sending s.station m, wire_book.known s.station (wire_after_sending s.station m) m)
+    (of_station.failed_sending s.station m) (wire_sending_refusal s.station m) (refuses_same s.station m)
+
+-- ---- an arrival
+
+taken_same : (s : WireLayers) (o : Option FailedLinkArrival) (r : Result WireLinks LinkRefusal) →
+    option_map arrives.refusal_of_arrival o ≡ refusal_in r → caused (option_map LinkArrival o) ≡ cause_in (with_wire_links s r)
+taken_same s (Some failed) (Err refusal) same = ap (option_map (λ (e : LinkRefusal). Step (OfLinks e))) same
+taken_same s None (Ok made) same = refl
+taken_same s (Some failed) (Ok made) same = absurd (cc)
+taken_same s None (Err refusal) same = absurd (cc)
+
+kept_same : (s : WireLayers) (after : WireStation LinkTag) (arrival : ArrivalValue LayersTag) →
+    caused (failed_kept s arrival) ≡ cause_in (wire_keeps judged (record s { station = after }) arrival)
+kept_same s after (Sound m known) =
+    packet_same (λ packet. option_map LinkArrival (arrives.failed_arrival s.links packet (tag_or_none known.link)))
+    (wire_keeps_packet judged (record s { station = after }) (tag_or_none known.link)) refl (λ refusal. refl)
+    (λ packet. taken_same (record s { station = after }) (arrives.failed_arrival s.links packet (tag_or_none known.link))
+    (wire_links_arrived judged.partners s.links packet (tag_or_none known.link)) (link_arrival_same s.links packet (tag_or_none known.link)))
+    (body_of m)
+kept_same s after HeaderBad = refl
+kept_same s after DataBad = refl
+
+met_same : (s : WireLayers) (arrival : ArrivalValue LayersTag) (kept : Bool) (after : WireStation LinkTag) →
+    caused (cond kept (failed_kept s arrival) None) ≡ cause_in (wire_meets_on judged s arrival kept (Ok after))
+met_same s arrival true after = kept_same s after arrival
+met_same s arrival false after = refl
+
+arrival_by : (s : WireLayers) (arrival : ArrivalValue LayersTag) (kept : Bool) (after : WireStation LinkTag) (o : Option FailedArrival)
+    (p : Option StationRefusal) → option_map of_station.refusal_of_arrival o ≡ p →
+    caused (or_next (option_map StationArrival o) (cond kept (failed_kept s arrival) None)) ≡
+    cause_in (wire_meets_on judged s arrival kept (unless_refused p after))
+arrival_by s arrival kept after (Some failed) p same =
+    ap (λ (q : Option StationRefusal). cause_in (wire_meets_on judged s arrival kept (unless_refused q after))) same
+arrival_by s arrival kept after None p same =
+    met_same s arrival kept after
+    ∙ ap (λ (q : Option StationRefusal). cause_in (wire_meets_on judged s arrival kept (unless_refused q after))) same
+
+pub arrival_same : (s : WireLayers) (arrival : ArrivalValue LayersTag) (kept : Bool) →
+    caused (failed_arrival s arrival kept) ≡ cause_in ((wire_layers_machine judged).arrives s arrival kept)
+arrival_same s arrival kept =
+    arrival_by s arrival kept (wire_after_arrival s.station (to_wire_station arrival) kept)
+    (of_station.failed_arrival s.station (to_wire_station arrival) kept)
+    (wire_arrival_refusal judged.periods s.station (to_wire_station arrival) kept)
+    (station_arrival_same s.station (to_wire_station arrival) kept)
+
+-- ---- the user
+
+start_same : (s : WireLayers) (after : WireStation LinkTag) (state : State) →
+    caused (failed_start state (user_refusal state Start)) ≡ cause_in (with_wire_station s (unless_refused (user_refusal state Start) after))
+start_same s after Halted = refl
+start_same s after Istrt = refl
+start_same s after Astrt = refl
+start_same s after Running = refl
+
+halt_same : (s : WireLayers) (after : WireStation LinkTag) (state : State) →
+    ◌≡◌ {A = Option Cause} None (cause_in (with_wire_station s (unless_refused (user_refusal state Halt) after)))
+halt_same s after Halted = refl
+halt_same s after Istrt = refl
+halt_same s after Astrt = refl
+halt_same s after Running = refl
+
+event_by : (s : WireLayers) (o : Option FailedLinkEvent) (r : Result WireLinks LinkRefusal) →
+    option_map happens.refusal_of_event o ≡ refusal_in r → caused (option_map LinkEvent o) ≡ cause_in (with_wire_links s r)
+event_by s (Some failed) (Err refusal) same = ap (option_map (λ (e : LinkRefusal). Step (OfLinks e))) same
+event_by s None (Ok made) same = refl
+event_by s (Some failed) (Ok made) same = absurd (cc)
+event_by s None (Err refusal) same = absurd (cc)
+
+links_same : (s : WireLayers) (event : LinkEventValue) →
+    caused (failed_at_links s (Some event)) ≡ cause_in (with_wire_links s (wire_links_user s.links event))
+links_same s event = event_by s (happens.failed_event s.links event) (wire_links_user s.links event) (event_same s.links event)
+
+pub user_same : (s : WireLayers) (event : Event) → caused (failed_user s event) ≡ cause_in ((wire_layers_machine judged).user s event)
+user_same s events.Start = start_same s (wire_book.after_event s.station Start) s.station.variables.state
+user_same s events.Halt = halt_same s (wire_book.after_event s.station Halt) s.station.variables.state
+user_same s (events.Open link) = links_same s (Open link)
+user_same s (events.Accept partner link) = links_same s (Accept partner link)
+user_same s (events.Reject partner link) = links_same s (Reject partner link)
+user_same s (events.In link message) = links_same s (In link message)
+user_same s (events.Up link message) = links_same s (Up link message)
+user_same s (events.Close link) = links_same s (Close link)

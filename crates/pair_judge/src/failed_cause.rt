@@ -1,0 +1,120 @@
+//! The reason that goes with a failed check.
+
+ghost use Rattle.std.specs.Prelude.{◌≡◌};
+ghost use Rattle.ddcmp_station.specs.Failed as of_station;
+ghost use Rattle.nsp_link.specs.FailedArrival as arrives;
+ghost use Rattle.nsp_link.specs.FailedEvent as events;
+ghost use Rattle.nsp_link.specs.FailedSending as sends;
+ghost use Rattle.pair_judge.specs.FailedCheck.{cause_of, reason_of_failed};
+
+use crate::failed_check::FailedCheck;
+use crate::reason::Reason;
+use ddcmp_station::{FailedArrival, FailedSending};
+use dna_node::Cause;
+use dna_station::{LinkRefusal, StationRefusal, StepRefusal};
+use nsp_link::{FailedLinkArrival, FailedLinkEvent, FailedLinkSending};
+
+impl FailedCheck {
+    /// The reason that is printed for it.
+    pub fn reason(self) -> Reason
+        ensures { result ≡ reason_of_failed self }
+    {
+        Reason::of_cause(self.cause())
+    }
+
+    fn cause(self) -> Cause
+        ensures { result ≡ cause_of self }
+    {
+        match self {
+            FailedCheck::NoSuchUnit(_) => Cause::NoSuchUnit,
+            FailedCheck::NoOrder { .. } => Cause::NoOrder,
+            FailedCheck::Message(_) => Cause::Step(StepRefusal::NotAMessage),
+            FailedCheck::HintOrder { .. } => Cause::Step(StepRefusal::HintOrder),
+            FailedCheck::Undetected { .. } => Cause::Step(StepRefusal::Undetected),
+            FailedCheck::StationSending(failed) => of_station(station_sending(failed)),
+            FailedCheck::StationArrival(failed) => of_station(station_arrival(failed)),
+            FailedCheck::StationEvent { .. } => of_station(StationRefusal::WrongUserEvent),
+            FailedCheck::Packet(_) => Cause::Step(StepRefusal::BadPacket),
+            FailedCheck::Nsp(_) => Cause::Step(StepRefusal::BadNsp),
+            FailedCheck::LinkSending(failed) => of_links(link_sending(failed)),
+            FailedCheck::LinkArrival(failed) => of_links(link_arrival(failed)),
+            FailedCheck::LinkEvent(failed) => of_links(link_event(failed)),
+            FailedCheck::Noise => Cause::Step(StepRefusal::NotNoise),
+        }
+    }
+}
+
+fn of_station(refusal: StationRefusal) -> Cause
+    ensures { result ≡ Cause.Step (StepRefusal.Station refusal) }
+{
+    Cause::Step(StepRefusal::Station(refusal))
+}
+
+fn of_links(refusal: LinkRefusal) -> Cause
+    ensures { result ≡ Cause.Step (StepRefusal.Links refusal) }
+{
+    Cause::Step(StepRefusal::Links(refusal))
+}
+
+fn station_sending(failed: FailedSending) -> StationRefusal
+    ensures { result ≡ of_station.refusal_of_failed failed }
+{
+    match failed {
+        FailedSending::State { .. } => StationRefusal::WrongState,
+        FailedSending::RespIsLast { .. } => StationRefusal::WrongResponse,
+        FailedSending::NumIsNext { .. } => StationRefusal::WrongNumber,
+        FailedSending::NumIsHighest { .. } => StationRefusal::WrongNumber,
+        FailedSending::SomeOutstanding => StationRefusal::WrongState,
+        FailedSending::RoomIfNew { .. } => StationRefusal::WindowFull,
+        FailedSending::AsFirstGiven { .. } => StationRefusal::Changed,
+        FailedSending::CauseIsOpen { .. } => StationRefusal::NoCause,
+    }
+}
+
+fn station_arrival(failed: FailedArrival) -> StationRefusal
+    ensures { result ≡ of_station.refusal_of_arrival failed }
+{
+    match failed {
+        FailedArrival::Period { .. } => StationRefusal::CrossedPeriod,
+        FailedArrival::Keep => StationRefusal::WrongKeep,
+    }
+}
+
+fn link_sending(failed: FailedLinkSending) -> LinkRefusal
+    ensures { result ≡ sends.refusal_of_sending failed }
+{
+    match failed {
+        FailedLinkSending::Nodes { .. } => LinkRefusal::WrongNode,
+        FailedLinkSending::NoLink(_) => LinkRefusal::NoLink,
+        FailedLinkSending::Phase { .. } => LinkRefusal::LinkState,
+        FailedLinkSending::Live { .. } => LinkRefusal::LinkState,
+        FailedLinkSending::Acknowledgement { .. } => LinkRefusal::WrongAck,
+        FailedLinkSending::Room { .. } => LinkRefusal::LinkWindowFull,
+        FailedLinkSending::Length { .. } => LinkRefusal::SegmentTooLong,
+        FailedLinkSending::NextPiece { .. } => LinkRefusal::WrongSegment,
+        FailedLinkSending::Number { .. } => LinkRefusal::WrongSegment,
+        FailedLinkSending::AsFirstGiven { .. } => LinkRefusal::WrongSegment,
+    }
+}
+
+fn link_arrival(failed: FailedLinkArrival) -> LinkRefusal
+    ensures { result ≡ arrives.refusal_of_arrival failed }
+{
+    match failed {
+        FailedLinkArrival::Nodes { .. } => LinkRefusal::WrongNode,
+        FailedLinkArrival::OtherCall { .. } => LinkRefusal::CrossedLink,
+        FailedLinkArrival::OtherPair { .. } => LinkRefusal::CrossedLink,
+    }
+}
+
+fn link_event(failed: FailedLinkEvent) -> LinkRefusal
+    ensures { result ≡ events.refusal_of_event failed }
+{
+    match failed {
+        FailedLinkEvent::NoLink(_) => LinkRefusal::NoLink,
+        FailedLinkEvent::AddressInUse { .. } => LinkRefusal::AddressInUse,
+        FailedLinkEvent::TakesMessages { .. } => LinkRefusal::LinkState,
+        FailedLinkEvent::IsConnected { .. } => LinkRefusal::LinkState,
+        FailedLinkEvent::Delivery { .. } => LinkRefusal::WrongDelivery,
+    }
+}

@@ -1,0 +1,110 @@
+//! Which check a record does not pass at one side, over both layers and the line.
+
+ghost use Rattle.std.specs.Prelude.{◌≡◌};
+ghost use Rattle.ddcmp_msg.specs.Reading.{reading};
+ghost use Rattle.capture.specs.Entries.{record_with};
+ghost use Rattle.capture.specs.declared.record.Record.TheVariants as Record;
+ghost use Rattle.dna_station.specs.Line.{damage};
+ghost use Rattle.pair_judge.specs.FailedCheck as spec;
+ghost use Rattle.pair_judge.specs.inner.Lines.{held};
+
+use crate::failed_check::{FailedCheck, NotSound};
+use crate::held_link::HeldLink;
+use crate::layers::Layers;
+use crate::line::Line;
+use crate::receipt::coming;
+use capture::Entry;
+use ddcmp_msg::{Reading, read_unit};
+use ddcmp_station::Arrival;
+use nsp_link::LinkEvent;
+
+/// The first check that this record does not pass at a side, to which this line leads from the other one, with what is seen there and what is
+/// allowed; `None` where it is made, or waits. The record is that of the entry and these bytes. Takes no memory.
+pub fn failed_record(
+    layers: &Layers,
+    incoming: &Line,
+    entry: Entry,
+    bytes: &[u8],
+) -> Option<FailedCheck>
+    ensures { result ≡ spec.failed_record layers.now incoming.now.gone (held incoming.now) (record_with entry bytes.now) }
+{
+    match entry {
+        Entry::Sent => failed_sent(layers, bytes),
+        Entry::Received { kept, hint } => failed_receipt(layers, incoming, hint, kept, bytes),
+        Entry::Noise => failed_noise(layers, bytes),
+        Entry::Start => layers.failed_start(),
+        Entry::Halt => None,
+        Entry::Open { link } => layers.failed_link_event(LinkEvent::Open { link }),
+        Entry::Accept { partner, link } => {
+            layers.failed_link_event(LinkEvent::Accept { partner, link })
+        }
+        Entry::Reject { partner, link } => {
+            layers.failed_link_event(LinkEvent::Reject { partner, link })
+        }
+        Entry::In { link } => {
+            layers.failed_link_event(LinkEvent::In {
+                link,
+                message: bytes,
+            })
+        }
+        Entry::Up { link } => {
+            layers.failed_link_event(LinkEvent::Up {
+                link,
+                message: bytes,
+            })
+        }
+        Entry::Close { link } => layers.failed_link_event(LinkEvent::Close { link }),
+    }
+}
+
+// Bytes that are sent.
+fn failed_sent(layers: &Layers, bytes: &[u8]) -> Option<FailedCheck>
+    ensures { result ≡ spec.failed_sent layers.now (reading bytes.now) }
+{
+    match read_unit(bytes) {
+        Reading::Sound(message) => layers.failed_message(&message),
+        Reading::HeaderBad => Some(FailedCheck::Message(NotSound::HeaderBad)),
+        Reading::DataBad => Some(FailedCheck::Message(NotSound::DataBad)),
+        Reading::Malformed(departure) => {
+            Some(FailedCheck::Message(NotSound::Malformed(departure)))
+        }
+    }
+}
+
+// Bytes that come for the unit with this number.
+fn failed_receipt(
+    layers: &Layers,
+    incoming: &Line,
+    hint: u64,
+    kept: bool,
+    bytes: &[u8],
+) -> Option<FailedCheck>
+    ensures { result ≡ spec.failed_record layers.now incoming.now.gone (held incoming.now) (Record.Received hint kept bytes.now) }
+{
+    if hint < incoming.gone {
+        return Some(FailedCheck::HintOrder {
+            seen: hint,
+            lowest: incoming.gone,
+        });
+    }
+    let Some(unit) = incoming.unit(hint) else {
+        return None;
+    };
+    let Some(arrival) = coming(&unit, bytes) else {
+        return Some(FailedCheck::Undetected { unit: hint });
+    };
+    layers.failed_arrival(arrival, unit.link(), kept)
+}
+
+// Bytes that nobody sent.
+fn failed_noise(layers: &Layers, bytes: &[u8]) -> Option<FailedCheck>
+    ensures { result ≡ spec.failed_noise layers.now (damage (reading bytes.now)) }
+{
+    let no_tag = HeldLink::new(&None);
+    match read_unit(bytes) {
+        Reading::HeaderBad => layers.failed_arrival(Arrival::HeaderBad, &no_tag, false),
+        Reading::DataBad => layers.failed_arrival(Arrival::DataBad, &no_tag, false),
+        Reading::Sound(_) => Some(FailedCheck::Noise),
+        Reading::Malformed(_) => Some(FailedCheck::Noise),
+    }
+}

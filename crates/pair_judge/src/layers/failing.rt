@@ -1,0 +1,143 @@
+//! Which check of both layers a message or an event does not pass.
+
+ghost use Rattle.std.specs.Prelude.{◌≡◌, option_map};
+ghost use Rattle.ddcmp_msg.specs.Message.{view};
+ghost use Rattle.dna_packet.specs.ReadingNsp.{nsp_at};
+ghost use Rattle.dna_station.specs.declared.state.StationEvent.TheVariants.{Start};
+ghost use Rattle.dna_station.specs.Table.{user_refusal};
+ghost use Rattle.dna_links.specs.User as links;
+ghost use Rattle.dna_node.specs.WireLayers.{tag_or_none};
+ghost use Rattle.ddcmp_station.specs.Arrival.{arrival_view};
+ghost use Rattle.nsp_link.specs.FailedArrival as link_arrival;
+ghost use Rattle.nsp_link.specs.FailedEvent as link_event;
+ghost use Rattle.nsp_link.specs.FailedSending as link_sending;
+ghost use Rattle.pair_judge.specs.FailedCheck as spec;
+ghost use Rattle.pair_judge.specs.inner.Steps.{with_link};
+
+use super::Layers;
+use super::arriving::tag_of;
+use super::sending::packet_of;
+use crate::carried::carried;
+use crate::failed_check::FailedCheck;
+use crate::held_link::HeldLink;
+use crate::packet::Carried;
+use ddcmp_msg::Message;
+use ddcmp_station::{Arrival, State};
+use dna_packet::read_nsp;
+use nsp_link::LinkEvent;
+
+impl Layers {
+    /// The first check that this message does not pass, if the node sent it now; `None` where it may be sent. Takes no memory.
+    pub fn failed_message(&self, message: &Message) -> Option<FailedCheck>
+        ensures { result ≡ spec.failed_message self.now (view message.now) }
+    {
+        if let Some(failed) = self.station.failed_sending(message) {
+            return Some(FailedCheck::StationSending(failed));
+        }
+        match self.station.may_send(message) {
+            Ok(true) => self.failed_first(packet_of(message)),
+            Ok(false) => None,
+            Err(_) => unreachable!(),
+        }
+    }
+
+    // The links meet a packet that is first sent.
+    fn failed_first(&self, packet: &[u8]) -> Option<FailedCheck>
+        ensures { result ≡ spec.failed_packet
+            (λ carried. option_map FailedCheck.LinkSending (link_sending.failed_sending self.now.links carried)) packet.now }
+    {
+        match carried(packet) {
+            Ok(Some(carried)) => self.failed_link_sending(carried),
+            Ok(None) => None,
+            Err(fault) => Some(FailedCheck::Packet(fault)),
+        }
+    }
+
+    fn failed_link_sending(&self, carried: Carried) -> Option<FailedCheck>
+        ensures { result ≡ spec.failed_nsp (λ carried. option_map FailedCheck.LinkSending (link_sending.failed_sending self.now.links carried))
+            carried.entry.dst carried.entry.src (nsp_at carried.entry.message.now) }
+    {
+        match &read_nsp(carried.message) {
+            Ok(message) => match self.links.failed_sending(carried.dst, carried.src, message) {
+                Some(failed) => Some(FailedCheck::LinkSending(failed)),
+                None => None,
+            },
+            Err(fault) => Some(FailedCheck::Nsp(*fault)),
+        }
+    }
+
+    /// The first check that this does not pass, if it came now with the tag of its packet and the node kept the packet or did not; `None`
+    /// where it is met. Takes no memory.
+    #[tactic(auto, using(crate::proofs::FailedAsRefused::without_link))]
+    pub fn failed_arrival(
+        &self,
+        arrival: Arrival,
+        link: &HeldLink,
+        kept: bool,
+    ) -> Option<FailedCheck>
+        ensures { result ≡ spec.failed_arrival self.now (with_link link.now (arrival_view arrival.entry)) kept }
+    {
+        if let Some(failed) = self.station.failed_arrival(arrival, kept) {
+            return Some(FailedCheck::StationArrival(failed));
+        }
+        if !kept {
+            return None;
+        }
+        match arrival {
+            Arrival::Sound(message, _) => self.failed_kept(packet_of(&message), link),
+            Arrival::HeaderBad | Arrival::DataBad => None,
+        }
+    }
+
+    // The links meet a packet that is kept.
+    fn failed_kept(&self, packet: &[u8], link: &HeldLink) -> Option<FailedCheck>
+        ensures { result ≡ spec.failed_packet
+            (λ carried. option_map FailedCheck.LinkArrival (link_arrival.failed_arrival self.now.links carried (tag_or_none link.now))) packet.now }
+    {
+        match carried(packet) {
+            Ok(Some(carried)) => self.failed_link_arrival(carried, link),
+            Ok(None) => None,
+            Err(fault) => Some(FailedCheck::Packet(fault)),
+        }
+    }
+
+    fn failed_link_arrival(&self, carried: Carried, link: &HeldLink) -> Option<FailedCheck>
+        ensures { result ≡ spec.failed_nsp
+            (λ carried. option_map FailedCheck.LinkArrival (link_arrival.failed_arrival self.now.links carried (tag_or_none link.now)))
+            carried.entry.dst carried.entry.src (nsp_at carried.entry.message.now) }
+    {
+        match &read_nsp(carried.message) {
+            Ok(message) => match self
+                .links
+                .failed_arrival(carried.dst, carried.src, message, tag_of(link))
+            {
+                Some(failed) => Some(FailedCheck::LinkArrival(failed)),
+                None => None,
+            },
+            Err(fault) => Some(FailedCheck::Nsp(*fault)),
+        }
+    }
+
+    /// The check that a start of the station by its user does not pass; `None` where it is in HALTED.
+    pub fn failed_start(&self) -> Option<FailedCheck>
+        ensures { result ≡ spec.failed_start self.now.station.variables.state (user_refusal self.now.station.variables.state Start) }
+    {
+        let seen = self.station.state();
+        match seen {
+            State::Halted => None,
+            State::Istrt | State::Astrt | State::Running => {
+                Some(FailedCheck::StationEvent { seen })
+            }
+        }
+    }
+
+    /// The check that this event of the links' user does not pass; `None` where the user may do it. Takes no memory.
+    pub fn failed_link_event(&self, event: LinkEvent) -> Option<FailedCheck>
+        ensures { result ≡ option_map FailedCheck.LinkEvent (link_event.failed_event self.now.links (links.view event.entry)) }
+    {
+        match self.links.failed_event(event) {
+            Some(failed) => Some(FailedCheck::LinkEvent(failed)),
+            None => None,
+        }
+    }
+}
