@@ -1,0 +1,5 @@
+mod Arrows
+mod Cuts
+mod Keeping
+mod Lists
+mod Places

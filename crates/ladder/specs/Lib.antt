@@ -1,0 +1,10 @@
+pub mod Said
+pub mod Reading
+pub mod Note
+pub mod Given
+pub mod UnderWay
+pub mod Row
+pub mod Rows
+pub mod Ladder
+pub mod Places
+pub mod Text

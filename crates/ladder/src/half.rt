@@ -1,0 +1,117 @@
+//! What a ladder knows of one side.
+
+ghost use Rattle.std.specs.Prelude.{◌≡◌, OnErr, OnOk};
+ghost use Rattle.ladder.specs.Ladder as spec;
+
+use crate::given::Given;
+use crate::reading::said_by;
+use crate::said::Said;
+use crate::told::{Sending, Told, What};
+use crate::under_way::UnderWay;
+use capture::Entry;
+use std::alloc::{AllocError, Global};
+use wire_base::Side;
+
+/// What is known of one side, by the records that were told of it.
+#[derive(Drop)]
+pub struct Half {
+    /// In which line of its capture its next record stands.
+    pub line: u64,
+    /// What it sent before.
+    pub given: Given,
+    /// Its units that may still come at the other side.
+    pub units: UnderWay,
+}
+
+impl Half {
+    ghost use Rattle.std.specs.Prelude.{[]};
+    ghost use Rattle.ladder.specs.Given.{no_number};
+    ghost use Rattle.ladder.specs.UnderWay.{way};
+
+    /// No record yet: the first one stands in line 2, behind the head. Takes no memory.
+    pub fn new(alloc: Global) -> Half
+        ensures line { result.line ≡ 2 }
+        ensures given { result.given ≡ no_number }
+        ensures units { result.units ≡ way 0 [] }
+    {
+        Half {
+            line: 2,
+            given: Given::none(),
+            units: UnderWay::new(alloc),
+        }
+    }
+
+    /// The side's next record as a row tells it, beside what is known of the other side. Takes no memory.
+    pub fn next(&self, other: &Half, side: Side, entry: Entry, bytes: &[u8]) -> Told
+        ensures { result ≡ spec.told_by self.now other.now side entry bytes.now }
+    {
+        Told {
+            side,
+            line: self.line,
+            what: self.what(other, entry, bytes),
+        }
+    }
+
+    fn what(&self, other: &Half, entry: Entry, bytes: &[u8]) -> What
+        ensures { result ≡ spec.what_of self.now other.now entry bytes.now }
+    {
+        match entry {
+            Entry::Sent => self.sending(said_by(bytes)),
+            Entry::Received { kept, hint } => What::Came {
+                hint,
+                kept,
+                said: said_by(bytes),
+                sent: other.units.unit(hint),
+            },
+            Entry::Noise => What::Noise {
+                said: said_by(bytes),
+            },
+            _ => What::User {
+                entry,
+                bytes: bytes.len(),
+            },
+        }
+    }
+
+    fn sending(&self, said: Said) -> What
+        ensures { result ≡ spec.sent_what self.now said }
+    {
+        What::Sent {
+            unit: self.units.sent(),
+            said,
+            again: self.given.is_again(said),
+        }
+    }
+
+    /// That record was made. `AllocError` where there is no memory for its unit; then nothing changed.
+    pub fn take(&mut self, told: &Told, entry: Entry) -> Result<(), AllocError>
+        ensures ok { OnOk result (self.new ≡ spec.own_after self.old told.now entry) }
+        ensures err { OnErr result (self.new ≡ self.old) }
+    {
+        match told.what {
+            What::Sent { said, .. } => {
+                self.units.push(Sending {
+                    line: told.line,
+                    said,
+                })?;
+                self.given = self.given.after_sending(said);
+                self.line = self.line.saturating_add(1);
+                Ok(())
+            }
+            _ => {
+                self.given = self.given.after_other(entry);
+                self.line = self.line.saturating_add(1);
+                Ok(())
+            }
+        }
+    }
+
+    /// What the other side's record does to the units of this one: a receipt passes them. Takes no memory.
+    pub fn meet(&mut self, entry: Entry)
+        ensures { self.new ≡ spec.other_after self.old entry }
+    {
+        if let Entry::Received { hint, .. } = entry {
+            self.units.pass(hint);
+        }
+    }
+}

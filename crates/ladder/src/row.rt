@@ -1,0 +1,130 @@
+//! A row of the ladder.
+
+ghost use Rattle.std.specs.Prelude.{◌≡◌};
+ghost use Rattle.ladder.specs.Row as spec;
+
+use crate::said::Said;
+use crate::sides::faces;
+use crate::told::{Told, What};
+use wire_base::Side;
+
+/// A row: one record, or the sending of a unit and its receipt, where that is the next record that was told.
+#[derive(Clone, Copy, Debug, PartialEq, Eq)]
+pub struct Row {
+    /// The record; the sending, where there are two.
+    pub told: Told,
+    /// What became of the unit that the record sent: `Open` of a record that sent none.
+    pub fate: Fate,
+    /// Whether the record was refused, and not made.
+    pub refused: bool,
+}
+
+/// What became of a unit that was sent, by the records told since.
+#[derive(Clone, Copy, Debug, PartialEq, Eq)]
+pub enum Fate {
+    /// It may still come.
+    Open,
+    /// Its receipt is the next record, and stands in the same row.
+    Here(Receipt),
+    /// Its receipt was told later.
+    Came,
+    /// A later unit came before it, so it never comes.
+    Lost,
+}
+
+/// The receipt of a unit in the row of its sending.
+#[derive(Clone, Copy, Debug, PartialEq, Eq)]
+pub struct Receipt {
+    /// In which line of the receiver's capture it stands.
+    pub line: u64,
+    /// Whether the packet was kept.
+    pub kept: bool,
+    /// What the bytes say that came.
+    pub said: Said,
+}
+
+impl Row {
+    /// A row of this record alone.
+    pub fn alone(told: Told, refused: bool) -> Row
+        ensures { result ≡ spec.alone told refused }
+    {
+        Row {
+            told,
+            fate: Fate::Open,
+            refused,
+        }
+    }
+
+    /// This row with the next record in it too, where that is the receipt of the unit that the row sent.
+    pub fn joined(&self, next: &Told) -> Option<Row>
+        ensures { result ≡ spec.joined self.now next.now }
+    {
+        let What::Came {
+            hint,
+            kept,
+            said,
+            ..
+        } = next.what
+        else {
+            return None;
+        };
+        if !self.sends(next.side, hint) {
+            return None;
+        }
+        Some(Row {
+            told: self.told,
+            fate: Fate::Here(Receipt {
+                line: next.line,
+                kept,
+                said,
+            }),
+            refused: self.refused,
+        })
+    }
+
+    /// Whether the row sends the unit with this number to this side, and it is open whether that comes.
+    fn sends(&self, receiver: Side, hint: u64) -> bool
+        ensures { result ≡ spec.sends self.now receiver hint }
+    {
+        match (self.told.what, self.fate) {
+            (What::Sent { unit, .. }, Fate::Open) => {
+                faces(self.told.side, receiver) && unit == hint
+            }
+            _ => false,
+        }
+    }
+
+    /// What becomes of the row's unit where this side receives the unit with the hint's number: that one comes, and one with a lower
+    /// number never does.
+    pub fn pass(&mut self, receiver: Side, hint: u64)
+        ensures { self.new ≡ spec.passed receiver hint self.old }
+    {
+        if let What::Sent { unit, .. } = self.told.what
+            && faces(self.told.side, receiver)
+        {
+            self.fate = after(self.fate, unit, hint);
+        }
+    }
+}
+
+// What becomes of a unit where the one with the hint's number comes.
+fn after(fate: Fate, unit: u64, hint: u64) -> Fate
+    ensures { result ≡ spec.after hint unit fate }
+{
+    match fate {
+        Fate::Open => open_after(unit, hint),
+        _ => fate,
+    }
+}
+
+fn open_after(unit: u64, hint: u64) -> Fate
+    ensures { result ≡ spec.open_after hint unit }
+{
+    if unit == hint {
+        return Fate::Came;
+    }
+    if unit < hint {
+        return Fate::Lost;
+    }
+    Fate::Open
+}

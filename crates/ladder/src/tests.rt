@@ -1,0 +1,89 @@
+use crate::{Keep, Ladder};
+use capture::Entry;
+use std::alloc::{AllocError, Global};
+use wire_base::Side;
+
+const STRT: [u8; 8] = [0x05, 0x06, 0xc0, 0x00, 0x00, 0x01, 0x75, 0x95];
+
+const STACK: [u8; 8] = [0x05, 0x07, 0xc0, 0x00, 0x00, 0x01, 0x48, 0x55];
+
+// The first STRT is lost, and the last STACK is still on its way.
+fn told(ladder: &mut Ladder) -> Result<(), AllocError> {
+    ladder.made(Side::A, Entry::Start, &[])?;
+    ladder.made(Side::A, Entry::Sent, &STRT)?;
+    ladder.made(Side::A, Entry::Sent, &STRT)?;
+    ladder.made(Side::B, Entry::Start, &[])?;
+    ladder.made(
+        Side::B,
+        Entry::Received {
+            kept: false,
+            hint: 1,
+        },
+        &STRT,
+    )?;
+    ladder.made(Side::B, Entry::Sent, &STACK)?;
+    ladder.made(
+        Side::A,
+        Entry::Received {
+            kept: false,
+            hint: 0,
+        },
+        &STACK,
+    )?;
+    ladder.refused(Side::B, Entry::Open { link: 1 }, &[]);
+    Ok(())
+}
+
+fn line(alloc: Global, ladder: &Ladder, index: usize) -> Result<String, AllocError> {
+    Ok(ladder.text(alloc, index)?.unwrap_or(String::new(alloc)))
+}
+
+#[test]
+fn rows_stand_in_the_order_of_the_records(rt: HostRuntime) -> Result<(), AllocError> {
+    let lines = [
+        "     2          start |                                  |",
+        "     3                |------------- STRT --------------x|",
+        "     4                |---------- again STRT -----------.|",
+        "                      |                                  | start          2",
+        "                      |....... STRT of a line 4 ........>|                3",
+        "     5                |<------------- STACK -------------|                4",
+        "                      |                                  | open 1         5       <== refused",
+    ];
+    let mut ladder = Ladder::new(rt.alloc(), Keep::Last, 10)?;
+    told(&mut ladder)?;
+    assert_eq!(rt; ladder.len(), lines.len());
+    for index in 0..lines.len() {
+        let text = line(rt.alloc(), &ladder, index)?;
+        assert_eq!(rt; text.as_str(), lines[index]);
+    }
+    Ok(())
+}
+
+#[test]
+fn rows_begin_with_the_named_record(rt: HostRuntime) -> Result<(), AllocError> {
+    let from = Keep::From {
+        side: Side::A,
+        line: 5,
+    };
+    let mut ladder = Ladder::new(rt.alloc(), from, 1)?;
+    told(&mut ladder)?;
+    assert_eq!(rt; ladder.len(), 1);
+    let text = line(rt.alloc(), &ladder, 0)?;
+    assert_eq!(rt;
+        text.as_str(),
+        "     5                |<------------- STACK -------------|                4"
+    );
+    Ok(())
+}
+
+#[test]
+fn no_row_is_shown_where_the_named_record_is_not_told(rt: HostRuntime) -> Result<(), AllocError> {
+    let from = Keep::From {
+        side: Side::B,
+        line: 6,
+    };
+    let mut ladder = Ladder::new(rt.alloc(), from, 1)?;
+    told(&mut ladder)?;
+    assert_eq!(rt; ladder.len(), 0);
+    Ok(())
+}

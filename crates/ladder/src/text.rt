@@ -1,0 +1,295 @@
+//! The text of a row, of at most 80 columns.
+
+ghost use Rattle.std.specs.Prelude.{◌≡◌, IfOk, string_bytes};
+ghost use Rattle.ladder.specs.Text as spec;
+
+use crate::note::Note;
+use crate::row::{Fate, Row};
+use crate::said::Said;
+use crate::sides::is_side;
+use crate::told::{Sending, What};
+use std::alloc::{AllocError, Global};
+use wire_base::Side;
+
+// The longest words that stand in the middle of a row.
+const WORDS: usize = 30;
+
+// A line number and the note beside it have these columns together, with a space between.
+const CELL: usize = 20;
+
+/// What stands at one side of a row: a line number, and a note beside it.
+#[derive(Clone, Copy, Debug, PartialEq, Eq)]
+pub struct Cell {
+    pub line: u64,
+    pub note: Note,
+}
+
+impl Row {
+    /// The text of the row, with no line feed: `LINE note |34 columns| note LINE`, a on the left and b on the right, in 80 columns, and
+    /// `  <== refused` behind it where the record was refused. With `ended`, no record was left to be told, so that a unit which has not
+    /// come never comes. `AllocError` where there is no memory for it.
+    ///
+    /// In the middle stands what was sent, as `DATA 2/1`, with `again` before it where it was sent before, and `~` before what came in its
+    /// place; then `>` or `<` where it comes in this row, `.` where in another one, and `x` where it never comes:
+    ///
+    /// `    21           kept |<-------- again DATA 2/1 ---------|                21`
+    pub fn text(&self, alloc: Global, ended: bool) -> Result<String, AllocError>
+        ensures { IfOk result (λ text. string_bytes text ≡ spec.row_text self.now ended) }
+    {
+        let left = left(alloc, self.cell(Side::A))?;
+        let middle = self.middle(alloc, ended)?;
+        let right = right_end(alloc, self.refused, right(alloc, self.cell(Side::B))?)?;
+        format!(in alloc; "{left}|{middle}|{right}")
+    }
+
+    /// What stands at one side.
+    pub(crate) fn cell(&self, side: Side) -> Option<Cell>
+        ensures { result ≡ spec.cell self.now side }
+    {
+        if is_side(self.told.side, side) {
+            return Some(Cell {
+                line: self.told.line,
+                note: own_note(self.told.what),
+            });
+        }
+        receipt_cell(self.fate)
+    }
+
+    // The 34 columns between the sides.
+    fn middle(&self, alloc: Global, ended: bool) -> Result<String, AllocError>
+        ensures { IfOk result (λ text. string_bytes text ≡ spec.middle self.now ended) }
+    {
+        match self.told.what {
+            What::User { .. } => String::from_str(alloc, BLANK),
+            What::Sent { said, again, .. } => {
+                let words = sent_words(alloc, said, again, self.fate)?;
+                let mark = mark(self.told.side, self.fate, is_last(ended, self.refused));
+                sending(alloc, self.told.side, words.as_str(), mark)
+            }
+            What::Came {
+                hint,
+                said,
+                sent,
+                ..
+            } => {
+                let words = came_words(alloc, self.told.side.other(), hint, said, sent)?;
+                receipt(alloc, self.told.side, words.as_str())
+            }
+            What::Noise { said } => {
+                let words = format!(in alloc; "noise ~{said}")?;
+                receipt(alloc, self.told.side, words.as_str())
+            }
+        }
+    }
+}
+
+// A middle that is empty.
+const BLANK: &str = "                                  ";
+
+// A cell on the left that is empty.
+const NO_CELL: &str = "                      ";
+
+// Whether no record is left to come behind this one.
+fn is_last(ended: bool, refused: bool) -> bool
+    ensures { result ≡ spec.is_last ended refused }
+{
+    match (ended, refused) {
+        (true, false) => true,
+        _ => false,
+    }
+}
+
+// The note of a row's first record.
+fn own_note(what: What) -> Note
+    ensures { result ≡ spec.own_note what }
+{
+    match what {
+        What::Sent { .. } | What::Noise { .. } => Note::Nothing,
+        What::Came { kept, said, .. } => Note::of_receipt(kept, said),
+        What::User { entry, bytes } => Note::User { entry, bytes },
+    }
+}
+
+// The receipt in the row of its unit.
+fn receipt_cell(fate: Fate) -> Option<Cell>
+    ensures { result ≡ spec.receipt_cell fate }
+{
+    match fate {
+        Fate::Here(receipt) => Some(Cell {
+            line: receipt.line,
+            note: Note::of_receipt(receipt.kept, receipt.said),
+        }),
+        Fate::Open | Fate::Came | Fate::Lost => None,
+    }
+}
+
+// How the end of an arrow is drawn, at the side that did not send.
+fn mark(sender: Side, fate: Fate, ended: bool) -> &'static str
+    ensures { result.now ≡ spec.mark sender fate ended }
+{
+    match fate {
+        Fate::Here(_) => head(sender),
+        Fate::Came => ".",
+        Fate::Lost => "x",
+        Fate::Open => open_mark(ended),
+    }
+}
+
+fn open_mark(ended: bool) -> &'static str
+    ensures { result.now ≡ spec.open_mark ended }
+{
+    match ended {
+        true => "x",
+        false => ".",
+    }
+}
+
+// The head of an arrow from this side.
+fn head(sender: Side) -> &'static str
+    ensures { result.now ≡ spec.head sender }
+{
+    match sender {
+        Side::A => ">",
+        Side::B => "<",
+    }
+}
+
+// The words of a unit that was sent.
+fn sent_words(alloc: Global, said: Said, again: bool, fate: Fate) -> Result<String, AllocError>
+    ensures { IfOk result (λ text. string_bytes text ≡ spec.sent_words said again fate) }
+{
+    let front = front(again);
+    match fate {
+        Fate::Here(receipt) => {
+            let came = receipt.said;
+            match same_words(alloc, came, said)? {
+                true => format!(in alloc; "{front}{said}"),
+                false => format!(in alloc; "{front}{said} ~{came}"),
+            }
+        }
+        Fate::Open | Fate::Came | Fate::Lost => format!(in alloc; "{front}{said}"),
+    }
+}
+
+fn front(again: bool) -> &'static str
+    ensures { result.now ≡ spec.front again }
+{
+    match again {
+        true => "again ",
+        false => "",
+    }
+}
+
+// The words of a unit whose sending stands in another row. They go without those of its packet where they would be too long.
+fn came_words(
+    alloc: Global,
+    sender: Side,
+    hint: u64,
+    came: Said,
+    sent: Option<Sending>,
+) -> Result<String, AllocError>
+    ensures { IfOk result (λ text. string_bytes text ≡ spec.came_words sender hint came sent) }
+{
+    let Some(sending) = sent else {
+        return format!(in alloc; "{came} of {sender} unit {hint}");
+    };
+    let words = of_line(alloc, sender, sending, came)?;
+    if words.len() <= WORDS {
+        return Ok(words);
+    }
+    let brief = Sending {
+        line: sending.line,
+        said: sending.said.brief(),
+    };
+    of_line(alloc, sender, brief, came.brief())
+}
+
+// The words of a unit, the line of its sending, and how it reads where it came as something else.
+fn of_line(alloc: Global, sender: Side, sending: Sending, came: Said) -> Result<String, AllocError>
+    ensures { IfOk result (λ text. string_bytes text ≡ spec.of_line sender sending came) }
+{
+    let said = sending.said;
+    let line = sending.line;
+    match same_words(alloc, came, said)? {
+        true => format!(in alloc; "{said} of {sender} line {line}"),
+        false => format!(in alloc; "{said} of {sender} line {line} ~{came}"),
+    }
+}
+
+// Whether both are told in the same words.
+fn same_words(alloc: Global, came: Said, said: Said) -> Result<bool, AllocError>
+    ensures { IfOk result (λ same. same ≡ spec.is_same came said) }
+{
+    let came = format!(in alloc; "{came}")?;
+    let said = format!(in alloc; "{said}")?;
+    let same = came.as_str() == said.as_str();
+    Ok(same)
+}
+
+// The words with a space on both sides, cut to fit.
+fn spaced(alloc: Global, words: &str) -> Result<String, AllocError>
+    ensures { IfOk result (λ text. string_bytes text ≡ spec.spaced words.now) }
+{
+    if words.len() > WORDS {
+        return format!(in alloc; " {words:.29}~ ");
+    }
+    format!(in alloc; " {words} ")
+}
+
+// An arrow from the side that sent, with this mark at its end.
+fn sending(alloc: Global, sender: Side, words: &str, mark: &str) -> Result<String, AllocError>
+    ensures { IfOk result (λ text. string_bytes text ≡ spec.sending sender words.now mark.now) }
+{
+    let body = spaced(alloc, words)?;
+    match sender {
+        Side::A => format!(in alloc; "{body:-^33}{mark}"),
+        Side::B => format!(in alloc; "{mark}{body:-^33}"),
+    }
+}
+
+// The end of an arrow, at the side where it came.
+fn receipt(alloc: Global, receiver: Side, words: &str) -> Result<String, AllocError>
+    ensures { IfOk result (λ text. string_bytes text ≡ spec.receipt receiver words.now) }
+{
+    let body = spaced(alloc, words)?;
+    match receiver {
+        Side::A => format!(in alloc; "<{body:.^33}"),
+        Side::B => format!(in alloc; "{body:.^33}>"),
+    }
+}
+
+// The cell on the left, of 22 columns.
+fn left(alloc: Global, cell: Option<Cell>) -> Result<String, AllocError>
+    ensures { IfOk result (λ text. string_bytes text ≡ spec.left cell) }
+{
+    let Some(Cell { line, note }) = cell else {
+        return String::from_str(alloc, NO_CELL);
+    };
+    let number = format!(in alloc; "{line:>6}")?;
+    let words = format!(in alloc; "{note}")?;
+    let room = CELL.saturating_sub(number.len());
+    format!(in alloc; "{number} {words:>room$.room$} ")
+}
+
+// The cell on the right, with no spaces at its end.
+fn right(alloc: Global, cell: Option<Cell>) -> Result<String, AllocError>
+    ensures { IfOk result (λ text. string_bytes text ≡ spec.right cell) }
+{
+    let Some(Cell { line, note }) = cell else {
+        return Ok(String::new(alloc));
+    };
+    let number = format!(in alloc; "{line}")?;
+    let words = format!(in alloc; "{note}")?;
+    let room = CELL.saturating_sub(number.len().max(6));
+    format!(in alloc; " {words:<room$.room$} {number}")
+}
+
+// What stands behind the middle: in 22 columns and with the mark where the record was refused.
+fn right_end(alloc: Global, refused: bool, cell: String) -> Result<String, AllocError>
+    ensures { IfOk result (λ text. string_bytes text ≡ spec.right_end refused (string_bytes cell)) }
+{
+    match refused {
+        true => format!(in alloc; "{cell:<22}  <== refused"),
+        false => Ok(cell),
+    }
+}

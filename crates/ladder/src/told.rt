@@ -1,0 +1,59 @@
+//! A record, as a row tells it.
+
+use crate::said::Said;
+use capture::Entry;
+use wire_base::Side;
+
+/// A record of one side, as it was told.
+#[derive(Clone, Copy, Debug, PartialEq, Eq)]
+pub struct Told {
+    /// Whose record it is.
+    pub side: Side,
+    /// In which line of that side's capture it stands: record i stands in line i + 2.
+    pub line: u64,
+    /// What happened.
+    pub what: What,
+}
+
+/// What happened, by a record.
+#[derive(Clone, Copy, Debug, PartialEq, Eq)]
+pub enum What {
+    /// The side sent a unit.
+    Sent {
+        /// The unit's number, counted from 0 over all units that the side sent.
+        unit: u64,
+        /// What it says.
+        said: Said,
+        /// Whether it was sent before.
+        again: bool,
+    },
+    /// A unit of the other side came.
+    Came {
+        /// The number of the unit, by the record's hint.
+        hint: u64,
+        /// Whether its packet was kept.
+        kept: bool,
+        /// What the bytes say that came.
+        said: Said,
+        /// How that unit was sent; `None` where no unit of that number may come any more, or yet.
+        sent: Option<Sending>,
+    },
+    /// Bytes came, and nobody sent them.
+    Noise {
+        said: Said,
+    },
+    /// The user did something, or got something, with a message of as many bytes.
+    User {
+        entry: Entry,
+        bytes: usize,
+    },
+}
+
+/// A unit that was sent.
+#[derive(Clone, Copy, Debug, PartialEq, Eq)]
+pub struct Sending {
+    /// In which line of its sender's capture it stands.
+    pub line: u64,
+    /// What it says.
+    pub said: Said,
+}
