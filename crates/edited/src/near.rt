@@ -1,0 +1,120 @@
+//! Which edits are worth a try near a refused record.
+
+ghost use Rattle.std.specs.Prelude.{◌<◌, length, IfSome};
+
+mod hints;
+mod letters;
+mod missing;
+mod moves;
+
+use crate::edits::Edits;
+use crate::row::{Refused, Row};
+use std::alloc::{AllocError, Global};
+use wire_base::Side;
+
+/// What is known where a record of a side is refused: its side, the rows of this side in front of it, its own, those behind it, and the rows
+/// of the other side.
+#[derive(Clone, Copy)]
+pub(crate) struct Near<'r> {
+    pub(crate) alloc: Global,
+    pub(crate) side: Side,
+    pub(crate) before: &'r [Row],
+    pub(crate) row: &'r Row,
+    pub(crate) behind: &'r [Row],
+    pub(crate) other: &'r [Row],
+}
+
+// The reason that no order of the records goes on.
+const NO_ORDER: u64 = 4;
+
+// Kinds of edits.
+#[derive(Clone, Copy)]
+enum Group {
+    Letters,
+    Sent,
+    Receipts,
+    User,
+    Moves,
+    Hints,
+}
+
+/// The edits that are worth a try, the likeliest for this reason first; none where the refused record is not among the rows of its side.
+///
+/// `own` has rows of the side of the refused record, in the order of their lines: the last ones in front of it, its own, and as many behind it
+/// as are at hand. `other` has the last rows of the other side that were made, and the next one where there is one. Where no order of the
+/// records goes on (4), that next one may as well be the wrong one, and edits of it come last. `AllocError` where there is no memory for an edit.
+pub fn candidates(
+    alloc: Global,
+    side: Side,
+    refused: &Refused,
+    own: &[Row],
+    other: &[Row],
+) -> Result<Edits, AllocError> {
+    let mut edits = Edits::new(alloc);
+    let Some(at) = place_of(own, refused.line) else {
+        return Ok(edits);
+    };
+    let near = Near {
+        alloc,
+        side,
+        before: &own[..at],
+        row: &own[at],
+        behind: &own[at + 1..],
+        other,
+    };
+    add_near(&mut edits, near, refused)?;
+    if refused.reason == NO_ORDER && !other.is_empty() {
+        let last = other.len() - 1;
+        let near = Near {
+            alloc,
+            side: side.other(),
+            before: &other[..last],
+            row: &other[last],
+            behind: &[],
+            other: &own[..at + 1],
+        };
+        add_near(&mut edits, near, refused)?;
+    }
+    Ok(edits)
+}
+
+// The edits near one record.
+fn add_near(edits: &mut Edits, near: Near<'_>, refused: &Refused) -> Result<(), AllocError> {
+    for group in order(refused.reason) {
+        match group {
+            Group::Letters => letters::add_letters(edits, near)?,
+            Group::Sent => missing::add_sent(edits, near)?,
+            Group::Receipts => missing::add_receipts(edits, near)?,
+            Group::User => missing::add_user(edits, near, &refused.due)?,
+            Group::Moves => moves::add_moves(edits, near)?,
+            Group::Hints => hints::add_hints(edits, near)?,
+        }
+    }
+    Ok(())
+}
+
+// Where the row of this line stands.
+fn place_of(rows: &[Row], line: u64) -> Option<usize>
+    ensures { IfSome result (λ at. at < length rows.now) }
+{
+    for (at, row) in rows.iter().enumerate() {
+        if row.line == line {
+            return Some(at);
+        }
+    }
+    None
+}
+
+// What a reason comes from, mostly, first.
+fn order(reason: u64) -> [Group; 6] {
+    let [letters, sent, receipts] = [Group::Letters, Group::Sent, Group::Receipts];
+    let [user, moves, hints] = [Group::User, Group::Moves, Group::Hints];
+    match reason {
+        2 => [hints, sent, letters, moves, receipts, user],
+        3..=5 => [sent, hints, moves, letters, receipts, user],
+        6 | 14 => [user, receipts, moves, letters, sent, hints],
+        7 => [sent, receipts, moves, letters, user, hints],
+        18..=26 => [user, letters, moves, receipts, sent, hints],
+        _ => [letters, moves, receipts, sent, hints, user],
+    }
+}

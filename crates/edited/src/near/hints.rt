@@ -1,0 +1,106 @@
+//! Hints that are shifted.
+
+use super::Near;
+use super::moves::{first_receipt, last_receipt};
+use crate::change::Change;
+use crate::edits::Edits;
+use crate::line_changes::line_replaced;
+use crate::mistake::Mistake;
+use crate::row::Row;
+use crate::spelling::receipt_line;
+use capture::{Entry, HintForm};
+use std::alloc::AllocError;
+
+pub(crate) fn add_hints(edits: &mut Edits, near: Near<'_>) -> Result<(), AllocError> {
+    let row = near.row;
+    let Some(unit) = row.received() else {
+        return Ok(());
+    };
+    let next = first_receipt(near.behind);
+    for other in [unit.checked_sub(1), unit.checked_add(1)] {
+        if let Some(unit) = other {
+            add_hint(edits, near, row, next, unit)?;
+            add_hints_from(edits, near, unit)?;
+        }
+    }
+    add_last_hint(edits, near)
+}
+
+// The last receipt in front of the refused one names a unit that is one too high.
+fn add_last_hint(edits: &mut Edits, near: Near<'_>) -> Result<(), AllocError> {
+    let Some(row) = last_receipt(near.before) else {
+        return Ok(());
+    };
+    let Some(unit) = row.received() else {
+        return Ok(());
+    };
+    match unit.checked_sub(1) {
+        Some(lower) => add_hint(edits, near, row, Some(near.row), lower),
+        None => Ok(()),
+    }
+}
+
+// One receipt alone. In format 2 the distance of the next one is another one then.
+fn add_hint(
+    edits: &mut Edits,
+    near: Near<'_>,
+    row: &Row,
+    next: Option<&Row>,
+    unit: u64,
+) -> Result<(), AllocError> {
+    let line = row.line;
+    let Entry::Received { kept, hint: _ } = row.entry else {
+        return Ok(());
+    };
+    let Some(put) = receipt_line(near.alloc, row.form, (kept, unit), &row.bytes)? else {
+        return Ok(());
+    };
+    let mut changes = line_replaced(near.alloc, line, put)?;
+    if let Some(next) = next {
+        add_next_distance(&mut changes, near, (line, unit), next)?;
+    }
+    edits.add(near.side, Mistake::WrongHint { line, unit }, changes)
+}
+
+fn add_next_distance(
+    changes: &mut Vec<Change>,
+    near: Near<'_>,
+    replaced: (u64, u64),
+    next: &Row,
+) -> Result<(), AllocError> {
+    let (line, unit) = replaced;
+    let HintForm::Distance { mark: _ } = near.row.form else {
+        return Ok(());
+    };
+    let form = HintForm::Distance {
+        mark: unit.saturating_add(1),
+    };
+    let Entry::Received { kept, hint } = next.entry else {
+        return Ok(());
+    };
+    let Some(put) = receipt_line(near.alloc, form, (kept, hint), &next.bytes)? else {
+        return Ok(());
+    };
+    changes.push(Change {
+        passed: next.line.saturating_sub(line).saturating_sub(1),
+        put,
+        dropped: 1,
+    })?;
+    Ok(())
+}
+
+// From the refused receipt on, which is one line in format 2.
+fn add_hints_from(edits: &mut Edits, near: Near<'_>, unit: u64) -> Result<(), AllocError> {
+    let (form, line) = (near.row.form, near.row.line);
+    let HintForm::Distance { mark: _ } = form else {
+        return Ok(());
+    };
+    let Entry::Received { kept, hint: _ } = near.row.entry else {
+        return Ok(());
+    };
+    let Some(put) = receipt_line(near.alloc, form, (kept, unit), &near.row.bytes)? else {
+        return Ok(());
+    };
+    let changes = line_replaced(near.alloc, line, put)?;
+    edits.add(near.side, Mistake::WrongHints { line, unit }, changes)
+}

@@ -1,0 +1,202 @@
+//! Lines that are missing.
+
+use super::Near;
+use super::moves::{first_receipt, last_receipt};
+use crate::change::Change;
+use crate::edits::Edits;
+use crate::line_changes::put_before;
+use crate::mistake::Mistake;
+use crate::row::{Due, Row};
+use crate::spelling::{line_of, receipt_line};
+use capture::{Entry, HintForm};
+use std::alloc::AllocError;
+use wire_base::Side;
+
+// Of how many units, the last ones, it may be one that has no `s` line.
+const LAST_UNITS: u64 = 3;
+
+// How many units that have no receipt are looked at.
+const UNITS: usize = 4;
+
+// An `s` line of the other side, whose bytes the refused receipt has; or one of this side, whose bytes a receipt of the other side has.
+pub(crate) fn add_sent(edits: &mut Edits, near: Near<'_>) -> Result<(), AllocError> {
+    if near.row.received().is_some() {
+        return add_sent_places(edits, near, (near.side.other(), near.other), near.row);
+    }
+    let highest = near.row.units;
+    for receipt in near.other.iter().rev() {
+        let Some(unit) = receipt.received() else {
+            continue;
+        };
+        if unit == highest {
+            add_sent_place(edits, near, near.side, near.row.line, (unit, receipt))?;
+        }
+        if unit <= highest && highest.saturating_sub(unit) < LAST_UNITS {
+            add_sent_places(edits, near, (near.side, near.before), receipt)?;
+        }
+    }
+    Ok(())
+}
+
+// Of a unit that a receipt has: in front of each line between the units before it and behind it, the last one first.
+fn add_sent_places(
+    edits: &mut Edits,
+    near: Near<'_>,
+    sender: (Side, &[Row]),
+    receipt: &Row,
+) -> Result<(), AllocError> {
+    let (side, rows) = sender;
+    let Some(unit) = receipt.received() else {
+        return Ok(());
+    };
+    for row in rows.iter().rev() {
+        if row.units < unit {
+            return Ok(());
+        }
+        if row.units == unit {
+            add_sent_place(edits, near, side, row.line, (unit, receipt))?;
+        }
+    }
+    Ok(())
+}
+
+fn add_sent_place(
+    edits: &mut Edits,
+    near: Near<'_>,
+    side: Side,
+    before: u64,
+    sent: (u64, &Row),
+) -> Result<(), AllocError> {
+    let (unit, receipt) = sent;
+    let Some(put) = line_of(near.alloc, Entry::Sent, &receipt.bytes)? else {
+        return Ok(());
+    };
+    let changes = put_before(near.alloc, before, put)?;
+    let like = receipt.line;
+    edits.add(side, Mistake::SentMissing { before, unit, like }, changes)
+}
+
+// In front of the refused record: `u start`, `u halt`, and the lines that its bytes tell of.
+pub(crate) fn add_user(edits: &mut Edits, near: Near<'_>, due: &[Due]) -> Result<(), AllocError> {
+    for line in due {
+        add_user_line(edits, near, line.entry, &line.bytes)?;
+    }
+    add_user_line(edits, near, Entry::Start, &[])?;
+    add_user_line(edits, near, Entry::Halt, &[])
+}
+
+fn add_user_line(
+    edits: &mut Edits,
+    near: Near<'_>,
+    entry: Entry,
+    bytes: &[u8],
+) -> Result<(), AllocError> {
+    let before = near.row.line;
+    let Some(put) = line_of(near.alloc, entry, bytes)? else {
+        return Ok(());
+    };
+    let changes = put_before(near.alloc, before, put)?;
+    edits.add(near.side, Mistake::UserMissing { before, entry }, changes)
+}
+
+// The receipts of units that have none, in front of the refused record.
+pub(crate) fn add_receipts(edits: &mut Edits, near: Near<'_>) -> Result<(), AllocError> {
+    let low = lowest_unit(near.before);
+    let mut seen: usize = 0;
+    for sent in near.other {
+        let Some(unit) = sent.sent() else {
+            continue;
+        };
+        if unit < low {
+            continue;
+        }
+        if seen == UNITS || is_taken(near, unit) {
+            return Ok(());
+        }
+        seen = seen.saturating_add(1);
+        add_receipt(edits, near, sent, (true, unit))?;
+        add_receipt(edits, near, sent, (false, unit))?;
+    }
+    Ok(())
+}
+
+// The unit behind that of the last receipt.
+fn lowest_unit(before: &[Row]) -> u64 {
+    match last_receipt(before) {
+        Some(row) => match row.received() {
+            Some(unit) => unit.saturating_add(1),
+            None => 0,
+        },
+        None => 0,
+    }
+}
+
+// Whether the next receipt is of this unit or a lower one.
+fn is_taken(near: Near<'_>, unit: u64) -> bool {
+    match next_receipt(near) {
+        Some(row) => match row.received() {
+            Some(next) => next <= unit,
+            None => false,
+        },
+        None => false,
+    }
+}
+
+// The refused record or the first one behind it that is a receipt.
+fn next_receipt<'r>(near: Near<'r>) -> Option<&'r Row> {
+    if near.row.received().is_some() {
+        return Some(near.row);
+    }
+    first_receipt(near.behind)
+}
+
+fn add_receipt(
+    edits: &mut Edits,
+    near: Near<'_>,
+    sent: &Row,
+    entry: (bool, u64),
+) -> Result<(), AllocError> {
+    let (kept, unit) = entry;
+    let (before, like) = (near.row.line, sent.line);
+    let Some(put) = receipt_line(near.alloc, near.row.form, entry, &sent.bytes)? else {
+        return Ok(());
+    };
+    let mut changes = put_before(near.alloc, before, put)?;
+    add_next_distance(&mut changes, near, unit)?;
+    let mistake = Mistake::ReceiptMissing {
+        before,
+        kept,
+        unit,
+        like,
+    };
+    edits.add(near.side, mistake, changes)
+}
+
+// In format 2 the next receipt's distance is counted from the one that was put in.
+fn add_next_distance(
+    changes: &mut Vec<Change>,
+    near: Near<'_>,
+    unit: u64,
+) -> Result<(), AllocError> {
+    let HintForm::Distance { mark: _ } = near.row.form else {
+        return Ok(());
+    };
+    let Some(next) = next_receipt(near) else {
+        return Ok(());
+    };
+    let form = HintForm::Distance {
+        mark: unit.saturating_add(1),
+    };
+    let Entry::Received { kept, hint } = next.entry else {
+        return Ok(());
+    };
+    let Some(put) = receipt_line(near.alloc, form, (kept, hint), &next.bytes)? else {
+        return Ok(());
+    };
+    changes.push(Change {
+        passed: next.line.saturating_sub(near.row.line),
+        put,
+        dropped: 1,
+    })?;
+    Ok(())
+}

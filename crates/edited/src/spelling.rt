@@ -1,0 +1,44 @@
+//! The lines that edits put in.
+
+use crate::row::Row;
+use capture::{Entry, HintForm, MAX_MESSAGE, put_line};
+use std::alloc::{AllocError, Global};
+
+// The line of this entry, with its LF; `None` where it has more bytes than a line may have.
+pub(crate) fn line_of(
+    alloc: Global,
+    entry: Entry,
+    bytes: &[u8],
+) -> Result<Option<Vec<u8>>, AllocError> {
+    if bytes.len() > MAX_MESSAGE {
+        return Ok(None);
+    }
+    let mut line = Vec::new(alloc);
+    put_line(&mut line, entry, bytes)?;
+    Ok(Some(line))
+}
+
+// The line of a receipt of this unit with the bytes, in the place of this row or in front of it; `None` where its distance would be negative,
+// which no right hint has.
+pub(crate) fn receipt_line(
+    alloc: Global,
+    form: HintForm,
+    entry: (bool, u64),
+    bytes: &[u8],
+) -> Result<Option<Vec<u8>>, AllocError> {
+    let (kept, unit) = entry;
+    let hint = match form {
+        HintForm::Number => unit,
+        HintForm::Distance { mark } if mark <= unit => unit - mark,
+        HintForm::Distance { mark: _ } => return Ok(None),
+    };
+    line_of(alloc, Entry::Received { kept, hint }, bytes)
+}
+
+// The line of a row as it stands; `None` where it has a negative distance.
+pub(crate) fn line_as_it_is(alloc: Global, row: &Row) -> Result<Option<Vec<u8>>, AllocError> {
+    match row.entry {
+        Entry::Received { kept, hint } => receipt_line(alloc, row.form, (kept, hint), &row.bytes),
+        entry => line_of(alloc, entry, &row.bytes),
+    }
+}

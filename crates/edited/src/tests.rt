@@ -1,0 +1,73 @@
+//! A text with changes, and the likeliest edit of a small pair.
+
+use crate::candidates;
+use crate::change::Change;
+use crate::reader::EditedReader;
+use crate::row::{Refused, Row};
+use capture::{Entry, HintForm};
+use std::alloc::{AllocError, Global};
+use std::io::{self, Read};
+use wire_base::Side;
+
+#[test]
+fn a_line_is_put_in_the_place_of_another(rt: HostRuntime) -> io::Result<()> {
+    let alloc = rt.alloc();
+    let mut changes = Vec::new(alloc);
+    changes.push(Change {
+        passed: 1,
+        put: Vec::from_slice(alloc, b"new\n")?,
+        dropped: 1,
+    })?;
+    let mut reader = EditedReader::new(alloc, changes, b"one\ntwo\nthree\n".as_slice())?;
+    let mut text = Vec::new(alloc);
+    reader.read_to_end(&mut text)?;
+    assert_eq!(rt; text.as_slice(), b"one\nnew\nthree\n".as_slice());
+    Ok(())
+}
+
+// A row of format 1.
+fn row(alloc: Global, line: u64, entry: Entry, bytes: &[u8]) -> Result<Row, AllocError> {
+    Ok(Row {
+        line,
+        entry,
+        bytes: Vec::from_slice(alloc, bytes)?,
+        form: HintForm::Number,
+        units: 0,
+    })
+}
+
+// A response counts a packet whose receipt has an `r`.
+#[test]
+fn a_receipt_before_a_wrong_response_was_kept(rt: HostRuntime) -> Result<(), AllocError> {
+    let alloc = rt.alloc();
+    let mut own = Vec::new(alloc);
+    own.push(row(
+        alloc,
+        2,
+        Entry::Received {
+            kept: false,
+            hint: 4,
+        },
+        &[0x81],
+    )?)?;
+    own.push(row(alloc, 3, Entry::Sent, &[5])?)?;
+    let refused = Refused {
+        line: 3,
+        reason: 8,
+        due: Vec::new(alloc),
+    };
+    let edits = candidates(alloc, Side::B, &refused, &own, &[])?.into_vec();
+    let (words, changes) = match edits.first() {
+        Some(edit) => (format!(in alloc; "{}", edit.of)?, edit.changes.as_slice()),
+        None => (String::new(alloc), [].as_slice()),
+    };
+    assert_eq!(rt; words.as_str(), "line 2 of b is `k`, not `r`");
+    for change in changes {
+        assert_eq!(rt;
+            (change.passed, change.put.as_slice(), change.dropped),
+            (1, b"k 4 81\n".as_slice(), 1)
+        );
+    }
+    assert_eq!(rt; changes.len(), 1);
+    Ok(())
+}
