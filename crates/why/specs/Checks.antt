@@ -1,0 +1,125 @@
+-- The check that the refused record does not pass, over both layers and the line: its name, what is seen there, what is allowed, the rule, and
+-- the page of its reason; as a JSON object and in rows.
+use Rattle.std.specs.Prelude.{ℕ, List, [], ◌++◌, codes}
+use Rattle.std.specs.Fmt.{decimal}
+use Rattle.wire_base.specs.Side.{other_side, side_letter}
+use Rattle.wire_base.specs.declared.side.Side.{Side}
+use Rattle.ddcmp_msg.specs.Reading.{ReadingValue}
+use Rattle.ddcmp_station.specs.declared.failed.FailedArrival.{FailedArrival}
+use Rattle.ddcmp_station.specs.declared.failed.FailedArrival.TheVariants.{Period, Keep}
+use Rattle.ddcmp_station.specs.declared.failed.FailedSending.{FailedSending}
+use Rattle.ddcmp_station.specs.declared.failed.FailedSending.TheVariants as sending
+use Rattle.pair_judge.specs.declared.reason.Reason.{Reason}
+use Rattle.pair_judge.specs.declared.failed_check.Awaited.{Awaited}
+use Rattle.pair_judge.specs.declared.failed_check.FailedCheck.{FailedCheck}
+use Rattle.pair_judge.specs.declared.failed_check.FailedCheck.TheVariants as check
+use Rattle.why.specs.UnitWords.{reading_name, reading_words}
+use Rattle.why.specs.PacketWords.{packet_fault_words}
+use Rattle.why.specs.NspWords.{nsp_fault_words}
+use Rattle.why.specs.StateLine.{state_name}
+use Rattle.why.specs.StationChecks.{sending_check, sending_seen, sending_allowed, arrival_check, arrival_seen, arrival_allowed}
+use Rattle.why.specs.LinkChecks.{link_sending_check, link_sending_seen, link_sending_allowed, link_arrival_check, link_arrival_seen}
+use Rattle.why.specs.LinkChecks.{link_arrival_allowed, link_event_check, link_event_seen, link_event_allowed}
+use Rattle.why.specs.Pages.{page}
+
+-- of the station the name in its tables
+abbrev pub check_name : FailedCheck → List ℕ
+check_name (check.Message departure) = codes "message"
+check_name (check.HintOrder x lowest) = codes "hint order"
+check_name (check.NoSuchUnit awaited) = codes "hint"
+check_name (check.NoOrder own other) = codes "order"
+check_name (check.Undetected unit) = codes "the line"
+check_name (check.StationSending failed) = sending_check failed
+check_name (check.StationArrival failed) = arrival_check failed
+check_name (check.StationEvent state) = codes "start"
+check_name (check.Packet fault) = codes "packet"
+check_name (check.Nsp fault) = codes "NSP message"
+check_name (check.LinkSending failed) = link_sending_check failed
+check_name (check.LinkArrival failed) = link_arrival_check failed
+check_name (check.LinkEvent failed) = link_event_check failed
+check_name check.Noise = codes "noise"
+
+-- both sides wait for a unit
+abbrev pub both_wait : Side → (own other : Awaited) → List ℕ
+both_wait side own other =
+    codes "hint " ++ (decimal own.hint ++ (codes " while " ++ (side_letter (other_side side) ++ (codes " has sent " ++ (decimal own.sent
+    ++ (codes " units and waits for hint " ++ (decimal other.hint ++ (codes " of " ++ side_letter side))))))))
+
+-- of a record of this side, whose bytes are read so
+abbrev pub seen : Side → FailedCheck → ReadingValue → List ℕ
+seen side (check.Message departure) reading = reading_words reading
+seen side (check.HintOrder x lowest) reading = codes "hint " ++ decimal x
+seen side (check.NoSuchUnit awaited) reading = codes "hint " ++ decimal awaited.hint
+seen side (check.NoOrder own other) reading = both_wait side own other
+seen side (check.Undetected unit) reading = reading_name reading
+seen side (check.StationSending failed) reading = sending_seen failed reading
+seen side (check.StationArrival failed) reading = arrival_seen side failed reading
+seen side (check.StationEvent state) reading = codes "start in " ++ state_name state
+seen side (check.Packet fault) reading = packet_fault_words fault
+seen side (check.Nsp fault) reading = nsp_fault_words fault
+seen side (check.LinkSending failed) reading = link_sending_seen failed
+seen side (check.LinkArrival failed) reading = link_arrival_seen side failed
+seen side (check.LinkEvent failed) reading = link_event_seen failed
+seen side check.Noise reading = reading_name reading ++ codes ", which shows no damage"
+
+-- units are counted from 0, so a hint lies below their number
+abbrev pub below_words : Side → (sent : ℕ) → List ℕ
+below_words other sent = codes "a hint below " ++ (decimal sent ++ (codes ", the number of units that " ++ (side_letter other ++ codes " sent")))
+
+abbrev pub allowed : Side → FailedCheck → ReadingValue → List ℕ
+allowed side (check.Message departure) reading = codes "a sound message of DDCMP"
+allowed side (check.HintOrder x lowest) reading = codes "hint " ++ (decimal lowest ++ codes " or a higher one")
+allowed side (check.NoSuchUnit awaited) reading = below_words (other_side side) awaited.sent
+allowed side (check.NoOrder own other) reading = below_words (other_side side) own.sent
+allowed side (check.Undetected unit) reading =
+    codes "the bytes of unit " ++ (decimal unit ++ (codes " of " ++ (side_letter (other_side side) ++ codes "; or damaged bytes")))
+allowed side (check.StationSending failed) reading = sending_allowed failed
+allowed side (check.StationArrival failed) reading = arrival_allowed side failed reading
+allowed side (check.StationEvent state) reading = codes "start in HALTED"
+allowed side (check.Packet fault) reading = codes "a routing control packet, or a short data packet of at least six bytes"
+allowed side (check.Nsp fault) reading = codes "a message of NSP with all its fields, and nothing behind its end"
+allowed side (check.LinkSending failed) reading = link_sending_allowed failed
+allowed side (check.LinkArrival failed) reading = link_arrival_allowed side failed
+allowed side (check.LinkEvent failed) reading = link_event_allowed failed
+allowed side check.Noise reading = codes "bytes that read as header bad or data bad"
+
+-- ---- the rule of a check of the station
+
+abbrev pub sending_rule : FailedSending → List ℕ
+sending_rule (sending.State state) =
+    codes "  rule     A message that is sent has a row in the table of the station's state (docs/PROTOCOL.md#what-may-be-sent)\n"
+sending_rule (sending.RespIsLast x y) =
+    codes "  rule     RESP of an ACK, a NAK or a data message is R, " ++
+    (codes "the number of the last data message that the station received in order" ++ codes " (docs/PROTOCOL.md#what-may-be-sent)\n")
+sending_rule (sending.NumIsNext x y again) =
+    codes "  rule     NUM of a data message is T, the number that is next to send (docs/PROTOCOL.md#what-may-be-sent)\n"
+sending_rule (sending.NumIsHighest x y) = codes "  rule     NUM of a REP is N, the highest number given (docs/PROTOCOL.md#what-may-be-sent)\n"
+sending_rule sending.SomeOutstanding = codes "  rule     A REP is sent while a packet is not acknowledged (docs/PROTOCOL.md#what-may-be-sent)\n"
+sending_rule (sending.RoomIfNew x y) = codes "  rule     At most 255 packets are not acknowledged (docs/PROTOCOL.md#what-may-be-sent)\n"
+sending_rule (sending.AsFirstGiven number) =
+    codes "  rule     A packet that is sent again has the data of its first sending (docs/PROTOCOL.md#sending-again)\n"
+sending_rule (sending.CauseIsOpen x causes) =
+    codes "  rule     A NAK of reason 1, 2, 3 or 8 answers what came, and each such thing once (docs/PROTOCOL.md#causes-of-a-nak)\n"
+
+abbrev pub arrival_rule : FailedArrival → List ℕ
+arrival_rule (Period needs tag own) =
+    codes "  rule     A message that is acted on belongs to this pair of starts (docs/PROTOCOL.md#the-rule-on-periods)\n"
+arrival_rule Keep =
+    codes "  rule     A packet is kept where the row of its message takes it (docs/PROTOCOL.md#what-an-arrival-does)\n"
+
+abbrev pub rule_row : FailedCheck → List ℕ
+rule_row (check.StationSending failed) = sending_rule failed
+rule_row (check.StationArrival failed) = arrival_rule failed
+rule_row failed = []
+
+-- ---- together, of a record that is refused for this reason
+
+abbrev pub check_line : Side → Reason → FailedCheck → ReadingValue → List ℕ
+check_line side reason failed reading =
+    codes "{\"what\": \"check\", \"check\": \"" ++ (check_name failed ++ (codes "\", \"seen\": \"" ++ (seen side failed reading
+    ++ (codes "\", \"allowed\": \"" ++ (allowed side failed reading ++ (codes "\", \"page\": \"" ++ (page reason ++ codes "\"}\n")))))))
+
+abbrev pub check_rows : Side → Reason → FailedCheck → ReadingValue → List ℕ
+check_rows side reason failed reading =
+    codes "  seen     " ++ (seen side failed reading ++ (codes "\n  allowed  " ++ (allowed side failed reading
+    ++ (codes "\n" ++ (rule_row failed ++ (codes "  page     " ++ (page reason ++ codes "\n")))))))

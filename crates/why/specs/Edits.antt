@@ -1,0 +1,52 @@
+-- What small edits of the captures near the refusal tell: each makes the pair a run, or does not.
+use Rattle.std.specs.Prelude.{ℕ, ◌==◌, nat_lt, if◌then◌else◌, List, [], ◌++◌, Option, Some, None, codes}
+use Rattle.std.specs.Fmt.{decimal}
+use Rattle.why.specs.StateLine.{number_or_null}
+use Rattle.why.specs.declared.edits.TheConstants.{FEW_RECORDS}
+use Rattle.why.specs.declared.edits.EditsTried.{EditsTried}
+
+-- an edit that makes the pair a run, in its own words
+abbrev pub edit_line : (words : List ℕ) → List ℕ
+edit_line words = codes "{\"what\": \"edit\", \"answer\": \"accepted\", \"words\": \"" ++ (words ++ codes "\"}\n")
+
+abbrev pub edits_line : EditsTried → List ℕ
+edits_line e =
+    codes "{\"what\": \"edits\", \"tried\": " ++ (decimal e.tried ++ (codes ", \"accepted\": " ++ (decimal e.accepted
+    ++ (codes ", \"records_behind\": " ++ (number_or_null e.records_behind ++ codes "}\n")))))
+
+-- ---- in rows
+
+abbrev pub edit_row : (words : List ℕ) → List ℕ
+edit_row words = codes "           " ++ (words ++ codes "\n")
+
+-- `1 record stands`, `2 records stand`
+abbrev pub stand_words : (records : ℕ) → List ℕ
+stand_words records = if records == 1 then codes "1 record stands" else decimal records ++ codes " records stand"
+
+abbrev pub make_words : (accepted : ℕ) → List ℕ
+make_words accepted = if accepted == 1 then codes "makes" else codes "make"
+
+-- with how many records behind the refusal edits were tried and make the pair a run
+abbrev pub tried_words : (tried accepted records : ℕ) → List ℕ
+tried_words tried accepted records =
+    if tried == 0 then codes "recorder no small edits were tried (" ++ (stand_words records ++ codes " behind it)\n")
+    else if accepted == 0
+    then codes "recorder none of " ++ (decimal tried ++ (codes " small edits near by makes the pair a run ("
+    ++ (stand_words records ++ codes " behind it)\n")))
+    else codes "recorder " ++ (decimal accepted ++ (codes " of " ++ (decimal tried ++ (codes " small edits near by "
+    ++ (make_words accepted ++ (codes " the pair a run (" ++ (stand_words records ++ codes " behind it):\n")))))))
+
+-- where few records stand behind it, any edit may make the pair a run
+abbrev pub recorder_words : (tried accepted : ℕ) → (records : Option ℕ) → List ℕ
+recorder_words tried accepted None = codes "recorder no small edits were tried, since a capture can't be read again\n"
+recorder_words tried accepted (Some records) =
+    if nat_lt records FEW_RECORDS
+    then codes "recorder only " ++ (stand_words records ++ codes " behind it: small edits would tell nothing\n")
+    else tried_words tried accepted records
+
+abbrev pub recorder_row : EditsTried → List ℕ
+recorder_row e = recorder_words e.tried e.accepted e.records_behind
+
+-- below the rows of edits that make the pair a run
+abbrev pub so_row : (accepted : ℕ) → List ℕ
+so_row accepted = if accepted == 0 then [] else codes "         So rather the recording is wrong than a node.\n"

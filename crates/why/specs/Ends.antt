@@ -1,0 +1,43 @@
+-- What both ends show where a record is refused.
+use Rattle.std.specs.Prelude.{Bool, true, false, if◌then◌else◌, List, [], ◌∷◌, map}
+use Rattle.std.specs.List.{filter}
+use Rattle.wire_base.specs.declared.side.Side.{Side}
+use Rattle.capture.specs.declared.entry.Entry.{Entry}
+use Rattle.capture.specs.declared.entry.Entry.TheVariants.{Sent, Received, Noise}
+use Rattle.nsp_link.specs.View.{view_of}
+use Rattle.nsp_link.specs.declared.view.LinkView.{LinkView}
+use Rattle.pair_judge.specs.Ends.{ShownEnd, ShownEnds}
+use Rattle.pair_judge.specs.Finding.{of_side}
+use Rattle.why.specs.declared.state_line.StateLine.{StateLine}
+use Rattle.why.specs.LinkLine.{is_live}
+
+-- ---- what the ends show
+
+abbrev pub end_of : Side → ShownEnds → ShownEnd
+end_of side e = of_side side e.a e.b
+
+abbrev pub state_by : Side → ShownEnd → StateLine
+state_by side e = record { side = side; records = e.records; station = e.station; sent = e.sent; front = e.front }
+
+abbrev pub state_of : Side → ShownEnds → StateLine
+state_of side ends = state_by side (end_of side ends)
+
+abbrev pub is_live_view : LinkView → Bool
+is_live_view v = is_live v.port.phase
+
+-- a link, where it is live
+abbrev pub if_live : LinkView → List LinkView
+if_live v = if is_live_view v then v ∷ [] else []
+
+abbrev pub live_by : ShownEnd → List LinkView
+live_by e = filter is_live_view (map view_of e.links.links)
+
+abbrev pub live_links : Side → ShownEnds → List LinkView
+live_links side ends = live_by (end_of side ends)
+
+-- a user's record stands behind `u`
+abbrev pub is_of_user : Entry → Bool
+is_of_user Sent = false
+is_of_user (Received kept hint) = false
+is_of_user Noise = false
+is_of_user entry = true

@@ -1,0 +1,26 @@
+-- Where the layers of a record's bytes lie: a packet in a unit, and a message of NSP in a packet.
+use Rattle.std.specs.Prelude.{ℕ, List, Option, Some, None, Result, Ok, Err, if◌then◌else◌}
+use Rattle.ddcmp_msg.specs.Message.{MessageValue, Data}
+use Rattle.ddcmp_msg.specs.Reading.{ReadingValue, Sound}
+use Rattle.dna_packet.specs.declared.fault.PacketFault.{PacketFault}
+use Rattle.dna_packet.specs.Packet.{PacketValue, Data as DataPacket}
+use Rattle.why.specs.PacketWords.{is_on_its_way_back}
+
+abbrev pub body_of : MessageValue → Option (List ℕ)
+body_of (Data flags resp num body) = Some body
+body_of message = None
+
+-- the packet of a sound data message
+abbrev pub packet_in : ReadingValue → Option (List ℕ)
+packet_in (Sound message) = body_of message
+packet_in reading = None
+
+-- the message of a data packet, but of one on its way back
+abbrev pub message_in : PacketValue → Option (List ℕ)
+message_in (DataPacket rtflg dst src forward message) = if is_on_its_way_back rtflg then None else Some message
+message_in packet = None
+
+-- the same of what bytes were read as
+abbrev pub message_of : Result PacketValue PacketFault → Option (List ℕ)
+message_of (Ok packet) = message_in packet
+message_of (Err fault) = None

@@ -1,0 +1,20 @@
+-- What is said of a refused record, byte by byte
+pub mod UnitWords
+pub mod PacketWords
+pub mod NspWords
+pub mod Layers
+pub mod EventWords
+pub mod RecordLine
+pub mod RecordText
+pub mod StateLine
+pub mod StateText
+pub mod LinkLine
+pub mod Sides
+pub mod StationChecks
+pub mod LinkChecks
+pub mod Pages
+pub mod Checks
+pub mod Refused
+pub mod Edits
+pub mod Ends
+pub mod Whole

@@ -1,0 +1,179 @@
+-- The check of the links that a message or an event does not pass: its name, what is seen there, and what is allowed (NSP 4.0, port states,
+-- data segments and acknowledgements).
+use Rattle.std.specs.Prelude.{ℕ, ◌==◌, Bool, true, false, if◌then◌else◌, Option, Some, None, is_some, List, [], ◌++◌, codes}
+use Rattle.std.specs.Fmt.{decimal}
+use Rattle.wire_base.specs.Side.{other_side, side_letter}
+use Rattle.wire_base.specs.declared.side.Side.{Side}
+use Rattle.dna_links.specs.declared.port.LinkTest.{LinkTest}
+use Rattle.dna_links.specs.declared.port.LinkTest.TheVariants.{HasAddress, LiveAt, TheLink, LiveTo, OpenedAt, CallingAt, CalledBy, BegunBy, ActedOn}
+use Rattle.dna_links.specs.declared.tag.LinkTag.{LinkTag}
+use Rattle.nsp_link.specs.declared.failed.FailedLinkSending.{FailedLinkSending}
+use Rattle.nsp_link.specs.declared.failed.FailedLinkSending.TheVariants as sending
+use Rattle.nsp_link.specs.declared.failed.FailedLinkArrival.{FailedLinkArrival}
+use Rattle.nsp_link.specs.declared.failed.FailedLinkArrival.TheVariants as arrival
+use Rattle.nsp_link.specs.declared.failed.FailedLinkEvent.{FailedLinkEvent}
+use Rattle.nsp_link.specs.declared.failed.FailedLinkEvent.TheVariants as event
+use Rattle.nsp_link.specs.declared.failed.MissingLink.{MissingLink}
+use Rattle.nsp_link.specs.declared.failed.Nodes.{Nodes}
+use Rattle.nsp_link.specs.declared.failed.Numbers.{Numbers}
+use Rattle.nsp_link.specs.declared.failed.PieceShape.{PieceShape}
+use Rattle.nsp_link.specs.declared.failed.NextPiece.{NextPiece}
+use Rattle.why.specs.PacketWords.{address_words}
+use Rattle.why.specs.NspWords.{piece_words}
+use Rattle.why.specs.LinkLine.{phase_name}
+
+-- ---- what is asked for
+
+-- `1.1 to 1.2`
+abbrev pub nodes_words : Nodes → List ℕ
+nodes_words n = address_words n.source ++ (codes " to " ++ address_words n.destination)
+
+abbrev pub wanted_words : LinkTest → List ℕ
+wanted_words (HasAddress own) = codes "a link that got own address " ++ decimal own
+wanted_words (LiveAt own) = codes "a live link with own address " ++ decimal own
+wanted_words (TheLink own far) = codes "the live link " ++ (decimal own ++ (codes "-" ++ decimal far))
+wanted_words (LiveTo far) = codes "a live link with far address " ++ decimal far
+wanted_words (OpenedAt own) = codes "a live link opened here with own address " ++ decimal own
+wanted_words (CallingAt own) = codes "a link in Calling with own address " ++ decimal own
+wanted_words (CalledBy far) = codes "a call from far address " ++ (decimal far ++ codes " that is not answered")
+wanted_words (BegunBy far) = codes "a live link that a CI of far address " ++ (decimal far ++ codes " began")
+wanted_words (ActedOn own far) = codes "the link " ++ (decimal own ++ (codes "-" ++ (decimal far ++ codes " in Confirming or RUN")))
+
+abbrev pub own_words : Bool → List ℕ
+own_words false = []
+own_words true = codes "; a live link has that own address"
+
+abbrev pub far_words : Bool → List ℕ
+far_words false = []
+far_words true = codes "; a live link has that far address"
+
+abbrev pub missing_words : MissingLink → List ℕ
+missing_words m = codes "no such link" ++ (own_words (is_some m.with_own) ++ far_words m.with_far)
+
+-- where older numbers are allowed too
+abbrev pub again_words : (lowest : ℕ) → Option ℕ → List ℕ
+again_words lowest None = []
+again_words lowest (Some first) = codes ", or again " ++ (decimal first ++ (codes " to " ++ decimal lowest))
+
+abbrev pub range_words : Numbers → List ℕ
+range_words n = decimal n.lowest ++ (codes " to " ++ (decimal n.highest ++ again_words n.lowest n.again))
+
+abbrev pub ack_range : Numbers → List ℕ
+ack_range n = range_words n ++ codes ": the last one sent on this link, and the highest received without a gap"
+
+-- one number, or a range
+abbrev pub number_words : Numbers → List ℕ
+number_words n = if n.lowest == n.highest then decimal n.lowest ++ again_words n.lowest n.again else range_words n
+
+-- `1 bytes, a whole message`
+abbrev pub shape_words : PieceShape → List ℕ
+shape_words s = decimal s.length ++ (codes " bytes, " ++ piece_words s.begins s.ends)
+
+abbrev pub begins_words : Bool → List ℕ
+begins_words true = codes " bytes that are handed in, begins a message"
+begins_words false = codes " bytes that are left of the message"
+
+abbrev pub next_words : Option NextPiece → List ℕ
+next_words None = codes "no new segment: nothing is left of what was handed in"
+next_words (Some next) = codes "the next of " ++ (decimal next.left ++ begins_words next.begins)
+
+abbrev pub otherwise_words : (number : ℕ) → PieceShape → List ℕ
+otherwise_words number x = codes "segment " ++ (decimal number ++ (codes " again, otherwise: " ++ shape_words x))
+
+-- ---- a message that is sent
+
+abbrev pub link_sending_check : FailedLinkSending → List ℕ
+link_sending_check (sending.Nodes x y) = codes "nodes"
+link_sending_check (sending.NoLink missing) = codes "link"
+link_sending_check (sending.Phase link x y) = codes "phase"
+link_sending_check (sending.Live link) = codes "phase"
+link_sending_check (sending.Acknowledgement x y) = codes "acknowledgement"
+link_sending_check (sending.Room x y) = codes "window"
+link_sending_check (sending.Length x y) = codes "segment length"
+link_sending_check (sending.NextPiece x y) = codes "next piece"
+link_sending_check (sending.Number x y) = codes "segment number"
+link_sending_check (sending.AsFirstGiven number x y) = codes "as first given"
+
+abbrev pub link_sending_seen : FailedLinkSending → List ℕ
+link_sending_seen (sending.Nodes x y) = nodes_words x
+link_sending_seen (sending.NoLink missing) = missing_words missing
+link_sending_seen (sending.Phase link x y) = codes "a link in " ++ phase_name x
+link_sending_seen (sending.Live link) = codes "a DC between the addresses of a live link"
+link_sending_seen (sending.Acknowledgement x y) = codes "ACK " ++ decimal x
+link_sending_seen (sending.Room x y) = codes "a new segment while " ++ (decimal x ++ codes " are outstanding")
+link_sending_seen (sending.Length x y) = decimal x ++ codes " bytes"
+link_sending_seen (sending.NextPiece x y) = shape_words x
+link_sending_seen (sending.Number x y) = codes "segment " ++ decimal x
+link_sending_seen (sending.AsFirstGiven number x y) = otherwise_words number x
+
+abbrev pub link_sending_allowed : FailedLinkSending → List ℕ
+link_sending_allowed (sending.Nodes x y) = nodes_words y
+link_sending_allowed (sending.NoLink missing) = wanted_words missing.wanted
+link_sending_allowed (sending.Phase link x y) = codes "a link in " ++ phase_name y
+link_sending_allowed (sending.Live link) = codes "a DC between the addresses of none"
+link_sending_allowed (sending.Acknowledgement x y) = ack_range y
+link_sending_allowed (sending.Room x y) = codes "a new segment while at most " ++ (decimal y ++ codes " are outstanding")
+link_sending_allowed (sending.Length x y) = codes "at most " ++ (decimal y ++ codes " bytes, the SEGSIZE of the other end")
+link_sending_allowed (sending.NextPiece x y) = next_words y
+link_sending_allowed (sending.Number x y) = codes "segment " ++ number_words y
+link_sending_allowed (sending.AsFirstGiven number x y) =
+    codes "segment " ++ (decimal number ++ (codes " again, as at first: " ++ shape_words y))
+
+-- ---- a message that comes to this side; links are counted from 0 in the order in which they began
+
+abbrev pub link_arrival_check : FailedLinkArrival → List ℕ
+link_arrival_check (arrival.Nodes x y) = codes "nodes"
+link_arrival_check (arrival.OtherCall link tag) = codes "call"
+link_arrival_check (arrival.OtherPair link partner tag) = codes "pair of links"
+
+abbrev pub link_number_words : Side → Option ℕ → List ℕ
+link_number_words side None = codes "no link of " ++ side_letter side
+link_number_words side (Some number) = codes "link number " ++ (decimal number ++ (codes " of " ++ side_letter side))
+
+abbrev pub tag_words : Side → LinkTag → List ℕ
+tag_words side tag =
+    codes "a message of " ++ (link_number_words (other_side side) tag.link ++ (codes ", which then went with " ++ link_number_words side tag.partner))
+
+abbrev pub link_arrival_seen : Side → FailedLinkArrival → List ℕ
+link_arrival_seen side (arrival.Nodes x y) = nodes_words x
+link_arrival_seen side (arrival.OtherCall link tag) = tag_words side tag
+link_arrival_seen side (arrival.OtherPair link partner tag) = tag_words side tag
+
+-- the other side's link that goes with this one, where it is known
+abbrev pub goes_with_words : Side → (link : ℕ) → Option ℕ → List ℕ
+goes_with_words side link None = codes "a message of a link that goes with link number " ++ (decimal link ++ (codes " of " ++ side_letter side))
+goes_with_words side link (Some partner) =
+    codes "a message of link number " ++ (decimal partner ++ (codes " of " ++ (side_letter (other_side side)
+    ++ (codes ", which goes with link number " ++ (decimal link ++ (codes " of " ++ side_letter side))))))
+
+abbrev pub link_arrival_allowed : Side → FailedLinkArrival → List ℕ
+link_arrival_allowed side (arrival.Nodes x y) = nodes_words y
+link_arrival_allowed side (arrival.OtherCall link tag) = goes_with_words side link None
+link_arrival_allowed side (arrival.OtherPair link partner tag) = goes_with_words side link partner
+
+-- ---- a user's event
+
+abbrev pub link_event_check : FailedLinkEvent → List ℕ
+link_event_check (event.NoLink missing) = codes "link"
+link_event_check (event.AddressInUse own link) = codes "address"
+link_event_check (event.TakesMessages link phase) = codes "phase"
+link_event_check (event.IsConnected link phase) = codes "phase"
+link_event_check (event.Delivery link x y) = codes "delivery"
+
+abbrev pub link_event_seen : FailedLinkEvent → List ℕ
+link_event_seen (event.NoLink missing) = missing_words missing
+link_event_seen (event.AddressInUse own link) = codes "own address " ++ (decimal own ++ codes ", which a live link has")
+link_event_seen (event.TakesMessages link phase) = codes "a message at a link in " ++ phase_name phase
+link_event_seen (event.IsConnected link phase) = codes "a close of a link in " ++ phase_name phase
+link_event_seen (event.Delivery link x y) = codes "a message of " ++ (decimal x ++ codes " bytes")
+
+abbrev pub delivery_words : Option ℕ → List ℕ
+delivery_words None = codes "the next whole message, of which there is none yet"
+delivery_words (Some length) = codes "the next whole message, which has " ++ (decimal length ++ codes " bytes")
+
+abbrev pub link_event_allowed : FailedLinkEvent → List ℕ
+link_event_allowed (event.NoLink missing) = wanted_words missing.wanted
+link_event_allowed (event.AddressInUse own link) = codes "an own address that no live link has"
+link_event_allowed (event.TakesMessages link phase) = codes "a message at a link in Calling, Confirming or RUN"
+link_event_allowed (event.IsConnected link phase) = codes "a close of a link in Confirming or RUN"
+link_event_allowed (event.Delivery link x y) = delivery_words y

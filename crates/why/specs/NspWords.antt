@@ -1,0 +1,88 @@
+-- What a message of NSP says, in words (NSP 4.0, message formats).
+use Rattle.std.specs.Prelude.{ℕ, List, [], ◌∷◌, ◌++◌, length, Bool, true, false, Result, Ok, Err, codes}
+use Rattle.std.specs.Fmt.{decimal}
+use Rattle.dna_packet.specs.declared.ack_word.AckQualifier.{AckQualifier}
+use Rattle.dna_packet.specs.declared.ack_word.AckQualifier.TheVariants.{Ack, Nak, OtherAck, OtherNak}
+use Rattle.dna_packet.specs.declared.ack_word.AckWord.{AckWord}
+use Rattle.dna_packet.specs.declared.fault.NspFault.{NspFault}
+use Rattle.dna_packet.specs.declared.fault.NspFault.TheVariants.{UnknownFlag, MissingField, BadAckWord, BadSegnum, TrailingBytes, NonzeroDstaddr}
+use Rattle.dna_packet.specs.Nsp.{NspValue, DataSegment, LinkService, DataAck, OtherDataAck, ConnectAck, NoOperation, ConnectInitiate, ConnectConfirm}
+use Rattle.dna_packet.specs.Nsp.{DisconnectInitiate, DisconnectConfirm, SegmentValue}
+
+-- `1 -> 2`: SRCADDR and DSTADDR
+abbrev pub way_words : (dst src : ℕ) → List ℕ
+way_words dst src = decimal src ++ (codes " -> " ++ decimal dst)
+
+-- an acknowledgement word; of the other subchannel it says so
+abbrev pub ack_word_words : AckQualifier → ℕ → List ℕ
+ack_word_words Ack number = codes ", acks " ++ decimal number
+ack_word_words Nak number = codes ", naks " ++ decimal number
+ack_word_words OtherAck number = codes ", acks " ++ (decimal number ++ codes " of the other subchannel")
+ack_word_words OtherNak number = codes ", naks " ++ (decimal number ++ codes " of the other subchannel")
+
+-- the words of a message, at most two of which stand there
+abbrev pub ack_words : List AckWord → List ℕ
+ack_words [] = []
+ack_words (first ∷ []) = ack_word_words first.qualifier first.number
+ack_words (first ∷ second ∷ rest) = ack_word_words first.qualifier first.number ++ ack_word_words second.qualifier second.number
+
+-- which part of a user's message a segment is
+abbrev pub piece_words : (begins ends : Bool) → List ℕ
+piece_words true true = codes "a whole message"
+piece_words true false = codes "begins a message"
+piece_words false true = codes "ends a message"
+piece_words false false = codes "inside a message"
+
+abbrev pub segment_words : SegmentValue → List ℕ
+segment_words s =
+    codes "segment " ++ (decimal s.number ++ (codes " of link " ++ (way_words s.dstaddr s.srcaddr ++ (ack_words s.acks
+    ++ (codes ", " ++ (piece_words s.begins s.ends ++ (codes ", " ++ (decimal (length s.body) ++ codes " bytes"))))))))
+
+-- what follows the fields that are read
+abbrev pub unread_words : List ℕ → List ℕ
+unread_words rest = codes ", " ++ (decimal (length rest) ++ codes " bytes, not read further")
+
+abbrev pub user_data_words : List ℕ → List ℕ
+user_data_words bytes = codes ", " ++ (decimal (length bytes) ++ codes " bytes of user data")
+
+-- `SEGSIZE 512, services 1, info 2`
+abbrev pub connect_words : (services info segsize : ℕ) → List ℕ
+connect_words services info segsize =
+    codes "SEGSIZE " ++ (decimal segsize ++ (codes ", services " ++ (decimal services ++ (codes ", info " ++ decimal info))))
+
+abbrev pub service_name : (interrupt : Bool) → List ℕ
+service_name false = codes "link service of link "
+service_name true = codes "interrupt of link "
+
+abbrev pub again_words : (retransmitted : Bool) → List ℕ
+again_words false = []
+again_words true = codes ", sent again"
+
+abbrev pub nsp_words : NspValue → List ℕ
+nsp_words (DataSegment segment) = segment_words segment
+nsp_words (LinkService interrupt dst src rest) = service_name interrupt ++ (way_words dst src ++ unread_words rest)
+nsp_words (DataAck dst src acks) = codes "data ack of link " ++ (way_words dst src ++ ack_words acks)
+nsp_words (OtherDataAck dst src rest) = codes "other-data ack of link " ++ (way_words dst src ++ unread_words rest)
+nsp_words (ConnectAck dst) = codes "connect ack to link " ++ decimal dst
+nsp_words (NoOperation rest) = codes "no operation" ++ unread_words rest
+nsp_words (ConnectInitiate retransmitted src services info segsize user_data) =
+    codes "CI of link " ++ (decimal src ++ (again_words retransmitted ++ (codes ", "
+    ++ (connect_words services info segsize ++ user_data_words user_data))))
+nsp_words (ConnectConfirm dst src services info segsize user_data) =
+    codes "CC of link " ++ (way_words dst src ++ (codes ", " ++ (connect_words services info segsize ++ user_data_words user_data)))
+nsp_words (DisconnectInitiate dst src reason user_data) =
+    codes "DI of link " ++ (way_words dst src ++ (codes ", reason " ++ (decimal reason ++ user_data_words user_data)))
+nsp_words (DisconnectConfirm dst src reason) = codes "DC of link " ++ (way_words dst src ++ (codes ", reason " ++ decimal reason))
+
+abbrev pub nsp_fault_words : NspFault → List ℕ
+nsp_fault_words UnknownFlag = codes "no message of NSP: the flag byte of none"
+nsp_fault_words MissingField = codes "no message of NSP: a field is missing or cut"
+nsp_fault_words BadAckWord = codes "no message of NSP: a wrong acknowledgement word"
+nsp_fault_words BadSegnum = codes "no message of NSP: a wrong segment number"
+nsp_fault_words TrailingBytes = codes "no message of NSP: bytes behind its end"
+nsp_fault_words NonzeroDstaddr = codes "no message of NSP: DSTADDR of a CI is not 0"
+
+-- what a message was read as
+abbrev pub message_words : Result NspValue NspFault → List ℕ
+message_words (Ok message) = nsp_words message
+message_words (Err fault) = nsp_fault_words fault

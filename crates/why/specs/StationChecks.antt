@@ -1,0 +1,108 @@
+-- The check of the station that a message does not pass: its name, what is seen there, and what is allowed (DDCMP 4.1, startup state table,
+-- data transfer).
+use Rattle.std.specs.Prelude.{ℕ, Bool, true, false, nat_lt, if◌then◌else◌, Option, Some, None, List, [], ◌++◌, codes}
+use Rattle.std.specs.Fmt.{decimal}
+use Rattle.wire_base.specs.Side.{other_side, side_letter}
+use Rattle.wire_base.specs.declared.side.Side.{Side}
+use Rattle.ddcmp_msg.specs.Message.{reason_number}
+use Rattle.ddcmp_msg.specs.Reading.{ReadingValue}
+use Rattle.dna_station.specs.declared.state.State.{State}
+use Rattle.dna_station.specs.declared.state.State.TheVariants.{Halted, Istrt, Astrt, Running}
+use Rattle.dna_station.specs.declared.tag.Tag.{Tag}
+use Rattle.ddcmp_station.specs.declared.failed.FailedSending.{FailedSending}
+use Rattle.ddcmp_station.specs.declared.failed.FailedSending.TheVariants.{State as OfState, RespIsLast, NumIsNext, NumIsHighest, SomeOutstanding}
+use Rattle.ddcmp_station.specs.declared.failed.FailedSending.TheVariants.{RoomIfNew, AsFirstGiven, CauseIsOpen}
+use Rattle.ddcmp_station.specs.declared.failed.FailedArrival.{FailedArrival}
+use Rattle.ddcmp_station.specs.declared.failed.FailedArrival.TheVariants.{Period, Keep}
+use Rattle.ddcmp_station.specs.declared.failed.PeriodNeed.{PeriodNeed}
+use Rattle.ddcmp_station.specs.declared.failed.PeriodNeed.TheVariants.{Anything, Fresh, OfPair}
+use Rattle.ddcmp_station.specs.declared.view.OpenCauses.{OpenCauses}
+use Rattle.why.specs.UnitWords.{reading_name}
+use Rattle.why.specs.StateLine.{state_name}
+
+-- ---- a message that is sent
+
+-- the name in the table
+abbrev pub sending_check : FailedSending → List ℕ
+sending_check (OfState state) = codes "State"
+sending_check (RespIsLast x y) = codes "RespIsLast"
+sending_check (NumIsNext x y again) = codes "NumIsNext"
+sending_check (NumIsHighest x y) = codes "NumIsHighest"
+sending_check SomeOutstanding = codes "SomeOutstanding"
+sending_check (RoomIfNew x y) = codes "RoomIfNew"
+sending_check (AsFirstGiven number) = codes "AsFirstGiven"
+sending_check (CauseIsOpen x causes) = codes "CauseIsOpen"
+
+abbrev pub sending_seen : FailedSending → ReadingValue → List ℕ
+sending_seen (OfState state) reading = reading_name reading ++ (codes " in " ++ state_name state)
+sending_seen (RespIsLast x y) reading = codes "RESP " ++ decimal x
+sending_seen (NumIsNext x y again) reading = codes "NUM " ++ decimal x
+sending_seen (NumIsHighest x y) reading = codes "NUM " ++ decimal x
+sending_seen SomeOutstanding reading = codes "a REP while no packet is outstanding"
+sending_seen (RoomIfNew x y) reading = codes "a new packet while " ++ (decimal x ++ codes " are outstanding")
+sending_seen (AsFirstGiven number) reading = codes "number " ++ (decimal number ++ codes " with other data than at first")
+sending_seen (CauseIsOpen x causes) reading = codes "a NAK of reason " ++ (decimal (reason_number x) ++ codes ", of which no cause is open")
+
+-- what a state's row has
+abbrev pub allowed_in : State → List ℕ
+allowed_in Halted = codes "nothing in HALTED"
+allowed_in Istrt = codes "STRT in ISTRT"
+allowed_in Astrt = codes "STACK in ASTRT"
+allowed_in Running = codes "ACK, NAK, REP or data in RUNNING"
+
+-- a number that was given goes again
+abbrev pub if_again : Bool → List ℕ
+if_again true = codes " (again, as first sent)"
+if_again false = []
+
+-- a reason of which a cause is open, in front of those that need none
+abbrev pub open_reason : (reason count : ℕ) → List ℕ
+open_reason reason count = if nat_lt 0 count then decimal reason ++ codes ", " else []
+
+abbrev pub allowed_reasons : OpenCauses → List ℕ
+allowed_reasons c =
+    codes "a NAK of reason " ++ (open_reason 1 c.header_check ++ (open_reason 2 c.data_check ++ (open_reason 3 c.rep_response
+    ++ (open_reason 8 c.no_buffer ++ codes "9, 16 or 17"))))
+
+abbrev pub sending_allowed : FailedSending → List ℕ
+sending_allowed (OfState state) = allowed_in state
+sending_allowed (RespIsLast x y) = codes "RESP " ++ decimal y
+sending_allowed (NumIsNext x y again) = codes "NUM " ++ (decimal y ++ if_again again)
+sending_allowed (NumIsHighest x y) = codes "NUM " ++ decimal y
+sending_allowed SomeOutstanding = codes "a REP while a packet is outstanding"
+sending_allowed (RoomIfNew x y) = codes "a new packet while at most " ++ (decimal y ++ codes " are outstanding")
+sending_allowed (AsFirstGiven number) = codes "number " ++ (decimal number ++ codes " with the data of its first sending")
+sending_allowed (CauseIsOpen x causes) = allowed_reasons causes
+
+-- ---- a message that comes to this side
+
+abbrev pub arrival_check : FailedArrival → List ℕ
+arrival_check (Period needs tag own) = codes "Period"
+arrival_check Keep = codes "Keep"
+
+-- the start of this side that the other side's start went with
+abbrev pub then_with : Side → Option ℕ → List ℕ
+then_with side None = codes ", which then went with none of " ++ side_letter side
+then_with side (Some period) = codes ", which then went with start " ++ (decimal period ++ (codes " of " ++ side_letter side))
+
+abbrev pub arrival_seen : Side → FailedArrival → ReadingValue → List ℕ
+arrival_seen side (Period needs tag own) reading =
+    reading_name reading ++ (codes " sent in start " ++ (decimal tag.period ++ (codes " of " ++ (side_letter (other_side side)
+    ++ then_with side tag.partner))))
+arrival_seen side Keep reading = reading_name reading ++ codes ", kept"
+
+-- the other side's start that the message has to be of
+abbrev pub sent_in : Side → Option ℕ → List ℕ
+sent_in other None = []
+sent_in other (Some period) = codes ", sent in start " ++ (decimal period ++ (codes " of " ++ side_letter other))
+
+-- what the row of the message needs
+abbrev pub needed : Side → PeriodNeed → Tag → List ℕ
+needed side Anything own = codes "any start"
+needed side Fresh own = codes "what goes with start " ++ (decimal own.period ++ (codes " of " ++ side_letter side))
+needed side OfPair own =
+    codes "what goes with start " ++ (decimal own.period ++ (codes " of " ++ (side_letter side ++ sent_in (other_side side) own.partner)))
+
+abbrev pub arrival_allowed : Side → FailedArrival → ReadingValue → List ℕ
+arrival_allowed side (Period needs tag own) reading = needed side needs own
+arrival_allowed side Keep reading = reading_name reading ++ codes ", not kept"

@@ -1,0 +1,128 @@
+//! Who is accused.
+
+ghost use Rattle.std.specs.Prelude.{◌≡◌};
+ghost use Rattle.why.specs.Refused as spec;
+
+use pair_judge::{Accused, Reason};
+use std::fmt;
+use wire_base::Side;
+
+/// By whose fault a record is refused. Printed as one word, or as `other end`.
+#[derive(Clone, Copy, Debug, PartialEq, Eq)]
+pub enum Accusation {
+    /// The node that sent the unit.
+    Sender,
+    /// The hints, or captures that do not pair.
+    Hints,
+    /// The line, or captures that do not pair.
+    Line,
+    /// What the side says of itself; nothing is said against the other one.
+    Claim,
+    /// Neither side: the protocol can't tell two messages apart.
+    Nobody,
+    /// The node's user.
+    User,
+    /// Of one end alone: the other end, in what came of it.
+    OtherEnd,
+}
+
+impl Accusation {
+    /// Who is accused where a record is refused for this reason; `of_user` where it is a user's record (`u`).
+    pub fn of(reason: Reason, of_user: bool) -> Accusation
+        ensures { result ≡ spec.accuses reason of_user }
+    {
+        match reason {
+            Reason::NotAMessage
+            | Reason::WrongState
+            | Reason::WrongNumber
+            | Reason::WrongResponse
+            | Reason::WindowFull
+            | Reason::Changed
+            | Reason::NoCause
+            | Reason::BadPacket
+            | Reason::WrongNode
+            | Reason::BadNsp
+            | Reason::WrongSegment
+            | Reason::WrongAck
+            | Reason::SegmentTooLong
+            | Reason::LinkWindowFull => Accusation::Sender,
+            Reason::HintOrder | Reason::NoSuchUnit | Reason::NoOrder => Accusation::Hints,
+            Reason::Undetected => Accusation::Line,
+            Reason::WrongKeep | Reason::WrongDelivery | Reason::NotNoise => Accusation::Claim,
+            Reason::CrossedPeriod | Reason::CrossedLink => Accusation::Nobody,
+            Reason::WrongUserEvent | Reason::AddressInUse => Accusation::User,
+            Reason::NoLink | Reason::LinkState => Accusation::of_sender_or_user(of_user),
+        }
+    }
+
+    /// Who is accused where a record of one end alone is refused for this reason, by this end's fault or the other's.
+    pub fn of_end(accused: Accused, reason: Reason, of_user: bool) -> Accusation
+        ensures { result ≡ spec.end_accuses accused reason of_user }
+    {
+        match accused {
+            Accused::ThisEnd => Accusation::of(reason, of_user),
+            Accused::OtherEnd => Accusation::OtherEnd,
+        }
+    }
+
+    fn of_sender_or_user(of_user: bool) -> Accusation
+        ensures { result ≡ spec.sender_or_user of_user }
+    {
+        if of_user {
+            return Accusation::User;
+        }
+        Accusation::Sender
+    }
+}
+
+impl fmt::Display for Accusation {
+    ghost use Rattle.std.specs.Prelude.{Some};
+
+    ghost output = { λ accusation. Some (spec.accusation_name accusation) };
+
+    fn fmt<W: fmt::Write>(&self, f: &mut fmt::Formatter<W>) -> fmt::Result {
+        match self {
+            Accusation::Sender => f.write_str("sender"),
+            Accusation::Hints => f.write_str("hints"),
+            Accusation::Line => f.write_str("line"),
+            Accusation::Claim => f.write_str("claim"),
+            Accusation::Nobody => f.write_str("nobody"),
+            Accusation::User => f.write_str("user"),
+            Accusation::OtherEnd => f.write_str("other end"),
+        }
+    }
+}
+
+/// The same in words, of a record of this side, with its LF.
+#[derive(Clone, Copy)]
+pub struct AccusedRow {
+    pub side: Side,
+    pub accusation: Accusation,
+}
+
+impl fmt::Display for AccusedRow {
+    ghost use Rattle.std.specs.Prelude.{Some};
+
+    ghost output = { λ row. Some (spec.accused_row row.side row.accusation) };
+
+    fn fmt<W: fmt::Write>(&self, f: &mut fmt::Formatter<W>) -> fmt::Result {
+        let side = self.side;
+        let other = side.other();
+        match self.accusation {
+            Accusation::Sender => write!(f, "accused  the sender, {side}\n"),
+            Accusation::Hints => {
+                f.write_str("accused  the hints, or captures that do not pair\n")
+            }
+            Accusation::Line => f.write_str("accused  the line, or captures that do not pair\n"),
+            Accusation::Claim => write!(
+                f,
+                "accused  what {side} says of itself; nothing is said against {other}\n"
+            ),
+            Accusation::Nobody => {
+                f.write_str("accused  nobody: the protocol cannot tell the two apart\n")
+            }
+            Accusation::User => write!(f, "accused  the user of {side}\n"),
+            Accusation::OtherEnd => f.write_str("accused  the other end\n"),
+        }
+    }
+}

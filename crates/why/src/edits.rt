@@ -1,0 +1,217 @@
+//! What small edits of the captures tell.
+
+use crate::state_line::NumberOrNull;
+use std::fmt;
+
+/// With fewer records than this behind the refusal, small edits tell nothing: most of them make the pair a run.
+pub const FEW_RECORDS: u64 = 20;
+
+/// How many small edits near the refusal were judged, and how many of them make the pair a run. Printed as one JSON object with its LF.
+#[derive(Clone, Copy, Debug, PartialEq, Eq)]
+pub struct EditsTried {
+    /// How many were judged.
+    pub tried: u64,
+    /// How many of them make the pair a run.
+    pub accepted: u64,
+    /// How many records of both captures stand behind the refused one: those that are not made, without it. `None` where a capture can't be
+    /// read again, so that nobody knows.
+    pub records_behind: Option<u64>,
+}
+
+impl fmt::Display for EditsTried {
+    ghost use Rattle.std.specs.Prelude.{Some};
+    ghost use Rattle.why.specs.Edits.{edits_line};
+
+    ghost output = { λ edits. Some (edits_line edits) };
+
+    fn fmt<W: fmt::Write>(&self, f: &mut fmt::Formatter<W>) -> fmt::Result {
+        let EditsTried {
+            tried,
+            accepted,
+            records_behind,
+        } = *self;
+        let behind = NumberOrNull {
+            number: records_behind,
+        };
+        write!(
+            f,
+            "{{\"what\": \"edits\", \"tried\": {tried}, \"accepted\": {accepted}, \"records_behind\": {behind}}}\n"
+        )
+    }
+}
+
+/// The same in words, with its LF. Where some edits make the pair a run, their own rows follow.
+#[derive(Clone, Copy)]
+pub struct RecorderRow {
+    pub edits: EditsTried,
+}
+
+impl fmt::Display for RecorderRow {
+    ghost use Rattle.std.specs.Prelude.{Some};
+    ghost use Rattle.why.specs.Edits.{recorder_row};
+
+    ghost output = { λ row. Some (recorder_row row.edits) };
+
+    fn fmt<W: fmt::Write>(&self, f: &mut fmt::Formatter<W>) -> fmt::Result {
+        let Some(records) = self.edits.records_behind else {
+            return f.write_str(
+                "recorder no small edits were tried, since a capture can't be read again\n",
+            );
+        };
+        if records < FEW_RECORDS {
+            let stand = StandWords { records };
+            return write!(
+                f,
+                "recorder only {stand} behind it: small edits would tell nothing\n"
+            );
+        }
+        let words = TriedWords {
+            tried: self.edits.tried,
+            accepted: self.edits.accepted,
+            records,
+        };
+        write!(f, "{words}")
+    }
+}
+
+// How many edits were tried and make the pair a run.
+#[derive(Clone, Copy)]
+struct TriedWords {
+    tried: u64,
+    accepted: u64,
+    records: u64,
+}
+
+impl fmt::Display for TriedWords {
+    ghost use Rattle.std.specs.Prelude.{Some};
+    ghost use Rattle.why.specs.Edits.{tried_words};
+
+    ghost output = { λ words. Some (tried_words words.tried words.accepted words.records) };
+
+    fn fmt<W: fmt::Write>(&self, f: &mut fmt::Formatter<W>) -> fmt::Result {
+        let TriedWords {
+            tried,
+            accepted,
+            records,
+        } = *self;
+        let stand = StandWords { records };
+        if tried == 0 {
+            return write!(
+                f,
+                "recorder no small edits were tried ({stand} behind it)\n"
+            );
+        }
+        if accepted == 0 {
+            return write!(
+                f,
+                "recorder none of {tried} small edits near by makes the pair a run ({stand} behind it)\n"
+            );
+        }
+        let make = MakeWord { accepted };
+        write!(
+            f,
+            "recorder {accepted} of {tried} small edits near by {make} the pair a run ({stand} behind it):\n"
+        )
+    }
+}
+
+// How many records stand there.
+#[derive(Clone, Copy)]
+struct StandWords {
+    records: u64,
+}
+
+impl fmt::Display for StandWords {
+    ghost use Rattle.std.specs.Prelude.{Some};
+    ghost use Rattle.why.specs.Edits.{stand_words};
+
+    ghost output = { λ words. Some (stand_words words.records) };
+
+    fn fmt<W: fmt::Write>(&self, f: &mut fmt::Formatter<W>) -> fmt::Result {
+        let records = self.records;
+        if records == 1 {
+            return f.write_str("1 record stands");
+        }
+        write!(f, "{records} records stand")
+    }
+}
+
+// One edit makes the pair a run, or several make it one.
+#[derive(Clone, Copy)]
+struct MakeWord {
+    accepted: u64,
+}
+
+impl fmt::Display for MakeWord {
+    ghost use Rattle.std.specs.Prelude.{Some};
+    ghost use Rattle.why.specs.Edits.{make_words};
+
+    ghost output = { λ word. Some (make_words word.accepted) };
+
+    fn fmt<W: fmt::Write>(&self, f: &mut fmt::Formatter<W>) -> fmt::Result {
+        if self.accepted == 1 {
+            return f.write_str("makes");
+        }
+        f.write_str("make")
+    }
+}
+
+/// An edit that makes the pair a run, in its own words, which have no quote, backslash or control character. Printed as one JSON object with
+/// its LF.
+#[derive(Clone, Copy)]
+pub struct EditLine<'w> {
+    pub words: &'w str,
+}
+
+impl fmt::Display for EditLine<'_> {
+    ghost use Rattle.std.specs.Prelude.{Some};
+    ghost use Rattle.why.specs.Edits.{edit_line};
+
+    ghost output = { λ line. Some (edit_line line.words.now) };
+
+    fn fmt<W: fmt::Write>(&self, f: &mut fmt::Formatter<W>) -> fmt::Result {
+        let words = self.words;
+        write!(
+            f,
+            "{{\"what\": \"edit\", \"answer\": \"accepted\", \"words\": \"{words}\"}}\n"
+        )
+    }
+}
+
+/// The same edit as a row below that of the recorder.
+#[derive(Clone, Copy)]
+pub struct EditRow<'w> {
+    pub words: &'w str,
+}
+
+impl fmt::Display for EditRow<'_> {
+    ghost use Rattle.std.specs.Prelude.{Some};
+    ghost use Rattle.why.specs.Edits.{edit_row};
+
+    ghost output = { λ row. Some (edit_row row.words.now) };
+
+    fn fmt<W: fmt::Write>(&self, f: &mut fmt::Formatter<W>) -> fmt::Result {
+        let words = self.words;
+        write!(f, "           {words}\n")
+    }
+}
+
+/// What edits that make the pair a run tell, below their rows; nothing where there are none.
+#[derive(Clone, Copy)]
+pub struct SoRow {
+    pub accepted: u64,
+}
+
+impl fmt::Display for SoRow {
+    ghost use Rattle.std.specs.Prelude.{Some};
+    ghost use Rattle.why.specs.Edits.{so_row};
+
+    ghost output = { λ row. Some (so_row row.accepted) };
+
+    fn fmt<W: fmt::Write>(&self, f: &mut fmt::Formatter<W>) -> fmt::Result {
+        if self.accepted == 0 {
+            return Ok(());
+        }
+        f.write_str("         So rather the recording is wrong than a node.\n")
+    }
+}

@@ -1,0 +1,67 @@
+//! What both ends show where a record is refused.
+
+ghost use Rattle.std.specs.Prelude.{◌≡◌, ◌++◌, IfOk, OnOk};
+ghost use Rattle.why.specs.Ends as spec;
+
+use crate::link_line::is_live;
+use crate::state_line::StateLine;
+use capture::Entry;
+use nsp_link::LinkView;
+use pair_judge::JudgedEnds;
+use std::alloc::{AllocError, Global};
+use wire_base::Side;
+
+/// This side as it was before the refused record.
+pub fn state_of(ends: &JudgedEnds, side: Side) -> StateLine
+    ensures { result ≡ spec.state_of side ends.now }
+{
+    StateLine {
+        side,
+        records: ends.records(side),
+        station: ends.station(side),
+        sent: ends.sent(side),
+        front: ends.front(side),
+    }
+}
+
+/// The live links of this side as they were before the refused record, in the order in which they began. Fails for want of memory alone.
+pub fn live_links(alloc: Global, ends: &JudgedEnds, side: Side) -> Result<Vec<LinkView>, AllocError>
+    ensures { IfOk result (λ live. live.items ≡ spec.live_links side ends.now) }
+{
+    let mut live = Vec::new(alloc);
+    for number in 0..usize::MAX {
+        let Some(link) = ends.link(side, number) else {
+            return Ok(live);
+        };
+        push_live(&mut live, link)?;
+    }
+    // No memory holds so many links.
+    Err(AllocError)
+}
+
+// Keeps a link that is live.
+fn push_live(live: &mut Vec<LinkView>, link: LinkView) -> Result<(), AllocError>
+    ensures { OnOk result (live.new.items ≡ live.old.items ++ spec.if_live link) }
+{
+    if is_live(link.port.phase) {
+        live.push(link)?;
+    }
+    Ok(())
+}
+
+/// Whether the record of this entry is a user's (`u`).
+pub fn is_of_user(entry: Entry) -> bool
+    ensures { result ≡ spec.is_of_user entry }
+{
+    match entry {
+        Entry::Sent | Entry::Received { .. } | Entry::Noise => false,
+        Entry::Start
+        | Entry::Halt
+        | Entry::Open { .. }
+        | Entry::Accept { .. }
+        | Entry::Reject { .. }
+        | Entry::In { .. }
+        | Entry::Up { .. }
+        | Entry::Close { .. } => true,
+    }
+}

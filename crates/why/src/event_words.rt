@@ -1,0 +1,33 @@
+//! The words of a user's line.
+
+use capture::Entry;
+use std::fmt;
+
+/// The words of a user's line behind `u `, with its bytes, which are spelled already. Nothing for a record that is no user's.
+#[derive(Clone, Copy)]
+pub struct EventWords<'d> {
+    pub entry: Entry,
+    pub digits: &'d str,
+}
+
+impl fmt::Display for EventWords<'_> {
+    ghost use Rattle.std.specs.Prelude.{Some};
+    ghost use Rattle.why.specs.EventWords.{event_words};
+
+    ghost output = { λ words. Some (event_words words.entry words.digits.now) };
+
+    fn fmt<W: fmt::Write>(&self, f: &mut fmt::Formatter<W>) -> fmt::Result {
+        let digits = self.digits;
+        match self.entry {
+            Entry::Start => f.write_str("start"),
+            Entry::Halt => f.write_str("halt"),
+            Entry::Open { link } => write!(f, "open {link}"),
+            Entry::Accept { partner, link } => write!(f, "accept {partner} {link}"),
+            Entry::Reject { partner, link } => write!(f, "reject {partner} {link}"),
+            Entry::In { link } => write!(f, "in {link} {digits}"),
+            Entry::Up { link } => write!(f, "up {link} {digits}"),
+            Entry::Close { link } => write!(f, "close {link}"),
+            Entry::Sent | Entry::Received { .. } | Entry::Noise => Ok(()),
+        }
+    }
+}

@@ -1,0 +1,52 @@
+//! What is said of a record that a judge refused: what its bytes say, layer by layer; the check that was not passed, with what is seen there
+//! and what is allowed; and the variables of both ends. It judges nothing, reads and writes no file, and knows no capture.
+#![tactic(auto)]
+
+mod accusation;
+mod ack_words;
+mod arrival_checks;
+mod causes_words;
+mod check_words;
+mod checks;
+mod edits;
+mod ends;
+mod event_words;
+mod layers;
+mod link_arrival_checks;
+mod link_check_fields;
+mod link_event_checks;
+mod link_fields;
+mod link_line;
+mod link_sending_checks;
+mod nsp_fields;
+mod nsp_messages;
+mod nsp_words;
+mod packet_words;
+mod pages;
+mod record;
+mod record_line;
+mod record_rows;
+mod refused_line;
+mod rules;
+mod sides;
+mod state_line;
+mod state_text;
+mod station_checks;
+#[cfg(test)]
+mod tests;
+mod unit_words;
+mod why_text;
+
+pub use accusation::{Accusation, AccusedRow};
+pub use checks::{CheckLine, CheckRows};
+pub use edits::{EditLine, EditRow, EditsTried, FEW_RECORDS, RecorderRow, SoRow};
+pub use ends::{is_of_user, live_links, state_of};
+pub use link_line::{LinkLine, LinkRow};
+pub use pages::Page;
+pub use record::{record_json, record_text};
+pub use refused_line::RefusedLine;
+pub use sides::{LINKS_SHOWN, side_json, side_text};
+pub use state_line::StateLine;
+pub use state_text::SideRows;
+pub use unit_words::ReadingName;
+pub use why_text::{Refusal, Shown, why_json, why_rows};
