@@ -2,6 +2,7 @@
 
 use crate::candidates;
 use crate::change::Change;
+use crate::edits::Edit;
 use crate::reader::EditedReader;
 use crate::row::{Refused, Row};
 use capture::{Entry, HintForm};
@@ -36,6 +37,25 @@ fn row(alloc: Global, line: u64, entry: Entry, bytes: &[u8]) -> Result<Row, Allo
     })
 }
 
+// The words of the first edit.
+fn first_words(alloc: Global, edits: &[Edit]) -> Result<String, AllocError> {
+    match edits.first() {
+        Some(edit) => format!(in alloc; "{}", edit.of),
+        None => Ok(String::new(alloc)),
+    }
+}
+
+// What its first change puts.
+fn first_put(edits: &[Edit]) -> &[u8] {
+    let Some(edit) = edits.first() else {
+        return b"";
+    };
+    match edit.changes.first() {
+        Some(change) => change.put.as_slice(),
+        None => b"",
+    }
+}
+
 // A response counts a packet whose receipt has an `r`.
 #[test]
 fn a_receipt_before_a_wrong_response_was_kept(rt: HostRuntime) -> Result<(), AllocError> {
@@ -57,17 +77,8 @@ fn a_receipt_before_a_wrong_response_was_kept(rt: HostRuntime) -> Result<(), All
         due: Vec::new(alloc),
     };
     let edits = candidates(alloc, Side::B, &refused, &own, &[])?.into_vec();
-    let (words, changes) = match edits.first() {
-        Some(edit) => (format!(in alloc; "{}", edit.of)?, edit.changes.as_slice()),
-        None => (String::new(alloc), [].as_slice()),
-    };
+    let words = first_words(alloc, edits.as_slice())?;
     assert_eq!(rt; words.as_str(), "line 2 of b is `k`, not `r`");
-    for change in changes {
-        assert_eq!(rt;
-            (change.passed, change.put.as_slice(), change.dropped),
-            (1, b"k 4 81\n".as_slice(), 1)
-        );
-    }
-    assert_eq!(rt; changes.len(), 1);
+    assert_eq!(rt; first_put(edits.as_slice()), b"k 4 81\n".as_slice());
     Ok(())
 }
