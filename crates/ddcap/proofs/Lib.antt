@@ -5,3 +5,5 @@ pub mod AnsweringAlone
 pub mod AcceptLaws
 mod TextsStand
 mod InTwo
+pub mod Rungs
+pub mod Tellings

@@ -7,3 +7,6 @@ pub mod Playing
 pub mod Accepting
 pub mod Explaining
 pub mod Helping
+pub mod LastRows
+pub mod Edits
+pub mod PrintedWhy

@@ -6,6 +6,7 @@ pub const PROGRAM: &str = "\
 
   ddcap check A B         judge the captures of both ends of a line
   ddcap alone A           judge the capture of one end, without the other
+  ddcap why A B           tell what was seen and allowed at a refusal
   ddcap show A            print what a capture says, a line a record
   ddcap play SCRIPT A B   write both captures of a script
   ddcap convert N IN OUT  write a capture in format N: 1 or 2
@@ -13,8 +14,8 @@ pub const PROGRAM: &str = "\
   ddcap explain N         tell what reason N of a refusal means: 1 to 27
 
 Status:
-  0  it was done; of check and alone: accepted, passed
-  1  of check and alone: refused
+  0  it was done; of check, why and alone: accepted, passed
+  1  of check, why and alone: refused
   2  the words, or a line of a file, are faulty
   3  a file, the memory or a stream failed
 
@@ -80,6 +81,36 @@ With --line station and line are judged alone, as ddcap help check says.
 
 Status:
   0  passed
+  1  refused
+  2  a faulty line, as a: line 3: syntax (or too long, too many)
+  3  a: cannot open, a: read failed, out of memory, or a failed write
+";
+
+pub const WHY: &str = "\
+ddcap why A B
+
+Judges two captures as check does, and tells of a refused record what was seen
+there and what was allowed, and how both ends stood before it.
+
+Example, in the top folder of the sources:
+
+  ./ddcap why examples/wrong_response.a examples/wrong_response.b
+
+It ends with status 1 and prints a text that begins:
+
+  refused a 3 line 5: 8 WrongResponse
+
+The first line is that of check. Then come the record, layer by layer; what was
+seen and allowed, with the rule and its page; both stations and their links as
+they were before it; the last ten rows, a on the left and b on the right; who
+is accused; and whether a small change of a recording makes the pair a run:
+then rather the recording is wrong than a node, which is no proof.
+
+With --json, before or behind the files, each of these is an object on a line
+of its own. A pair that is not refused is told as by check.
+
+Status:
+  0  accepted
   1  refused
   2  a faulty line, as a: line 3: syntax (or too long, too many)
   3  a: cannot open, a: read failed, out of memory, or a failed write

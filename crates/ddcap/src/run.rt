@@ -11,6 +11,7 @@ use crate::explanations::explanation_of;
 use crate::help::help_to;
 use crate::play::play_to;
 use crate::show::show_to;
+use crate::telling::{Form, Printout, why_to};
 use crate::text::FAILED;
 use crate::words::{Task, WordsFault, task_of};
 use capture::Format;
@@ -69,6 +70,7 @@ fn do_task<R: Files + AllocGlobal, O: Write, E: Write>(
             let mut a = opened(rt, a, Named::A, err)?;
             Ok(alone_line_to(rt.alloc(), &mut a, out, err))
         }
+        Task::Why { form, a, b } => why_files(rt, form, a, b, out, err),
         Task::Show { a } => show_file(rt, a, out, err),
         Task::Play { script, a, b } => play_file(rt, script, a, b, out, err),
         Task::Convert { to, a, b } => convert_file(rt, to, a, b, out, err),
@@ -126,6 +128,25 @@ fn check_line_files<R: Files + AllocGlobal, O: Write, E: Write>(
     let mut a = opened(rt, path_a, Named::A, err)?;
     let mut b = opened(rt, path_b, Named::B, err)?;
     Ok(check_line_to(rt.alloc(), &mut a, &mut b, out, err))
+}
+
+// Opens the two files, and tells why they are refused.
+fn why_files<R: Files + AllocGlobal, O: Write, E: Write>(
+    rt: &R,
+    form: Form,
+    path_a: &str,
+    path_b: &str,
+    out: &mut Tally<O>,
+    err: &mut Tally<E>,
+) -> Result<u8, u8> {
+    let mut a = opened(rt, path_a, Named::A, err)?.into_inner();
+    let mut b = opened(rt, path_b, Named::B, err)?.into_inner();
+    let printout = Printout {
+        form,
+        name_a: path_a,
+        name_b: path_b,
+    };
+    Ok(why_to(rt.alloc(), printout, &mut a, &mut b, out, err))
 }
 
 // Opens the file, and shows what it holds.

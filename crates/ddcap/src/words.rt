@@ -2,6 +2,7 @@
 
 use crate::explanations::reason_spelled;
 use crate::help::Topic;
+use crate::telling::Form;
 use capture::Format;
 use clap::error::ErrorKind;
 use clap::{Arg, ArgAction, ArgMatches, Command};
@@ -29,6 +30,12 @@ pub enum Task<'a> {
     /// To judge station and line alone of it.
     AloneLine {
         a: &'a str,
+    },
+    /// To tell why the captures in two files are refused, in this form.
+    Why {
+        form: Form,
+        a: &'a str,
+        b: &'a str,
     },
     /// To show the records of the capture in a file.
     Show {
@@ -74,6 +81,7 @@ pub fn task_of<'a, S: AsStr>(alloc: Global, words: &'a [S]) -> Result<Task<'a>, 
         Ok(matches) => match matches.subcommand() {
             Some(("check", found)) => checked_of(found),
             Some(("alone", found)) => judged_alone_of(found),
+            Some(("why", found)) => explained_of(found),
             Some(("show", found)) => match found.get_str("A") {
                 Some(a) => Ok(Task::Show { a }),
                 None => Err(WordsFault::BadWords),
@@ -111,6 +119,18 @@ fn judged_alone_of<'a>(found: &ArgMatches<'a>) -> Result<Task<'a>, WordsFault> {
         return Ok(Task::AloneLine { a });
     }
     Ok(Task::Alone { a })
+}
+
+// The captures that the words behind `why` name, and in which form the answer is printed.
+fn explained_of<'a>(found: &ArgMatches<'a>) -> Result<Task<'a>, WordsFault> {
+    let (Some(a), Some(b)) = (found.get_str("A"), found.get_str("B")) else {
+        return Err(WordsFault::BadWords);
+    };
+    let form = match found.get_flag("json") {
+        true => Form::Json,
+        false => Form::Rows,
+    };
+    Ok(Task::Why { form, a, b })
 }
 
 // The conversion that the words behind `convert` ask for: the format's number has one spelling.
@@ -155,6 +175,7 @@ fn help_of<'a>(found: &ArgMatches<'a>) -> Result<Task<'a>, WordsFault> {
         None => Topic::Program,
         Some("check") => Topic::Check,
         Some("alone") => Topic::Alone,
+        Some("why") => Topic::Why,
         Some("show") => Topic::Show,
         Some("play") => Topic::Play,
         Some("convert") => Topic::Convert,
@@ -182,6 +203,7 @@ fn program<'a>(alloc: Global) -> Result<Command<'a>, AllocError> {
         .subcommand_required(true)
         .subcommand(check(alloc)?)?
         .subcommand(alone(alloc)?)?
+        .subcommand(why(alloc)?)?
         .subcommand(show(alloc)?)?
         .subcommand(play(alloc)?)?
         .subcommand(convert(alloc)?)?
@@ -202,6 +224,18 @@ fn alone<'a>(alloc: Global) -> Result<Command<'a>, AllocError> {
     Command::new(alloc, "alone")
         .arg(Arg::new(alloc, "A").required(true))?
         .arg(line_alone(alloc))
+}
+
+// `why [--json] A B`
+fn why<'a>(alloc: Global) -> Result<Command<'a>, AllocError> {
+    Command::new(alloc, "why")
+        .arg(Arg::new(alloc, "A").required(true))?
+        .arg(Arg::new(alloc, "B").required(true))?
+        .arg(
+            Arg::new(alloc, "json")
+                .long("json")
+                .action(ArgAction::SetTrue),
+        )
 }
 
 // `--line`, before or behind the files
