@@ -85,41 +85,43 @@ impl fmt::Display for MistakeOf {
                     f,
                     "a `{kind}` line is missing before line {before} of {side}: "
                 )?;
-                write!(
-                    f,
-                    "unit {unit} of {other}, with the bytes of line {like} of {other}"
-                )
+                write_like(other, unit, like, f)
             }
             Mistake::UserMissing { before, entry } => {
                 write_user(entry, f)?;
                 write!(f, " is missing before line {before} of {side}")
             }
             Mistake::TooLate { line, before } => {
-                write!(
-                    f,
-                    "line {line} of {side} stands too late: it belongs before line {before}"
-                )
+                write!(f, "line {line} of {side} stands too late: ")?;
+                write!(f, "it belongs before line {before}")
             }
             Mistake::TooEarly { line, behind } => {
-                write!(
-                    f,
-                    "line {line} of {side} stands too early: it belongs behind line {behind}"
-                )
+                write!(f, "line {line} of {side} stands too early: ")?;
+                write!(f, "it belongs behind line {behind}")
             }
             Mistake::WrongHint { line, unit } => {
-                write!(
-                    f,
-                    "line {line} of {side} alone has a wrong hint: it is unit {unit} of {other}"
-                )
+                write!(f, "line {line} of {side} alone has a wrong hint: ")?;
+                write!(f, "it is unit {unit} of {other}")
             }
             Mistake::WrongHints { line, unit } => {
-                write!(
-                    f,
-                    "from line {line} of {side} on the hints are shifted: it is unit {unit} of {other}"
-                )
+                write!(f, "from line {line} of {side} on the hints are shifted: ")?;
+                write!(f, "it is unit {unit} of {other}")
             }
         }
     }
+}
+
+// The unit of the other side that a receipt is of, and the line there that has its bytes.
+fn write_like<W: fmt::Write>(
+    other: Side,
+    unit: u64,
+    like: u64,
+    f: &mut fmt::Formatter<W>,
+) -> fmt::Result {
+    write!(
+        f,
+        "unit {unit} of {other}, with the bytes of line {like} of {other}"
+    )
 }
 
 fn letter(kept: bool) -> &'static str {
