@@ -1,0 +1,8 @@
+pub mod Places
+pub mod Tracks
+pub mod SoundBytes
+pub mod Counting
+pub mod Walks
+pub mod Steps
+pub mod Meets
+pub mod Covers

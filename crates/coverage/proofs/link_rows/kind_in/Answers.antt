@@ -1,0 +1,20 @@
+use Rattle.std.proofs.Common.{Ok, refl, sym, ap, subst, ◌∙◌}
+use Rattle.dna_packet.specs.Packet.{IsReturned, view}
+use Rattle.dna_packet.specs.declared.packet.Packet.{Packet}
+use Rattle.dna_node.specs.Content.{content_of}
+use Rattle.pair_judge.proofs.Packets.{carries_message, carries_nothing, never}
+use Rattle.coverage.specs.Rows.{carried_kind}
+use Rattle.coverage.proofs.link_rows.kind_in.Goals as goal
+
+pub returns-then-returned : goal.returns-then-returned
+returns-then-returned c =
+    sym (ap carried_kind (ap content_of c.in-Ok.ensures.exact ∙ carries_nothing (view c.in-Ok.read) (c.if-returned.ensures.0 refl)))
+
+pub returns-in-Data : goal.returns-in-Data
+returns-in-Data c =
+    let d = c.in-Data in
+    let there : IsReturned (view c.in-Ok.read) → ⊥ = λ back. never (c.if-returned.ensures.1 back) in
+    sym (ap carried_kind (ap content_of (c.in-Ok.ensures.exact ∙ ap (λ (p : Packet). Ok (view p)) d.is)
+    ∙ carries_message d.rtflg d.dst d.src d.forward d.nsp.now
+    (λ back. there (subst (λ (p : Packet). IsReturned (view p)) (sym d.is) back)))
+    ∙ c.message_kind.ensures d.dst d.src)

@@ -1,0 +1,93 @@
+-- What a record makes of what is kept of its side.
+use Rattle.std.specs.Prelude.{ℕ, ◌+◌, ◌-◌, Bool, true, false, ◌&&◌, ◌==◌, nat_lt, if◌then◌else◌, min, Option, Some, None, List, length, slice_index}
+use Rattle.std.specs.Prelude.{slice_range, slice_set}
+use Rattle.ddcmp_msg.specs.Message.{Data}
+use Rattle.ddcmp_msg.specs.Reading.{ReadingValue, reading, Sound, HeaderBad, DataBad, Malformed, unit_flags, receiver_of, sender_of}
+use Rattle.ddcmp_msg.specs.Spelling.{SOH}
+use Rattle.capture.specs.declared.record.Record.{Record}
+use Rattle.capture.specs.declared.record.Record.TheVariants.{Sent, Received, Noise, User}
+use Rattle.capture.specs.declared.event.Event.{Event}
+use Rattle.capture.specs.declared.event.Event.TheVariants as events
+use Rattle.dna_station.specs.declared.state.StationEvent.TheVariants as user
+use Rattle.coverage.specs.declared.counts.Counts.{Counts}
+use Rattle.coverage.specs.declared.half.Half.{Half}
+use Rattle.coverage.specs.declared.row.LinkAct.{LinkAct}
+use Rattle.coverage.specs.declared.row.Row.{Row}
+use Rattle.coverage.specs.declared.row.Row.TheVariants.{LinkUser}
+use Rattle.coverage.specs.declared.tracker.Tracker.{Tracker}
+use Rattle.coverage.specs.Counts.{MOST}
+use Rattle.coverage.specs.Row.{place}
+use Rattle.coverage.specs.Rows.{user_row, sent_row, arrival_row, damage_row, link_sends, link_gets}
+use Rattle.coverage.specs.inner.Tracked.{after_arrival, after_event, after_sending, is_new}
+
+-- ---- what bytes say that are known to be sound
+
+-- a data message without its checks; of other bytes the reading
+abbrev pub presumed : List ℕ → ReadingValue
+presumed bytes =
+    if nat_lt 10 (length bytes) && slice_index bytes 0 == SOH
+    then Sound (Data (unit_flags bytes) (receiver_of bytes) (sender_of bytes) (slice_range bytes 8 (length bytes - 2)))
+    else reading bytes
+
+-- what was kept is sound
+abbrev pub of_receipt : (kept : Bool) → List ℕ → ReadingValue
+of_receipt true bytes = presumed bytes
+of_receipt false bytes = reading bytes
+
+-- ---- counts
+
+abbrev pub one_more : List ℕ → Row → List ℕ
+one_more counts row = slice_set counts (place row) (min (slice_index counts (place row) + 1) MOST)
+
+abbrev pub counted : List ℕ → Option Row → List ℕ
+counted counts None = counts
+counted counts (Some row) = one_more counts row
+
+abbrev pub counted_in : Counts → Option Row → Counts
+counted_in counts row = record { met = counted counts.met row }
+
+-- ---- a record
+
+abbrev pub met_sent : Half → ReadingValue → Half
+met_sent half (Sound m) = record {
+  tracker = after_sending half.tracker m;
+  counts = counted_in (counted_in half.counts (sent_row half.tracker.state (is_new half.tracker) m)) (link_sends (is_new half.tracker) m);
+}
+met_sent half HeaderBad = half
+met_sent half DataBad = half
+met_sent half (Malformed departure) = half
+
+abbrev pub met_damage : Half → ReadingValue → Half
+met_damage half read = record half { counts = counted_in half.counts (damage_row half.tracker.state read) }
+
+abbrev pub met_receipt : Half → (kept : Bool) → ReadingValue → Half
+met_receipt half kept (Sound m) = record {
+  tracker = after_arrival half.tracker m kept;
+  counts = counted_in (counted_in half.counts (Some (arrival_row half.tracker.state half.tracker.received kept m))) (link_gets kept m);
+}
+met_receipt half kept HeaderBad = met_damage half HeaderBad
+met_receipt half kept DataBad = met_damage half DataBad
+met_receipt half kept (Malformed departure) = half
+
+abbrev pub tracked_event : Tracker → Event → Tracker
+tracked_event t events.Start = after_event t user.Start
+tracked_event t events.Halt = after_event t user.Halt
+tracked_event t (events.Open link) = t
+tracked_event t (events.Accept partner link) = t
+tracked_event t (events.Reject partner link) = t
+tracked_event t (events.In link bytes) = t
+tracked_event t (events.Up link bytes) = t
+tracked_event t (events.Close link) = t
+
+abbrev pub met_event : Half → Event → Half
+met_event half event =
+    record { tracker = tracked_event half.tracker event; counts = counted_in half.counts (user_row half.tracker.state event) }
+
+abbrev pub met_link : Half → LinkAct → Half
+met_link half act = record half { counts = counted_in half.counts (Some (LinkUser act)) }
+
+abbrev pub met : Half → Record → Half
+met half (Sent bytes) = met_sent half (presumed bytes)
+met half (Received hint kept bytes) = met_receipt half kept (of_receipt kept bytes)
+met half (Noise bytes) = met_damage half (reading bytes)
+met half (User event) = met_event half event

@@ -1,0 +1,105 @@
+//! What is kept of one side: its station, and how often it went through each row.
+
+ghost use Rattle.std.specs.Prelude.{◌≡◌};
+ghost use Rattle.capture.specs.declared.event.Event.TheVariants as Event;
+ghost use Rattle.capture.specs.Entries.{record_with};
+ghost use Rattle.ddcmp_msg.specs.Reading.{reading_view};
+ghost use Rattle.coverage.specs.inner.Met as spec;
+
+use crate::counts::Counts;
+use crate::link_rows::{link_gets, link_sends};
+use crate::presumed::{of_receipt, presumed};
+use crate::row::{LinkAct, Row};
+use crate::tracker::Tracker;
+use capture::Entry;
+use ddcmp_msg::{Reading, read_unit};
+use dna_station::{State, StationEvent};
+
+/// One side.
+#[derive(Clone, Copy, Debug, PartialEq, Eq)]
+pub struct Half {
+    pub tracker: Tracker,
+    pub counts: Counts,
+}
+
+impl Half {
+    /// This record was made.
+    #[inline(always)]
+    pub(crate) fn meet(&mut self, entry: Entry, bytes: &[u8])
+        ensures { self.new ≡ spec.met self.old (record_with entry bytes.now) }
+    {
+        match entry {
+            Entry::Sent => self.sent(presumed(bytes)),
+            Entry::Received { kept, .. } => self.received(kept, of_receipt(kept, bytes)),
+            Entry::Noise => self.damaged(read_unit(bytes)),
+            Entry::Start => self.started(),
+            Entry::Halt => self.halted(),
+            Entry::Open { .. } => self.link(LinkAct::Open),
+            Entry::Accept { .. } => self.link(LinkAct::Accept),
+            Entry::Reject { .. } => self.link(LinkAct::Reject),
+            Entry::In { .. } => self.link(LinkAct::In),
+            Entry::Up { .. } => self.link(LinkAct::Up),
+            Entry::Close { .. } => self.link(LinkAct::Close),
+        }
+    }
+
+    // A unit was sent.
+    #[inline(always)]
+    fn sent(&mut self, read: Reading<'_>)
+        ensures { self.new ≡ spec.met_sent self.old (reading_view read.entry) }
+    {
+        if let Reading::Sound(message) = read {
+            let is_new = self.tracker.is_new();
+            self.counts.count(self.tracker.sent_row(&message));
+            self.counts.count(link_sends(is_new, &message));
+            self.tracker.sent(&message);
+        }
+    }
+
+    // A unit came.
+    #[inline(always)]
+    fn received(&mut self, kept: bool, read: Reading<'_>)
+        ensures { self.new ≡ spec.met_receipt self.old kept (reading_view read.entry) }
+    {
+        match read {
+            Reading::Sound(message) => {
+                self.counts
+                    .count(Some(self.tracker.arrival_row(&message, kept)));
+                self.counts.count(link_gets(kept, &message));
+                self.tracker.arrived(&message, kept);
+            }
+            Reading::HeaderBad | Reading::DataBad => self.damaged(read),
+            Reading::Malformed(_) => {}
+        }
+    }
+
+    // What came shows damage, or it counts nothing.
+    fn damaged(&mut self, read: Reading<'_>)
+        ensures { self.new ≡ spec.met_damage self.old (reading_view read.entry) }
+    {
+        self.counts.count(self.tracker.damage_row(&read));
+    }
+
+    fn started(&mut self)
+        ensures { self.new ≡ spec.met_event self.old Event.Start }
+    {
+        if let State::Halted = self.tracker.state {
+            self.counts.count(Some(Row::Start));
+        }
+        self.tracker.user(StationEvent::Start);
+    }
+
+    fn halted(&mut self)
+        ensures { self.new ≡ spec.met_event self.old Event.Halt }
+    {
+        self.counts.count(Some(Row::Halt(self.tracker.state)));
+        self.tracker.user(StationEvent::Halt);
+    }
+
+    // The user of a link did this.
+    fn link(&mut self, act: LinkAct)
+        ensures { self.new ≡ spec.met_link self.old act }
+    {
+        self.counts.count(Some(Row::LinkUser(act)));
+    }
+}

@@ -1,0 +1,25 @@
+//! What a pair of captures went through: how often each side met each row of the rule tables of the station and of the links, while the judge
+//! makes their records. It judges nothing by itself, takes no memory for what it counts, and touches no file, clock or thread.
+#![tactic(auto)]
+
+mod counts;
+mod cover;
+mod covering;
+mod half;
+mod link_rows;
+mod order;
+mod presumed;
+mod row;
+mod row_names;
+mod station_rows;
+#[cfg(test)]
+mod tests;
+mod text;
+mod tracker;
+
+pub use counts::{Counts, ROWS};
+pub use cover::Cover;
+pub use covering::judge_covered;
+pub use order::rows_stand_at_their_places;
+pub use row::{AstrtArrival, Damage, LinkAct, MessageKind, Row, RunningArrival, Sending, UnitKind};
+pub use text::table;

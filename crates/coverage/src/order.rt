@@ -1,0 +1,100 @@
+//! The rows in their order.
+
+ghost use Rattle.std.specs.Prelude.{◌≡◌, map};
+ghost use Rattle.std.specs.List.{range_with_len};
+ghost use Rattle.coverage.specs.Row.{place};
+ghost use Rattle.coverage.specs.declared.order.TheConstants.{ORDER};
+
+use crate::row::{
+    AstrtArrival, Damage, LinkAct, MessageKind, Row, RunningArrival, Sending, UnitKind,
+};
+use dna_station::State;
+
+/// All rows, each at its place.
+pub static ORDER: [Row; 80] = [
+    Row::Start,
+    Row::Halt(State::Halted),
+    Row::Halt(State::Istrt),
+    Row::Halt(State::Astrt),
+    Row::Halt(State::Running),
+    Row::Sends(Sending::Strt),
+    Row::Sends(Sending::Stack),
+    Row::Sends(Sending::Ack),
+    Row::Sends(Sending::NakOfCause),
+    Row::Sends(Sending::OtherNak),
+    Row::Sends(Sending::Rep),
+    Row::Sends(Sending::NewData),
+    Row::Sends(Sending::DataAgain),
+    Row::ToHalted(UnitKind::Strt),
+    Row::ToHalted(UnitKind::Stack),
+    Row::ToHalted(UnitKind::Ack),
+    Row::ToHalted(UnitKind::Nak),
+    Row::ToHalted(UnitKind::Rep),
+    Row::ToHalted(UnitKind::Data),
+    Row::ToIstrt(UnitKind::Strt),
+    Row::ToIstrt(UnitKind::Stack),
+    Row::ToIstrt(UnitKind::Ack),
+    Row::ToIstrt(UnitKind::Nak),
+    Row::ToIstrt(UnitKind::Rep),
+    Row::ToIstrt(UnitKind::Data),
+    Row::ToAstrt(AstrtArrival::Strt),
+    Row::ToAstrt(AstrtArrival::Stack),
+    Row::ToAstrt(AstrtArrival::AckOfNone),
+    Row::ToAstrt(AstrtArrival::AckOfSome),
+    Row::ToAstrt(AstrtArrival::Nak),
+    Row::ToAstrt(AstrtArrival::Rep),
+    Row::ToAstrt(AstrtArrival::Kept),
+    Row::ToAstrt(AstrtArrival::NoBuffer),
+    Row::ToAstrt(AstrtArrival::RepeatOrGap),
+    Row::ToAstrt(AstrtArrival::DataOfSome),
+    Row::ToRunning(RunningArrival::Strt),
+    Row::ToRunning(RunningArrival::Stack),
+    Row::ToRunning(RunningArrival::Ack),
+    Row::ToRunning(RunningArrival::Nak),
+    Row::ToRunning(RunningArrival::RepOfLast),
+    Row::ToRunning(RunningArrival::RepOfOther),
+    Row::ToRunning(RunningArrival::Kept),
+    Row::ToRunning(RunningArrival::NoBuffer),
+    Row::ToRunning(RunningArrival::RepeatOrGap),
+    Row::Damaged(State::Halted, Damage::Header),
+    Row::Damaged(State::Halted, Damage::Data),
+    Row::Damaged(State::Istrt, Damage::Header),
+    Row::Damaged(State::Istrt, Damage::Data),
+    Row::Damaged(State::Astrt, Damage::Header),
+    Row::Damaged(State::Astrt, Damage::Data),
+    Row::Damaged(State::Running, Damage::Header),
+    Row::Damaged(State::Running, Damage::Data),
+    Row::LinkUser(LinkAct::Open),
+    Row::LinkUser(LinkAct::Accept),
+    Row::LinkUser(LinkAct::Reject),
+    Row::LinkUser(LinkAct::In),
+    Row::LinkUser(LinkAct::Up),
+    Row::LinkUser(LinkAct::Close),
+    Row::LinkSends(MessageKind::ConnectInitiate),
+    Row::LinkSends(MessageKind::ConnectAck),
+    Row::LinkSends(MessageKind::ConnectConfirm),
+    Row::LinkSends(MessageKind::DisconnectInitiate),
+    Row::LinkSends(MessageKind::DisconnectConfirm),
+    Row::LinkSends(MessageKind::Segment),
+    Row::LinkSends(MessageKind::DataAck),
+    Row::LinkSends(MessageKind::LinkService),
+    Row::LinkSends(MessageKind::Interrupt),
+    Row::LinkSends(MessageKind::OtherDataAck),
+    Row::LinkSends(MessageKind::NoOperation),
+    Row::LinkGets(MessageKind::ConnectInitiate),
+    Row::LinkGets(MessageKind::ConnectAck),
+    Row::LinkGets(MessageKind::ConnectConfirm),
+    Row::LinkGets(MessageKind::DisconnectInitiate),
+    Row::LinkGets(MessageKind::DisconnectConfirm),
+    Row::LinkGets(MessageKind::Segment),
+    Row::LinkGets(MessageKind::DataAck),
+    Row::LinkGets(MessageKind::LinkService),
+    Row::LinkGets(MessageKind::Interrupt),
+    Row::LinkGets(MessageKind::OtherDataAck),
+    Row::LinkGets(MessageKind::NoOperation),
+];
+
+/// Each row stands once among them, at its place.
+pub fn rows_stand_at_their_places()
+    ensures { map place ORDER ≡ range_with_len 0 80 }
+{}
