@@ -24,6 +24,14 @@ impl Row {
         }
     }
 
+    // Whether a hint stands here as a distance from the last one, as in format 2.
+    pub(crate) fn is_told_by_distance(&self) -> bool {
+        match self.form {
+            HintForm::Distance { mark: _ } => true,
+            HintForm::Number => false,
+        }
+    }
+
     // The number of the other side's unit that came.
     pub(crate) fn received(&self) -> Option<u64> {
         match self.entry {

@@ -1,12 +1,14 @@
 //! Which check a record does not pass at one side, over both layers and the line.
 
-ghost use Rattle.std.specs.Prelude.{◌≡◌};
+ghost use Rattle.std.specs.Prelude.{◌≡◌, ℕ, List, false};
 ghost use Rattle.ddcmp_msg.specs.Reading.{reading};
 ghost use Rattle.capture.specs.Entries.{record_with};
 ghost use Rattle.capture.specs.declared.record.Record.TheVariants as Record;
+ghost use Rattle.dna_node.specs.WireLayers.{WireLayersUnit};
 ghost use Rattle.dna_station.specs.Line.{damage};
 ghost use Rattle.pair_judge.specs.FailedCheck as spec;
 ghost use Rattle.pair_judge.specs.inner.Lines.{held};
+ghost use Rattle.pair_judge.specs.inner.Making.{is_receipt};
 
 use crate::failed_check::{FailedCheck, NotSound};
 use crate::held_link::HeldLink;
@@ -29,8 +31,28 @@ pub fn failed_record(
     ensures { result ≡ spec.failed_record layers.now incoming.now.gone (held incoming.now) (record_with entry bytes.now) }
 {
     match entry {
-        Entry::Sent => failed_sent(layers, bytes),
         Entry::Received { kept, hint } => failed_receipt(layers, incoming, hint, kept, bytes),
+        Entry::Sent
+        | Entry::Noise
+        | Entry::Start
+        | Entry::Halt
+        | Entry::Open { .. }
+        | Entry::Accept { .. }
+        | Entry::Reject { .. }
+        | Entry::In { .. }
+        | Entry::Up { .. }
+        | Entry::Close { .. } => failed_own(layers, entry, bytes),
+    }
+}
+
+/// The same of a record that is no receipt, for which nothing is asked of the line. Takes no memory.
+pub fn failed_own(layers: &Layers, entry: Entry, bytes: &[u8]) -> Option<FailedCheck>
+    requires { is_receipt entry ≡ false }
+    ensures { (front : ℕ) (units : List WireLayersUnit) → result ≡ spec.failed_record layers.now front units (record_with entry bytes.now) }
+{
+    match entry {
+        Entry::Sent => failed_sent(layers, bytes),
+        Entry::Received { .. } => unreachable!(),
         Entry::Noise => failed_noise(layers, bytes),
         Entry::Start => layers.failed_start(),
         Entry::Halt => None,

@@ -67,6 +67,16 @@ impl JudgedEnds {
         self.verdict
     }
 
+    /// This side's end.
+    pub fn end(&self, side: Side) -> &SideEnd
+        ensures { result.now ≡ of_side side self.now.a self.now.b }
+    {
+        match side {
+            Side::A => &self.a,
+            Side::B => &self.b,
+        }
+    }
+
     /// How many records of this side were made.
     pub fn records(&self, side: Side) -> u64
         ensures { result ≡ (of_side side self.now.a self.now.b).records }

@@ -1,6 +1,6 @@
 -- The check that the refused record does not pass, over both layers and the line: its name, what is seen there, what is allowed, the rule, and
 -- the page of its reason; as a JSON object and in rows.
-use Rattle.std.specs.Prelude.{ℕ, List, [], ◌++◌, codes}
+use Rattle.std.specs.Prelude.{ℕ, ◌==◌, if◌then◌else◌, List, [], ◌++◌, codes}
 use Rattle.std.specs.Fmt.{decimal}
 use Rattle.wire_base.specs.Side.{other_side, side_letter}
 use Rattle.wire_base.specs.declared.side.Side.{Side}
@@ -62,9 +62,11 @@ seen side (check.LinkArrival failed) reading = link_arrival_seen side failed
 seen side (check.LinkEvent failed) reading = link_event_seen failed
 seen side check.Noise reading = reading_name reading ++ codes ", which shows no damage"
 
--- units are counted from 0, so a hint lies below their number
+-- units are counted from 0, so a hint lies below their number; where none was sent, no receipt is right
 abbrev pub below_words : Side → (sent : ℕ) → List ℕ
-below_words other sent = codes "a hint below " ++ (decimal sent ++ (codes ", the number of units that " ++ (side_letter other ++ codes " sent")))
+below_words other sent =
+    if sent == 0 then codes "no receipt: " ++ (side_letter other ++ codes " sent no unit")
+    else codes "a hint below " ++ (decimal sent ++ (codes ", the number of units that " ++ (side_letter other ++ codes " sent")))
 
 abbrev pub allowed : Side → FailedCheck → ReadingValue → List ℕ
 allowed side (check.Message departure) reading = codes "a sound message of DDCMP"

@@ -18,3 +18,4 @@ pub mod Refused
 pub mod Edits
 pub mod Ends
 pub mod Whole
+pub mod WholeEnd

@@ -151,7 +151,7 @@ impl fmt::Display for Allowed<'_> {
     }
 }
 
-// The hints of units that the other side sent: they are counted from 0.
+// The hints of units that the other side sent: they are counted from 0. Where it sent none, no receipt is right.
 #[derive(Clone, Copy)]
 struct BelowWords {
     other: Side,
@@ -167,6 +167,9 @@ impl fmt::Display for BelowWords {
     fn fmt<W: fmt::Write>(&self, f: &mut fmt::Formatter<W>) -> fmt::Result {
         let other = self.other;
         let sent = self.own.sent;
+        if sent == 0 {
+            return write!(f, "no receipt: {other} sent no unit");
+        }
         write!(
             f,
             "a hint below {sent}, the number of units that {other} sent"

@@ -7,7 +7,7 @@ use crate::link_line::is_live;
 use crate::state_line::StateLine;
 use capture::Entry;
 use nsp_link::LinkView;
-use pair_judge::JudgedEnds;
+use pair_judge::{JudgedEnds, SideEnd};
 use std::alloc::{AllocError, Global};
 use wire_base::Side;
 
@@ -15,12 +15,19 @@ use wire_base::Side;
 pub fn state_of(ends: &JudgedEnds, side: Side) -> StateLine
     ensures { result ≡ spec.state_of side ends.now }
 {
+    state_at(side, ends.end(side))
+}
+
+/// This end, of this side, as it was before the refused record.
+pub fn state_at(side: Side, end: &SideEnd) -> StateLine
+    ensures { result ≡ spec.state_by side end.now }
+{
     StateLine {
         side,
-        records: ends.records(side),
-        station: ends.station(side),
-        sent: ends.sent(side),
-        front: ends.front(side),
+        records: end.records(),
+        station: end.station(),
+        sent: end.sent(),
+        front: end.front(),
     }
 }
 
@@ -28,9 +35,16 @@ pub fn state_of(ends: &JudgedEnds, side: Side) -> StateLine
 pub fn live_links(alloc: Global, ends: &JudgedEnds, side: Side) -> Result<Vec<LinkView>, AllocError>
     ensures { IfOk result (λ live. live.items ≡ spec.live_links side ends.now) }
 {
+    live_links_at(alloc, ends.end(side))
+}
+
+/// The live links of this end, likewise.
+pub fn live_links_at(alloc: Global, end: &SideEnd) -> Result<Vec<LinkView>, AllocError>
+    ensures { IfOk result (λ live. live.items ≡ spec.live_by end.now) }
+{
     let mut live = Vec::new(alloc);
     for number in 0..usize::MAX {
-        let Some(link) = ends.link(side, number) else {
+        let Some(link) = end.link(number) else {
             return Ok(live);
         };
         push_live(&mut live, link)?;

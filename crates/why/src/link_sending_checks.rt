@@ -1,10 +1,8 @@
 //! The check of the links that a sent message does not pass, in words.
 
-use crate::link_check_fields::{
-    AckRange, MissingWords, NextWords, NodesWords, NumberWords, OtherwiseWords, ShapeWords,
-    WantedWords,
-};
+use crate::link_check_fields::{AckRange, MissingWords, NodesWords, NumberWords, WantedWords};
 use crate::link_fields::PhaseName;
+use crate::piece_fields::{NextWords, OtherwiseWords, ShapeWords};
 use nsp_link::FailedLinkSending;
 use std::fmt;
 

@@ -40,7 +40,7 @@ fn add_last_hint(edits: &mut Edits, near: Near<'_>) -> Result<(), AllocError> {
     }
 }
 
-// One receipt alone. In format 2 the distance of the next one is another one then.
+// One receipt alone. In format 2 the distance of the next one is another one then; where that is not at hand, the later ones would be shifted too.
 fn add_hint(
     edits: &mut Edits,
     near: Near<'_>,
@@ -52,6 +52,9 @@ fn add_hint(
     let Entry::Received { kept, hint: _ } = row.entry else {
         return Ok(());
     };
+    if next.is_none() && row.is_told_by_distance() {
+        return Ok(());
+    }
     let Some(put) = receipt_line(near.alloc, row.form, (kept, unit), &row.bytes)? else {
         return Ok(());
     };

@@ -99,8 +99,12 @@ fn add_user_line(
     edits.add(near.side, Mistake::UserMissing { before, entry }, changes)
 }
 
-// The receipts of units that have none, in front of the refused record.
+// The receipts of units that have none, in front of the refused record. In format 2 the next receipt has to be at hand, or the later ones would be
+// shifted.
 pub(crate) fn add_receipts(edits: &mut Edits, near: Near<'_>) -> Result<(), AllocError> {
+    if near.row.is_told_by_distance() && next_receipt(near).is_none() {
+        return Ok(());
+    }
     let low = lowest_unit(near.before);
     let mut seen: usize = 0;
     for sent in near.other {

@@ -1,5 +1,5 @@
 -- One side of the judge beside the half of a run that it stands for, and what became of one record there.
-use Rattle.std.specs.Prelude.{◌≡◌, ◌+◌, ◌≤◌}
+use Rattle.std.specs.Prelude.{◌≡◌, ◌+◌, ◌≤◌, Bool, true, false}
 use Rattle.two_nodes.specs.Nodes.{Outcome, advance}
 use Rattle.two_nodes.specs.Nodes as any
 use Rattle.capture.specs.declared.record.Record.{Record}
@@ -20,6 +20,10 @@ IsEvent Sent = ⊥
 IsEvent (Received kept hint) = ⊥
 IsEvent Noise = ⊥
 IsEvent entry = Unit {0}
+
+abbrev pub is_receipt : Entry → Bool
+is_receipt (Received kept hint) = true
+is_receipt entry = false
 
 -- this end of the judge, with the line from the other side, stands for that half of the run
 pub record StandsFor (own : End) (incoming : Line) (half : JudgeHalf) : Type 0 where
