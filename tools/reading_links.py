@@ -125,7 +125,8 @@ class Links:
             return None
         tests = self.rules['look-up ' + row['instead'].get(name, name)]
         links = reversed(self.links) if tests.turned('the last that passes') else self.links
-        return next((link for link in links if all(TESTS[test](link, own, far) for test in tests['tests'])), None)
+        wanted = [TESTS[test] for test in tests['tests']]
+        return next((link for link in links if all(is_so(link, own, far) for is_so in wanted)), None)
 
     def begin(self, row, opened):
         """A new link, in the phase of the row."""

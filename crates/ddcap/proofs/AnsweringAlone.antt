@@ -19,7 +19,7 @@ module _ (end : EndKind) where
   no_text None = tt
   no_text (Some bytes) = λ head records node is_text passes. tt
 
-  without_memory : (text : Option (List ℕ)) → IsJudgedAlone end text (Err OutOfMemory)
+  pub without_memory : (text : Option (List ℕ)) → IsJudgedAlone end text (Err OutOfMemory)
   without_memory text = record { says = tt; passed = no_pass text; exact = no_text text }
 
   module _ (text : EndVerdict → List ℕ) (a out err : Moved) (status : ℕ) where

@@ -5,3 +5,7 @@ pub mod AnsweringAlone
 pub mod AcceptLaws
 mod TextsStand
 mod InTwo
+pub mod Rungs
+pub mod Tellings
+pub mod AnsweringWhy
+pub mod AnsweringWhyEnd

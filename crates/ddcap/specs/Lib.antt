@@ -1,4 +1,5 @@
 pub mod Printed
+pub mod Covering
 pub mod Shown
 pub mod Showing
 pub mod PrintedAlone
@@ -7,3 +8,6 @@ pub mod Playing
 pub mod Accepting
 pub mod Explaining
 pub mod Helping
+pub mod PrintedWhy
+pub mod PrintedWhyEnd
+pub mod inner

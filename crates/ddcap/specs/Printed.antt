@@ -23,8 +23,8 @@ use Rattle.pair_judge.specs.declared.fault.JudgeFault.{JudgeFault}
 use Rattle.pair_judge.specs.declared.fault.JudgeFault.TheVariants.{Capture, OutOfMemory}
 use Rattle.pair_judge.specs.declared.fault.TextFault.{TextFault}
 use Rattle.pair_judge.specs.declared.fault.TextFault.TheVariants.{Departs, Read}
-use Rattle.ddcap.specs.declared.run.Named.{Named}
-use Rattle.ddcap.specs.declared.run.Named.TheVariants as named
+use Rattle.ddcap.specs.declared.files.Named.{Named}
+use Rattle.ddcap.specs.declared.files.Named.TheVariants as named
 use Rattle.ddcap.specs.declared.words.WordsFault.{WordsFault}
 use Rattle.ddcap.specs.declared.words.WordsFault.TheVariants as words
 

@@ -60,7 +60,7 @@ pub fn alone_line_to<A: Read, O: Write, E: Write>(
 }
 
 // Prints why there is no verdict, and answers the status.
-fn print_end_fault<E: Write>(alloc: Global, fault: CaptureFault, err: &mut Tally<E>) -> u8
+pub fn print_end_fault<E: Write>(alloc: Global, fault: CaptureFault, err: &mut Tally<E>) -> u8
     requires { fault ≢ CaptureFault.Failed }
     ensures { TellsEndFault (moved E.contents err.old err.new) fault result }
 {

@@ -5,7 +5,8 @@ ghost use Rattle.ddcap.specs.Helping.{help_text};
 ghost use Rattle.ddcap.specs.Printed.{Writes, stream_of};
 
 use crate::check::print;
-use crate::help_pages::{ALONE, CHECK, CONVERT, EXPLAIN, HELP, PLAY, PROGRAM, SHOW};
+use crate::help_pages::{CONVERT, EXPLAIN, HELP, PLAY, PROGRAM, SHOW};
+use crate::judging_pages::{ALONE, CHECK, COVER, WHY};
 use crate::text::FAILED;
 use std::io::Write;
 use wire_base::{Tally, write_whole};
@@ -23,6 +24,8 @@ pub enum Topic {
     Program,
     Check,
     Alone,
+    Why,
+    Cover,
     Show,
     Play,
     Convert,
@@ -38,6 +41,8 @@ pub fn help_to<W: Write>(stream: &mut Tally<W>, topic: Topic) -> u8
         Topic::Program => print_program(stream),
         Topic::Check => print(stream, CHECK.as_bytes(), HELPED),
         Topic::Alone => print(stream, ALONE.as_bytes(), HELPED),
+        Topic::Why => print(stream, WHY.as_bytes(), HELPED),
+        Topic::Cover => print(stream, COVER.as_bytes(), HELPED),
         Topic::Show => print(stream, SHOW.as_bytes(), HELPED),
         Topic::Play => print(stream, PLAY.as_bytes(), HELPED),
         Topic::Convert => print(stream, CONVERT.as_bytes(), HELPED),

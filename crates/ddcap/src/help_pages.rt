@@ -6,6 +6,8 @@ pub const PROGRAM: &str = "\
 
   ddcap check A B         judge the captures of both ends of a line
   ddcap alone A           judge the capture of one end, without the other
+  ddcap why A [B]         tell what was seen and allowed at a refusal
+  ddcap cover A B         count which rows of the rules a pair went through
   ddcap show A            print what a capture says, a line a record
   ddcap play SCRIPT A B   write both captures of a script
   ddcap convert N IN OUT  write a capture in format N: 1 or 2
@@ -13,8 +15,8 @@ pub const PROGRAM: &str = "\
   ddcap explain N         tell what reason N of a refusal means: 1 to 27
 
 Status:
-  0  it was done; of check and alone: accepted, passed
-  1  of check and alone: refused
+  0  it was done; of check, alone, why, cover: accepted, passed
+  1  of check, alone, why, cover: refused
   2  the words, or a line of a file, are faulty
   3  a file, the memory or a stream failed
 
@@ -23,66 +25,6 @@ Faults are printed to standard error, all else to standard output.
 Begin with: ddcap help check, or ddcap help alone
 Read on in the folder docs: CAPTURES.md (how to record, and the format),
 REASONS.md (why a pair is refused), SCRIPTS.md (what play reads).
-";
-
-pub const CHECK: &str = "\
-ddcap check A B
-
-Judges two captures of one DDCMP line, of the same time: A is the file of one
-end, B that of the other. An end's capture has what that end sent and received.
-
-Example, in the top folder of the sources:
-
-  ./ddcap check examples/crossed_period.a examples/crossed_period.b
-
-It ends with status 1 and prints:
-
-  refused b 6 line 8: 13 CrossedPeriod
-
-Record 6 of b, on line 8, can't be made, for reason 13. Side a is the first
-file, b the second; records are counted from 0. Then: ./ddcap explain 13
-
-A pair without a fault is accepted: that word, and a line of counts a side.
-
-With --line, before or behind the files, stations and line are judged alone: a
-packet is any bytes and is not read, and events of links are not judged. Use it
-for a line that joins routers, or that carries what is no DECnet.
-
-Status:
-  0  accepted: some order of all records keeps to the protocols
-  1  refused: no order does
-  2  a faulty line, as a: line 3: syntax (or too long, too many)
-  3  a: cannot open, a: read failed, out of memory, or a failed write
-";
-
-pub const ALONE: &str = "\
-ddcap alone A
-
-Judges the capture of one end without that of the other: what came is taken as
-what the other end sent. Begin with it where you can record at one end only.
-
-Example, in the top folder of the sources:
-
-  ./ddcap alone examples/wrong_response.a
-
-It ends with status 1 and prints:
-
-  refused a 3 line 5: 8 WrongResponse
-
-No capture of the other end, whatever it is, goes with this one: record 3, on
-line 5, breaks a rule. With ' by the other end' behind it, what came there is
-what no right end can have sent. Then: ./ddcap explain 8
-
-passed, and a line of counts: this end kept its rules, as far as one end shows.
-
-A recorder that counts no units writes each receipt as r 0 BYTES in format 2.
-With --line station and line are judged alone, as ddcap help check says.
-
-Status:
-  0  passed
-  1  refused
-  2  a faulty line, as a: line 3: syntax (or too long, too many)
-  3  a: cannot open, a: read failed, out of memory, or a failed write
 ";
 
 pub const SHOW: &str = "\
@@ -165,8 +107,8 @@ pub const HELP: &str = "\
 ddcap help [WORD]
 
 Prints what the program is and all its words; or, with a word, what that one
-does, an example and the statuses. WORD is check, show, play, convert, help
-or explain.
+does, an example and the statuses. WORD is check, alone, why, cover, show,
+play, convert, help or explain.
 
 Example, in the top folder of the sources:
 

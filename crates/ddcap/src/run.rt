@@ -1,35 +1,29 @@
 //! The program between its words and its status.
 
-ghost use Rattle.std.specs.IoError.{error_kind};
-ghost use Rattle.ddcap.specs.Printed.{Writes, not_opened_says, stream_of, words_fault_status, words_fault_text};
+ghost use Rattle.ddcap.specs.Printed.{Writes, stream_of, words_fault_status, words_fault_text};
 
 use crate::alone::{alone_line_to, alone_to};
 use crate::check::{check_line_to, check_to, print, print_out_of_memory};
 use crate::convert::convert_to;
+use crate::cover::{Covered, cover_pair, print_covered};
+use crate::end_telling::{EndPrintout, why_end_to};
 use crate::explain::explain_to;
 use crate::explanations::explanation_of;
+use crate::files::{Named, created, opened, opened_plain};
 use crate::help::help_to;
 use crate::play::play_to;
 use crate::show::show_to;
-use crate::text::FAILED;
+use crate::telling::{Form, Printout, why_to};
 use crate::words::{Task, WordsFault, task_of};
 use capture::Format;
 use std::alloc::Global;
-use std::io::{self, ErrorKind, Write};
+use std::env;
+use std::io::{ErrorKind, Write};
 use std::rt::{Env, Files};
-use std::{env, fs};
 use wire_base::Tally;
 
 // The status of words that are no task.
 const BAD_WORDS: u8 = 2;
-
-/// A file, by the name that it has in what is printed.
-#[derive(Clone, Copy, Debug, PartialEq, Eq)]
-pub enum Named {
-    Script,
-    A,
-    B,
-}
 
 /// Does what the program's words ask for, and answers its status.
 pub fn run<R: Env + Files + AllocGlobal, O: Write, E: Write>(
@@ -69,6 +63,13 @@ fn do_task<R: Files + AllocGlobal, O: Write, E: Write>(
             let mut a = opened(rt, a, Named::A, err)?;
             Ok(alone_line_to(rt.alloc(), &mut a, out, err))
         }
+        Task::Why { form, a, b } => why_files(rt, form, a, b, out, err),
+        Task::WhyAlone { form, a: path } => {
+            let mut a = opened(rt, path, Named::A, err)?;
+            let printout = EndPrintout { form, name: path };
+            Ok(why_end_to(rt.alloc(), printout, &mut a, out, err))
+        }
+        Task::Cover { files } => cover_files(rt, files.as_slice(), out, err),
         Task::Show { a } => show_file(rt, a, out, err),
         Task::Play { script, a, b } => play_file(rt, script, a, b, out, err),
         Task::Convert { to, a, b } => convert_file(rt, to, a, b, out, err),
@@ -128,6 +129,41 @@ fn check_line_files<R: Files + AllocGlobal, O: Write, E: Write>(
     Ok(check_line_to(rt.alloc(), &mut a, &mut b, out, err))
 }
 
+// Opens the two files, and tells why they are refused.
+fn why_files<R: Files + AllocGlobal, O: Write, E: Write>(
+    rt: &R,
+    form: Form,
+    path_a: &str,
+    path_b: &str,
+    out: &mut Tally<O>,
+    err: &mut Tally<E>,
+) -> Result<u8, u8> {
+    let mut a = opened_plain(rt, path_a, Named::A, err)?;
+    let mut b = opened_plain(rt, path_b, Named::B, err)?;
+    let printout = Printout {
+        form,
+        name_a: path_a,
+        name_b: path_b,
+    };
+    Ok(why_to(rt.alloc(), printout, &mut a, &mut b, out, err))
+}
+
+// Opens the two files of each pair, a's first, and counts what they went through, pair by pair.
+fn cover_files<R: Files + AllocGlobal, O: Write, E: Write>(
+    rt: &R,
+    files: &[&str],
+    out: &mut Tally<O>,
+    err: &mut Tally<E>,
+) -> Result<u8, u8> {
+    let mut covered = Covered::new(rt.alloc());
+    for pair in files.chunks_exact(2) {
+        let mut a = opened(rt, pair[0], Named::A, err)?;
+        let mut b = opened(rt, pair[1], Named::B, err)?;
+        cover_pair(rt.alloc(), &mut a, &mut b, &mut covered, err)?;
+    }
+    Ok(print_covered(rt.alloc(), &covered, out, err))
+}
+
 // Opens the file, and shows what it holds.
 fn show_file<R: Files + AllocGlobal, O: Write, E: Write>(
     rt: &R,
@@ -166,45 +202,4 @@ fn play_file<R: Files + AllocGlobal, O: Write, E: Write>(
     let mut a = created(rt, path_a, Named::A, err)?;
     let mut b = created(rt, path_b, Named::B, err)?;
     Ok(play_to(rt.alloc(), &mut script, &mut a, &mut b, out, err))
-}
-
-// Opens a file to be read. `Err`: it can't be opened, which was told, with this status.
-fn opened<R: Files, E: Write>(
-    rt: &R,
-    path: &str,
-    named: Named,
-    err: &mut Tally<E>,
-) -> Result<Tally<R::File>, u8> {
-    match fs::open(rt, path) {
-        Ok(file) => Ok(Tally::new(file)),
-        Err(error) => Err(print_not_opened(err, named, &error)),
-    }
-}
-
-// Creates or empties a file to be written. `Err` as for `opened`.
-fn created<R: Files, E: Write>(
-    rt: &R,
-    path: &str,
-    named: Named,
-    err: &mut Tally<E>,
-) -> Result<Tally<R::File>, u8> {
-    match fs::create(rt, path) {
-        Ok(file) => Ok(Tally::new(file)),
-        Err(error) => Err(print_not_opened(err, named, &error)),
-    }
-}
-
-// Prints that a file can't be opened, or that memory was wanting for it, and answers the status.
-fn print_not_opened<W: Write>(err: &mut Tally<W>, named: Named, error: &io::Error) -> u8
-    ensures { Writes (stream_of W.contents err.old) (stream_of W.contents err.new)
-        (not_opened_says named (error_kind error.now)) 3 result }
-{
-    if error.kind() == ErrorKind::OutOfMemory {
-        return print_out_of_memory(err);
-    }
-    match named {
-        Named::Script => print(err, b"script: cannot open\n", FAILED),
-        Named::A => print(err, b"a: cannot open\n", FAILED),
-        Named::B => print(err, b"b: cannot open\n", FAILED),
-    }
 }

@@ -4,6 +4,7 @@ ghost use Rattle.std.specs.Prelude.{◌≡◌, IfOk, string_bytes};
 ghost use Rattle.capture.specs.Faulty.{line_fault_words};
 ghost use Rattle.pair_judge.specs.declared.fault.JudgeFault.TheVariants.{Capture};
 ghost use Rattle.pair_judge.specs.declared.fault.TextFault.TheVariants.{Departs};
+ghost use Rattle.ddcap.specs.Covering as covering;
 ghost use Rattle.ddcap.specs.Printed as printed;
 
 use capture::Departure;
@@ -138,6 +139,20 @@ pub fn line_verdict_text(alloc: Global, verdict: Verdict) -> Result<String, Allo
             };
             format!(in alloc; "accepted\n{line_a}\n{line_b}\n")
         }
+        Verdict::Refused {
+            side,
+            place,
+            reason,
+        } => refused_text(alloc, side, place, reason),
+    }
+}
+
+/// The first line of that text, with its LF. Fails for want of memory alone.
+pub fn verdict_line(alloc: Global, verdict: Verdict) -> Result<String, AllocError>
+    ensures { IfOk result (λ text. string_bytes text ≡ covering.verdict_line verdict) }
+{
+    match verdict {
+        Verdict::Accepted(_) => String::from_str(alloc, "accepted\n"),
         Verdict::Refused {
             side,
             place,

@@ -1,16 +1,18 @@
 //! The words that the program is given.
 
+use crate::commands::program;
 use crate::explanations::reason_spelled;
 use crate::help::Topic;
+use crate::telling::Form;
 use capture::Format;
+use clap::ArgMatches;
 use clap::error::ErrorKind;
-use clap::{Arg, ArgAction, ArgMatches, Command};
 use pair_judge::Reason;
-use std::alloc::{AllocError, Global};
+use std::alloc::Global;
 use std::convert::AsStr;
 
 /// What the program is asked to do.
-#[derive(Clone, Copy, Debug, PartialEq, Eq)]
+#[derive(Debug, Drop, PartialEq, Eq)]
 pub enum Task<'a> {
     /// To judge the captures in two files.
     Check {
@@ -29,6 +31,21 @@ pub enum Task<'a> {
     /// To judge station and line alone of it.
     AloneLine {
         a: &'a str,
+    },
+    /// To tell why the captures in two files are refused, in this form.
+    Why {
+        form: Form,
+        a: &'a str,
+        b: &'a str,
+    },
+    /// To tell why the capture in a file is refused without that of the other end, in this form.
+    WhyAlone {
+        form: Form,
+        a: &'a str,
+    },
+    /// To count which rows the pairs of captures in these files went through: a file of side a, and one of side b, and so on.
+    Cover {
+        files: Vec<&'a str>,
     },
     /// To show the records of the capture in a file.
     Show {
@@ -74,6 +91,8 @@ pub fn task_of<'a, S: AsStr>(alloc: Global, words: &'a [S]) -> Result<Task<'a>, 
         Ok(matches) => match matches.subcommand() {
             Some(("check", found)) => checked_of(found),
             Some(("alone", found)) => judged_alone_of(found),
+            Some(("why", found)) => explained_of(found),
+            Some(("cover", found)) => covered_of(alloc, found),
             Some(("show", found)) => match found.get_str("A") {
                 Some(a) => Ok(Task::Show { a }),
                 None => Err(WordsFault::BadWords),
@@ -111,6 +130,35 @@ fn judged_alone_of<'a>(found: &ArgMatches<'a>) -> Result<Task<'a>, WordsFault> {
         return Ok(Task::AloneLine { a });
     }
     Ok(Task::Alone { a })
+}
+
+// The captures that the words behind `why` name, or the one, and in which form the answer is printed.
+fn explained_of<'a>(found: &ArgMatches<'a>) -> Result<Task<'a>, WordsFault> {
+    let Some(a) = found.get_str("A") else {
+        return Err(WordsFault::BadWords);
+    };
+    let form = match found.get_flag("json") {
+        true => Form::Json,
+        false => Form::Rows,
+    };
+    match found.get_str("B") {
+        Some(b) => Ok(Task::Why { form, a, b }),
+        None => Ok(Task::WhyAlone { form, a }),
+    }
+}
+
+// The files that the words behind `cover` name, two of each pair.
+fn covered_of<'a>(alloc: Global, found: &ArgMatches<'a>) -> Result<Task<'a>, WordsFault> {
+    let Some(named) = found.get_strs("FILE") else {
+        return Err(WordsFault::BadWords);
+    };
+    if named.len() % 2 != 0 {
+        return Err(WordsFault::BadWords);
+    }
+    match Vec::from_slice(alloc, named) {
+        Ok(files) => Ok(Task::Cover { files }),
+        Err(_) => Err(WordsFault::OutOfMemory),
+    }
 }
 
 // The conversion that the words behind `convert` ask for: the format's number has one spelling.
@@ -155,6 +203,8 @@ fn help_of<'a>(found: &ArgMatches<'a>) -> Result<Task<'a>, WordsFault> {
         None => Topic::Program,
         Some("check") => Topic::Check,
         Some("alone") => Topic::Alone,
+        Some("why") => Topic::Why,
+        Some("cover") => Topic::Cover,
         Some("show") => Topic::Show,
         Some("play") => Topic::Play,
         Some("convert") => Topic::Convert,
@@ -174,70 +224,4 @@ fn explanation_asked<'a>(found: &ArgMatches<'a>) -> Result<Task<'a>, WordsFault>
         Some(reason) => Ok(Task::Explain { reason }),
         None => Err(WordsFault::BadWords),
     }
-}
-
-fn program<'a>(alloc: Global) -> Result<Command<'a>, AllocError> {
-    Command::new(alloc, "ddcap")
-        .disable_help_subcommand(true)
-        .subcommand_required(true)
-        .subcommand(check(alloc)?)?
-        .subcommand(alone(alloc)?)?
-        .subcommand(show(alloc)?)?
-        .subcommand(play(alloc)?)?
-        .subcommand(convert(alloc)?)?
-        .subcommand(help(alloc)?)?
-        .subcommand(explain(alloc)?)
-}
-
-// `check [--line] A B`
-fn check<'a>(alloc: Global) -> Result<Command<'a>, AllocError> {
-    Command::new(alloc, "check")
-        .arg(Arg::new(alloc, "A").required(true))?
-        .arg(Arg::new(alloc, "B").required(true))?
-        .arg(line_alone(alloc))
-}
-
-// `alone [--line] A`
-fn alone<'a>(alloc: Global) -> Result<Command<'a>, AllocError> {
-    Command::new(alloc, "alone")
-        .arg(Arg::new(alloc, "A").required(true))?
-        .arg(line_alone(alloc))
-}
-
-// `--line`, before or behind the files
-fn line_alone<'a>(alloc: Global) -> Arg<'a> {
-    Arg::new(alloc, "line")
-        .long("line")
-        .action(ArgAction::SetTrue)
-}
-
-// `show A`
-fn show<'a>(alloc: Global) -> Result<Command<'a>, AllocError> {
-    Command::new(alloc, "show").arg(Arg::new(alloc, "A").required(true))
-}
-
-// `play SCRIPT A B`
-fn play<'a>(alloc: Global) -> Result<Command<'a>, AllocError> {
-    Command::new(alloc, "play")
-        .arg(Arg::new(alloc, "SCRIPT").required(true))?
-        .arg(Arg::new(alloc, "A").required(true))?
-        .arg(Arg::new(alloc, "B").required(true))
-}
-
-// `convert N IN OUT`
-fn convert<'a>(alloc: Global) -> Result<Command<'a>, AllocError> {
-    Command::new(alloc, "convert")
-        .arg(Arg::new(alloc, "N").required(true))?
-        .arg(Arg::new(alloc, "IN").required(true))?
-        .arg(Arg::new(alloc, "OUT").required(true))
-}
-
-// `help [WORD]`
-fn help<'a>(alloc: Global) -> Result<Command<'a>, AllocError> {
-    Command::new(alloc, "help").arg(Arg::new(alloc, "WORD"))
-}
-
-// `explain N`
-fn explain<'a>(alloc: Global) -> Result<Command<'a>, AllocError> {
-    Command::new(alloc, "explain").arg(Arg::new(alloc, "N").required(true))
 }

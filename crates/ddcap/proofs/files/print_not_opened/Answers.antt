@@ -2,7 +2,7 @@ use denote.Enum.Bare.{same_false}
 use Rattle.std.proofs.Common.{sym, ◌∙◌}
 use Rattle.std.specs.contracts.io.ErrorKind.{the_type}
 use Rattle.ddcap.proofs.NotOpened.{says_file}
-use Rattle.ddcap.proofs.run.print_not_opened.Goals as goal
+use Rattle.ddcap.proofs.files.print_not_opened.Goals as goal
 
 pub returns-in-A : goal.returns-in-A
 returns-in-A g c =

@@ -1,0 +1,50 @@
+-- What is printed where both ends are told, and where there was no memory for the text.
+use Rattle.std.proofs.Common.{◌≡◌, ◌⊎◌, ℕ, List, Option, Ok, Err, inl, inr, sym, subst}
+use Rattle.dna_node.specs.Kind.{both_layers}
+use Rattle.pair_judge.specs.Ends.{ShownEnds, StandsFor}
+use Rattle.pair_judge.specs.Judged.{IsAnswer}
+use Rattle.pair_judge.specs.declared.fault.JudgeFault.{JudgeFault}
+use Rattle.pair_judge.specs.declared.fault.JudgeFault.TheVariants.{OutOfMemory}
+use Rattle.pair_judge.specs.declared.summary.Summary.{Summary}
+use Rattle.pair_judge.specs.declared.verdict.Verdict.{Verdict}
+use Rattle.pair_judge.specs.declared.verdict.Verdict.TheVariants.{Accepted, Refused as IsRefused}
+use Rattle.ddcap.specs.Printed.{Moved, TellsFault, Writes}
+use Rattle.ddcap.specs.PrintedWhy.{Explains, PrintsAcceptance, PrintsVerdict, TellsRefusal}
+use Rattle.ddcap.specs.declared.telling.Form.{Form}
+use Rattle.ddcap.specs.declared.telling.Refused.{Refused}
+use Rattle.ddcap.proofs.Answering.{without_memory}
+
+-- a fact of what is lent is one of what it is lent from
+pub carried : {X : Type 0} {x y : X} → x ≡ y → (F : X → Type 0) → F x → F y
+carried same F h = subst F same h
+
+module _ (form : Form) (text_a text_b : Option (List ℕ)) (out err : Moved) (status : ℕ) where
+  pub explains_nothing : TellsFault err OutOfMemory status → out.new ≡ out.old → Explains form text_a text_b (out, err) status
+  explains_nothing told same = record {
+    answer = Err OutOfMemory;
+    judged = without_memory both_layers text_a text_b;
+    stands = tt;
+    printed = (told, same);
+  }
+
+  pub explains_fault : (fault : JudgeFault) → IsAnswer both_layers text_a text_b (Err fault) → TellsFault err fault status → out.new ≡ out.old →
+      Explains form text_a text_b (out, err) status
+  explains_fault fault judged told same = record { answer = Err fault; judged = judged; stands = tt; printed = (told, same) }
+
+  module _ (ends : ShownEnds) (judged : IsAnswer both_layers text_a text_b (Ok ends.verdict))
+      (stands : StandsFor text_a text_b ends ends.verdict) where
+    told_ends : PrintsVerdict form out err ends ends.verdict status → Explains form text_a text_b (out, err) status
+    told_ends printed = record { answer = Ok ends; judged = judged; stands = stands; printed = printed }
+
+    pub explains_acceptance : (summary : Summary) → ends.verdict ≡ Accepted summary → PrintsAcceptance form (out, err) summary status →
+        Explains form text_a text_b (out, err) status
+    explains_acceptance summary is (inl printed) =
+        told_ends (subst (λ (verdict : Verdict). PrintsVerdict form out err ends verdict status) (sym is) printed)
+    explains_acceptance summary is (inr told) = explains_nothing told.0 told.1
+
+    pub explains_refusal : (refused : Refused) → ends.verdict ≡ IsRefused refused.side refused.place refused.reason → (text : List ℕ) →
+        TellsRefusal form ends refused text → Writes out.old out.new text 1 status → err.new ≡ err.old →
+        Explains form text_a text_b (out, err) status
+    explains_refusal refused is text tells written same =
+        told_ends (subst (λ (verdict : Verdict). PrintsVerdict form out err ends verdict status) (sym is)
+        (record { text = text; tells = tells; written = written; same = same }))

@@ -1,0 +1,6 @@
+use Rattle.std.proofs.lemmas.Result.{on_ok_weaker}
+use Rattle.ddcap.proofs.Rungs.{tells_next}
+use Rattle.ddcap.proofs.last_rows.LastRowsObserver.made.Goals as goal
+
+pub returns : goal.returns
+returns c = on_ok_weaker c.made.result (tells_next _ _ c.args.side c.args.entry c.args.bytes.now) c.made.ensures.ok

@@ -1,0 +1,90 @@
+-- What `why` prints of an answer of the judge, byte by byte, and with which status it ends.
+use Rattle.std.specs.Prelude.{◌≡◌, ℕ, ◌⊎◌, List, ◌++◌, Option, Some, Result, Ok, Err, IfOk, codes}
+use Rattle.wire_base.specs.declared.side.Side.{Side}
+use Rattle.capture.specs.Entries.{record_with}
+use Rattle.dna_node.specs.Kind.{both_layers}
+use Rattle.pair_judge.specs.Ends.{ShownEnds, StandsFor, verdict_in}
+use Rattle.pair_judge.specs.Finding.{of_side}
+use Rattle.pair_judge.specs.Judged.{IsAnswer}
+use Rattle.pair_judge.specs.declared.fault.JudgeFault.{JudgeFault}
+use Rattle.pair_judge.specs.declared.fault.JudgeFault.TheVariants.{OutOfMemory}
+use Rattle.pair_judge.specs.declared.summary.Summary.{Summary}
+use Rattle.pair_judge.specs.declared.verdict.Verdict.{Verdict}
+use Rattle.pair_judge.specs.declared.verdict.Verdict.TheVariants.{Accepted, Refused as IsRefused}
+use Rattle.why.specs.declared.edits.EditsTried.{EditsTried}
+use Rattle.why.specs.declared.why_text.Refusal.{Refusal}
+use Rattle.why.specs.declared.why_text.Shown.{Shown}
+use Rattle.why.specs.Ends.{is_of_user}
+use Rattle.why.specs.Refused.{accuses}
+use Rattle.why.specs.Whole.{why_lines, why_rows}
+use Rattle.ddcap.specs.Printed.{Moved, TellsFault, Writes, verdict_text}
+use Rattle.ddcap.specs.declared.telling.Form.{Form}
+use Rattle.ddcap.specs.declared.telling.Form.TheVariants.{Rows, Json}
+use Rattle.ddcap.specs.declared.telling.Refused.{Refused}
+
+-- what is told of a refusal is told of the record ahead of its side
+pub record IsTold (ends : ShownEnds) (refused : Refused) (told : Refusal) : Type 0 where
+  pub side : told.side ≡ refused.side
+  pub place : told.place ≡ refused.place
+  pub reason : told.reason ≡ refused.reason
+  pub accused : told.accusation ≡ accuses refused.reason (is_of_user told.says)
+  pub ahead : (of_side refused.side ends.a ends.b).ahead ≡ Some (record_with told.says told.bytes.now)
+
+-- in rows, behind the line of the verdict and an empty one
+pub record AreRows (told : Refusal) (ends : ShownEnds) (text : List ℕ) : Type 0 where
+  pub shown : Shown
+  pub are_rows : text ≡ verdict_text ends.verdict ++ (codes "\n" ++ why_rows told ends shown)
+
+-- as JSON objects
+pub record AreObjects (told : Refusal) (ends : ShownEnds) (text : List ℕ) : Type 0 where
+  pub edits : List ℕ
+  pub tried : EditsTried
+  pub are_objects : text ≡ why_lines told ends edits tried
+
+abbrev pub IsWhyText : Form → Refusal → ShownEnds → List ℕ → Type 0
+IsWhyText Rows told ends text = AreRows told ends text
+IsWhyText Json told ends text = AreObjects told ends text
+
+pub record IsTelling (form : Form) (ends : ShownEnds) (refused : Refused) (text : List ℕ) : Type 0 where
+  pub told : Refusal
+  pub is_told : IsTold ends refused told
+  pub is_text : IsWhyText form told ends text
+
+-- where no check is named, the line of the verdict stands alone
+abbrev pub TellsRefusal : Form → ShownEnds → Refused → List ℕ → Type 0
+TellsRefusal form ends refused text = IsTelling form ends refused text ⊎ (text ≡ verdict_text ends.verdict)
+
+abbrev pub accepted_text : Form → Summary → List ℕ
+accepted_text Rows summary = verdict_text (Accepted summary)
+accepted_text Json summary = codes "{\"what\": \"accepted\"}\n"
+
+-- a verdict is written to standard output and a fault to standard error; the other stream stays as it is
+module _ (form : Form) (out err : Moved) where
+  pub record PrintsRefusal (ends : ShownEnds) (refused : Refused) (status : ℕ) : Type 0 where
+    pub text : List ℕ
+    pub tells : TellsRefusal form ends refused text
+    pub written : Writes out.old out.new text 1 status
+    pub same : err.new ≡ err.old
+
+  abbrev pub PrintsVerdict : ShownEnds → Verdict → ℕ → Type 0
+  PrintsVerdict ends (Accepted summary) status = Writes out.old out.new (accepted_text form summary) 0 status × (err.new ≡ err.old)
+  PrintsVerdict ends (IsRefused side place reason) status =
+      PrintsRefusal ends (record { side = side; place = place; reason = reason }) status
+
+  abbrev pub PrintsWhy : Result ShownEnds JudgeFault → ℕ → Type 0
+  PrintsWhy (Ok ends) status = PrintsVerdict ends ends.verdict status
+  PrintsWhy (Err fault) status = TellsFault err fault status × (out.new ≡ out.old)
+
+-- an acceptance is written, or that there was no memory for its text
+abbrev pub PrintsAcceptance : Form → Moved × Moved → Summary → ℕ → Type 0
+PrintsAcceptance form streams summary status =
+    (Writes streams.0.old streams.0.new (accepted_text form summary) 0 status × (streams.1.new ≡ streams.1.old))
+    ⊎ (TellsFault streams.1 OutOfMemory status × (streams.0.new ≡ streams.0.old))
+
+-- One call of `why`: what is printed, with its status, is an answer of which all is true that the judge's contract says of its own; and both
+-- ends that it shows stand where the record is refused.
+pub record Explains (form : Form) (text_a text_b : Option (List ℕ)) (streams : Moved × Moved) (status : ℕ) : Type 0 where
+  pub answer : Result ShownEnds JudgeFault
+  pub judged : IsAnswer both_layers text_a text_b (verdict_in answer)
+  pub stands : IfOk answer (λ ends. StandsFor text_a text_b ends ends.verdict)
+  pub printed : PrintsWhy form streams.0 streams.1 answer status

@@ -1,0 +1,93 @@
+-- What `why` prints of an answer of the judge of one end, byte by byte, and with which status it ends.
+use Rattle.std.specs.Prelude.{◌≡◌, ℕ, ◌⊎◌, List, ◌++◌, Option, Some, Result, Ok, Err, IfOk, codes}
+use Rattle.capture.specs.Entries.{record_with}
+use Rattle.capture.specs.Faulty.{CountsReads, is_failed_read}
+use Rattle.capture.specs.declared.fault.CaptureFault.{CaptureFault}
+use Rattle.capture.specs.declared.fault.CaptureFault.TheVariants.{OutOfMemory}
+use Rattle.pair_judge.specs.EndJudged.{IsJudgedAlone}
+use Rattle.pair_judge.specs.EndKind.{layers_alone}
+use Rattle.pair_judge.specs.EndShown.{StandsAlone}
+use Rattle.pair_judge.specs.Ends.{ShownEnd}
+use Rattle.pair_judge.specs.Order.{MadeRecord}
+use Rattle.pair_judge.specs.Watched.{only}
+use Rattle.pair_judge.specs.declared.end_verdict.Accused.{Accused}
+use Rattle.pair_judge.specs.declared.end_verdict.EndVerdict.{EndVerdict}
+use Rattle.pair_judge.specs.declared.end_verdict.EndVerdict.TheVariants.{Passed, Refused}
+use Rattle.pair_judge.specs.declared.summary.SideSummary.{SideSummary}
+use Rattle.why.specs.declared.end_text.EndRefusal.{EndRefusal}
+use Rattle.why.specs.Ends.{is_of_user}
+use Rattle.why.specs.Refused.{end_accuses}
+use Rattle.why.specs.WholeEnd.{end_lines, end_rows}
+use Rattle.ddcap.specs.Printed.{Moved, Writes}
+use Rattle.ddcap.specs.PrintedAlone.{TellsEndFault, end_text}
+use Rattle.ddcap.specs.declared.telling.Form.{Form}
+use Rattle.ddcap.specs.declared.telling.Form.TheVariants.{Rows, Json}
+
+-- the verdict, and the end as it is there
+pub record Stop : Type 0 where
+  pub verdict : EndVerdict
+  pub end : ShownEnd
+
+abbrev pub stop : EndVerdict → ShownEnd → Stop
+stop verdict end = record { verdict = verdict; end = end }
+
+-- what is told of a refusal is told of the record ahead
+pub record IsToldOf (told : EndRefusal) (s : Stop) : Type 0 where
+  pub accused : Accused
+  pub is_refused : s.verdict ≡ Refused told.place accused told.reason
+  pub accusation : told.accusation ≡ end_accuses accused told.reason (is_of_user told.says)
+  pub ahead : s.end.ahead ≡ Some (record_with told.says told.bytes.now)
+
+-- in rows, behind the line of the verdict and an empty one
+pub record AreEndRows (told : EndRefusal) (s : Stop) (text : List ℕ) : Type 0 where
+  pub name : List ℕ
+  pub ladder : List ℕ
+  pub are_rows : text ≡ end_text s.verdict ++ (codes "\n" ++ end_rows told s.end name ladder)
+
+abbrev pub IsEndText : Form → EndRefusal → Stop → List ℕ → Type 0
+IsEndText Rows told s text = AreEndRows told s text
+IsEndText Json told s text = text ≡ end_lines told s.end
+
+pub record IsEndTelling (form : Form) (s : Stop) (text : List ℕ) : Type 0 where
+  pub told : EndRefusal
+  pub is_told : IsToldOf told s
+  pub is_text : IsEndText form told s text
+
+-- where no record is ahead, the line of the verdict stands alone
+abbrev pub TellsEnd : Form → Stop → List ℕ → Type 0
+TellsEnd form s text = IsEndTelling form s text ⊎ (text ≡ end_text s.verdict)
+
+abbrev pub passed_text : Form → SideSummary → List ℕ
+passed_text Rows counts = end_text (Passed counts)
+passed_text Json counts = codes "{\"what\": \"passed\"}\n"
+
+-- a pass is written, or that there was no memory for its text
+abbrev pub PrintsPass : Form → Moved × Moved → SideSummary → ℕ → Type 0
+PrintsPass form streams counts status =
+    (Writes streams.0.old streams.0.new (passed_text form counts) 0 status × (streams.1.new ≡ streams.1.old))
+    ⊎ (TellsEndFault streams.1 OutOfMemory status × (streams.0.new ≡ streams.0.old))
+
+-- a verdict is written to standard output and a fault to standard error; the other stream stays as it is
+module _ (form : Form) (out err : Moved) where
+  pub record PrintsEndRefusal (s : Stop) (status : ℕ) : Type 0 where
+    pub text : List ℕ
+    pub tells : TellsEnd form s text
+    pub written : Writes out.old out.new text 1 status
+    pub same : err.new ≡ err.old
+
+  abbrev pub PrintsStop : Stop → EndVerdict → ℕ → Type 0
+  PrintsStop s (Passed counts) status = Writes out.old out.new (passed_text form counts) 0 status × (err.new ≡ err.old)
+  PrintsStop s (Refused place accused reason) status = PrintsEndRefusal s status
+
+  abbrev pub PrintsWhyEnd : Result Stop CaptureFault → ℕ → Type 0
+  PrintsWhyEnd (Ok s) status = PrintsStop s s.verdict status
+  PrintsWhyEnd (Err fault) status = TellsEndFault err fault status × (out.new ≡ out.old)
+
+-- One call of `why` of one end: what is printed, with its status, is an answer of which all is true that the judge's contract says of its own; and
+-- the end that it shows stands where the record is refused.
+pub record ExplainsEnd (form : Form) (a out err : Moved) (status : ℕ) : Type 0 where
+  pub answer : Result Stop CaptureFault
+  pub judged : IsJudgedAlone layers_alone a.old.bytes (only answer (λ s. s.verdict))
+  pub stands : IfOk answer (λ s. StandsAlone a.old.bytes s.end s.verdict (λ (order : List MadeRecord). Unit {0}))
+  pub reads : CountsReads (is_failed_read answer) a.old.faults a.new.faults
+  pub printed : PrintsWhyEnd form out err answer status

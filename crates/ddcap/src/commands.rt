@@ -1,0 +1,91 @@
+//! The words that the program knows, and what may stand behind each.
+
+use clap::{Arg, ArgAction, Command};
+use std::alloc::{AllocError, Global};
+
+/// The words that the program knows.
+pub fn program<'a>(alloc: Global) -> Result<Command<'a>, AllocError> {
+    Command::new(alloc, "ddcap")
+        .disable_help_subcommand(true)
+        .subcommand_required(true)
+        .subcommand(check(alloc)?)?
+        .subcommand(alone(alloc)?)?
+        .subcommand(why(alloc)?)?
+        .subcommand(cover(alloc)?)?
+        .subcommand(show(alloc)?)?
+        .subcommand(play(alloc)?)?
+        .subcommand(convert(alloc)?)?
+        .subcommand(help(alloc)?)?
+        .subcommand(explain(alloc)?)
+}
+
+// `check [--line] A B`
+fn check<'a>(alloc: Global) -> Result<Command<'a>, AllocError> {
+    Command::new(alloc, "check")
+        .arg(Arg::new(alloc, "A").required(true))?
+        .arg(Arg::new(alloc, "B").required(true))?
+        .arg(line_alone(alloc))
+}
+
+// `alone [--line] A`
+fn alone<'a>(alloc: Global) -> Result<Command<'a>, AllocError> {
+    Command::new(alloc, "alone")
+        .arg(Arg::new(alloc, "A").required(true))?
+        .arg(line_alone(alloc))
+}
+
+// `why [--json] A [B]`
+fn why<'a>(alloc: Global) -> Result<Command<'a>, AllocError> {
+    Command::new(alloc, "why")
+        .arg(Arg::new(alloc, "A").required(true))?
+        .arg(Arg::new(alloc, "B"))?
+        .arg(
+            Arg::new(alloc, "json")
+                .long("json")
+                .action(ArgAction::SetTrue),
+        )
+}
+
+// `--line`, before or behind the files
+fn line_alone<'a>(alloc: Global) -> Arg<'a> {
+    Arg::new(alloc, "line")
+        .long("line")
+        .action(ArgAction::SetTrue)
+}
+
+// `cover A B [A B ..]`
+fn cover<'a>(alloc: Global) -> Result<Command<'a>, AllocError> {
+    let files = Arg::new(alloc, "FILE").required(true).num_args(2..);
+    Command::new(alloc, "cover").arg(files)
+}
+
+// `show A`
+fn show<'a>(alloc: Global) -> Result<Command<'a>, AllocError> {
+    Command::new(alloc, "show").arg(Arg::new(alloc, "A").required(true))
+}
+
+// `play SCRIPT A B`
+fn play<'a>(alloc: Global) -> Result<Command<'a>, AllocError> {
+    Command::new(alloc, "play")
+        .arg(Arg::new(alloc, "SCRIPT").required(true))?
+        .arg(Arg::new(alloc, "A").required(true))?
+        .arg(Arg::new(alloc, "B").required(true))
+}
+
+// `convert N IN OUT`
+fn convert<'a>(alloc: Global) -> Result<Command<'a>, AllocError> {
+    Command::new(alloc, "convert")
+        .arg(Arg::new(alloc, "N").required(true))?
+        .arg(Arg::new(alloc, "IN").required(true))?
+        .arg(Arg::new(alloc, "OUT").required(true))
+}
+
+// `help [WORD]`
+fn help<'a>(alloc: Global) -> Result<Command<'a>, AllocError> {
+    Command::new(alloc, "help").arg(Arg::new(alloc, "WORD"))
+}
+
+// `explain N`
+fn explain<'a>(alloc: Global) -> Result<Command<'a>, AllocError> {
+    Command::new(alloc, "explain").arg(Arg::new(alloc, "N").required(true))
+}

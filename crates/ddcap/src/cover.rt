@@ -1,0 +1,108 @@
+//! `cover`: which rows of the rule tables pairs of captures went through.
+
+ghost use Rattle.std.specs.Prelude.{◌≡◌, IfOk, OnOk, [], string_bytes};
+ghost use Rattle.ddcap.specs.Covering as spec;
+ghost use Rattle.ddcap.specs.Printed.{moved};
+
+use crate::check::{print, print_fault, print_out_of_memory};
+use crate::text::{verdict_line, verdict_status};
+use coverage::{Counts, Cover, judge_covered, table};
+use pair_judge::Verdict;
+use std::alloc::{AllocError, Global};
+use std::io::{Read, Write};
+use std::marker::Model;
+use wire_base::{Side, Tally};
+
+/// What was found of the pairs so far: the first line of each answer, how often each side went through each row in all of them, and whether one
+/// was refused.
+#[derive(Drop)]
+pub struct Covered {
+    lines: String,
+    a: Counts,
+    b: Counts,
+    status: u8,
+}
+
+impl Model for Covered {
+    ghost use Rattle.ddcap.specs.Covering.{CoveredView};
+    ghost use Rattle.std.specs.Prelude.{string_bytes};
+
+    ghost Value = { CoveredView };
+
+    ghost view = { λ c. record { lines = string_bytes c.lines; a = c.a.met; b = c.b.met; status = c.status } };
+}
+
+impl Covered {
+    /// No pair yet. Takes no memory.
+    pub fn new(alloc: Global) -> Covered
+        ensures lines { result.lines ≡ [] }
+        ensures status { result.status ≡ 0 }
+    {
+        Covered {
+            lines: String::new(alloc),
+            a: Counts::new(),
+            b: Counts::new(),
+            status: 0,
+        }
+    }
+
+    // One pair more. `AllocError`: there is no memory for its line, and nothing was added.
+    fn add(&mut self, alloc: Global, verdict: Verdict, cover: &Cover) -> Result<(), AllocError>
+        ensures { OnOk result (spec.IsAdded verdict cover.now self.old self.new) }
+    {
+        let line = verdict_line(alloc, verdict)?;
+        self.lines.push_str(line.as_str())?;
+        self.a.add(&cover.of_side(Side::A));
+        self.b.add(&cover.of_side(Side::B));
+        self.status = self.status.max(verdict_status(verdict));
+        Ok(())
+    }
+}
+
+/// Judges one more pair, and counts which rows each side went through.
+///
+/// `Err`: there is no verdict, or no memory for its line. That was told to `err` as `check` tells it, with this status, 2 or 3.
+pub fn cover_pair<A: Read, B: Read, E: Write>(
+    alloc: Global,
+    a: &mut Tally<A>,
+    b: &mut Tally<B>,
+    covered: &mut Covered,
+    err: &mut Tally<E>,
+) -> Result<(), u8>
+    ensures { spec.CoversPair (spec.pair_moved (moved A.remaining a.old a.new) (moved B.remaining b.old b.new)) covered.old covered.new
+        (moved E.contents err.old err.new) result }
+{
+    let watched = match judge_covered(alloc, a, b) {
+        Ok(watched) => watched,
+        Err(fault) => return Err(print_fault(alloc, fault, err)),
+    };
+    match covered.add(alloc, watched.ends.verdict(), &watched.observer) {
+        Ok(()) => Ok(()),
+        Err(_) => Err(print_out_of_memory(err)),
+    }
+}
+
+/// Prints what was found of all pairs, and answers the status: 0 where all are accepted, 1 where one is refused, and 3 where there is no memory
+/// for the text or a write failed. The whole text is put together before the first write.
+pub fn print_covered<O: Write, E: Write>(
+    alloc: Global,
+    covered: &Covered,
+    out: &mut Tally<O>,
+    err: &mut Tally<E>,
+) -> u8
+    ensures { spec.PrintsCovered covered.now (moved O.contents out.old out.new) (moved E.contents err.old err.new) result }
+{
+    match covered_text(alloc, covered) {
+        Ok(text) => print(out, text.as_bytes(), covered.status),
+        Err(_) => print_out_of_memory(err),
+    }
+}
+
+// The first lines, and the table.
+fn covered_text(alloc: Global, covered: &Covered) -> Result<String, AllocError>
+    ensures { IfOk result (λ text. string_bytes text ≡ spec.covered_text covered.now) }
+{
+    let table = table(alloc, &covered.a, &covered.b)?;
+    let lines = &covered.lines;
+    format!(in alloc; "{lines}{table}")
+}

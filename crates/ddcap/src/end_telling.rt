@@ -1,0 +1,132 @@
+//! `why` of one end: which record was refused, what was seen and what was allowed there, and the end as it was before it.
+
+ghost use Rattle.std.specs.Prelude.{IfOk, string_bytes};
+ghost use Rattle.ddcap.specs.Printed.{moved};
+ghost use Rattle.ddcap.specs.PrintedWhyEnd.{AreEndRows, ExplainsEnd, PrintsPass, TellsEnd, stop};
+
+use crate::alone::print_end_fault;
+use crate::check::{print, print_out_of_memory};
+use crate::end_text::end_text;
+use crate::last_rows::LastRows;
+use crate::telling::{Form, REFUSED, ladder_text};
+use ladder::Ladder;
+use pair_judge::{EndVerdict, SideEnd, SideSummary, WatchedEnd, judge_end_watched};
+use std::alloc::{AllocError, Global};
+use std::io::{Read, Write};
+use why::{Accusation, EndRefusal, is_of_user, why_end_json, why_end_rows};
+use wire_base::{Side, Tally};
+
+/// How the answer is printed, and the name of the capture in it.
+#[derive(Clone, Copy)]
+pub struct EndPrintout<'n> {
+    pub form: Form,
+    pub name: &'n str,
+}
+
+/// Judges the capture that a reader gives without that of the other end, prints what is answered and why, and answers the status.
+///
+/// A pass and a fault are printed as `alone` does (of JSON objects `{"what": "passed"}` alone). Behind a refusal comes what is said of it. The whole
+/// text is put together before the first write; where there is no memory for it, the answer is `out of memory`.
+pub fn why_end_to<A: Read, O: Write, E: Write>(
+    alloc: Global,
+    printout: EndPrintout<'_>,
+    a: &mut Tally<A>,
+    out: &mut Tally<O>,
+    err: &mut Tally<E>,
+) -> u8
+    ensures { ExplainsEnd printout.entry.form (moved A.remaining a.old a.new) (moved O.contents out.old out.new)
+        (moved E.contents err.old err.new) result }
+{
+    let Ok(rows) = LastRows::new(alloc) else {
+        return print_out_of_memory(err);
+    };
+    let watched = match judge_end_watched(alloc, a, rows) {
+        Ok(watched) => watched,
+        Err(fault) => return print_end_fault(alloc, fault, err),
+    };
+    match watched.verdict {
+        EndVerdict::Passed(counts) => print_passed(alloc, printout.form, counts, out, err),
+        EndVerdict::Refused { .. } => match refused_text(alloc, printout, watched) {
+            Ok(text) => print(out, text.as_bytes(), REFUSED),
+            Err(_) => print_out_of_memory(err),
+        },
+    }
+}
+
+// Prints that the end has passed.
+fn print_passed<O: Write, E: Write>(
+    alloc: Global,
+    form: Form,
+    counts: SideSummary,
+    out: &mut Tally<O>,
+    err: &mut Tally<E>,
+) -> u8
+    ensures { PrintsPass form (moved O.contents out.old out.new, moved E.contents err.old err.new) counts result }
+{
+    match form {
+        Form::Json => print(out, b"{\"what\": \"passed\"}\n", 0),
+        Form::Rows => match end_text(alloc, EndVerdict::Passed(counts)) {
+            Ok(text) => print(out, text.as_bytes(), 0),
+            Err(_) => print_out_of_memory(err),
+        },
+    }
+}
+
+// What is said of a refusal. `AllocError` where there is no memory for it.
+fn refused_text(
+    alloc: Global,
+    printout: EndPrintout<'_>,
+    watched: WatchedEnd<LastRows>,
+) -> Result<String, AllocError>
+    ensures { IfOk result (λ text. TellsEnd printout.entry.form (stop watched.verdict watched.end) (string_bytes text)) }
+{
+    let WatchedEnd {
+        verdict,
+        end,
+        observer: LastRows { mut ladder },
+    } = watched;
+    let Some((entry, bytes)) = end.ahead() else {
+        return end_text(alloc, verdict);
+    };
+    let EndVerdict::Refused {
+        place,
+        accused,
+        reason,
+    } = verdict
+    else {
+        return end_text(alloc, verdict);
+    };
+    let refusal = EndRefusal {
+        place,
+        reason,
+        accusation: Accusation::of_end(accused, reason, is_of_user(entry)),
+        failed: end.failed_alone(reason),
+        says: entry,
+        bytes,
+    };
+    match printout.form {
+        Form::Json => why_end_json(alloc, refusal, &end),
+        Form::Rows => {
+            ladder.refused(Side::A, entry, bytes);
+            rows_text(alloc, printout.name, verdict, refusal, &end, &ladder)
+        }
+    }
+}
+
+// The line of the verdict, and the rows of a refusal.
+fn rows_text(
+    alloc: Global,
+    name: &str,
+    verdict: EndVerdict,
+    refusal: EndRefusal<'_>,
+    end: &SideEnd,
+    ladder: &Ladder,
+) -> Result<String, AllocError>
+    ensures { IfOk result (λ text. AreEndRows refusal.entry (stop verdict end.now) (string_bytes text)) }
+{
+    let drawn = ladder.drawn(alloc)?;
+    let rungs = ladder_text(alloc, &drawn)?;
+    let first = end_text(alloc, verdict)?;
+    let rows = why_end_rows(alloc, refusal, end, name, rungs.as_str())?;
+    format!(in alloc; "{first}\n{rows}")
+}

@@ -1,0 +1,128 @@
+//! The pages of the words that judge captures. Lines have at most 79 columns.
+
+pub const CHECK: &str = "\
+ddcap check A B
+
+Judges two captures of one DDCMP line, of the same time: A is the file of one
+end, B that of the other. An end's capture has what that end sent and received.
+
+Example, in the top folder of the sources:
+
+  ./ddcap check examples/crossed_period.a examples/crossed_period.b
+
+It ends with status 1 and prints:
+
+  refused b 6 line 8: 13 CrossedPeriod
+
+Record 6 of b, on line 8, can't be made, for reason 13. Side a is the first
+file, b the second; records are counted from 0. Then: ./ddcap explain 13
+
+A pair without a fault is accepted: that word, and a line of counts a side.
+
+With --line, before or behind the files, stations and line are judged alone: a
+packet is any bytes and is not read, and events of links are not judged. Use it
+for a line that joins routers, or that carries what is no DECnet.
+
+Status:
+  0  accepted: some order of all records keeps to the protocols
+  1  refused: no order does
+  2  a faulty line, as a: line 3: syntax (or too long, too many)
+  3  a: cannot open, a: read failed, out of memory, or a failed write
+";
+
+pub const ALONE: &str = "\
+ddcap alone A
+
+Judges the capture of one end without that of the other: what came is taken as
+what the other end sent. Begin with it where you can record at one end only.
+
+Example, in the top folder of the sources:
+
+  ./ddcap alone examples/wrong_response.a
+
+It ends with status 1 and prints:
+
+  refused a 3 line 5: 8 WrongResponse
+
+No capture of the other end, whatever it is, goes with this one: record 3, on
+line 5, breaks a rule. With ' by the other end' behind it, what came there is
+what no right end can have sent. Then: ./ddcap explain 8
+
+passed, and a line of counts: this end kept its rules, as far as one end shows.
+
+A recorder that counts no units writes each receipt as r 0 BYTES in format 2.
+With --line station and line are judged alone, as ddcap help check says.
+
+Status:
+  0  passed
+  1  refused
+  2  a faulty line, as a: line 3: syntax (or too long, too many)
+  3  a: cannot open, a: read failed, out of memory, or a failed write
+";
+
+pub const WHY: &str = "\
+ddcap why A [B]
+
+Judges two captures as check does, and tells of a refused record what was seen
+there and what was allowed, and how both ends stood before it. With A alone it
+judges that end as alone does, and tells of this end what it tells of both.
+
+Example, in the top folder of the sources:
+
+  ./ddcap why examples/wrong_response.a examples/wrong_response.b
+
+It ends with status 1 and prints a text that begins:
+
+  refused a 3 line 5: 8 WrongResponse
+
+The first line is that of check. Then come the record, layer by layer; what was
+seen and allowed, with the rule and its page; both stations and their links as
+they were before it; the last ten rows, a on the left and b on the right; who
+is accused; and whether a small change of a recording makes the pair a run:
+then rather the recording is wrong than a node, which is no proof.
+
+With --json, before or behind the files, each of these is an object on a line
+of its own. A pair that is not refused is told as by check.
+
+Status:
+  0  accepted, passed
+  1  refused
+  2  a faulty line, as a: line 3: syntax (or too long, too many)
+  3  a: cannot open, a: read failed, out of memory, or a failed write
+";
+
+pub const COVER: &str = "\
+ddcap cover A B
+
+Judges a pair as check does, and counts which of the 80 rows of the rules each
+side went through. A pair that met few of them says little.
+
+Example, in the top folder of the sources:
+
+  ./ddcap cover examples/first_start_lost.a examples/first_start_lost.b
+
+It ends with status 0 and prints:
+
+  accepted
+  a went through 4 of 80 rows
+  b went through 4 of 80 rows
+  row                                     a      b
+  HALTED user start                       1      1
+  ISTRT sends STRT                        2      .
+  ASTRT sends STACK                       .      1
+  RUNNING sends ACK                       1      .
+  ISTRT gets STRT                         .      1
+  ISTRT gets STACK                        1      .
+  ASTRT gets ACK RESP 0                   .      1
+
+Each record that was made counts once for its station, by the state before it,
+and again for the links, where it is theirs. A dot is a count of 0; rows that
+neither side met are left out. More pairs may follow, as A B A B: then there is
+a first line for each, and counts add up.
+
+Status:
+  0  accepted
+  1  refused: what was made before the refused record is counted
+  2  a faulty line, as a: line 3: syntax (or too long, too many)
+  3  a: cannot open, a: read failed, out of memory, or a failed write
+";

@@ -1,0 +1,37 @@
+//! The last rows of the ladder, as the judge tells the records.
+
+ghost use Rattle.std.specs.Prelude.{[], IfOk, IfErr};
+ghost use Rattle.ddcap.specs.inner.LastRows.{WereTold};
+
+use capture::Entry;
+use ladder::{Keep, Ladder};
+use pair_judge::Observer;
+use std::alloc::{AllocError, Global};
+use wire_base::Side;
+
+/// How many rows there are before that of the refused record.
+pub const ROWS_BEFORE: usize = 10;
+
+/// The last rows of the records that were told, with room for one more, of the refused record.
+#[derive(Drop)]
+pub struct LastRows {
+    pub ladder: Ladder,
+}
+
+impl LastRows {
+    /// Nothing was told yet. `AllocError` where there is no memory for the rows.
+    pub fn new(alloc: Global) -> Result<LastRows, AllocError>
+        ensures { IfOk result (λ rows. WereTold rows.ladder []) }
+    {
+        let ladder = Ladder::new(alloc, Keep::Last, ROWS_BEFORE + 1)?;
+        Ok(LastRows { ladder })
+    }
+}
+
+impl Observer for LastRows {
+    ghost told = { λ rows order. WereTold rows.ladder order };
+
+    fn made(&mut self, side: Side, entry: Entry, bytes: &[u8]) -> Result<(), AllocError> {
+        self.ladder.made(side, entry, bytes)
+    }
+}

@@ -1,0 +1,237 @@
+//! `why`: which record was refused, what was seen and what was allowed there, and both ends as they were before it.
+
+ghost use Rattle.std.specs.Prelude.{IfOk, string_bytes};
+ghost use Rattle.ddcap.specs.Printed.{moved};
+ghost use Rattle.ddcap.specs.PrintedWhy.{AreObjects, AreRows, Explains, PrintsAcceptance, TellsRefusal};
+
+use crate::check::{print, print_fault, print_out_of_memory};
+use crate::last_rows::{LastRows, ROWS_BEFORE};
+use crate::recorder::{Tried, try_edits};
+use crate::text::verdict_text;
+use ladder::{Drawn, Ladder, Sending, What};
+use pair_judge::{JudgedEnds, Reason, Summary, Verdict, Watched, judge_watched};
+use std::alloc::{AllocError, Global};
+use std::io::{Read, Seek, Write};
+use why::{Accusation, Refusal, Shown, is_of_user, why_json, why_rows};
+use wire_base::{Side, Tally};
+
+/// The status of a refusal.
+pub const REFUSED: u8 = 1;
+
+/// How the answer is printed.
+#[derive(Clone, Copy, Debug, PartialEq, Eq)]
+pub enum Form {
+    /// In rows, to be read.
+    Rows,
+    /// As JSON objects, one a line.
+    Json,
+}
+
+/// A record that is refused.
+#[derive(Clone, Copy, Debug, PartialEq, Eq)]
+pub struct Refused {
+    pub side: Side,
+    pub place: u64,
+    pub reason: Reason,
+}
+
+/// How the answer is printed, and the names of both captures in it.
+#[derive(Clone, Copy)]
+pub struct Printout<'n> {
+    pub form: Form,
+    pub name_a: &'n str,
+    pub name_b: &'n str,
+}
+
+/// Judges the captures that two files give from where they stand, prints what is answered and why, and answers the status.
+///
+/// An accepted pair and a fault are printed as `check` does (of JSON objects `{"what": "accepted"}` alone). Behind a refusal comes what is said of
+/// it; small edits of both captures are judged as far as the files can be read again from their beginning. The whole text is put together before the
+/// first write; where there is no memory for it, the answer is `out of memory`.
+pub fn why_to<A: Read + Seek, B: Read + Seek, O: Write, E: Write>(
+    alloc: Global,
+    printout: Printout<'_>,
+    a: &mut A,
+    b: &mut B,
+    out: &mut Tally<O>,
+    err: &mut Tally<E>,
+) -> u8
+    ensures { Explains printout.entry.form (A.remaining a.old) (B.remaining b.old)
+        (moved O.contents out.old out.new, moved E.contents err.old err.new) result }
+{
+    let Ok(rows) = LastRows::new(alloc) else {
+        return print_out_of_memory(err);
+    };
+    let mut tally_a = Tally::new(&mut *a);
+    let mut tally_b = Tally::new(&mut *b);
+    let watched = match judge_watched(alloc, &mut tally_a, &mut tally_b, rows) {
+        Ok(watched) => watched,
+        Err(fault) => return print_fault(alloc, fault, err),
+    };
+    match watched.ends.verdict() {
+        Verdict::Accepted(summary) => print_accepted(alloc, printout.form, summary, out, err),
+        Verdict::Refused {
+            side,
+            place,
+            reason,
+        } => {
+            let refused = Refused {
+                side,
+                place,
+                reason,
+            };
+            let tried = match try_edits(alloc, a, b, &watched.ends, side) {
+                Ok(tried) => tried,
+                Err(_) => return print_out_of_memory(err),
+            };
+            match refused_text(alloc, printout, refused, watched, tried) {
+                Ok(text) => print(out, text.as_bytes(), REFUSED),
+                Err(_) => print_out_of_memory(err),
+            }
+        }
+    }
+}
+
+// Prints that the pair is a run.
+fn print_accepted<O: Write, E: Write>(
+    alloc: Global,
+    form: Form,
+    summary: Summary,
+    out: &mut Tally<O>,
+    err: &mut Tally<E>,
+) -> u8
+    ensures { PrintsAcceptance form (moved O.contents out.old out.new, moved E.contents err.old err.new) summary result }
+{
+    match form {
+        Form::Json => print(out, b"{\"what\": \"accepted\"}\n", 0),
+        Form::Rows => match verdict_text(alloc, Verdict::Accepted(summary)) {
+            Ok(text) => print(out, text.as_bytes(), 0),
+            Err(_) => print_out_of_memory(err),
+        },
+    }
+}
+
+// What is said of a refusal. `AllocError` where there is no memory for it.
+fn refused_text(
+    alloc: Global,
+    printout: Printout<'_>,
+    refused: Refused,
+    watched: Watched<LastRows>,
+    tried: Tried,
+) -> Result<String, AllocError>
+    ensures { IfOk result (λ text. TellsRefusal printout.entry.form watched.ends refused (string_bytes text)) }
+{
+    let Watched {
+        ends,
+        observer: LastRows { mut ladder },
+    } = watched;
+    let Some((entry, bytes)) = ends.ahead(refused.side) else {
+        return verdict_text(alloc, ends.verdict());
+    };
+    let Some((_, failed)) = ends.failed() else {
+        return verdict_text(alloc, ends.verdict());
+    };
+    let refusal = Refusal {
+        side: refused.side,
+        place: refused.place,
+        reason: refused.reason,
+        accusation: Accusation::of(refused.reason, is_of_user(entry)),
+        failed,
+        says: entry,
+        bytes,
+    };
+    match printout.form {
+        Form::Json => objects_text(alloc, refusal, &ends, &tried),
+        Form::Rows => {
+            ladder.refused(refused.side, entry, bytes);
+            rows_text(alloc, printout, refusal, &ends, &ladder, &tried)
+        }
+    }
+}
+
+// The JSON objects of a refusal.
+fn objects_text(
+    alloc: Global,
+    refusal: Refusal<'_>,
+    ends: &JudgedEnds,
+    tried: &Tried,
+) -> Result<String, AllocError>
+    ensures { IfOk result (λ text. AreObjects refusal.entry ends.now (string_bytes text)) }
+{
+    why_json(alloc, refusal, ends, tried.lines.as_str(), tried.counts)
+}
+
+// The line of the verdict, and the rows of a refusal.
+fn rows_text(
+    alloc: Global,
+    printout: Printout<'_>,
+    refusal: Refusal<'_>,
+    ends: &JudgedEnds,
+    ladder: &Ladder,
+    tried: &Tried,
+) -> Result<String, AllocError>
+    ensures { IfOk result (λ text. AreRows refusal.entry ends.now (string_bytes text)) }
+{
+    let drawn = ladder.drawn(alloc)?;
+    let unit = unit_text(alloc, printout, &drawn)?;
+    let rungs = ladder_text(alloc, &drawn)?;
+    let shown = Shown {
+        name: printout.name_of(refusal.side),
+        unit: unit.as_str(),
+        ladder: rungs.as_str(),
+        tried: tried.counts,
+        edits: tried.rows.as_str(),
+    };
+    let first = verdict_text(alloc, ends.verdict())?;
+    let rows = why_rows(alloc, refusal, ends, shown)?;
+    format!(in alloc; "{first}\n{rows}")
+}
+
+impl Printout<'_> {
+    fn name_of(&self, side: Side) -> &str {
+        match side {
+            Side::A => self.name_a,
+            Side::B => self.name_b,
+        }
+    }
+}
+
+/// The rows before the refused record and its own, which comes last, below a heading. Fails for want of memory alone.
+pub fn ladder_text(alloc: Global, drawn: &Drawn) -> Result<String, AllocError> {
+    let mut text = match drawn.len() <= ROWS_BEFORE {
+        true => String::from_str(
+            alloc,
+            "  line all rows before it, a on the left, b on the right\n",
+        )?,
+        false => format!(in alloc;
+            "  line the {ROWS_BEFORE} rows before it, a on the left, b on the right\n"
+        )?,
+    };
+    for index in 0..drawn.len() {
+        if let Some(row) = drawn.text(alloc, index)? {
+            text.push_str(row.as_str())?;
+            text.push_str("\n")?;
+        }
+    }
+    Ok(text)
+}
+
+// The row of the unit that the hint of the refused record names; nothing where it names none that may come.
+fn unit_text(alloc: Global, printout: Printout<'_>, drawn: &Drawn) -> Result<String, AllocError> {
+    let Some(row) = drawn.row(drawn.len().saturating_sub(1)) else {
+        return Ok(String::new(alloc));
+    };
+    match row.told.what {
+        What::Came {
+            hint,
+            sent: Some(Sending { line, said }),
+            ..
+        } => {
+            let sender = row.told.side.other();
+            let name = printout.name_of(sender);
+            let words = said.brief();
+            format!(in alloc; "  unit     {hint} of {sender}, {name}:{line}: {words}\n")
+        }
+        _ => Ok(String::new(alloc)),
+    }
+}

@@ -1,0 +1,136 @@
+"""What `ddcap why` says of a refused pair, by the reading of tools/reading.py, apart from the program. `said(a, b)` gives it, or None where nothing
+is refused: the JSON `lines` `refused`, `record` without the fields of its bytes, `state` and `link`; the `rows` of both sides; and how many records
+stand `behind` it."""
+from collections import namedtuple
+
+from reading import NAMES, RULES, Side, passes_over
+from reading_rows import Refused
+
+Said = namedtuple('Said', 'lines rows behind')
+
+SENDER = {1, 6, 7, 8, 9, 10, 11, 15, 16, 17, 20, 21, 22, 23}
+ACCUSED = {2: 'hints', 3: 'hints', 4: 'hints', 5: 'line', 12: 'claim', 13: 'nobody', 14: 'user', 24: 'claim', 25: 'nobody', 26: 'user', 27: 'claim'}
+
+
+def accused(number, kind):
+    """Whom a reason accuses; of 18 and 19 the record tells."""
+    if number in (18, 19):
+        return 'sender' if kind == 's' else 'user'
+    return 'sender' if number in SENDER else ACCUSED[number]
+
+
+def run_to(a, b, most):
+    """Both sides after at most so many records, and how it ended: the side and the reason of a refusal, or None. The refused record itself may have
+    changed its side."""
+    sides = Side(RULES, a), Side(RULES, b)
+    made = 0
+    while made < most and not all(side.has_ended() for side in sides):
+        able = [letter for letter in (0, 1) if not sides[letter].has_ended() and not sides[letter].waits(sides[1 - letter])]
+        letter = able[0] if able else min(letter for letter in (0, 1) if not sides[letter].has_ended())
+        try:
+            if not able:
+                passes_over(sides[letter], 3 if sides[1 - letter].has_ended() else 4)
+            else:
+                sides[letter].make(sides[1 - letter])
+        except Refused as refusal:
+            return sides, made, (letter, refusal.reason)
+        made += 1
+    return sides, made, None
+
+
+def state_of(letter, side):
+    """The variables of a side's station, as its line has them."""
+    station = side.station
+    return {
+        'what': 'state', 'side': 'ab'[letter], 'records': side.next, 'station': station.state, 'start': station.period, 'goes_with': station.partner,
+        'r': station.received % 256, 'a': station.acknowledged % 256, 'n': station.given % 256, 't': station.next % 256,
+        'open_causes': {str(reason): count for reason, count in station.causes.items() if count}, 'sent': len(side.units), 'front': side.front,
+    }
+
+
+def link_of(letter, link):
+    """The numbers of a link that lives."""
+    flow = link.flow
+    return {
+        'what': 'link', 'side': 'ab'[letter], 'own': link.own, 'far': link.far, 'phase': link.phase,
+        'segsize': link.segsize if link.phase != 'Calling' else None,
+        'given': flow.given % 4096, 'acknowledged': flow.acknowledged % 4096, 'received': flow.received % 4096, 'last_ack': flow.last % 4096,
+    }
+
+
+# ---- the same in rows
+
+CAUSES = {1: 'header check', 2: 'data check', 3: 'REP response', 8: 'no buffer'}
+LINKS_SHOWN = 8
+
+
+def side_rows(letter, side):
+    """The rows of a side, as it was before the refused record."""
+    yield '%s before it (%d records, to line %d)' % ('ab'[letter], side.next, side.next + 1)
+    yield from station_rows('ba'[letter], side.station)
+    yield from link_rows([link for link in side.links.links if link.phase != 'Ended'])
+
+
+def station_rows(other, station):
+    if station.period == 0:
+        yield '  station  HALTED, never started'
+        return
+    partner = '' if station.partner is None else ', goes with start %d of %s' % (station.partner, other)
+    yield '  station  %s, start %d%s' % (station.state, station.period, partner)
+    numbers = [number % 256 for number in (station.received, station.acknowledged, station.given, station.next)]
+    yield '  numbers  R %d received   A %d acknowledged   N %d given   T %d next to send' % tuple(numbers)
+    first, last = (station.acknowledged + 1) % 256, station.given % 256
+    if station.given > station.acknowledged:
+        yield '           outstanding %s' % (last if first == last else '%d-%d' % (first, last))
+    causes = ['%d x reason %d (%s)' % (station.causes[reason], reason, name) for reason, name in CAUSES.items() if station.causes[reason]]
+    yield '           NAKs owed or open: ' + (', '.join(causes) or 'none')
+
+
+def link_rows(live):
+    """The rows of the live links: of all, or of more than a few of those of which something is open, and how many more there are."""
+    shown = live if len(live) <= LINKS_SHOWN else [link for link in live if is_open(link)][:LINKS_SHOWN]
+    for link in shown:
+        own, far = ['?' if address is None else address for address in (link.own, link.far)]
+        numbers = [number % 4096 for number in (link.flow.given, link.flow.acknowledged, link.flow.received, link.flow.last)]
+        words = 'given %d, acknowledged %d, received %d, last acknowledged %d' % tuple(numbers)
+        segsize = '' if link.phase == 'Calling' else ', SEGSIZE %d' % link.segsize
+        yield '  link     %s-%s %s: %s%s' % (own, far, link.phase, words, segsize)
+    if len(live) > len(shown):
+        yield '           and %d more live links' % (len(live) - len(shown))
+
+
+def is_open(link):
+    """Whether an answer is awaited or owed on a link."""
+    return link.phase != 'RUN' or link.flow.given > link.flow.acknowledged or link.flow.received != link.flow.last
+
+
+# ---- together
+
+def record_of(words):
+    """The refused record, as the capture has it."""
+    if words[0] == 'u':
+        return {'what': 'record', 'kind': 'u', 'words': ' '.join(words[1:])}
+    hint = {'hint': int(words[1])} if words[0] in 'rk' else {}
+    return {'what': 'record', 'kind': words[0], **hint, 'bytes': words[-1]}
+
+
+def said(a, b):
+    """What is said of the pair, or None."""
+    _, made, refusal = run_to(a, b, len(a) + len(b))
+    if refusal is None:
+        return None
+    sides, _, _ = run_to(a, b, made)
+    letter, number = refusal
+    side, place = sides[letter], sides[letter].next
+    words = side.records[place]
+    lines = [{
+        'what': 'refused', 'side': 'ab'[letter], 'record': place, 'line': place + 2, 'number': number, 'name': NAMES[number - 1],
+        'accuses': accused(number, words[0]),
+    }, record_of(words)]
+    rows = []
+    for other in (letter, 1 - letter):
+        lines.append(state_of(other, sides[other]))
+        lines += [link_of(other, link) for link in sides[other].links.links if link.phase != 'Ended']
+        rows += side_rows(other, sides[other])
+    behind = sum(len(each.records) - each.next for each in sides) - 1
+    return Said(lines, rows, behind)
