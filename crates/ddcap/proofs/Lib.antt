@@ -5,3 +5,4 @@ pub mod AnsweringAlone
 pub mod AcceptLaws
 mod TextsStand
 mod InTwo
+pub mod TapTelling

@@ -7,3 +7,5 @@ pub mod Playing
 pub mod Accepting
 pub mod Explaining
 pub mod Helping
+pub mod PrintedTap
+pub mod inner

@@ -20,6 +20,8 @@ mod play;
 mod run;
 mod show;
 mod shown_line;
+mod tap;
+mod tap_files;
 mod text;
 mod words;
 

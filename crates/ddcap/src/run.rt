@@ -11,6 +11,7 @@ use crate::explanations::explanation_of;
 use crate::help::help_to;
 use crate::play::play_to;
 use crate::show::show_to;
+use crate::tap_files::{TapPaths, tap_files};
 use crate::text::FAILED;
 use crate::words::{Task, WordsFault, task_of};
 use capture::Format;
@@ -27,6 +28,7 @@ const BAD_WORDS: u8 = 2;
 #[derive(Clone, Copy, Debug, PartialEq, Eq)]
 pub enum Named {
     Script,
+    Wire,
     A,
     B,
 }
@@ -72,6 +74,20 @@ fn do_task<R: Files + AllocGlobal, O: Write, E: Write>(
         Task::Show { a } => show_file(rt, a, out, err),
         Task::Play { script, a, b } => play_file(rt, script, a, b, out, err),
         Task::Convert { to, a, b } => convert_file(rt, to, a, b, out, err),
+        Task::Tap {
+            wire,
+            a,
+            b,
+            line_alone,
+        } => {
+            let paths = TapPaths {
+                wire,
+                a,
+                b,
+                line_alone,
+            };
+            tap_files(rt, paths, out, err)
+        }
         Task::Help { topic } => Ok(help_to(out, topic)),
         Task::Explain { reason } => Ok(explain_to(rt.alloc(), &explanation_of(reason), out, err)),
     }
@@ -168,8 +184,8 @@ fn play_file<R: Files + AllocGlobal, O: Write, E: Write>(
     Ok(play_to(rt.alloc(), &mut script, &mut a, &mut b, out, err))
 }
 
-// Opens a file to be read. `Err`: it can't be opened, which was told, with this status.
-fn opened<R: Files, E: Write>(
+/// Opens a file to be read. `Err`: it can't be opened, which was told, with this status.
+pub fn opened<R: Files, E: Write>(
     rt: &R,
     path: &str,
     named: Named,
@@ -181,8 +197,8 @@ fn opened<R: Files, E: Write>(
     }
 }
 
-// Creates or empties a file to be written. `Err` as for `opened`.
-fn created<R: Files, E: Write>(
+/// Creates or empties a file to be written. `Err` as for `opened`.
+pub fn created<R: Files, E: Write>(
     rt: &R,
     path: &str,
     named: Named,
@@ -204,6 +220,7 @@ fn print_not_opened<W: Write>(err: &mut Tally<W>, named: Named, error: &io::Erro
     }
     match named {
         Named::Script => print(err, b"script: cannot open\n", FAILED),
+        Named::Wire => print(err, b"wire: cannot open\n", FAILED),
         Named::A => print(err, b"a: cannot open\n", FAILED),
         Named::B => print(err, b"b: cannot open\n", FAILED),
     }

@@ -40,6 +40,13 @@ pub enum Task<'a> {
         a: &'a str,
         b: &'a str,
     },
+    /// To find the captures of what passed on a line, to write them into the files `a` and `b`, and to judge them, or stations and line alone.
+    Tap {
+        wire: &'a str,
+        a: &'a str,
+        b: &'a str,
+        line_alone: bool,
+    },
     /// To write the capture in the file `a` in this format, into the file `b`.
     Convert {
         to: Format,
@@ -80,6 +87,7 @@ pub fn task_of<'a, S: AsStr>(alloc: Global, words: &'a [S]) -> Result<Task<'a>, 
             },
             Some(("play", found)) => played_of(found),
             Some(("convert", found)) => conversion_of(found),
+            Some(("tap", found)) => tapped_of(found),
             Some(("help", found)) => help_of(found),
             Some(("explain", found)) => explanation_asked(found),
             _ => Err(WordsFault::BadWords),
@@ -149,6 +157,23 @@ fn played_of<'a>(found: &ArgMatches<'a>) -> Result<Task<'a>, WordsFault> {
     }
 }
 
+// The text and the captures that the words behind `tap` name, and whether the line alone is judged.
+fn tapped_of<'a>(found: &ArgMatches<'a>) -> Result<Task<'a>, WordsFault> {
+    match (
+        found.get_str("WIRE"),
+        found.get_str("A"),
+        found.get_str("B"),
+    ) {
+        (Some(wire), Some(a), Some(b)) => Ok(Task::Tap {
+            wire,
+            a,
+            b,
+            line_alone: found.get_flag("line"),
+        }),
+        _ => Err(WordsFault::BadWords),
+    }
+}
+
 // The page that the word behind `help` asks for; with no word, that of the whole.
 fn help_of<'a>(found: &ArgMatches<'a>) -> Result<Task<'a>, WordsFault> {
     let topic = match found.get_str("WORD") {
@@ -158,6 +183,7 @@ fn help_of<'a>(found: &ArgMatches<'a>) -> Result<Task<'a>, WordsFault> {
         Some("show") => Topic::Show,
         Some("play") => Topic::Play,
         Some("convert") => Topic::Convert,
+        Some("tap") => Topic::Tap,
         Some("help") => Topic::Help,
         Some("explain") => Topic::Explain,
         Some(_) => return Err(WordsFault::BadWords),
@@ -185,6 +211,7 @@ fn program<'a>(alloc: Global) -> Result<Command<'a>, AllocError> {
         .subcommand(show(alloc)?)?
         .subcommand(play(alloc)?)?
         .subcommand(convert(alloc)?)?
+        .subcommand(tap(alloc)?)?
         .subcommand(help(alloc)?)?
         .subcommand(explain(alloc)?)
 }
@@ -230,6 +257,15 @@ fn convert<'a>(alloc: Global) -> Result<Command<'a>, AllocError> {
         .arg(Arg::new(alloc, "N").required(true))?
         .arg(Arg::new(alloc, "IN").required(true))?
         .arg(Arg::new(alloc, "OUT").required(true))
+}
+
+// `tap [--line] WIRE A B`
+fn tap<'a>(alloc: Global) -> Result<Command<'a>, AllocError> {
+    Command::new(alloc, "tap")
+        .arg(Arg::new(alloc, "WIRE").required(true))?
+        .arg(Arg::new(alloc, "A").required(true))?
+        .arg(Arg::new(alloc, "B").required(true))?
+        .arg(line_alone(alloc))
 }
 
 // `help [WORD]`

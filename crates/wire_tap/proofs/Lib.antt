@@ -1,0 +1,5 @@
+pub mod CountLaws
+pub mod OverLaws
+pub mod MoveLaws
+pub mod PassLaws
+pub mod TapLaws
