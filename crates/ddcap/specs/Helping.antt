@@ -3,7 +3,7 @@ use Rattle.std.specs.Prelude.{ℕ, List, ◌++◌, codes}
 use Rattle.ddcap.specs.declared.help.Topic.{Topic}
 use Rattle.ddcap.specs.declared.help.Topic.TheVariants as on
 use Rattle.ddcap.specs.declared.help.TheConstants.{VERSION}
-use Rattle.ddcap.specs.declared.help_pages.TheConstants.{ALONE, CHECK, CONVERT, EXPLAIN, HELP, PLAY, PROGRAM, SHOW}
+use Rattle.ddcap.specs.declared.help_pages.TheConstants.{ALONE, CHECK, CONVERT, DRAW, EXPLAIN, HELP, PLAY, PROGRAM, SHOW}
 
 -- the page of each topic as it stands in the program; the name and the version come before that of the whole
 abbrev pub help_text : Topic → List ℕ
@@ -13,5 +13,6 @@ help_text on.Alone = ALONE.now
 help_text on.Show = SHOW.now
 help_text on.Play = PLAY.now
 help_text on.Convert = CONVERT.now
+help_text on.Draw = DRAW.now
 help_text on.Help = HELP.now
 help_text on.Explain = EXPLAIN.now

@@ -6,4 +6,5 @@ pub mod Conversion
 pub mod Playing
 pub mod Accepting
 pub mod Explaining
+pub mod PrintedDrawing
 pub mod Helping

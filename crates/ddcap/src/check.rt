@@ -60,8 +60,8 @@ pub fn check_line_to<A: Read, B: Read, O: Write, E: Write>(
     }
 }
 
-// Prints why there is no verdict, and answers the status.
-fn print_fault<E: Write>(alloc: Global, fault: JudgeFault, err: &mut Tally<E>) -> u8
+/// Prints why there is no verdict, and answers the status.
+pub fn print_fault<E: Write>(alloc: Global, fault: JudgeFault, err: &mut Tally<E>) -> u8
     ensures { TellsFault (moved E.contents err.old err.new) fault result }
 {
     match fault {

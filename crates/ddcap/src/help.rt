@@ -5,7 +5,7 @@ ghost use Rattle.ddcap.specs.Helping.{help_text};
 ghost use Rattle.ddcap.specs.Printed.{Writes, stream_of};
 
 use crate::check::print;
-use crate::help_pages::{ALONE, CHECK, CONVERT, EXPLAIN, HELP, PLAY, PROGRAM, SHOW};
+use crate::help_pages::{ALONE, CHECK, CONVERT, DRAW, EXPLAIN, HELP, PLAY, PROGRAM, SHOW};
 use crate::text::FAILED;
 use std::io::Write;
 use wire_base::{Tally, write_whole};
@@ -26,6 +26,7 @@ pub enum Topic {
     Show,
     Play,
     Convert,
+    Draw,
     Help,
     Explain,
 }
@@ -41,6 +42,7 @@ pub fn help_to<W: Write>(stream: &mut Tally<W>, topic: Topic) -> u8
         Topic::Show => print(stream, SHOW.as_bytes(), HELPED),
         Topic::Play => print(stream, PLAY.as_bytes(), HELPED),
         Topic::Convert => print(stream, CONVERT.as_bytes(), HELPED),
+        Topic::Draw => print(stream, DRAW.as_bytes(), HELPED),
         Topic::Help => print(stream, HELP.as_bytes(), HELPED),
         Topic::Explain => print(stream, EXPLAIN.as_bytes(), HELPED),
     }

@@ -9,12 +9,13 @@ pub const PROGRAM: &str = "\
   ddcap show A            print what a capture says, a line a record
   ddcap play SCRIPT A B   write both captures of a script
   ddcap convert N IN OUT  write a capture in format N: 1 or 2
+  ddcap draw A B          draw what passed between both ends
   ddcap help [WORD]       print this page, or one on check, show, ..
   ddcap explain N         tell what reason N of a refusal means: 1 to 27
 
 Status:
-  0  it was done; of check and alone: accepted, passed
-  1  of check and alone: refused
+  0  it was done; of check, alone and draw: accepted, passed
+  1  of check, alone and draw: refused
   2  the words, or a line of a file, are faulty
   3  a file, the memory or a stream failed
 
@@ -161,12 +162,44 @@ Status:
      out of memory, or a failed write to standard output or error
 ";
 
+pub const DRAW: &str = "\
+ddcap draw A B
+
+Draws two captures of one line, a on the left and b on the right: a row for a
+record, or for a unit and its receipt. Of a pair that is refused there are the
+40 rows up to the refused record, of another the first 40.
+
+Example, in the top folder of the sources:
+
+  ./ddcap draw examples/wrong_response.a examples/wrong_response.b
+
+It ends with status 1 and prints rows, among them:
+
+     3                |------------- STRT -------------->|                3
+     4                |<------------- STACK -------------|                4
+
+The arrow ends with > or < where the unit comes in this row, with . where in
+another one, and with x where it never comes. ~ stands before what came damaged.
+
+With --from a:9 the rows begin with the record in line 9 of A (b:9: of B).
+With --rows 80 there are up to 80 of them; 200 is the most. With --svg FILE
+they are drawn into FILE, which is created, or emptied first: a picture for any
+browser. These words stand before or behind A and B.
+
+Status:
+  0  accepted, and drawn
+  1  refused, and drawn
+  2  a faulty line, as a: line 3: syntax (or too long, too many)
+  3  a: cannot open (b: or svg:), a: read failed, out of memory, or a failed
+     write
+";
+
 pub const HELP: &str = "\
 ddcap help [WORD]
 
 Prints what the program is and all its words; or, with a word, what that one
-does, an example and the statuses. WORD is check, show, play, convert, help
-or explain.
+does, an example and the statuses. WORD is check, show, play, convert, draw,
+help or explain.
 
 Example, in the top folder of the sources:
 

@@ -6,6 +6,7 @@ ghost use Rattle.ddcap.specs.Printed.{Writes, not_opened_says, stream_of, words_
 use crate::alone::{alone_line_to, alone_to};
 use crate::check::{check_line_to, check_to, print, print_out_of_memory};
 use crate::convert::convert_to;
+use crate::draw_files::draw_files;
 use crate::explain::explain_to;
 use crate::explanations::explanation_of;
 use crate::help::help_to;
@@ -29,6 +30,8 @@ pub enum Named {
     Script,
     A,
     B,
+    /// The picture of `draw`.
+    Svg,
 }
 
 /// Does what the program's words ask for, and answers its status.
@@ -72,6 +75,7 @@ fn do_task<R: Files + AllocGlobal, O: Write, E: Write>(
         Task::Show { a } => show_file(rt, a, out, err),
         Task::Play { script, a, b } => play_file(rt, script, a, b, out, err),
         Task::Convert { to, a, b } => convert_file(rt, to, a, b, out, err),
+        Task::Draw(asked) => draw_files(rt, asked, out, err),
         Task::Help { topic } => Ok(help_to(out, topic)),
         Task::Explain { reason } => Ok(explain_to(rt.alloc(), &explanation_of(reason), out, err)),
     }
@@ -175,14 +179,25 @@ fn opened<R: Files, E: Write>(
     named: Named,
     err: &mut Tally<E>,
 ) -> Result<Tally<R::File>, u8> {
+    let file = opened_plain(rt, path, named, err)?;
+    Ok(Tally::new(file))
+}
+
+/// Opens a file to be read, whose calls nobody counts yet. `Err` as for `opened`.
+pub fn opened_plain<R: Files, E: Write>(
+    rt: &R,
+    path: &str,
+    named: Named,
+    err: &mut Tally<E>,
+) -> Result<R::File, u8> {
     match fs::open(rt, path) {
-        Ok(file) => Ok(Tally::new(file)),
+        Ok(file) => Ok(file),
         Err(error) => Err(print_not_opened(err, named, &error)),
     }
 }
 
-// Creates or empties a file to be written. `Err` as for `opened`.
-fn created<R: Files, E: Write>(
+/// Creates or empties a file to be written. `Err` as for `opened`.
+pub fn created<R: Files, E: Write>(
     rt: &R,
     path: &str,
     named: Named,
@@ -206,5 +221,6 @@ fn print_not_opened<W: Write>(err: &mut Tally<W>, named: Named, error: &io::Erro
         Named::Script => print(err, b"script: cannot open\n", FAILED),
         Named::A => print(err, b"a: cannot open\n", FAILED),
         Named::B => print(err, b"b: cannot open\n", FAILED),
+        Named::Svg => print(err, b"svg: cannot open\n", FAILED),
     }
 }

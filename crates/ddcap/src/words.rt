@@ -1,5 +1,7 @@
 //! The words that the program is given.
 
+use crate::draw_files::Asked;
+use crate::draw_words::{draw, drawing_asked};
 use crate::explanations::reason_spelled;
 use crate::help::Topic;
 use capture::Format;
@@ -46,6 +48,8 @@ pub enum Task<'a> {
         a: &'a str,
         b: &'a str,
     },
+    /// To draw the captures in two files.
+    Draw(Asked<'a>),
     /// To print the page of this topic.
     Help {
         topic: Topic,
@@ -80,6 +84,7 @@ pub fn task_of<'a, S: AsStr>(alloc: Global, words: &'a [S]) -> Result<Task<'a>, 
             },
             Some(("play", found)) => played_of(found),
             Some(("convert", found)) => conversion_of(found),
+            Some(("draw", found)) => Ok(Task::Draw(drawing_asked(found)?)),
             Some(("help", found)) => help_of(found),
             Some(("explain", found)) => explanation_asked(found),
             _ => Err(WordsFault::BadWords),
@@ -158,6 +163,7 @@ fn help_of<'a>(found: &ArgMatches<'a>) -> Result<Task<'a>, WordsFault> {
         Some("show") => Topic::Show,
         Some("play") => Topic::Play,
         Some("convert") => Topic::Convert,
+        Some("draw") => Topic::Draw,
         Some("help") => Topic::Help,
         Some("explain") => Topic::Explain,
         Some(_) => return Err(WordsFault::BadWords),
@@ -185,6 +191,7 @@ fn program<'a>(alloc: Global) -> Result<Command<'a>, AllocError> {
         .subcommand(show(alloc)?)?
         .subcommand(play(alloc)?)?
         .subcommand(convert(alloc)?)?
+        .subcommand(draw(alloc)?)?
         .subcommand(help(alloc)?)?
         .subcommand(explain(alloc)?)
 }

@@ -25,10 +25,10 @@ pub record Sends (w : What) (f : Fate) (facing : Bool) (hint : ℕ) : Type 0 whe
   pub facing_is : facing ≡ true
 
 pub sends_gives : (w : What) (f : Fate) (facing : Bool) (hint : ℕ) → sends_by w f facing hint ≡ true → Sends w f facing hint
-sends_gives (what.Sent unit said again) fate.Open true hint e = record { sent = ap Some (grind (arith, e)); alone = refl; facing_is = refl }
-sends_gives (what.Sent unit said again) fate.Open false hint e = cc
+sends_gives (what.Sent unit said again) fate.Came true hint e = record { sent = ap Some (grind (arith, e)); alone = refl; facing_is = refl }
+sends_gives (what.Sent unit said again) fate.Came false hint e = cc
 sends_gives (what.Sent unit said again) (fate.Here receipt) facing hint e = cc
-sends_gives (what.Sent unit said again) fate.Came facing hint e = cc
+sends_gives (what.Sent unit said again) fate.Open facing hint e = cc
 sends_gives (what.Sent unit said again) fate.Lost facing hint e = cc
 sends_gives (what.Came came kept said sent) f facing hint e = cc
 sends_gives (what.Noise said) f facing hint e = cc
@@ -58,7 +58,7 @@ by_test row next made receipt hint false test named line e = cc
 
 pub joined_gives : (row : Row) (next : Told) (w : What) (made : Row) → next.what ≡ w → joined_by row next w ≡ Some made → IsArrow row next made
 joined_gives row next (what.Came hint kept said sent) made is e =
-    by_test row next made (record { line = next.line; kept = kept; said = said }) hint (sends row next.side hint) refl (ap hint_named is) refl e
+    by_test row next made (record { line = next.line; kept = kept; said = said; state = next.state }) hint (sends row next.side hint) refl (ap hint_named is) refl e
 joined_gives row next (what.Sent unit said again) made is e = cc
 joined_gives row next (what.Noise said) made is e = cc
 joined_gives row next (what.User entry bytes) made is e = cc

@@ -2,4 +2,5 @@ mod Arrows
 mod Cuts
 mod Keeping
 mod Lists
+mod Orders
 mod Places

@@ -12,7 +12,7 @@ use Rattle.ladder.specs.declared.told.What.TheVariants as what
 use Rattle.ladder.specs.declared.row.Row.{Row}
 use Rattle.ladder.specs.declared.row.Fate.{Fate}
 use Rattle.ladder.specs.declared.row.Fate.TheVariants as fate
-use Rattle.ladder.specs.Row.{after, fate_after, faces, joined, last_joined, passed, with_record, with_row}
+use Rattle.ladder.specs.Row.{after, fate_after, faces, joined, last_joined, passed, with_next, with_record, with_row}
 use Rattle.ladder.specs.Places.{Place, place, places, receipt_line, receipt_places, row_places}
 use Rattle.ladder.proofs.Arrows.{is_arrow}
 use Rattle.ladder.proofs.Lists.{split_last}
@@ -48,20 +48,26 @@ joined_places row next made e =
 places_last : (rows : List Row) (row : Row) → places (rows ++ row ∷ []) ≡ places rows ++ row_places row
 places_last rows row = flat_map-append row_places rows (row ∷ []) ∙ ap (λ ps. places rows ++ ps) (append-nil (row_places row))
 
-stand_by : (rows : List Row) (told : Told) (last : Option Row) → last_item rows ≡ last → (o : Option Row) → last_joined last told ≡ o
-    → places (with_row rows told o) ≡ places rows ++ place told ∷ []
-stand_by rows told last is None e = places_last rows _
-stand_by rows told None is (Some made) e = cc
-stand_by rows told (Some row) is (Some made) e =
+made_joined : (row next made : Row) (refused : Bool) → (if refused then None else joined row next.told) ≡ Some made → joined row next.told ≡ Some made
+made_joined row next made true e = cc
+made_joined row next made false e = e
+
+stand_by : (rows : List Row) (next : Row) → receipt_line next.fate ≡ None → (last : Option Row) → last_item rows ≡ last
+    → (o : Option Row) → last_joined last next ≡ o → places (with_row rows next o) ≡ places rows ++ place next.told ∷ []
+stand_by rows next alone last is None e =
+    places_last rows next ∙ ap (λ ps. places rows ++ place next.told ∷ ps) (none_here next.told.side next.fate alone)
+stand_by rows next alone None is (Some made) e = cc
+stand_by rows next alone (Some row) is (Some made) e =
     let front : List Row = take (length rows - 1) rows in
-    let told_last : List Place = place told ∷ [] in
+    let told_last : List Place = place next.told ∷ [] in
     places_last front made
-    ∙ ap (λ ps. places front ++ ps) (joined_places row told made e)
+    ∙ ap (λ ps. places front ++ ps) (joined_places row next.told made (made_joined row next made next.refused e))
     ∙ sym (append_assoc (places front) (row_places row) told_last)
     ∙ ap (λ ps. ps ++ told_last) (sym (ap places (split_last rows row is) ∙ places_last front row))
 
-pub stand_once : (rows : List Row) (told : Told) → places (with_record rows told) ≡ places rows ++ place told ∷ []
-stand_once rows told = stand_by rows told (last_item rows) refl (last_joined (last_item rows) told) refl
+pub stand_once : (rows : List Row) (next : Row) → receipt_line next.fate ≡ None
+    → places (with_record rows next) ≡ places rows ++ place next.told ∷ []
+stand_once rows next alone = stand_by rows next alone (last_item rows) refl (last_joined (last_item rows) next) refl
 
 -- ---- what becomes of a unit
 

@@ -13,6 +13,7 @@ use Rattle.ladder.specs.declared.told.What.TheVariants as what
 use Rattle.ladder.specs.Given.{after_other, after_sending, is_again}
 use Rattle.ladder.specs.Reading.{said_of}
 use Rattle.ladder.specs.Rows.{Kept, passed_in, with_made, with_refused}
+use Rattle.ladder.specs.State.{behind}
 use Rattle.ladder.specs.UnderWay.{passed, sending_of, sent_units, with_unit}
 
 -- both sides, the rows, and whether no record is left
@@ -35,7 +36,12 @@ what_of own other entry bytes = what.User entry (length bytes)
 
 -- record i stands in line i + 2
 abbrev pub told_by : Half → Half → Side → Entry → List ℕ → Told
-told_by own other side entry bytes = record { side = side; line = own.line; what = what_of own other entry bytes }
+told_by own other side entry bytes = record {
+  side = side;
+  line = own.line;
+  what = what_of own other entry bytes;
+  state = behind own.state (what_of own other entry bytes);
+}
 
 -- ---- what the sides are behind it
 
@@ -44,11 +50,11 @@ next_line own = min (own.line + 1) (2 ^ 64 - 1)
 
 abbrev pub own_by : Half → ℕ → What → Entry → Half
 own_by own line (what.Sent unit said again) entry =
-    record { line = next_line own; given = after_sending own.given said; units = with_unit own.units (record { line = line; said = said }) }
+    record own { line = next_line own; given = after_sending own.given said; units = with_unit own.units (record { line = line; said = said }) }
 own_by own line _ entry = record own { line = next_line own; given = after_other own.given entry }
 
 abbrev pub own_after : Half → Told → Entry → Half
-own_after own told entry = own_by own told.line told.what entry
+own_after own told entry = record (own_by own told.line told.what entry) { state = told.state }
 
 -- the units that the other side sent are passed by a receipt
 abbrev pub other_after : Half → Entry → Half

@@ -2,9 +2,12 @@ pub mod Said
 pub mod Reading
 pub mod Note
 pub mod Given
+pub mod State
 pub mod UnderWay
 pub mod Row
 pub mod Rows
 pub mod Ladder
+pub mod Order
+pub mod Drawn
 pub mod Places
 pub mod Text

@@ -30,9 +30,9 @@ is_side B B = true
 is_side A B = false
 is_side B A = false
 
--- a unit with the hint's number was sent to this side, and may still come
+-- the unit with the hint's number was sent to this side, and came in another row
 abbrev pub sends_by : What → Fate → Bool → ℕ → Bool
-sends_by (what.Sent unit said again) fate.Open facing hint = facing && (unit == hint)
+sends_by (what.Sent unit said again) fate.Came facing hint = facing && (unit == hint)
 sends_by _ _ facing hint = false
 
 abbrev pub sends : Row → Side → ℕ → Bool
@@ -45,11 +45,15 @@ with_receipt row receipt = record row { fate = fate.Here receipt }
 -- The next record stands in the row of a sending where it is the receipt of that unit: where its hint is the unit's number.
 abbrev pub joined_by : Row → Told → What → Option Row
 joined_by row next (what.Came hint kept said sent) =
-    if sends row next.side hint then Some (with_receipt row (record { line = next.line; kept = kept; said = said })) else None
+    if sends row next.side hint then Some (with_receipt row (record { line = next.line; kept = kept; said = said; state = next.state })) else None
 joined_by row next _ = None
 
 abbrev pub joined : Row → Told → Option Row
 joined row next = joined_by row next next.what
+
+-- a refused record stands in a row of its own
+abbrev pub with_next : Row → Row → Option Row
+with_next row next = if next.refused then None else joined row next.told
 
 -- ---- what becomes of a unit where the one with the hint's number comes
 
@@ -69,20 +73,25 @@ fate_after _ facing hint before = before
 abbrev pub passed : Side → ℕ → Row → Row
 passed receiver hint row = record row { fate = fate_after row.told.what (faces row.told.side receiver) hint row.fate }
 
--- ---- the rows of records that are told one after the other
+-- ---- the rows of records that stand one below the other
 
-abbrev pub last_joined : Option Row → Told → Option Row
-last_joined None told = None
-last_joined (Some row) told = joined row told
+abbrev pub last_joined : Option Row → Row → Option Row
+last_joined None next = None
+last_joined (Some row) next = with_next row next
 
 -- another last row
 abbrev pub with_last : List Row → Row → List Row
 with_last rows row = take (length rows - 1) rows ++ row ∷ []
 
-abbrev pub with_row : List Row → Told → Option Row → List Row
-with_row rows told None = rows ++ alone told false ∷ []
-with_row rows told (Some row) = with_last rows row
+abbrev pub with_row : List Row → Row → Option Row → List Row
+with_row rows next None = rows ++ next ∷ []
+with_row rows next (Some row) = with_last rows row
 
 -- one more record: in the last row, where it is the receipt of the unit that this row sent, or else in a row of its own
-abbrev pub with_record : List Row → Told → List Row
-with_record rows told = with_row rows told (last_joined (last_item rows) told)
+abbrev pub with_record : List Row → Row → List Row
+with_record rows next = with_row rows next (last_joined (last_item rows) next)
+
+-- and all of these, one after the other
+abbrev pub joined_all : List Row → List Row → List Row
+joined_all rows [] = rows
+joined_all rows (next ∷ more) = joined_all (with_record rows next) more

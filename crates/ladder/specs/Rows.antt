@@ -1,5 +1,5 @@
--- Which rows a ladder keeps.
-use Rattle.std.specs.Prelude.{ℕ, ◌==◌, ◌&&◌, true, nat_le, if◌then◌else◌, List, [], ◌∷◌, ◌++◌, length, map}
+-- Which records a ladder keeps, each in a row of its own.
+use Rattle.std.specs.Prelude.{ℕ, ◌*◌, ◌==◌, ◌&&◌, true, false, nat_le, if◌then◌else◌, List, [], ◌∷◌, ◌++◌, length, map}
 use Rattle.circular_buffer.specs.Buffer.{keep_last}
 use Rattle.wire_base.specs.declared.side.Side.{Side}
 use Rattle.ladder.specs.declared.told.Told.{Told}
@@ -8,16 +8,21 @@ use Rattle.ladder.specs.declared.rows.Keep.{Keep}
 use Rattle.ladder.specs.declared.rows.Keep.TheVariants.{Last, First, From}
 use Rattle.ladder.specs.declared.rows.Phase.{Phase}
 use Rattle.ladder.specs.declared.rows.Phase.TheVariants.{Before, Open, Closed}
-use Rattle.ladder.specs.Row.{alone, is_side, passed, with_record}
+use Rattle.ladder.specs.declared.rows.TheConstants.{RECORDS}
+use Rattle.ladder.specs.Row.{alone, is_side, passed}
 
--- the rows, of which there is room for some
+-- the rows of the records that are kept, and how many rows are drawn at most
 pub record Kept : Type 0 where
   pub keep : Keep
   pub phase : Phase
   pub rows : List Row
   pub room : ℕ
 
--- no row yet
+-- how many records are kept at most
+abbrev pub records : Kept → ℕ
+records kept = RECORDS * kept.room
+
+-- no record yet
 abbrev pub first_phase : Keep → Phase
 first_phase Last = Open
 first_phase First = Open
@@ -30,7 +35,7 @@ no_rows keep room = record { keep = keep; phase = first_phase keep; rows = []; r
 abbrev pub with_rows : Kept → List Row → Kept
 with_rows kept rows = record kept { rows = rows }
 
--- the rows that are shown: none before the record that begins them
+-- the records that are shown: none before the one that begins them
 abbrev pub shown_by : Phase → List Row → List Row
 shown_by Before rows = []
 shown_by Open rows = rows
@@ -39,7 +44,7 @@ shown_by Closed rows = rows
 abbrev pub shown : Kept → List Row
 shown kept = shown_by kept.phase kept.rows
 
--- ---- which rows are kept of these, the last of which has this record
+-- ---- which are kept of these, the last of which has this record
 
 -- the record stands in this line of this side's capture, so that it begins the rows
 abbrev pub phase_at : Keep → Told → Phase
@@ -53,11 +58,11 @@ beginning kept next told = record kept { phase = phase_at kept.keep told; rows =
 
 -- where the first rows are kept, none is kept once there is no room for one
 abbrev pub filling : Kept → List Row → Kept
-filling kept next = if nat_le (length next) kept.room then with_rows kept next else record kept { phase = Closed }
+filling kept next = if nat_le (length next) (records kept) then with_rows kept next else record kept { phase = Closed }
 
 -- where the last rows are kept, the first goes where there is no room
 abbrev pub opened : Keep → Kept → List Row → Kept
-opened Last kept next = with_rows kept (keep_last kept.room next)
+opened Last kept next = with_rows kept (keep_last (records kept) next)
 opened First kept next = filling kept next
 opened (From side line) kept next = filling kept next
 
@@ -71,11 +76,10 @@ going_on kept next told = going_on_by kept.phase kept next told
 
 -- ---- what happens
 
--- a record was made
+-- a record was made, or refused
 abbrev pub with_made : Kept → Told → Kept
-with_made kept told = going_on kept (with_record kept.rows told) told
+with_made kept told = going_on kept (kept.rows ++ alone told false ∷ []) told
 
--- or refused: it stands in a row of its own
 abbrev pub with_refused : Kept → Told → Kept
 with_refused kept told = going_on kept (kept.rows ++ alone told true ∷ []) told
 

@@ -6,6 +6,7 @@ ghost use Rattle.ladder.specs.Ladder as spec;
 use crate::given::Given;
 use crate::reading::said_by;
 use crate::said::Said;
+use crate::state::State;
 use crate::told::{Sending, Told, What};
 use crate::under_way::UnderWay;
 use capture::Entry;
@@ -21,6 +22,8 @@ pub struct Half {
     pub given: Given,
     /// Its units that may still come at the other side.
     pub units: UnderWay,
+    /// The state of its station.
+    pub state: State,
 }
 
 impl Half {
@@ -33,11 +36,13 @@ impl Half {
         ensures line { result.line ≡ 2 }
         ensures given { result.given ≡ no_number }
         ensures units { result.units ≡ way 0 [] }
+        ensures state { result.state ≡ State.Halted }
     {
         Half {
             line: 2,
             given: Given::none(),
             units: UnderWay::new(alloc),
+            state: State::Halted,
         }
     }
 
@@ -45,10 +50,12 @@ impl Half {
     pub fn next(&self, other: &Half, side: Side, entry: Entry, bytes: &[u8]) -> Told
         ensures { result ≡ spec.told_by self.now other.now side entry bytes.now }
     {
+        let what = self.what(other, entry, bytes);
         Told {
             side,
             line: self.line,
-            what: self.what(other, entry, bytes),
+            what,
+            state: self.state.behind(what),
         }
     }
 
@@ -95,11 +102,13 @@ impl Half {
                     said,
                 })?;
                 self.given = self.given.after_sending(said);
+                self.state = told.state;
                 self.line = self.line.saturating_add(1);
                 Ok(())
             }
             _ => {
                 self.given = self.given.after_other(entry);
+                self.state = told.state;
                 self.line = self.line.saturating_add(1);
                 Ok(())
             }

@@ -3,8 +3,8 @@
 ghost use Rattle.std.specs.Prelude.{◌≡◌, ◌≤◌, OnErr, OnOk};
 ghost use Rattle.ladder.specs.Ladder as spec;
 
+use crate::drawn::Drawn;
 use crate::half::Half;
-use crate::row::Row;
 use crate::rows::{Keep, Rows};
 use crate::told::Told;
 use capture::Entry;
@@ -12,12 +12,12 @@ use std::alloc::{AllocError, Global};
 use std::marker::Model;
 use wire_base::Side;
 
-/// Rows of the records of two captures, in the order in which they are told.
+/// What was told of the records of two captures.
 ///
 /// It is told each record that was made ([`Ladder::made`]), then perhaps the one that was refused ([`Ladder::refused`]), and those
-/// behind it ([`Ladder::follows`]), and at last that there is no more ([`Ladder::end`]). Memory is taken for as many rows as it may keep,
-/// and for the units that were sent and neither came nor were passed over. A record touches the rows that are kept and the units that it
-/// passes over.
+/// behind it ([`Ladder::follows`]), and at last that there is no more ([`Ladder::end`]); then [`Ladder::drawn`] has the rows. Memory is taken
+/// for four records a row that may be drawn, and for the units that were sent and neither came nor were passed over. A record touches
+/// those that are kept and the units that it passes over.
 #[derive(Drop)]
 pub struct Ladder {
     a: Half,
@@ -35,12 +35,11 @@ impl Model for Ladder {
 }
 
 impl Ladder {
-    ghost use Rattle.std.specs.Prelude.{IfOk, MatchOption, false, length, option_copied, slice_get, string_bytes, true};
-    ghost use Rattle.ladder.specs.declared.row.Row.{Row};
-    ghost use Rattle.ladder.specs.Text.{row_text};
-    ghost use Rattle.ladder.specs.Rows.{no_rows, shown};
+    ghost use Rattle.std.specs.Prelude.{IfOk, false, true};
+    ghost use Rattle.ladder.specs.Drawn.{IsDrawn};
+    ghost use Rattle.ladder.specs.Rows.{no_rows};
 
-    /// No record yet. It keeps at most `room` rows, 1 to 200. `AllocError` where there is no memory for them.
+    /// No record yet. At most `room` rows are drawn, 1 to 200. `AllocError` where there is no memory for their records.
     pub fn new(alloc: Global, keep: Keep, room: usize) -> Result<Ladder, AllocError>
         requires low { 1 ≤ room }
         requires high { room ≤ 200 }
@@ -82,7 +81,7 @@ impl Ladder {
         }
     }
 
-    /// This side's next record was refused. It is the last row. Takes no memory.
+    /// This side's next record was refused. It is drawn in the last row. Takes no memory.
     pub fn refused(&mut self, side: Side, entry: Entry, bytes: &[u8])
         ensures { self.new ≡ spec.refused self.old side entry bytes.now }
     {
@@ -101,7 +100,7 @@ impl Ladder {
         }
     }
 
-    /// This record stands behind the refused one. It has no row, and only tells which units come still. Takes no memory.
+    /// This record stands behind the refused one. It is not drawn, and only tells which units come still. Takes no memory.
     pub fn follows(&mut self, side: Side, entry: Entry)
         ensures { self.new ≡ spec.follows self.old side entry }
     {
@@ -130,30 +129,10 @@ impl Ladder {
         self.ended
     }
 
-    /// How many rows there are: none before the record from which on they are kept.
-    pub fn len(&self) -> usize
-        ensures count { result ≡ length (shown self.now.kept) }
-        ensures within { result ≤ self.now.kept.room }
+    /// The rows, as they are drawn. `AllocError` where there is no memory for them.
+    pub fn drawn(&self, alloc: Global) -> Result<Drawn, AllocError>
+        ensures { IfOk result (λ drawn. IsDrawn self.now.kept self.now.ended drawn) }
     {
-        self.kept.len()
-    }
-
-    /// The row with this number, from 0 on.
-    pub fn row(&self, index: usize) -> Option<&Row>
-        ensures { option_copied result ≡ slice_get (shown self.now.kept) index }
-    {
-        self.kept.row(index)
-    }
-
-    /// The text of the row with this number: [`Row::text`]; `None` where there is no such row.
-    pub fn text(&self, alloc: Global, index: usize) -> Result<Option<String>, AllocError>
-        ensures { IfOk result (λ text. MatchOption text
-            (slice_get (shown self.now.kept) index ≡ None)
-            (λ bytes. (row : Row) × (slice_get (shown self.now.kept) index ≡ Some row) × (string_bytes bytes ≡ row_text row self.now.ended))) }
-    {
-        match self.row(index) {
-            Some(row) => Ok(Some(row.text(alloc, self.ended)?)),
-            None => Ok(None),
-        }
+        Drawn::new(alloc, &self.kept, self.ended)
     }
 }

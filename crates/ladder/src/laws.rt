@@ -1,16 +1,23 @@
 //! What holds of the rows, for the proofs of callers to cite.
 
-ghost use Rattle.std.specs.Prelude.{◌≡◌, ℕ, List, [], ◌∷◌, ◌++◌, Some, map};
+ghost use Rattle.std.specs.Prelude.{◌≡◌, ℕ, List, [], ◌∷◌, ◌++◌, Some, None, map};
 ghost use Rattle.wire_base.specs.declared.side.Side.{Side};
 ghost use Rattle.ladder.specs.declared.row.Row.{Row};
 ghost use Rattle.ladder.specs.declared.told.Told.{Told};
-ghost use Rattle.ladder.specs.Places.{IsArrow, IsCut, place, places};
+ghost use Rattle.ladder.specs.Order.{IsOrder, of_side};
+ghost use Rattle.ladder.specs.Places.{IsArrow, IsCut, place, places, receipt_line};
 ghost use Rattle.ladder.specs.Row.{joined, passed, with_record};
 ghost use Rattle.ladder.specs.Rows.{Kept, going_on};
 
-/// Each record that is told stands once in the rows, behind those that were told before; and what becomes of a unit moves none.
+/// In the order in which they are drawn each record stands once, and those of a side as they were told.
+pub fn order_keeps_sides()
+    ensures { (told order : List Row) (side : Side) → IsOrder told order → of_side side order ≡ of_side side told }
+{}
+
+/// Each record stands once in the rows that are joined, behind those that stood before; and what becomes of a unit moves none.
 pub fn records_stand_once_in_order()
-    ensures told { (rows : List Row) (told : Told) → places (with_record rows told) ≡ places rows ++ place told ∷ [] }
+    ensures joined { (rows : List Row) (next : Row) → receipt_line next.fate ≡ None →
+        places (with_record rows next) ≡ places rows ++ place next.told ∷ [] }
     ensures passed { (rows : List Row) (receiver : Side) (hint : ℕ) → places (map (passed receiver hint) rows) ≡ places rows }
 {}
 

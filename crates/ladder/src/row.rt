@@ -5,10 +5,11 @@ ghost use Rattle.ladder.specs.Row as spec;
 
 use crate::said::Said;
 use crate::sides::faces;
+use crate::state::State;
 use crate::told::{Told, What};
 use wire_base::Side;
 
-/// A row: one record, or the sending of a unit and its receipt, where that is the next record that was told.
+/// A row: one record, or the sending of a unit and its receipt, where that is the next record.
 #[derive(Clone, Copy, Debug, PartialEq, Eq)]
 pub struct Row {
     /// The record; the sending, where there are two.
@@ -41,6 +42,8 @@ pub struct Receipt {
     pub kept: bool,
     /// What the bytes say that came.
     pub said: Said,
+    /// The state of the receiver's station behind it.
+    pub state: State,
 }
 
 impl Row {
@@ -55,8 +58,18 @@ impl Row {
         }
     }
 
-    /// This row with the next record in it too, where that is the receipt of the unit that the row sent.
-    pub fn joined(&self, next: &Told) -> Option<Row>
+    /// This row with the record of the next one in it too, where that was made and is the receipt of the unit that this row sent.
+    pub fn with_next(&self, next: &Row) -> Option<Row>
+        ensures { result ≡ spec.with_next self.now next.now }
+    {
+        if next.refused {
+            return None;
+        }
+        self.joined(&next.told)
+    }
+
+    // This row with the next record in it too, where that is the receipt of the unit that the row sent.
+    fn joined(&self, next: &Told) -> Option<Row>
         ensures { result ≡ spec.joined self.now next.now }
     {
         let What::Came {
@@ -77,17 +90,18 @@ impl Row {
                 line: next.line,
                 kept,
                 said,
+                state: next.state,
             }),
             refused: self.refused,
         })
     }
 
-    /// Whether the row sends the unit with this number to this side, and it is open whether that comes.
+    // Whether the row sent the unit with this number to this side, where it came in another row.
     fn sends(&self, receiver: Side, hint: u64) -> bool
         ensures { result ≡ spec.sends self.now receiver hint }
     {
         match (self.told.what, self.fate) {
-            (What::Sent { unit, .. }, Fate::Open) => {
+            (What::Sent { unit, .. }, Fate::Came) => {
                 faces(self.told.side, receiver) && unit == hint
             }
             _ => false,

@@ -1,8 +1,6 @@
-//! The rows that a ladder keeps.
+//! The records that a ladder keeps, each in a row of its own.
 
-ghost use Rattle.std.specs.Prelude.{◌≡◌, ◌≤◌, [], ◌∷◌, ◌++◌, IfOk, length};
-ghost use Rattle.circular_buffer.specs.Buffer.{last_item};
-ghost use Rattle.ladder.specs.Row as rung;
+ghost use Rattle.std.specs.Prelude.{◌≡◌, ◌≤◌, ◌*◌, [], ◌∷◌, ◌++◌, IfOk, length};
 ghost use Rattle.ladder.specs.Rows as spec;
 
 use crate::row::Row;
@@ -13,21 +11,24 @@ use std::alloc::{AllocError, Global};
 use std::marker::Model;
 use wire_base::Side;
 
-/// Which rows a ladder keeps.
+// So many records are kept for each row that may be drawn: a row has two at most, and some more tell better how those near the end stand.
+const RECORDS: usize = 4;
+
+/// Which rows a ladder draws.
 #[derive(Clone, Copy, Debug, PartialEq, Eq)]
 pub enum Keep {
     /// The last rows.
     Last,
     /// The first rows.
     First,
-    /// The first rows from the one on that has the record in this line of this side's capture.
+    /// The first rows from the record on that stands in this line of this side's capture.
     From { side: Side, line: u64 },
 }
 
-/// Whether a row that comes is kept.
+/// Whether a record that is told is kept.
 #[derive(Clone, Copy)]
 pub enum Phase {
-    /// The record that begins the rows is still to come.
+    /// The one from which on they are kept is still to come.
     Before,
     /// It is kept.
     Open,
@@ -35,37 +36,40 @@ pub enum Phase {
     Closed,
 }
 
-/// The rows that are kept: as many as there is room for, in the order in which their records were told.
+/// The records that are kept, in the order in which they were told.
 #[derive(Drop)]
 pub struct Rows {
     keep: Keep,
     phase: Phase,
+    // How many rows are drawn at most.
+    room: usize,
     rows: HeapCircularBuffer<Row>,
 }
 
 impl Model for Rows {
-    ghost use Rattle.std.specs.Prelude.{◌≤◌};
+    ghost use Rattle.std.specs.Prelude.{◌≡◌, ◌≤◌, ◌*◌};
     ghost use Rattle.ladder.specs.Rows.{Kept};
+    ghost use Rattle.ladder.specs.declared.rows.TheConstants.{RECORDS};
 
     ghost Value = { Kept };
 
-    ghost view = { λ r. record { keep = r.keep; phase = r.phase; rows = r.rows.items; room = r.rows.capacity } };
+    ghost view = { λ r. record { keep = r.keep; phase = r.phase; rows = r.rows.items; room = r.room } };
 
-    ghost invariant = { λ r. 1 ≤ r.rows.capacity };
+    ghost invariant = { λ r. (1 ≤ r.room) × (r.rows.capacity ≡ RECORDS * r.room) };
 }
 
 impl Rows {
-    ghost use Rattle.std.specs.Prelude.{option_copied, slice_get};
-
-    /// No row yet, and room for this many. `AllocError` where there is no memory for them.
+    /// No record yet, where so many rows are drawn at most, 1 to 200. `AllocError` where there is no memory for the records.
     pub fn new(alloc: Global, keep: Keep, room: usize) -> Result<Rows, AllocError>
-        requires { 1 ≤ room }
+        requires low { 1 ≤ room }
+        requires high { room ≤ 200 }
         ensures { IfOk result (λ made. made ≡ spec.no_rows keep room) }
     {
         Ok(Rows {
             keep,
             phase: first_phase(keep),
-            rows: HeapCircularBuffer::with_capacity(alloc, room)?,
+            room,
+            rows: HeapCircularBuffer::with_capacity(alloc, RECORDS * room)?,
         })
     }
 
@@ -73,56 +77,17 @@ impl Rows {
     pub fn made(&mut self, told: &Told)
         ensures { self.new ≡ spec.with_made self.old told.now }
     {
-        match self.joined(told) {
-            Some(row) => self.replace_last(row, told),
-            None => self.go_on(Row::alone(*told, false), told),
-        }
+        self.go_on(Row::alone(*told, false), told);
     }
 
-    /// The next record was refused, and stands in a row of its own. Takes no memory.
+    /// The next record was refused. Takes no memory.
     pub fn refused(&mut self, told: &Told)
         ensures { self.new ≡ spec.with_refused self.old told.now }
     {
         self.go_on(Row::alone(*told, true), told);
     }
 
-    // The last row with this record in it, where it is the receipt of the unit that the row sends.
-    fn joined(&self, told: &Told) -> Option<Row>
-        ensures { result ≡ rung.last_joined (last_item self.now.rows) told.now }
-    {
-        match self.rows.back() {
-            Some(last) => last.joined(told),
-            None => None,
-        }
-    }
-
-    // The last row is this one from now on, with this record in it.
-    #[tactic(auto, using(crate::proofs::Keeping::stays))]
-    fn replace_last(&mut self, row: Row, told: &Told)
-        requires { 1 ≤ length self.old.rows }
-        ensures { self.new ≡ spec.going_on self.old (rung.with_last self.old.rows row) told.now }
-    {
-        match self.phase {
-            Phase::Before => {
-                self.put_last(row);
-                self.leave_last(told);
-            }
-            Phase::Open => self.put_last(row),
-            Phase::Closed => {}
-        }
-    }
-
-    fn put_last(&mut self, row: Row)
-        requires { 1 ≤ length self.old.rows }
-        ensures rows { self.new ≡ spec.with_rows self.old (rung.with_last self.old.rows row) }
-        ensures within { length self.old.rows ≤ self.old.room }
-    {
-        let _count = self.rows.len();
-        self.rows.pop_back();
-        self.rows.push_back(row);
-    }
-
-    // This row is next, with this record in it.
+    // This row is next, which has this record.
     fn go_on(&mut self, row: Row, told: &Told)
         ensures { self.new ≡ spec.going_on self.old (self.old.rows ++ row ∷ []) told.now }
     {
@@ -179,25 +144,42 @@ impl Rows {
         }
     }
 
-    /// How many rows are shown: none before the record that begins them.
-    pub fn len(&self) -> usize
-        ensures count { result ≡ length (spec.shown self.now) }
-        ensures within { result ≤ self.now.room }
+    /// How many rows are drawn at most.
+    pub fn room(&self) -> usize
+        ensures { result ≡ self.now.room }
+    {
+        self.room
+    }
+
+    /// Which rows are drawn.
+    pub fn keep(&self) -> Keep
+        ensures { result ≡ self.now.keep }
+    {
+        self.keep
+    }
+
+    /// A copy of the records. `AllocError` where there is no memory for it.
+    pub fn told(&self, alloc: Global) -> Result<Vec<Row>, AllocError>
+        ensures { IfOk result (λ rows. rows.items ≡ spec.shown self.now) }
     {
         match self.phase {
-            Phase::Before => 0,
-            Phase::Open | Phase::Closed => self.rows.len(),
+            Phase::Before => Ok(Vec::new(alloc)),
+            Phase::Open | Phase::Closed => self.copied(alloc),
         }
     }
 
-    /// The row with this number that is shown, from 0 on.
-    pub fn row(&self, index: usize) -> Option<&Row>
-        ensures { option_copied result ≡ slice_get (spec.shown self.now) index }
+    #[tactic(auto, using(crate::proofs::Orders::row_taken))]
+    fn copied(&self, alloc: Global) -> Result<Vec<Row>, AllocError>
+        ensures { IfOk result (λ rows. rows.items ≡ self.now.rows) }
     {
-        match self.phase {
-            Phase::Before => None,
-            Phase::Open | Phase::Closed => self.rows.get(index),
+        let mut rows = Vec::new(alloc);
+        for index in 0..self.rows.len() {
+            let Some(row) = self.rows.get(index) else {
+                unreachable!();
+            };
+            rows.push(*row)?;
         }
+        Ok(rows)
     }
 }
 

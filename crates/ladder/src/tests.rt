@@ -1,4 +1,4 @@
-use crate::{Keep, Ladder};
+use crate::{Drawn, Keep, Ladder};
 use capture::Entry;
 use std::alloc::{AllocError, Global};
 use wire_base::Side;
@@ -34,26 +34,26 @@ fn told(ladder: &mut Ladder) -> Result<(), AllocError> {
     Ok(())
 }
 
-fn line(alloc: Global, ladder: &Ladder, index: usize) -> Result<String, AllocError> {
-    Ok(ladder.text(alloc, index)?.unwrap_or(String::new(alloc)))
+fn line(alloc: Global, drawn: &Drawn, index: usize) -> Result<String, AllocError> {
+    Ok(drawn.text(alloc, index)?.unwrap_or(String::new(alloc)))
 }
 
 #[test]
-fn rows_stand_in_the_order_of_the_records(rt: HostRuntime) -> Result<(), AllocError> {
+fn a_unit_stands_beside_its_receipt(rt: HostRuntime) -> Result<(), AllocError> {
     let lines = [
         "     2          start |                                  |",
         "     3                |------------- STRT --------------x|",
-        "     4                |---------- again STRT -----------.|",
         "                      |                                  | start          2",
-        "                      |....... STRT of a line 4 ........>|                3",
+        "     4                |---------- again STRT ----------->|                3",
         "     5                |<------------- STACK -------------|                4",
         "                      |                                  | open 1         5       <== refused",
     ];
     let mut ladder = Ladder::new(rt.alloc(), Keep::Last, 10)?;
     told(&mut ladder)?;
-    assert_eq!(rt; ladder.len(), lines.len());
+    let drawn = ladder.drawn(rt.alloc())?;
+    assert_eq!(rt; drawn.len(), lines.len());
     for index in 0..lines.len() {
-        let text = line(rt.alloc(), &ladder, index)?;
+        let text = line(rt.alloc(), &drawn, index)?;
         assert_eq!(rt; text.as_str(), lines[index]);
     }
     Ok(())
@@ -67,23 +67,24 @@ fn rows_begin_with_the_named_record(rt: HostRuntime) -> Result<(), AllocError> {
     };
     let mut ladder = Ladder::new(rt.alloc(), from, 1)?;
     told(&mut ladder)?;
-    assert_eq!(rt; ladder.len(), 1);
-    let text = line(rt.alloc(), &ladder, 0)?;
+    let drawn = ladder.drawn(rt.alloc())?;
+    assert_eq!(rt; drawn.len(), 1);
+    let text = line(rt.alloc(), &drawn, 0)?;
     assert_eq!(rt;
         text.as_str(),
-        "     5                |<------------- STACK -------------|                4"
+        "     5                |<....... STACK of b line 4 .......|"
     );
     Ok(())
 }
 
 #[test]
-fn no_row_is_shown_where_the_named_record_is_not_told(rt: HostRuntime) -> Result<(), AllocError> {
+fn no_row_is_drawn_where_the_named_record_is_not_told(rt: HostRuntime) -> Result<(), AllocError> {
     let from = Keep::From {
         side: Side::B,
         line: 6,
     };
     let mut ladder = Ladder::new(rt.alloc(), from, 1)?;
     told(&mut ladder)?;
-    assert_eq!(rt; ladder.len(), 0);
+    assert_eq!(rt; ladder.drawn(rt.alloc())?.len(), 0);
     Ok(())
 }

@@ -1,6 +1,7 @@
 //! A record, as a row tells it.
 
 use crate::said::Said;
+use crate::state::State;
 use capture::Entry;
 use wire_base::Side;
 
@@ -13,6 +14,8 @@ pub struct Told {
     pub line: u64,
     /// What happened.
     pub what: What,
+    /// The state of the side's station behind it, as the records tell it.
+    pub state: State,
 }
 
 /// What happened, by a record.

@@ -9,21 +9,22 @@ ghost use Rattle.capture.specs.declared.phase.Phase.TheVariants as Phase;
 ghost use Rattle.capture.specs.Lines.{to_come};
 ghost use Rattle.capture.specs.declared.fault.CaptureFault.TheVariants as CaptureFault;
 ghost use Rattle.wire_base.specs.Tally.{tally_faults, tally_lent};
+ghost use Rattle.pair_judge.specs.Order.{TellsNext, made_by};
 ghost use Rattle.pair_judge.specs.Summary.{HasRoom};
-ghost use Rattle.pair_judge.specs.inner.Course.{AdvanceIs, IsFaultOf, IsRead, IsReadyFor, MayRead, NextIs, along};
+ghost use Rattle.pair_judge.specs.inner.Course.{AdvanceIs, IfNotMade, IsFaultOf, IsRead, IsReadyFor, MayRead, NextIs, along};
 ghost use Rattle.pair_judge.specs.inner.Making.{move};
-ghost use Rattle.pair_judge.specs.inner.Memory.{MayTakeMemory};
 ghost use Rattle.pair_judge.specs.inner.Reached.{IsHeldUp};
 
 use crate::end::End;
 use crate::line::Line;
 use crate::making::{Made, make};
+use crate::observer::Observer;
 use crate::top::Top;
 use capture::{CaptureFault, CaptureReader, Entry, text_read_on};
 use dna_station::StepRefusal;
 use std::alloc::AllocError;
 use std::io::Read;
-use wire_base::Tally;
+use wire_base::{Side, Tally};
 
 /// What comes next of a capture.
 #[derive(Clone, Copy, Debug, PartialEq, Eq)]
@@ -48,8 +49,8 @@ pub struct Course {
 /// What became of a side's next record.
 #[derive(Clone, Copy, Debug, PartialEq, Eq)]
 pub enum Advance {
-    /// It was made: that of this entry and the bytes that the reader keeps.
-    Made(Entry),
+    /// It was made, and the observer was told of it.
+    Made,
     /// It waits for its unit.
     Blocked,
     /// There is none.
@@ -59,23 +60,28 @@ pub enum Advance {
 }
 
 impl Course {
-    /// Makes the next record, which is read first where none waits. The line leads to this side from the other one.
+    /// Makes the next record, which is read first where none waits, and tells the observer of it as one of this side. The line leads to this
+    /// side from the other one.
     ///
     /// `Departs`, `Read`: the next record can't be read. `OutOfMemory`: there is no room for the message of its event, for the unit,
-    /// the packet or the
-    /// piece that it sends, or for the link or the piece that it keeps. The course has no use after any of them.
+    /// the packet or the piece that it sends, for the link or the piece that it keeps, or for what the observer keeps of it. The course and
+    /// the observer have no use after any of them.
     #[inline(always)]
-    pub fn advance<T: Top, R: Read>(
+    pub fn advance<T: Top, O: Observer, R: Read>(
         &mut self,
         incoming: &mut Line,
         reader: &mut Tally<R>,
+        side: Side,
+        observer: &mut O,
     ) -> Result<Advance, CaptureFault>
         requires may_read { MayRead self.old }
         requires room { HasRoom self.old.end }
         ensures advance { IfOk result (λ advance. (text : Option (List ℕ)) (made : List Record) →
             IsRead (along text self.old (to_come self.old.capture.unread (R.remaining (tally_lent reader.old))) made) →
-            AdvanceIs T.top advance (move self.old.end self.new.end incoming.old incoming.new)
+            AdvanceIs T.top (λ r. TellsNext O.told observer.old observer.new (made_by side r)) advance
+            (move self.old.end self.new.end incoming.old incoming.new)
             (along text self.new (to_come self.new.capture.unread (R.remaining (tally_lent reader.new))) made)) }
+        ensures same_observer { IfOk result (λ advance. IfNotMade advance (observer.new ≡ observer.old)) }
         ensures may_read { IfOk result (λ _. MayRead self.new) }
         ensures head { self.new.end.head ≡ self.old.end.head }
         ensures fault { IfErr result (λ fault. (text : Option (List ℕ)) (made : List Record) →
@@ -85,7 +91,7 @@ impl Course {
         ensures reads { CountsReads (is_failed_read result) (tally_faults reader.old) (tally_faults reader.new) }
     {
         match self.next(reader) {
-            Ok(Some(entry)) => self.make::<T>(incoming, entry),
+            Ok(Some(entry)) => self.make::<T, O>(incoming, entry, side, observer),
             Ok(None) => Ok(Advance::Ended),
             Err(fault) => Err(fault),
         }
@@ -144,25 +150,36 @@ impl Course {
         }
     }
 
-    // Makes the record of this entry, which was read, and of the bytes that the reader keeps.
+    // Makes the record of this entry, which was read, and of the bytes that the reader keeps. The observer is told here, so that where nobody
+    // looks on the entry is not carried on.
     #[inline(always)]
-    fn make<T: Top>(&mut self, incoming: &mut Line, entry: Entry) -> Result<Advance, CaptureFault>
+    fn make<T: Top, O: Observer>(
+        &mut self,
+        incoming: &mut Line,
+        entry: Entry,
+        side: Side,
+        observer: &mut O,
+    ) -> Result<Advance, CaptureFault>
         requires unread { self.old.ahead ≡ Ahead.Unread }
         requires reading { self.old.capture.phase ≡ Phase.Reading }
         requires numbers { NumbersFit (record_with entry self.old.capture.bytes) }
         requires room { HasRoom self.old.end }
         ensures advance { IfOk result (λ advance. (text come : Option (List ℕ)) (made : List Record) →
             IsRead (along text self.old come (made ++ record_with entry self.old.capture.bytes ∷ [])) →
-            AdvanceIs T.top advance (move self.old.end self.new.end incoming.old incoming.new) (along text self.new come made)) }
+            AdvanceIs T.top (λ r. TellsNext O.told observer.old observer.new (made_by side r)) advance
+            (move self.old.end self.new.end incoming.old incoming.new) (along text self.new come made)) }
+        ensures same_observer { IfOk result (λ advance. IfNotMade advance (observer.new ≡ observer.old)) }
         ensures may_read { IfOk result (λ _. MayRead self.new) }
         ensures capture { self.new.capture ≡ self.old.capture }
         ensures head { self.new.end.head ≡ self.old.end.head }
         ensures fault { IfErr result (λ fault. fault ≡ CaptureFault.OutOfMemory) }
-        ensures memory { IfErr result (λ _. MayTakeMemory self.old.end.layers (record_with entry self.old.capture.bytes)) }
     {
         let alloc = self.capture.alloc();
         match make::<T>(alloc, &mut self.end, incoming, entry, self.capture.bytes()) {
-            Ok(Made::Done) => Ok(Advance::Made(entry)),
+            Ok(Made::Done) => match observer.made(side, entry, self.capture.bytes()) {
+                Ok(()) => Ok(Advance::Made),
+                Err(AllocError) => Err(CaptureFault::OutOfMemory),
+            },
             Ok(Made::Waits) => {
                 self.ahead = Ahead::Waits(entry);
                 Ok(Advance::Blocked)

@@ -21,7 +21,6 @@ use crate::observer::{Observer, Way};
 use crate::top::Top;
 use capture::CaptureFault;
 use dna_node::{Cause, Finding};
-use std::alloc::AllocError;
 use std::io::Read;
 use two_nodes::reading_on;
 use wire_base::{Side, Tally};
@@ -64,14 +63,8 @@ pub fn turn<T: Top, O: Observer, R: Read, S: Read>(
     if a.is_held_up::<T>(&b.end.line) {
         return turn_of_b::<T, O, S>(a, true, b, reader_b, way);
     }
-    match a.advance::<T, R>(&mut b.end.line, reader_a) {
-        Ok(Advance::Made(entry)) => match way.observer.made(Side::A, entry, a.capture.bytes()) {
-            Ok(()) => true,
-            Err(AllocError) => {
-                way.ending = Err(JudgeFault::OutOfMemory);
-                false
-            }
-        },
+    match a.advance::<T, O, R>(&mut b.end.line, reader_a, Side::A, &mut way.observer) {
+        Ok(Advance::Made) => true,
         Ok(Advance::Fails(refusal)) => {
             way.ending = Ok(refused(Side::A, a, Cause::Step(refusal)));
             false
@@ -116,14 +109,8 @@ fn turn_of_b<T: Top, O: Observer, S: Read>(
 {
     endings::<T>();
     reading_on::<JudgedNodes<T>>();
-    match b.advance::<T, S>(&mut a.end.line, reader_b) {
-        Ok(Advance::Made(entry)) => match way.observer.made(Side::B, entry, b.capture.bytes()) {
-            Ok(()) => true,
-            Err(AllocError) => {
-                way.ending = Err(JudgeFault::OutOfMemory);
-                false
-            }
-        },
+    match b.advance::<T, O, S>(&mut a.end.line, reader_b, Side::B, &mut way.observer) {
+        Ok(Advance::Made) => true,
         Ok(Advance::Fails(refusal)) => {
             way.ending = Ok(refused(Side::B, b, Cause::Step(refusal)));
             false

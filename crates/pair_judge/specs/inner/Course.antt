@@ -103,16 +103,23 @@ pub record HasEnded (m : Move) (t : Track) : Type 0 where
   pub ahead : t.course.ahead ≡ Ended
   pub still : IsStill m
 
+-- a fact of a record that was not made
+abbrev pub IfNotMade : Advance → Type 0 → Type 0
+IfNotMade answers.Made P = Unit {0}
+IfNotMade answers.Blocked P = P
+IfNotMade answers.Ended P = P
+IfNotMade (answers.Fails refusal) P = P
+
 module _ (top : JudgeTop) where
   -- the record waits for its unit, whatever the halves are that the two sides stand for
   abbrev pub WaitsAt : End → Line → Record → Type 0
   WaitsAt own incoming r = (mine theirs : JudgeHalf) → StandsFor own incoming mine → Shows incoming theirs.sent →
       advance (judge_step top) mine theirs r ≡ any.Waits
 
-  -- the next record was made
-  pub record IsAdvanced (entry : Entry) (m : Move) (t : Track) : Type 0 where
+  -- the next record was made, and the observer told
+  pub record IsAdvanced (tells : Record → Type 0) (m : Move) (t : Track) : Type 0 where
     pub next : Record
-    pub is_entry : record_with entry t.course.capture.bytes ≡ next
+    pub told : tells next
     pub read : IsRead (having_made t (t.made ++ next ∷ []))
     pub unread : t.course.ahead ≡ Unread
     pub made_it : (mine theirs : JudgeHalf) → StandsFor m.old m.before mine → Shows m.before theirs.sent → IsMade top m next mine theirs
@@ -135,8 +142,8 @@ module _ (top : JudgeTop) where
     pub refused : (mine theirs : JudgeHalf) → StandsFor m.old m.before mine → Shows m.before theirs.sent →
         advance (judge_step top) mine theirs next ≡ any.Refused refusal
 
-  abbrev pub AdvanceIs : Advance → Move → Track → Type 0
-  AdvanceIs (answers.Made entry) m t = IsAdvanced entry m t
-  AdvanceIs answers.Blocked m t = IsBlocked m t
-  AdvanceIs answers.Ended m t = HasEnded m t
-  AdvanceIs (answers.Fails refusal) m t = IsRefused m t refusal
+  abbrev pub AdvanceIs : (tells : Record → Type 0) → Advance → Move → Track → Type 0
+  AdvanceIs tells answers.Made m t = IsAdvanced tells m t
+  AdvanceIs tells answers.Blocked m t = IsBlocked m t
+  AdvanceIs tells answers.Ended m t = HasEnded m t
+  AdvanceIs tells (answers.Fails refusal) m t = IsRefused m t refusal

@@ -13,8 +13,8 @@ use Rattle.pair_judge.proofs.Found.{at_place, a_fails, stops_a}
 use Rattle.pair_judge.proofs.Faults.{faulty}
 use Rattle.pair_judge.proofs.turn.turn.Goals as goal
 
-pub returns-in-Ok-clause-turn : goal.returns-in-Ok-clause-turn
-returns-in-Ok-clause-turn g c = λ order text_a text_b made_a made_b under.
+pub returns-in-Ok-Made-clause-turn : goal.returns-in-Ok-Made-clause-turn
+returns-in-Ok-Made-clause-turn g c = λ order text_a text_b made_a made_b under.
     let advanced = rw c.in-Ok-Made.field-0-is at c.in-Ok-Made.ensures.advance in
     let m = advanced text_a made_a under.read_a in
     let h = under.reached in
@@ -25,7 +25,7 @@ returns-in-Ok-clause-turn g c = λ order text_a text_b made_a made_b under.
       made_a = made_a ++ m.next ∷ [];
       made_b = made_b;
       made = made_by A m.next;
-      told = rw (c.bytes.ensures, m.is_entry) at c.in-Ok.ensures;
+      told = m.told;
       under_way = record {
         read_a = m.read;
         read_b = same_read text_b c.args.b.now _ _ made_b refl refl refl under.read_b;
@@ -84,8 +84,9 @@ returns-then-is_held_up-clause-fault g c =
 pub returns-in-Ok-Blocked-clause-turn : goal.returns-in-Ok-Blocked-clause-turn
 returns-in-Ok-Blocked-clause-turn g c =
     let blocked = rw c.in-Ok-Blocked.field-0-is at c.in-Ok-Blocked.ensures.advance in
+    let same = rw c.in-Ok-Blocked.field-0-is at c.in-Ok-Blocked.ensures.same_observer in
     IfOk-weaker (turned c.turn_of_b-in-Ok-Blocked.result c.turn_of_b-in-Ok-Blocked.new.way.ending) _ _
-    (λ turn h. λ order text_a text_b made_a made_b under.
+    (λ turn before. let h = rw same at before in λ order text_a text_b made_a made_b under.
     let m = blocked text_a made_a under.read_a in
     turn_so g.T.Top.top order _ turn text_a _ _ _ made_a _ c.turn_of_b-in-Ok-Blocked.ensures.same.0 (h order text_a text_b _ made_a made_b
     (under_still g.T.Top.top order text_a text_b c.args.a.now c.advance.new.self c.args.b.now _ _ _ _ made_a made_b under m.read m.still.same_end refl
@@ -108,8 +109,9 @@ returns-in-Ok-Blocked-clause-fault g c =
 pub returns-in-Ok-Ended-clause-turn : goal.returns-in-Ok-Ended-clause-turn
 returns-in-Ok-Ended-clause-turn g c =
     let over = rw c.in-Ok-Ended.field-0-is at c.in-Ok-Ended.ensures.advance in
+    let same = rw c.in-Ok-Ended.field-0-is at c.in-Ok-Ended.ensures.same_observer in
     IfOk-weaker (turned c.turn_of_b-in-Ok-Ended.result c.turn_of_b-in-Ok-Ended.new.way.ending) _ _
-    (λ turn h. λ order text_a text_b made_a made_b under.
+    (λ turn before. let h = rw same at before in λ order text_a text_b made_a made_b under.
     let m = over text_a made_a under.read_a in
     turn_so g.T.Top.top order _ turn text_a _ _ _ made_a _ c.turn_of_b-in-Ok-Ended.ensures.same.0 (h order text_a text_b _ made_a made_b
     (under_still g.T.Top.top order text_a text_b c.args.a.now c.advance.new.self c.args.b.now _ _ _ _ made_a made_b under m.read m.still.same_end refl

@@ -13,8 +13,8 @@ use Rattle.pair_judge.proofs.Left.{left_any, left_so}
 use Rattle.pair_judge.proofs.Faults.{faulty}
 use Rattle.pair_judge.proofs.turn.turn_of_b.Goals as goal
 
-pub returns-in-Ok-clause-turn : goal.returns-in-Ok-clause-turn
-returns-in-Ok-clause-turn g c = λ order text_a text_b come_a made_a made_b under stopped.
+pub returns-in-Ok-Made-clause-turn : goal.returns-in-Ok-Made-clause-turn
+returns-in-Ok-Made-clause-turn g c = λ order text_a text_b come_a made_a made_b under stopped.
     let advanced = rw c.in-Ok-Made.field-0-is at c.in-Ok-Made.ensures.advance in
     let m = advanced text_b made_b under.read_b in
     let h = under.reached in
@@ -25,7 +25,7 @@ returns-in-Ok-clause-turn g c = λ order text_a text_b come_a made_a made_b unde
       made_a = made_a;
       made_b = made_b ++ m.next ∷ [];
       made = made_by B m.next;
-      told = rw (c.bytes.ensures, m.is_entry) at c.in-Ok.ensures;
+      told = m.told;
       under_way = record {
         read_a = same_read text_a c.args.a.now _ come_a made_a refl refl refl under.read_a;
         read_b = m.read;

@@ -15,5 +15,6 @@ loop-index-preserved c =
           c.loop-index.invariant.rows (sym c.in-Some.ensures.value);
       keep = c.loop-index.invariant.keep;
       phase = c.loop-index.invariant.phase;
+      drawn = c.loop-index.invariant.drawn;
       room = c.loop-index.invariant.room;
     }

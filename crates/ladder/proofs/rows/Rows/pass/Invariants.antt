@@ -12,5 +12,6 @@ invariant-loop-index l = record {
   rows : l.self-inside.rows.items ≡ so_far l.receiver l.hint l.index l.initial.self-inside.rows.items;
   keep : l.self-inside.keep ≡ l.initial.self-inside.keep;
   phase : l.self-inside.phase ≡ l.initial.self-inside.phase;
+  drawn : l.self-inside.room ≡ l.initial.self-inside.room;
   room : l.self-inside.rows.capacity ≡ l.initial.self-inside.rows.capacity;
 }

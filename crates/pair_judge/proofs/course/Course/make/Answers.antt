@@ -8,10 +8,10 @@ use Rattle.pair_judge.proofs.Courses.{put_back}
 use Rattle.pair_judge.proofs.Left.{left_still}
 use Rattle.pair_judge.proofs.course.Course.make.Goals as goal
 
-pub returns-in-Ok-Done-clause-advance : goal.returns-in-Ok-Done-clause-advance
-returns-in-Ok-Done-clause-advance g c = λ text come made read. record {
+pub returns-in-Ok-clause-advance : goal.returns-in-Ok-clause-advance
+returns-in-Ok-clause-advance g c = λ text come made read. record {
   next = record_with c.args.entry c.args.self.now.capture.bytes;
-  is_entry = refl;
+  told = rw c.bytes-in-Ok-Done.ensures at c.in-Ok.ensures;
   read = record { so_far = read.so_far; count = read.count; head = c.make.ensures.head ∙ read.head };
   unread = c.requires.unread;
   made_it = rw (c.in-Ok-Done.field-0-is, c.bytes.ensures) at c.in-Ok-Done.ensures.made;
