@@ -186,6 +186,5 @@ fn put_row(alloc: Global, text: &mut String, row: &Row, ended: bool) -> Result<(
 {
     let line = row.text(alloc, ended)?;
     text.push_str(line.as_str())?;
-    text.push_str("\n")?;
-    Ok(())
+    text.push_str("\n")
 }

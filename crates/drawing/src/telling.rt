@@ -101,6 +101,5 @@ fn no_ladder(alloc: Global, keep: Keep, rows: usize) -> Result<Ladder, AllocErro
     requires high { rows ≤ MAX_ROWS }
     ensures { IfOk result (λ ladder. spec.WereTold keep rows ladder []) }
 {
-    let ladder = Ladder::new(alloc, keep, rows)?;
-    Ok(ladder)
+    Ladder::new(alloc, keep, rows)
 }

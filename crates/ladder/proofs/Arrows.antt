@@ -58,7 +58,8 @@ by_test row next made receipt hint false test named line e = cc
 
 pub joined_gives : (row : Row) (next : Told) (w : What) (made : Row) → next.what ≡ w → joined_by row next w ≡ Some made → IsArrow row next made
 joined_gives row next (what.Came hint kept said sent) made is e =
-    by_test row next made (record { line = next.line; kept = kept; said = said; state = next.state }) hint (sends row next.side hint) refl (ap hint_named is) refl e
+    by_test row next made (record { line = next.line; kept = kept; said = said; state = next.state }) hint (sends row next.side hint) refl
+    (ap hint_named is) refl e
 joined_gives row next (what.Sent unit said again) made is e = cc
 joined_gives row next (what.Noise said) made is e = cc
 joined_gives row next (what.User entry bytes) made is e = cc
