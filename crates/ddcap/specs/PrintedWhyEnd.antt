@@ -1,5 +1,5 @@
 -- What `why` prints of an answer of the judge of one end, byte by byte, and with which status it ends.
-use Rattle.std.specs.Prelude.{◌≡◌, ℕ, ◌⊎◌, List, ◌++◌, Option, Some, Result, Ok, Err, IfOk, codes}
+use Rattle.std.specs.Prelude.{◌≡◌, ℕ, ◌⊎◌, List, ◌++◌, Option, Some, Result, Ok, Err, IfOk, codes, IfSome}
 use Rattle.capture.specs.Entries.{record_with}
 use Rattle.capture.specs.Faulty.{CountsReads, is_failed_read}
 use Rattle.capture.specs.declared.fault.CaptureFault.{CaptureFault}
@@ -8,6 +8,7 @@ use Rattle.pair_judge.specs.EndJudged.{IsJudgedAlone}
 use Rattle.pair_judge.specs.EndKind.{layers_alone}
 use Rattle.pair_judge.specs.EndShown.{StandsAlone}
 use Rattle.pair_judge.specs.Ends.{ShownEnd}
+use Rattle.pair_judge.specs.FailedCheck.{reason_of_failed}
 use Rattle.pair_judge.specs.Order.{MadeRecord}
 use Rattle.pair_judge.specs.Watched.{only}
 use Rattle.pair_judge.specs.declared.end_verdict.Accused.{Accused}
@@ -31,12 +32,13 @@ pub record Stop : Type 0 where
 abbrev pub stop : EndVerdict → ShownEnd → Stop
 stop verdict end = record { verdict = verdict; end = end }
 
--- what is told of a refusal is told of the record ahead
+-- what is told of a refusal is told of the record ahead, and the check that is named, if one is, is one of its reason
 pub record IsToldOf (told : EndRefusal) (s : Stop) : Type 0 where
   pub accused : Accused
   pub is_refused : s.verdict ≡ Refused told.place accused told.reason
   pub accusation : told.accusation ≡ end_accuses accused told.reason (is_of_user told.says)
   pub ahead : s.end.ahead ≡ Some (record_with told.says told.bytes.now)
+  pub failed : IfSome told.failed (λ check. reason_of_failed check ≡ told.reason)
 
 -- in rows, behind the line of the verdict and an empty one
 pub record AreEndRows (told : EndRefusal) (s : Stop) (text : List ℕ) : Type 0 where

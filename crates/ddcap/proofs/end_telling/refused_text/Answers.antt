@@ -10,6 +10,7 @@ returns-in-Json c = end_tells_as_objects string_bytes _ _ (record {
   is_refused = c.in-Refused.is;
   accusation = c.of_end.ensures ∙ ap (λ (of_user : Bool). end_accuses c.in-Refused.accused c.in-Refused.reason of_user) c.is_of_user.ensures;
   ahead = c.in-Some.ensures.some;
+  failed = c.failed_alone.ensures;
 }) c.args.printout.form c.in-Json.is c.why_end_json.result c.why_end_json.ensures
 
 pub returns : goal.returns
@@ -18,4 +19,5 @@ returns c = end_tells_in_rows string_bytes _ _ (record {
   is_refused = c.in-Refused.is;
   accusation = c.of_end.ensures ∙ ap (λ (of_user : Bool). end_accuses c.in-Refused.accused c.in-Refused.reason of_user) c.is_of_user.ensures;
   ahead = c.in-Some.ensures.some;
+  failed = c.failed_alone.ensures;
 }) c.args.printout.form c.in-Rows.is c.rows_text.result (rw (sym c.in-Refused.is) at c.rows_text.ensures)

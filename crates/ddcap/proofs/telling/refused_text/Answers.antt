@@ -11,6 +11,8 @@ returns-in-Json c = tells_as_objects string_bytes c.args.watched.ends c.args.ref
   reason = refl;
   accused = c.of.ensures ∙ ap (λ (of_user : Bool). accuses c.args.refused.reason of_user) c.is_of_user.ensures;
   ahead = c.in-Some.ensures.some;
+  failing = _;
+  failed = c.in-Some-failed.ensures;
 }) c.args.printout.form c.in-Json.is c.objects_text.result c.objects_text.ensures
 
 pub returns : goal.returns
@@ -20,4 +22,6 @@ returns c = tells_in_rows string_bytes c.args.watched.ends c.args.refused _ (rec
   reason = refl;
   accused = c.of.ensures ∙ ap (λ (of_user : Bool). accuses c.args.refused.reason of_user) c.is_of_user.ensures;
   ahead = c.in-Some.ensures.some;
+  failing = _;
+  failed = c.in-Some-failed.ensures;
 }) c.args.printout.form c.in-Rows.is c.rows_text.result c.rows_text.ensures

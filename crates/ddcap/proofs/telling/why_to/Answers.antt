@@ -1,4 +1,5 @@
--- Where there is no memory for the rows, an edit or the text, the answer is `out of memory`. What the judge says of the lent files is said of the files.
+-- Where there is no memory for the rows, an edit or the text, the answer is `out of memory`. What the judge says of the lent files is said of the
+-- files.
 use Rattle.std.proofs.Common.{Ok, refl, sym, ◌∙◌, subst, List, ℕ}
 use Rattle.dna_node.specs.Kind.{both_layers}
 use Rattle.pair_judge.specs.Judged.{IsRefusalWhere}
