@@ -125,6 +125,7 @@ impl Received {
 
     /// How many pieces the next whole message came in, if it is this one.
     #[tactic(auto, using(crate::proofs::Arrived::told))]
+    #[inline(always)]
     pub fn pieces_of(&self, message: &[u8]) -> Option<usize>
         ensures { result ≡ delivered_pieces message.now self.now }
     {

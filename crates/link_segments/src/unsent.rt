@@ -67,6 +67,7 @@ impl Unsent {
 
     /// Whether a segment carries the next bytes of the current message: it begins it exactly if nothing has begun it, ends it exactly
     /// if nothing is left behind, and is empty only for an empty message.
+    #[inline(always)]
     pub fn is_next(&self, segment: &Segment) -> bool
         ensures { result ≡ is_next_piece (piece_of (segment_view segment.now)) self.now }
     {
