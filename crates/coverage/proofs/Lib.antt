@@ -1,6 +1,5 @@
 pub mod Places
 pub mod Tracks
-pub mod SoundBytes
 pub mod Counting
 pub mod Walks
 pub mod Steps

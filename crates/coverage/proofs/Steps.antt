@@ -36,10 +36,9 @@ use Rattle.coverage.specs.declared.tracker.Tracker.{Tracker}
 use Rattle.coverage.specs.declared.row.Row.{Row}
 use Rattle.coverage.specs.Counts.{AreCounts}
 use Rattle.coverage.specs.Rows.{record_rows, sent_rows, received_rows, sent_row, link_sends, arrival_row, link_gets, damage_row, user_row}
-use Rattle.coverage.specs.inner.Met.{counted, presumed, of_receipt, met, met_sent, met_receipt, met_damage, met_event, tracked_event}
+use Rattle.coverage.specs.inner.Met.{counted, met, met_sent, met_receipt, met_damage, met_event, tracked_event}
 use Rattle.coverage.specs.inner.Tracked.{tracker_of, after_event}
 use Rattle.coverage.proofs.Counting.{option_counted}
-use Rattle.coverage.proofs.SoundBytes.{presumed_is}
 use Rattle.coverage.proofs.Tracks.{IsBounded, arrival_tracks, effects_bounded, event_tracks, event_bounded, sending_tracks, sending_bounded}
 use Rattle.coverage.proofs.Walks.{StationNode}
 
@@ -95,14 +94,11 @@ module _ (counts : Counts) (n : StationNode) (rows : List Row) (bounded : IsBoun
       }) is
   sent_made m (Some refusal) none end is = absurd cc
 
-  sent_goes : (bytes : List ℕ) (read : ReadingValue) → reading bytes ≡ read →
-      GoesOn (met_sent half (presumed bytes)) (sent_alone station_end n read) (sent_rows w.variables read)
-  sent_goes bytes (Sound m) is =
-      subst (λ (x : ReadingValue). GoesOn (met_sent half x) (sent_alone station_end n (Sound m)) (sent_rows w.variables (Sound m)))
-      (sym (presumed_is bytes m is)) (sent_made m (wire_sending_refusal w m) refl)
-  sent_goes bytes HeaderBad is = λ end made_is. absurd cc
-  sent_goes bytes DataBad is = λ end made_is. absurd cc
-  sent_goes bytes (Malformed departure) is = λ end made_is. absurd cc
+  sent_goes : (read : ReadingValue) → GoesOn (met_sent half read) (sent_alone station_end n read) (sent_rows w.variables read)
+  sent_goes (Sound m) = sent_made m (wire_sending_refusal w m) refl
+  sent_goes HeaderBad = λ end made_is. absurd cc
+  sent_goes DataBad = λ end made_is. absurd cc
+  sent_goes (Malformed departure) = λ end made_is. absurd cc
 
   -- ---- what comes
 
@@ -141,37 +137,29 @@ module _ (counts : Counts) (n : StationNode) (rows : List Row) (bounded : IsBoun
     damage_left : Goes (met_damage half bad) (damaged_by wire_book reason w) (rows ++ option_to_list (damage_row w.variables.state bad))
     damage_left = damage_met (damaged_by wire_book reason w) (damaged_same reason w (counts_damage w.variables.state))
 
-    damage_comes : (kept : Bool) (front : ℕ) (bytes : List ℕ) → reading bytes ≡ bad → met_receipt half false bad ≡ met_damage half bad →
-        GoesOn (met_receipt half kept (of_receipt kept bytes))
-        (meets n front (unless_refused (keep_refusal false kept) (damaged_by wire_book reason w)))
+    damage_comes : (kept : Bool) (front : ℕ) → met_receipt half kept bad ≡ met_damage half bad →
+        GoesOn (met_receipt half kept bad) (meets n front (unless_refused (keep_refusal false kept) (damaged_by wire_book reason w)))
         (option_to_list (damage_row w.variables.state bad))
-    damage_comes false front bytes is same end made_is =
-        subst (λ (left : Half). Goes left end.station (rows ++ option_to_list (damage_row w.variables.state bad)))
-        (sym (ap (met_receipt half false) is ∙ same))
+    damage_comes false front same end made_is =
+        subst (λ (left : Half). Goes left end.station (rows ++ option_to_list (damage_row w.variables.state bad))) (sym same)
         (made (met_damage half bad) (record n { station = damaged_by wire_book reason w; front = front }) end
         (option_to_list (damage_row w.variables.state bad)) damage_left made_is)
-    damage_comes true front bytes is same end made_is = absurd cc
+    damage_comes true front same end made_is = absurd cc
 
-  presumed_kept : (kept : Bool) (bytes : List ℕ) (m : MessageValue) → reading bytes ≡ Sound m → of_receipt kept bytes ≡ Sound m
-  presumed_kept true bytes m is = presumed_is bytes m is
-  presumed_kept false bytes m is = is
+  comes_goes : (kept : Bool) (front : ℕ) (read : ReadingValue) →
+      GoesOn (met_receipt half kept read) (comes_alone station_end n front kept read) (received_rows w.variables kept read)
+  comes_goes kept front (Sound m) =
+      sound_made m kept front (station_end.wrong_unit w m) (if_kept kept None)
+      (wire_arrival_refusal of_any_period w (arriving.Sound m unknown_period) kept)
+  comes_goes kept front HeaderBad = damage_comes HeaderCheck HeaderBad kept front refl
+  comes_goes kept front DataBad = damage_comes DataCheck DataBad kept front refl
+  comes_goes kept front (Malformed departure) = λ end made_is. absurd cc
 
-  comes_goes : (kept : Bool) (front : ℕ) (bytes : List ℕ) (read : ReadingValue) → reading bytes ≡ read →
-      GoesOn (met_receipt half kept (of_receipt kept bytes)) (comes_alone station_end n front kept read) (received_rows w.variables kept read)
-  comes_goes kept front bytes (Sound m) is =
-      subst (λ (x : ReadingValue). GoesOn (met_receipt half kept x) (comes_alone station_end n front kept (Sound m))
-      (received_rows w.variables kept (Sound m))) (sym (presumed_kept kept bytes m is))
-      (sound_made m kept front (station_end.wrong_unit w m) (if_kept kept None)
-      (wire_arrival_refusal of_any_period w (arriving.Sound m unknown_period) kept))
-  comes_goes kept front bytes HeaderBad is = damage_comes HeaderCheck HeaderBad kept front bytes is refl
-  comes_goes kept front bytes DataBad is = damage_comes DataCheck DataBad kept front bytes is refl
-  comes_goes kept front bytes (Malformed departure) is = λ end made_is. absurd cc
-
-  receives_goes : (late : Bool) (kept : Bool) (front : ℕ) (bytes : List ℕ) →
-      GoesOn (met_receipt half kept (of_receipt kept bytes))
-      (cond late (Refuses ThisEnd HintOrder) (comes_alone station_end n front kept (reading bytes))) (received_rows w.variables kept (reading bytes))
-  receives_goes true kept front bytes = λ end made_is. absurd cc
-  receives_goes false kept front bytes = comes_goes kept front bytes (reading bytes) refl
+  receives_goes : (late : Bool) (kept : Bool) (front : ℕ) (read : ReadingValue) →
+      GoesOn (met_receipt half kept read) (cond late (Refuses ThisEnd HintOrder) (comes_alone station_end n front kept read))
+      (received_rows w.variables kept read)
+  receives_goes true kept front read = λ end made_is. absurd cc
+  receives_goes false kept front read = comes_goes kept front read
 
   noise_goes : (read : ReadingValue) →
       GoesOn (met_damage half read) (alone.does n (noise_comes station_end.machine w (damage read)))
@@ -219,8 +207,8 @@ module _ (counts : Counts) (n : StationNode) (rows : List Row) (bounded : IsBoun
   -- ---- a record
 
   record_goes : (r : Record) → GoesOn (met half r) (step_alone station_end n r) (record_rows w.variables r)
-  record_goes (Sent bytes) = sent_goes bytes (reading bytes) refl
-  record_goes (Received hint kept bytes) = receives_goes (nat_lt hint n.front) kept (hint + 1) bytes
+  record_goes (Sent bytes) = sent_goes (reading bytes)
+  record_goes (Received hint kept bytes) = receives_goes (nat_lt hint n.front) kept (hint + 1) (reading bytes)
   record_goes (Noise bytes) = noise_goes (reading bytes)
   record_goes (User event) = user_goes event
 

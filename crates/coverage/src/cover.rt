@@ -47,14 +47,20 @@ impl Observer for Cover {
     ghost told = { Told };
 
     #[inline(always)]
-    fn made(&mut self, side: Side, entry: Entry, bytes: &[u8]) -> Result<(), AllocError> {
+    fn made(
+        &mut self,
+        side: Side,
+        entry: Entry,
+        bytes: &[u8],
+        sound: bool,
+    ) -> Result<(), AllocError> {
         match side {
             Side::A => {
-                self.a.meet(entry, bytes);
+                self.a.meet(entry, bytes, sound);
                 Ok(())
             }
             Side::B => {
-                self.b.meet(entry, bytes);
+                self.b.meet(entry, bytes, sound);
                 Ok(())
             }
         }

@@ -1,18 +1,17 @@
 //! What is kept of one side: its station, and how often it went through each row.
 
-ghost use Rattle.std.specs.Prelude.{◌≡◌};
+ghost use Rattle.std.specs.Prelude.{◌≡◌, true};
 ghost use Rattle.capture.specs.declared.event.Event.TheVariants as Event;
 ghost use Rattle.capture.specs.Entries.{record_with};
-ghost use Rattle.ddcmp_msg.specs.Reading.{reading_view};
+ghost use Rattle.ddcmp_msg.specs.Reading.{IsSound, reading, reading_view};
 ghost use Rattle.coverage.specs.inner.Met as spec;
 
 use crate::counts::Counts;
 use crate::link_rows::{link_gets, link_sends};
-use crate::presumed::{of_receipt, presumed};
 use crate::row::{LinkAct, Row};
 use crate::tracker::Tracker;
 use capture::Entry;
-use ddcmp_msg::{Reading, read_unit};
+use ddcmp_msg::{Reading, read_sound, read_unit};
 use dna_station::{State, StationEvent};
 
 /// One side.
@@ -23,14 +22,15 @@ pub struct Half {
 }
 
 impl Half {
-    /// This record was made.
+    /// This record was made. What is said to be sound is read without its checks.
     #[inline(always)]
-    pub(crate) fn meet(&mut self, entry: Entry, bytes: &[u8])
+    pub(crate) fn meet(&mut self, entry: Entry, bytes: &[u8], sound: bool)
+        requires { sound ≡ true → IsSound (reading bytes.now) }
         ensures { self.new ≡ spec.met self.old (record_with entry bytes.now) }
     {
         match entry {
-            Entry::Sent => self.sent(presumed(bytes)),
-            Entry::Received { kept, .. } => self.received(kept, of_receipt(kept, bytes)),
+            Entry::Sent => self.sent(read(bytes, sound)),
+            Entry::Received { kept, .. } => self.received(kept, read(bytes, sound)),
             Entry::Noise => self.damaged(read_unit(bytes)),
             Entry::Start => self.started(),
             Entry::Halt => self.halted(),
@@ -102,4 +102,16 @@ impl Half {
     {
         self.counts.count(Some(Row::LinkUser(act)));
     }
+}
+
+// What the unit says.
+#[inline(always)]
+fn read(bytes: &[u8], sound: bool) -> Reading<'_>
+    requires { sound ≡ true → IsSound (reading bytes.now) }
+    ensures { reading_view result ≡ reading bytes.now }
+{
+    if sound {
+        return Reading::Sound(read_sound(bytes));
+    }
+    read_unit(bytes)
 }

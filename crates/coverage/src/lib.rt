@@ -8,12 +8,9 @@ mod covering;
 mod half;
 mod link_rows;
 mod order;
-mod presumed;
 mod row;
 mod row_names;
 mod station_rows;
-#[cfg(test)]
-mod tests;
 mod text;
 mod tracker;
 

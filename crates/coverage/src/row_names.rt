@@ -11,6 +11,7 @@ use std::fmt;
 
 impl Row {
     /// Its place in the order of the rows, 0 to 79.
+    #[inline(always)]
     pub fn place(self) -> usize
         ensures place { result ≡ spec.place self }
         ensures below { result < 80 }
@@ -84,6 +85,7 @@ impl fmt::Display for Row {
 }
 
 // Each state: its place among them, and its name.
+#[inline(always)]
 fn state_entry<'a>(state: State) -> (usize, &'a str)
     ensures place { result.0 ≡ (spec.state_entry state).0 }
     ensures name { result.1.now ≡ (spec.state_entry state).1 }
@@ -98,6 +100,7 @@ fn state_entry<'a>(state: State) -> (usize, &'a str)
 }
 
 // What is sent: its place, and the name of its row.
+#[inline(always)]
 fn sending_entry<'a>(sending: Sending) -> (usize, &'a str)
     ensures place { result.0 ≡ (spec.sending_entry sending).0 }
     ensures name { result.1.now ≡ (spec.sending_entry sending).1 }
@@ -116,6 +119,7 @@ fn sending_entry<'a>(sending: Sending) -> (usize, &'a str)
 }
 
 // A unit: its place, and its name.
+#[inline(always)]
 fn unit_entry<'a>(kind: UnitKind) -> (usize, &'a str)
     ensures place { result.0 ≡ (spec.unit_entry kind).0 }
     ensures name { result.1.now ≡ (spec.unit_entry kind).1 }
@@ -132,6 +136,7 @@ fn unit_entry<'a>(kind: UnitKind) -> (usize, &'a str)
 }
 
 // What comes in ASTRT: its place, and its name.
+#[inline(always)]
 fn astrt_entry<'a>(arrival: AstrtArrival) -> (usize, &'a str)
     ensures place { result.0 ≡ (spec.astrt_entry arrival).0 }
     ensures name { result.1.now ≡ (spec.astrt_entry arrival).1 }
@@ -152,6 +157,7 @@ fn astrt_entry<'a>(arrival: AstrtArrival) -> (usize, &'a str)
 }
 
 // What comes in RUNNING: its place, and its name.
+#[inline(always)]
 fn running_entry<'a>(arrival: RunningArrival) -> (usize, &'a str)
     ensures place { result.0 ≡ (spec.running_entry arrival).0 }
     ensures name { result.1.now ≡ (spec.running_entry arrival).1 }
@@ -171,6 +177,7 @@ fn running_entry<'a>(arrival: RunningArrival) -> (usize, &'a str)
 }
 
 // Damage: its place, and its name.
+#[inline(always)]
 fn damage_entry<'a>(damage: Damage) -> (usize, &'a str)
     ensures place { result.0 ≡ (spec.damage_entry damage).0 }
     ensures name { result.1.now ≡ (spec.damage_entry damage).1 }
@@ -183,6 +190,7 @@ fn damage_entry<'a>(damage: Damage) -> (usize, &'a str)
 }
 
 // What a user does: its place, and its name.
+#[inline(always)]
 fn act_entry<'a>(act: LinkAct) -> (usize, &'a str)
     ensures place { result.0 ≡ (spec.act_entry act).0 }
     ensures name { result.1.now ≡ (spec.act_entry act).1 }
@@ -199,6 +207,7 @@ fn act_entry<'a>(act: LinkAct) -> (usize, &'a str)
 }
 
 // A message: its place, and its name.
+#[inline(always)]
 fn message_entry<'a>(kind: MessageKind) -> (usize, &'a str)
     ensures place { result.0 ≡ (spec.message_entry kind).0 }
     ensures name { result.1.now ≡ (spec.message_entry kind).1 }

@@ -31,7 +31,13 @@ impl LastRows {
 impl Observer for LastRows {
     ghost told = { λ rows order. WereTold rows.ladder order };
 
-    fn made(&mut self, side: Side, entry: Entry, bytes: &[u8]) -> Result<(), AllocError> {
+    fn made(
+        &mut self,
+        side: Side,
+        entry: Entry,
+        bytes: &[u8],
+        _sound: bool,
+    ) -> Result<(), AllocError> {
         self.ladder.made(side, entry, bytes)
     }
 }

@@ -19,6 +19,3 @@ pub use laws::{
     written_is_found,
 };
 pub use limit::MAX_FRAME;
-
-#[cfg(test)]
-mod tests;

@@ -21,8 +21,6 @@ mod svg_cells;
 mod svg_parts;
 mod svg_places;
 mod svg_style;
-#[cfg(test)]
-mod tests;
 mod text;
 mod told;
 mod under_way;

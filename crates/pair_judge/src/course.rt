@@ -176,7 +176,12 @@ impl Course {
     {
         let alloc = self.capture.alloc();
         match make::<T>(alloc, &mut self.end, incoming, entry, self.capture.bytes()) {
-            Ok(Made::Done) => match observer.made(side, entry, self.capture.bytes()) {
+            Ok(Made::Done { sound }) => match observer.made(
+                side,
+                entry,
+                self.capture.bytes(),
+                sound,
+            ) {
                 Ok(()) => Ok(Advance::Made),
                 Err(AllocError) => Err(CaptureFault::OutOfMemory),
             },

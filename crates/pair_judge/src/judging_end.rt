@@ -142,7 +142,7 @@ fn stop_end<T: Top, O: Observer, R: Read>(
     for number in 0..MAX_RECORDS + 1 {
         match capture.advance(a) {
             Ok(Some(entry)) => match end.make::<T>(entry, capture.bytes()) {
-                Ok(MadeAlone::Done) => match observer.made(Side::A, entry, capture.bytes()) {
+                Ok(MadeAlone::Done) => match observer.made(Side::A, entry, capture.bytes(), false) {
                     Ok(()) => {}
                     Err(AllocError) => return Err(CaptureFault::OutOfMemory),
                 },

@@ -1,7 +1,7 @@
 //! One record of one side.
 
 ghost use Rattle.std.specs.Prelude.{◌≡◌, ◌≤◌, IfOk, IfErr};
-ghost use Rattle.ddcmp_msg.specs.Reading.{reading};
+ghost use Rattle.ddcmp_msg.specs.Reading.{IsSound, reading};
 ghost use Rattle.capture.specs.declared.record.Record.TheVariants as Record;
 ghost use Rattle.capture.specs.Entries.{record_with};
 ghost use Rattle.capture.specs.Range.{NumbersFit};
@@ -13,7 +13,7 @@ ghost use Rattle.pair_judge.specs.inner.Lines.{Shows};
 ghost use Rattle.pair_judge.specs.Summary.{HasRoom};
 ghost use Rattle.pair_judge.specs.declared.line.Line.{Line};
 ghost use Rattle.pair_judge.specs.inner.Memory.{MayEnter, MayKeep, MaySend, MayTakeMemory};
-ghost use Rattle.pair_judge.specs.inner.Making.{IfFails, IsEvent, LeavesWaiting, MadeIs, NeverWaits, StandsFor, move};
+ghost use Rattle.pair_judge.specs.inner.Making.{IfFails, IfSound, IsEvent, LeavesWaiting, MadeIs, NeverWaits, StandsFor, move};
 ghost use Rattle.pair_judge.specs.inner.Wire.{IfLeft, JudgeHalf};
 
 use crate::end::End;
@@ -32,8 +32,8 @@ use std::alloc::{AllocError, Global};
 /// What became of a record.
 #[derive(Clone, Copy, Debug, PartialEq, Eq)]
 pub enum Made {
-    /// It was made.
-    Done,
+    /// It was made. `sound`: of a sound unit; `false` says nothing.
+    Done { sound: bool },
     /// Its unit is not sent yet. Nothing changed.
     Waits,
     /// It can't be made.
@@ -56,6 +56,7 @@ pub fn make<T: Top>(
     ensures made { IfOk result (λ made. (mine theirs : JudgeHalf) →
         StandsFor own.old incoming.old mine → Shows incoming.old theirs.sent →
         MadeIs T.top made (move own.old own.new incoming.old incoming.new) (record_with entry bytes.now) mine theirs) }
+    ensures sound { IfOk result (λ made. IfSound made (IsSound (reading bytes.now))) }
     ensures waits { IfOk result (λ made. LeavesWaiting made (move own.old own.new incoming.old incoming.new)) }
     ensures counts { IfOk result (λ made. IfFails made (own.new.counts ≡ own.old.counts)) }
     ensures still { IfOk result (λ made. IfFails made (IfLeft T.top.leaves (own.new ≡ own.old))) }
@@ -86,6 +87,7 @@ fn make_event_copied<T: Top>(own: &mut End, entry: Entry, bytes: &[u8]) -> Resul
     ensures made { IfOk result (λ made. (incoming : Line) (mine theirs : JudgeHalf) →
         StandsFor own.old incoming mine → Shows incoming theirs.sent →
         MadeIs T.top made (move own.old own.new incoming incoming) (record_with entry bytes.now) mine theirs) }
+    ensures sound { IfOk result (λ made. IfSound made (IsSound (reading bytes.now))) }
     ensures waits { IfOk result NeverWaits }
     ensures counts { IfOk result (λ made. IfFails made (own.new.counts ≡ own.old.counts)) }
     ensures still { IfOk result (λ made. IfFails made (IfLeft T.top.leaves (own.new ≡ own.old))) }
@@ -104,6 +106,7 @@ fn make_event<T: Top>(own: &mut End, entry: Entry, bytes: &[u8]) -> Result<Made,
     ensures made { IfOk result (λ made. (incoming : Line) (mine theirs : JudgeHalf) →
         StandsFor own.old incoming mine → Shows incoming theirs.sent →
         MadeIs T.top made (move own.old own.new incoming incoming) (record_with entry bytes.now) mine theirs) }
+    ensures sound { IfOk result (λ made. IfSound made (IsSound (reading bytes.now))) }
     ensures waits { IfOk result NeverWaits }
     ensures counts { IfOk result (λ made. IfFails made (own.new.counts ≡ own.old.counts)) }
     ensures still { IfOk result (λ made. IfFails made (IfLeft T.top.leaves (own.new ≡ own.old))) }
@@ -141,6 +144,7 @@ fn make_sent<T: Top>(alloc: Global, own: &mut End, bytes: &[u8]) -> Result<Made,
     ensures made { IfOk result (λ made. (incoming : Line) (mine theirs : JudgeHalf) →
         StandsFor own.old incoming mine → Shows incoming theirs.sent →
         MadeIs T.top made (move own.old own.new incoming incoming) (Record.Sent bytes.now) mine theirs) }
+    ensures sound { IfOk result (λ made. IfSound made (IsSound (reading bytes.now))) }
     ensures waits { IfOk result NeverWaits }
     ensures counts { IfOk result (λ made. IfFails made (own.new.counts ≡ own.old.counts)) }
     ensures still { IfOk result (λ made. IfFails made (IfLeft T.top.leaves (own.new ≡ own.old))) }
@@ -150,7 +154,7 @@ fn make_sent<T: Top>(alloc: Global, own: &mut End, bytes: &[u8]) -> Result<Made,
     match send::<T>(alloc, &mut own.layers, &mut own.line, bytes) {
         Ok(()) => {
             own.counts = own.counts.with_sending();
-            Ok(Made::Done)
+            Ok(Made::Done { sound: true })
         }
         Err(fault) => match fault {
             StepFault::Refused(refusal) => Ok(Made::Fails(refusal)),
@@ -172,6 +176,7 @@ fn make_received<T: Top>(
     ensures made { IfOk result (λ made. (mine theirs : JudgeHalf) →
         StandsFor own.old incoming.old mine → Shows incoming.old theirs.sent →
         MadeIs T.top made (move own.old own.new incoming.old incoming.new) (Record.Received hint kept bytes.now) mine theirs) }
+    ensures sound { IfOk result (λ made. IfSound made (IsSound (reading bytes.now))) }
     ensures waits { IfOk result (λ made. LeavesWaiting made (move own.old own.new incoming.old incoming.new)) }
     ensures counts { IfOk result (λ made. IfFails made (own.new.counts ≡ own.old.counts)) }
     ensures still { IfOk result (λ made. IfFails made (IfLeft T.top.leaves (own.new ≡ own.old))) }
@@ -182,7 +187,7 @@ fn make_received<T: Top>(
     match receive::<T>(&mut own.layers, incoming, hint, kept, bytes) {
         Ok(Receipt::Done { damaged }) => {
             own.counts = own.counts.with_receipt(damaged, kept);
-            Ok(Made::Done)
+            Ok(Made::Done { sound: !damaged })
         }
         Ok(Receipt::Waits) => Ok(Made::Waits),
         Ok(Receipt::Fails(refusal)) => Ok(Made::Fails(refusal)),
@@ -197,6 +202,7 @@ fn make_noise<T: Top>(own: &mut End, bytes: &[u8]) -> Made
     ensures made { (incoming : Line) (mine theirs : JudgeHalf) →
         StandsFor own.old incoming mine → Shows incoming theirs.sent →
         MadeIs T.top result (move own.old own.new incoming incoming) (Record.Noise bytes.now) mine theirs }
+    ensures sound { IfSound result (IsSound (reading bytes.now)) }
     ensures waits { NeverWaits result }
     ensures counts { IfFails result (own.new.counts ≡ own.old.counts) }
     ensures still { IfFails result (IfLeft T.top.leaves (own.new ≡ own.old)) }
@@ -205,7 +211,7 @@ fn make_noise<T: Top>(own: &mut End, bytes: &[u8]) -> Made
     match hear::<T>(&mut own.layers, bytes) {
         Ok(()) => {
             own.counts = own.counts.with_receipt(true, false);
-            Made::Done
+            Made::Done { sound: false }
         }
         Err(refusal) => Made::Fails(refusal),
     }
@@ -217,6 +223,7 @@ fn make_station_event<T: Top>(own: &mut End, event: StationEvent) -> Made
     ensures made { (incoming : Line) (mine theirs : JudgeHalf) →
         StandsFor own.old incoming mine → Shows incoming theirs.sent →
         MadeIs T.top result (move own.old own.new incoming incoming) (Record.User (event_of_station event)) mine theirs }
+    ensures sound { IfSound result ⊥ }
     ensures waits { NeverWaits result }
     ensures counts { IfFails result (own.new.counts ≡ own.old.counts) }
     ensures still { IfFails result (IfLeft T.top.leaves (own.new ≡ own.old)) }
@@ -225,7 +232,7 @@ fn make_station_event<T: Top>(own: &mut End, event: StationEvent) -> Made
     match T::start_or_halt(&mut own.layers, event) {
         Ok(()) => {
             own.counts = own.counts.with_station_event(event);
-            Made::Done
+            Made::Done { sound: false }
         }
         Err(refusal) => Made::Fails(refusal),
     }
@@ -237,6 +244,7 @@ fn make_link_event<T: Top>(own: &mut End, event: LinkEvent) -> Result<Made, Allo
     ensures made { IfOk result (λ made. (incoming : Line) (mine theirs : JudgeHalf) →
         StandsFor own.old incoming mine → Shows incoming theirs.sent →
         MadeIs T.top made (move own.old own.new incoming incoming) (Record.User (event_of_links (view event.entry))) mine theirs) }
+    ensures sound { IfOk result (λ made. IfSound made ⊥) }
     ensures waits { IfOk result NeverWaits }
     ensures counts { IfOk result (λ made. IfFails made (own.new.counts ≡ own.old.counts)) }
     ensures still { IfOk result (λ made. IfFails made (IfLeft T.top.leaves (own.new ≡ own.old))) }
@@ -247,7 +255,7 @@ fn make_link_event<T: Top>(own: &mut End, event: LinkEvent) -> Result<Made, Allo
     match T::at_links(&mut own.layers, event) {
         Ok(()) => {
             own.counts = own.counts.with_link_event(delivers);
-            Ok(Made::Done)
+            Ok(Made::Done { sound: false })
         }
         Err(StepFault::Refused(refusal)) => Ok(Made::Fails(refusal)),
         Err(StepFault::OutOfMemory) => Err(AllocError),

@@ -1,7 +1,8 @@
 //! Who is told of each record that the judge makes.
 
-ghost use Rattle.std.specs.Prelude.{List, OnOk};
+ghost use Rattle.std.specs.Prelude.{◌≡◌, true, List, OnOk};
 ghost use Rattle.capture.specs.Entries.{record_with};
+ghost use Rattle.ddcmp_msg.specs.Reading.{IsSound, reading};
 ghost use Rattle.pair_judge.specs.Order.{MadeRecord, TellsNext, made_by};
 
 use crate::fault::JudgeFault;
@@ -16,9 +17,16 @@ pub trait Observer: Drop {
     // What it is after it was told these records.
     ghost told: { Self → List MadeRecord → Type 0 };
 
-    /// This side made the record of this entry and these bytes. `AllocError`: memory for what it keeps of that was refused; it has no use
-    /// any more.
-    fn made(&mut self, side: Side, entry: Entry, bytes: &[u8]) -> Result<(), AllocError>
+    /// This side made the record of this entry and these bytes. `sound` says that they are a sound unit, which the judge found already;
+    /// `false` says nothing. `AllocError`: memory for what it keeps of that was refused; it has no use any more.
+    fn made(
+        &mut self,
+        side: Side,
+        entry: Entry,
+        bytes: &[u8],
+        sound: bool,
+    ) -> Result<(), AllocError>
+        requires { sound ≡ true → IsSound (reading bytes.now) }
         ensures { OnOk result (TellsNext told self.old self.new (made_by side (record_with entry bytes.now))) };
 }
 
@@ -30,7 +38,13 @@ impl Observer for Nobody {
     ghost told = { λ nobody order. Unit {0} };
 
     #[inline(always)]
-    fn made(&mut self, _side: Side, _entry: Entry, _bytes: &[u8]) -> Result<(), AllocError> {
+    fn made(
+        &mut self,
+        _side: Side,
+        _entry: Entry,
+        _bytes: &[u8],
+        _sound: bool,
+    ) -> Result<(), AllocError> {
         Ok(())
     }
 }

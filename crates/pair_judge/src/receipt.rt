@@ -1,17 +1,17 @@
 //! A receipt: the bytes that came beside the unit that their hint names.
 
-ghost use Rattle.std.specs.Prelude.{◌≡◌, ◌+◌, ◌^◌, ◌<◌, ◌≤◌, List, IfOk, IfErr, IfSome, Ok};
+ghost use Rattle.std.specs.Prelude.{◌≡◌, ◌+◌, ◌^◌, ◌<◌, ◌≤◌, false, List, IfOk, IfErr, IfSome, Ok};
 ghost use Rattle.std.specs.Option.{option_map};
 ghost use Rattle.dna_node.specs.WireLayers.{WireLayersUnit};
 ghost use Rattle.dna_station.specs.WireStation.{load};
 ghost use Rattle.dna_station.specs.Line as line;
 ghost use Rattle.ddcmp_station.specs.Arrival.{arrival_view};
-ghost use Rattle.ddcmp_msg.specs.Reading.{reading};
+ghost use Rattle.ddcmp_msg.specs.Reading.{IsSound, reading};
 ghost use Rattle.pair_judge.specs.Counting.{shows_damage};
 ghost use Rattle.pair_judge.specs.inner.Lines.{Shows};
 ghost use Rattle.pair_judge.specs.inner.Memory.{MayKeep};
 ghost use Rattle.pair_judge.specs.inner.Steps.{with_link};
-ghost use Rattle.pair_judge.specs.inner.Receipts.{IfFails, ReceiptIs, came, is_damage, layers_move};
+ghost use Rattle.pair_judge.specs.inner.Receipts.{IfFails, IfSound, ReceiptIs, came, is_damage, layers_move};
 ghost use Rattle.pair_judge.specs.inner.Wire.{IfLeft};
 
 use crate::layers::Layers;
@@ -53,6 +53,7 @@ pub fn receive<T: Top>(
     requires load { load layers.old.station < 2 ^ 63 }
     ensures receipt { IfOk result (λ receipt. (sent : List WireLayersUnit) → Shows line.old sent →
         ReceiptIs T.top receipt (layers_move layers.old layers.new line.old line.new) (came hint kept bytes.now) sent) }
+    ensures sound { IfOk result (λ receipt. IfSound receipt (IsSound (reading bytes.now))) }
     ensures waits { result ≡ Ok Receipt.Waits → (layers.new ≡ layers.old) × (line.new ≡ line.old) }
     ensures still { IfOk result (λ receipt. IfFails receipt (IfLeft T.top.leaves (layers.new ≡ layers.old))) }
     ensures same_line { IfOk result (λ receipt. IfFails receipt (line.new ≡ line.old)) }
@@ -87,6 +88,7 @@ pub fn receive<T: Top>(
 pub fn coming<'a>(unit: &LineUnit<'_>, bytes: &'a [u8]) -> Option<Arrival<'a>>
     ensures coming { option_map (λ arrival. with_link unit.now.known.link (arrival_view arrival)) result ≡ line.coming unit.now bytes.now }
     ensures damage { IfSome result (λ arrival. is_damage (arrival_view arrival) ≡ shows_damage (reading bytes.now)) }
+    ensures sound { IfSome result (λ arrival. is_damage (arrival_view arrival) ≡ false → IsSound (reading bytes.now)) }
 {
     let own = unit.bytes();
     if bytes == own {

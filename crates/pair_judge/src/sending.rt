@@ -34,6 +34,7 @@ pub fn send<T: Top>(
     bytes: &[u8],
 ) -> Result<(), StepFault>
     ensures ok { OnOk result (IsSent T.top layers.old layers.new line.old line.new bytes.now) }
+    ensures sound { OnOk result (IsSoundReading (reading bytes.now)) }
     ensures gone { line.new.gone ≡ line.old.gone }
     ensures load { load layers.new.station ≤ load layers.old.station }
     ensures err { IfErr result (IfRefused (IsNotSent T.top layers.old bytes.now)) }

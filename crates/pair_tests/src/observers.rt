@@ -23,7 +23,13 @@ struct Letters {
 impl Observer for Letters {
     ghost told = { λ letters order. length letters.made.items ≡ length order };
 
-    fn made(&mut self, side: Side, _entry: Entry, _bytes: &[u8]) -> Result<(), AllocError> {
+    fn made(
+        &mut self,
+        side: Side,
+        _entry: Entry,
+        _bytes: &[u8],
+        _sound: bool,
+    ) -> Result<(), AllocError> {
         let letter = match side {
             Side::A => b'a',
             Side::B => b'b',

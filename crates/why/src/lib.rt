@@ -34,8 +34,6 @@ mod sides;
 mod state_line;
 mod state_text;
 mod station_checks;
-#[cfg(test)]
-mod tests;
 mod unit_words;
 mod why_text;
 

@@ -13,6 +13,3 @@ mod words;
 pub use laws::{known_wire, one_wire, one_wire_departure, wire_read_on};
 pub use limit::{MAX_PIECE, MAX_PIECES};
 pub use wire_reader::WireReader;
-
-#[cfg(test)]
-mod tests;

@@ -1,9 +1,6 @@
 -- What a record makes of what is kept of its side.
-use Rattle.std.specs.Prelude.{ℕ, ◌+◌, ◌-◌, Bool, true, false, ◌&&◌, ◌==◌, nat_lt, if◌then◌else◌, min, Option, Some, None, List, length, slice_index}
-use Rattle.std.specs.Prelude.{slice_range, slice_set}
-use Rattle.ddcmp_msg.specs.Message.{Data}
-use Rattle.ddcmp_msg.specs.Reading.{ReadingValue, reading, Sound, HeaderBad, DataBad, Malformed, unit_flags, receiver_of, sender_of}
-use Rattle.ddcmp_msg.specs.Spelling.{SOH}
+use Rattle.std.specs.Prelude.{ℕ, ◌+◌, Bool, min, Option, Some, None, List, slice_index, slice_set}
+use Rattle.ddcmp_msg.specs.Reading.{ReadingValue, reading, Sound, HeaderBad, DataBad, Malformed}
 use Rattle.capture.specs.declared.record.Record.{Record}
 use Rattle.capture.specs.declared.record.Record.TheVariants.{Sent, Received, Noise, User}
 use Rattle.capture.specs.declared.event.Event.{Event}
@@ -19,20 +16,6 @@ use Rattle.coverage.specs.Counts.{MOST}
 use Rattle.coverage.specs.Row.{place}
 use Rattle.coverage.specs.Rows.{user_row, sent_row, arrival_row, damage_row, link_sends, link_gets}
 use Rattle.coverage.specs.inner.Tracked.{after_arrival, after_event, after_sending, is_new}
-
--- ---- what bytes say that are known to be sound
-
--- a data message without its checks; of other bytes the reading
-abbrev pub presumed : List ℕ → ReadingValue
-presumed bytes =
-    if nat_lt 10 (length bytes) && slice_index bytes 0 == SOH
-    then Sound (Data (unit_flags bytes) (receiver_of bytes) (sender_of bytes) (slice_range bytes 8 (length bytes - 2)))
-    else reading bytes
-
--- what was kept is sound
-abbrev pub of_receipt : (kept : Bool) → List ℕ → ReadingValue
-of_receipt true bytes = presumed bytes
-of_receipt false bytes = reading bytes
 
 -- ---- counts
 
@@ -87,7 +70,7 @@ abbrev pub met_link : Half → LinkAct → Half
 met_link half act = record half { counts = counted_in half.counts (Some (LinkUser act)) }
 
 abbrev pub met : Half → Record → Half
-met half (Sent bytes) = met_sent half (presumed bytes)
-met half (Received hint kept bytes) = met_receipt half kept (of_receipt kept bytes)
+met half (Sent bytes) = met_sent half (reading bytes)
+met half (Received hint kept bytes) = met_receipt half kept (reading bytes)
 met half (Noise bytes) = met_damage half (reading bytes)
 met half (User event) = met_event half event

@@ -55,24 +55,30 @@ module _ (top : JudgeTop) where
     pub load : load m.new.layers.station ≤ load m.old.layers.station + 1
 
   abbrev pub MadeIs : Made → Move → Record → JudgeHalf → JudgeHalf → Type 0
-  MadeIs Done m r own other = IsMade m r own other
+  MadeIs (Done sound) m r own other = IsMade m r own other
   -- the unit that the record names is not sent yet
   MadeIs Waits m r own other = advance (judge_step top) own other r ≡ any.Waits
   MadeIs (Fails refusal) m r own other = advance (judge_step top) own other r ≡ any.Refused refusal
 
 -- a record that waits leaves all as it was
 abbrev pub LeavesWaiting : Made → Move → Type 0
-LeavesWaiting Done m = Unit {0}
+LeavesWaiting (Done sound) m = Unit {0}
 LeavesWaiting Waits m = (m.new ≡ m.old) × (m.after ≡ m.before)
 LeavesWaiting (Fails refusal) m = Unit {0}
 
 abbrev pub NeverWaits : Made → Type 0
-NeverWaits Done = Unit {0}
+NeverWaits (Done sound) = Unit {0}
 NeverWaits Waits = ⊥
 NeverWaits (Fails refusal) = Unit {0}
 
 -- a fact of a record that can't be made
 abbrev pub IfFails : Made → Type 0 → Type 0
-IfFails Done P = Unit {0}
+IfFails (Done sound) P = Unit {0}
 IfFails Waits P = Unit {0}
 IfFails (Fails refusal) P = P
+
+-- a fact of a record that is said to be made of a sound unit
+abbrev pub IfSound : Made → Type 0 → Type 0
+IfSound (Done sound) P = sound ≡ true → P
+IfSound Waits P = Unit {0}
+IfSound (Fails refusal) P = Unit {0}

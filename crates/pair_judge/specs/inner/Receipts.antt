@@ -51,6 +51,12 @@ IfFails (Done damaged) P = Unit {0}
 IfFails Waits P = Unit {0}
 IfFails (Fails refusal) P = P
 
+-- a fact of a receipt that shows no damage
+abbrev pub IfSound : Receipt → Type 0 → Type 0
+IfSound (Done damaged) P = damaged ≡ false → P
+IfSound Waits P = Unit {0}
+IfSound (Fails refusal) P = Unit {0}
+
 module _ (top : JudgeTop) where
   -- the unit of the hint was sent, and the node goes by it: to these layers and this line
   pub record IsReceived (m : LayersMove) (c : Came) (sent : List WireLayersUnit) : Type 0 where

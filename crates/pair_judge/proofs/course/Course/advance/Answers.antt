@@ -20,4 +20,5 @@ returns-in-Ok-Some-clause-advance g c =
     let at_end = subst (λ (e : End). AdvanceIs g.T.Top.top tells advance (move e c.make.new.self.end c.args.incoming.now c.make.new.incoming)
     (along text c.make.new.self (to_come c.next.new.self.capture.unread left) made)) c.next.ensures.end made_it in
     subst (λ (s : CaptureState). AdvanceIs g.T.Top.top tells advance
-    (move c.args.self.now.end c.make.new.self.end c.args.incoming.now c.make.new.incoming) (along text c.make.new.self (to_come s.unread left) made)) (sym c.make.ensures.capture) at_end) c.make.ensures.advance
+    (move c.args.self.now.end c.make.new.self.end c.args.incoming.now c.make.new.incoming) (along text c.make.new.self (to_come s.unread left) made))
+    (sym c.make.ensures.capture) at_end) c.make.ensures.advance

@@ -1,7 +1,7 @@
-use crate::WireReader;
 use capture::{CaptureFault, Departure};
 use std::alloc::Global;
 use wire_base::{Side, Tally};
+use wire_text::WireReader;
 
 const TEXT: &str = "ddwire 1 1.1 63.1023\na 9605\nb 81\na ff\n";
 

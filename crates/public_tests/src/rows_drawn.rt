@@ -1,5 +1,5 @@
-use crate::{Drawn, Keep, Ladder};
 use capture::Entry;
+use ladder::{Drawn, Keep, Ladder};
 use std::alloc::{AllocError, Global};
 use wire_base::Side;
 

@@ -1,7 +1,3 @@
-use crate::{
-    Accusation, EditRow, EditsTried, RecorderRow, Refusal, Shown, StateLine, is_of_user,
-    record_json, record_text, side_json, side_text, why_json, why_rows,
-};
 use capture::Entry;
 use ddcmp_msg::read_unit;
 use ddcmp_station::{FailedSending, OpenCauses, State, StationView};
@@ -9,6 +5,10 @@ use dna_links::{Phase, Port};
 use nsp_link::{LinkNumbers, LinkView};
 use pair_judge::{FailedCheck, Verdict, judge_with_ends};
 use std::alloc::{AllocError, Global};
+use why::{
+    Accusation, EditRow, EditsTried, RecorderRow, Refusal, Shown, StateLine, is_of_user,
+    record_json, record_text, side_json, side_text, why_json, why_rows,
+};
 use wire_base::{Side, Tally};
 
 // A data message that has been set back is sent again by another number.

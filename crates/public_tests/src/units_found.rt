@@ -1,4 +1,4 @@
-use crate::{Found, Framer, Kind};
+use framer::{Found, Framer, Kind};
 use std::alloc::{AllocError, Global};
 
 // Two SYN, a STRT, a pad, a byte that starts nothing, a maintenance message, a data message, a SOH whose header is none, and half an ACK.

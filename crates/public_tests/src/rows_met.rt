@@ -1,4 +1,4 @@
-use crate::{Row, Sending, judge_covered, table};
+use coverage::{Row, Sending, judge_covered, table};
 use std::alloc::AllocError;
 use wire_base::{Side, Tally};
 

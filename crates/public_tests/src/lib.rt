@@ -1,0 +1,14 @@
+//! What a caller sees of `coverage`, `framer`, `ladder`, `why` and `wire_text`, on cases of its own. These stand in a crate of their own, since
+//! one with tests is proved twice.
+#![tactic(auto)]
+
+#[cfg(test)]
+mod answers_told;
+#[cfg(test)]
+mod pieces_read;
+#[cfg(test)]
+mod rows_drawn;
+#[cfg(test)]
+mod rows_met;
+#[cfg(test)]
+mod units_found;
