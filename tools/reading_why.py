@@ -1,12 +1,13 @@
 """What `ddcap why` says of a refused pair, by the reading of tools/reading.py, apart from the program. `said(a, b)` gives it, or None where nothing
-is refused: the JSON `lines` `refused`, `record` without the fields of its bytes, `state` and `link`; the `rows` of both sides; and how many records
-stand `behind` it."""
+is refused: the JSON `lines` `refused`, `record` without the fields of its bytes, `state` and `link`; the `rows` of both sides; how many records
+stand `behind` it; and the `check` where bytes are compared (tools/reading_bytes.py), else None."""
 from collections import namedtuple
 
 from reading import NAMES, RULES, Side, passes_over
+from reading_bytes import check_of
 from reading_rows import Refused
 
-Said = namedtuple('Said', 'lines rows behind')
+Said = namedtuple('Said', 'lines rows behind check')
 
 SENDER = {1, 6, 7, 8, 9, 10, 11, 15, 16, 17, 20, 21, 22, 23}
 ACCUSED = {2: 'hints', 3: 'hints', 4: 'hints', 5: 'line', 12: 'claim', 13: 'nobody', 14: 'user', 24: 'claim', 25: 'nobody', 26: 'user', 27: 'claim'}
@@ -133,4 +134,4 @@ def said(a, b):
         lines += [link_of(other, link) for link in sides[other].links.links if link.phase != 'Ended']
         rows += side_rows(other, sides[other])
     behind = sum(len(each.records) - each.next for each in sides) - 1
-    return Said(lines, rows, behind)
+    return Said(lines, rows, behind, check_of(number, side, words))

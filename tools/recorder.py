@@ -41,14 +41,16 @@ class Pair:
         self.lines[letter][int(number) - 1] = '%s %s %s' % (verb, hint, text)
 
     def names(self, letter, number, unit, to_end=False):
-        """A receipt has this hint; with `to_end` those of the later ones are shifted as far."""
-        shift = int(unit) - int(RECEIPT.fullmatch(self.line(letter, number))[2])
+        """A receipt has this hint; with `to_end` those of the later ones are shifted as far, and where they begin again they go on."""
+        last, named = int(RECEIPT.fullmatch(self.line(letter, number))[2]), int(unit)
         lines = self.lines[letter]
         for at in range(int(number) - 1, len(lines) if to_end else int(number)):
             receipt = RECEIPT.fullmatch(lines[at])
             if receipt:
-                verb, hint, text = receipt.groups()
-                lines[at] = '%s %d %s' % (verb, int(hint) + shift, text)
+                verb, hint, text = receipt[1], int(receipt[2]), receipt[3]
+                named = named + hint - last if hint >= last else named + 1
+                last = hint
+                lines[at] = '%s %d %s' % (verb, named, text)
 
 
 # ---- the mistakes of tools/why/mistakes.txt
@@ -77,6 +79,43 @@ def put_receipt(pair, letter, before, verb, unit, like, other):
     pair.put(letter, before, '%s %s %s' % (verb, unit, pair.bytes_of(other, like)))
 
 
+def put_damaged(pair, letter, before, unit, like, other):
+    """A bit of the check that the NAK in that line names is turned."""
+    unit_bytes = bytearray.fromhex(pair.bytes_of(other, like))
+    unit_bytes[7 if tells_of_header(pair, letter, before) else -1] ^= 1
+    pair.put(letter, before, 'r %s %s' % (unit, unit_bytes.hex()))
+
+
+def put_noise(pair, letter, before):
+    """Damage of which the NAK in that line tells: of a header, or of data that are cut behind a good one."""
+    pair.put(letter, before, 'n ' + ('00' if tells_of_header(pair, letter, before) else '810100000101e381'))
+
+
+def tells_of_header(pair, letter, nak):
+    return int(pair.bytes_of(letter, nak)[4:6], 16) & 63 == 1
+
+
+def put_delivery(pair, letter, before, link):
+    """The message is that of the kept segments down to the line in front."""
+    message, at = b'', int(before) - 1
+    while True:
+        receipt = RECEIPT.fullmatch(pair.line(letter, at))
+        segment = receipt and receipt[1] == 'k' and segment_of(receipt[3], int(link))
+        if segment:
+            message = segment.body + message
+            if segment.flag & 0x20:
+                return pair.put(letter, before, 'u up %s %s' % (link, message.hex() or '-'))
+        at -= 1
+
+
+def segment_of(text, link):
+    """The segment to this link that these bytes are, or None."""
+    unit = read_unit(text)
+    packet = read_packet(unit.packet) if unit.kind == 'data' else None
+    message = read_nsp(packet.nsp) if packet and packet.nsp else None
+    return message if message and message.kind == 'segment' and message.destination == link else None
+
+
 def put_user(pair, letter, before, words):
     pair.put(letter, before, 'u ' + words)
 
@@ -98,6 +137,10 @@ EDITS = [
     (LINE + r' is `(?P<verb>[rk])`, not `[rk]`', Pair.says),
     (r'an `s` line is missing ' + HERE + r': unit \d+, ' + LIKE, put_sent),
     (r'a `(?P<verb>[rk])` line is missing ' + HERE + r': unit (?P<unit>\d+) of [ab], ' + LIKE, put_receipt),
+    (r'the `r` line of a damaged unit is missing ' + HERE + r': unit (?P<unit>\d+) of [ab], sent in line (?P<like>\d+) of (?P<other>[ab])',
+     put_damaged),
+    (r'an `n` line is missing ' + HERE, put_noise),
+    (r'`u up (?P<link>\d+)` with the message is missing ' + HERE, put_delivery),
     (r'`u (?P<words>start|halt|(?:open|close) \d+|(?:accept|reject) \d+ \d+)` is missing ' + HERE, put_user),
     (r'`u in (?P<link>\d+)` with the message is missing ' + HERE, put_message),
     (LINE + r' stands too late: it belongs before line (?P<before>\d+)', Pair.move),

@@ -1,29 +1,44 @@
 //! The records of a capture near one of its lines.
 
 use capture::{CaptureFault, CaptureReader, Entry, Format, HintForm, MAX_RECORDS};
-use edited::Row;
+use edited::{Row, Stretch};
 use std::alloc::{AllocError, Global};
 use std::io::Read;
 use wire_base::Tally;
 
 /// How many records in front of one are near it.
-const BEFORE: u64 = 8;
+const BEFORE: u64 = 20;
 
-/// What a capture has near a record.
+/// How many records behind it are near it.
+const BEHIND: u64 = 8;
+
+/// How many receipts behind a record are kept at most.
+const MOST_RECEIPTS: usize = 4_096;
+
+/// How many bytes the kept receipts have at most.
+const MOST_RECEIPT_BYTES: usize = 1_000_000;
+
+/// What a capture has near the record that its side comes to next.
 #[derive(Drop)]
 pub struct Near {
-    /// The records near it, in the order of their lines.
-    pub rows: Vec<Row>,
+    pub stretch: Stretch,
     /// How many records the capture has, up to a line that departs.
     pub records: u64,
+    /// The hints of the receipts from that record on, as far as they are kept.
+    pub hints: Vec<u64>,
+    /// Whether the capture was read to its end, and these are all.
+    pub has_all_hints: bool,
+    /// The bytes of the unit that was asked for; `None` where none was, or it was never sent.
+    pub unit: Option<Vec<u8>>,
 }
 
-/// Reads a capture to its end, or to a line that departs, and keeps the record with this number, counted from 0, the last ones in front of it, and so
-/// many behind it. `None` where the head departs or a read failed; `AllocError` where there is no memory for what is near.
+/// Reads a capture to its end, or to a line that departs, and keeps the record with this number, counted from 0, the last ones in front of it, the
+/// first ones behind it, the receipts behind it where they are few, and the unit with the number that is asked for. `None` where the head departs or
+/// a read failed; `AllocError` where there is no memory for what is near.
 pub fn records_near<R: Read>(
     alloc: Global,
     place: u64,
-    behind: u64,
+    unit: Option<u64>,
     reader: &mut Tally<R>,
 ) -> Result<Option<Near>, AllocError> {
     let mut capture = match CaptureReader::open(alloc, reader) {
@@ -31,46 +46,136 @@ pub fn records_near<R: Read>(
         Err(CaptureFault::OutOfMemory) => return Err(AllocError),
         Err(_) => return Ok(None),
     };
-    let mut rows = Vec::new(alloc);
-    let mut form = first_form(capture.format());
-    let mut units = 0u64;
+    let mut keeper = Keeper::new(alloc, place, unit, first_form(capture.format()));
     for number in 0..MAX_RECORDS + 1 {
         match capture.advance(reader) {
-            Ok(Some(entry)) => {
-                if number.saturating_add(BEFORE) >= place
-                    && number <= place.saturating_add(behind)
-                {
-                    rows.push(row_of(alloc, number, entry, capture.bytes(), form, units)?)?;
-                }
-                form = form_behind(form, entry);
-                units = units.saturating_add(u64::from(entry == Entry::Sent));
-            }
+            Ok(Some(entry)) => keeper.take(number, entry, capture.bytes())?,
             Err(CaptureFault::Read) => return Ok(None),
-            Ok(None) | Err(_) => return Ok(Some(Near {
-                rows,
-                records: number,
-            })),
+            Ok(None) => return Ok(Some(keeper.finish(number, true))),
+            Err(_) => return Ok(Some(keeper.finish(number, false))),
         }
     }
     Ok(None)
 }
 
-// Record i stands in line i + 2.
-fn row_of(
+// What was kept so far, and what tells of the next record: in which form its hint is, and how many units were sent.
+#[derive(Drop)]
+struct Keeper {
     alloc: Global,
-    number: u64,
-    entry: Entry,
-    bytes: &[u8],
+    place: u64,
+    asked: Option<u64>,
+    unit: Option<Vec<u8>>,
     form: HintForm,
     units: u64,
-) -> Result<Row, AllocError> {
-    Ok(Row {
-        line: number.saturating_add(2),
-        entry,
-        bytes: bytes.to_vec(alloc)?,
-        form,
-        units,
-    })
+    rows: Vec<Row>,
+    later: Vec<Row>,
+    later_bytes: usize,
+    has_all_later: bool,
+    hints: Vec<u64>,
+    has_all_hints: bool,
+}
+
+impl Keeper {
+    fn new(alloc: Global, place: u64, asked: Option<u64>, form: HintForm) -> Keeper {
+        Keeper {
+            alloc,
+            place,
+            asked,
+            unit: None,
+            form,
+            units: 0,
+            rows: Vec::new(alloc),
+            later: Vec::new(alloc),
+            later_bytes: 0,
+            has_all_later: true,
+            hints: Vec::new(alloc),
+            has_all_hints: true,
+        }
+    }
+
+    // The record with this number.
+    fn take(&mut self, number: u64, entry: Entry, bytes: &[u8]) -> Result<(), AllocError> {
+        let (place, near_end) = (self.place, self.place.saturating_add(BEHIND));
+        if number.saturating_add(BEFORE) >= place && number <= near_end {
+            let row = self.row(number, entry, bytes)?;
+            self.rows.push(row)?;
+        }
+        if let Entry::Received { hint, .. } = entry {
+            if number >= place {
+                self.take_hint(hint)?;
+            }
+            if number > place {
+                self.take_receipt(number, entry, bytes)?;
+            }
+            self.form = form_behind(self.form, hint);
+        }
+        if entry == Entry::Sent {
+            self.take_unit(bytes)?;
+        }
+        Ok(())
+    }
+
+    fn take_unit(&mut self, bytes: &[u8]) -> Result<(), AllocError> {
+        if self.asked == Some(self.units) {
+            self.unit = Some(bytes.to_vec(self.alloc)?);
+        }
+        self.units = self.units.saturating_add(1);
+        Ok(())
+    }
+
+    fn take_hint(&mut self, hint: u64) -> Result<(), AllocError> {
+        if self.hints.len() >= MOST_RECEIPTS {
+            self.has_all_hints = false;
+            return Ok(());
+        }
+        self.hints.push(hint)?;
+        Ok(())
+    }
+
+    fn take_receipt(&mut self, number: u64, entry: Entry, bytes: &[u8]) -> Result<(), AllocError> {
+        let sum = self.later_bytes.saturating_add(bytes.len());
+        if self.later.len() >= MOST_RECEIPTS || sum > MOST_RECEIPT_BYTES {
+            self.has_all_later = false;
+        }
+        if !self.has_all_later {
+            return Ok(());
+        }
+        self.later_bytes = sum;
+        let row = self.row(number, entry, bytes)?;
+        self.later.push(row)?;
+        Ok(())
+    }
+
+    // Record i stands in line i + 2.
+    fn row(&self, number: u64, entry: Entry, bytes: &[u8]) -> Result<Row, AllocError> {
+        Ok(Row {
+            line: number.saturating_add(2),
+            entry,
+            bytes: bytes.to_vec(self.alloc)?,
+            form: self.form,
+            units: self.units,
+        })
+    }
+
+    // The capture has so many records; where it has not ended there, a line departs.
+    fn finish(self, records: u64, has_ended: bool) -> Near {
+        let (has_all_later, receipts) = (self.has_all_later, self.later);
+        let later = match has_all_later {
+            true => Some(receipts),
+            false => None,
+        };
+        Near {
+            stretch: Stretch {
+                line: self.place.saturating_add(2),
+                rows: self.rows,
+                later,
+            },
+            records,
+            hints: self.hints,
+            has_all_hints: self.has_all_hints && has_ended,
+            unit: self.unit,
+        }
+    }
 }
 
 fn first_form(format: u8) -> HintForm {
@@ -80,12 +185,12 @@ fn first_form(format: u8) -> HintForm {
     }
 }
 
-// The form of the next hint: in format 2 it is told from one more than the last one.
-fn form_behind(form: HintForm, entry: Entry) -> HintForm {
-    match (form, entry) {
-        (HintForm::Distance { .. }, Entry::Received { hint, .. }) => HintForm::Distance {
+// The form of the hint behind that one: in format 2 it is told from one more.
+fn form_behind(form: HintForm, hint: u64) -> HintForm {
+    match form {
+        HintForm::Distance { .. } => HintForm::Distance {
             mark: hint.saturating_add(1),
         },
-        _ => form,
+        HintForm::Number => form,
     }
 }

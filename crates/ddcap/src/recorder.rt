@@ -4,9 +4,11 @@ ghost use Rattle.dna_node.specs.Kind.{both_layers};
 ghost use Rattle.pair_judge.specs.Judged.{IsAnswer};
 ghost use Rattle.ddcap.specs.inner.Edits.{with_edit};
 
-use crate::due::due_before;
+use crate::due::{damage_of, due_near};
 use crate::near::{Near, records_near};
+use capture::Entry;
 use edited::{Change, Edit, EditedReader, MistakeOf, Refused, candidates};
+use ladder::said_by;
 use pair_judge::{JudgeFault, JudgedEnds, TextFault, Verdict, judge};
 use std::alloc::{AllocError, Global};
 use std::fmt::Write as _;
@@ -17,22 +19,36 @@ use wire_base::{Side, Tally};
 /// How many bytes of both captures are read at most while edits are judged: about two seconds' work.
 const MOST_BYTES: u64 = 500_000_000;
 
-/// How many records behind the refused one are looked at.
-const BEHIND: u64 = 8;
-
 /// How many edits are named at most of those that make the pair a run.
 const NAMED: u64 = 4;
 
-/// What small edits tell: how many were judged, and those that make the pair a run, as JSON objects and as rows.
+/// The hints of the receipts that are not made, of both sides.
+#[derive(Drop)]
+pub struct ComesLater {
+    pub hints_a: Vec<u64>,
+    pub hints_b: Vec<u64>,
+    /// Whether these are all, and both captures have ended.
+    pub is_all: bool,
+}
+
+/// What small edits tell: how many were judged, and those that make the pair a run, as JSON objects and as rows. Beside it what else is read
+/// again: what comes later, and the short name of the unit that the hint of the refused record names, with a comma and a blank behind it.
 #[derive(Drop)]
 pub struct Tried {
     pub counts: EditsTried,
     pub lines: String,
     pub rows: String,
+    pub later: ComesLater,
+    pub unit_name: String,
 }
 
 impl Tried {
-    fn nothing(alloc: Global, records_behind: Option<u64>) -> Tried {
+    fn nothing(
+        alloc: Global,
+        records_behind: Option<u64>,
+        later: ComesLater,
+        unit_name: String,
+    ) -> Tried {
         Tried {
             counts: EditsTried {
                 tried: 0,
@@ -41,6 +57,8 @@ impl Tried {
             },
             lines: String::new(alloc),
             rows: String::new(alloc),
+            later,
+            unit_name,
         }
     }
 
@@ -75,18 +93,42 @@ pub fn try_edits<A: Read + Seek, B: Read + Seek>(
     side: Side,
 ) -> Result<Tried, AllocError> {
     let (Some(near_a), Some(near_b)) = (
-        near_of(alloc, a, ends.records(Side::A), behind(side, Side::A))?,
-        near_of(alloc, b, ends.records(Side::B), behind(side, Side::B))?,
+        near_of(
+            alloc,
+            a,
+            ends.records(Side::A),
+            unit_asked(ends, side, Side::A),
+        )?,
+        near_of(
+            alloc,
+            b,
+            ends.records(Side::B),
+            unit_asked(ends, side, Side::B),
+        )?,
     ) else {
-        return Ok(Tried::nothing(alloc, None));
+        let (later, name) = (nothing_later(alloc), String::new(alloc));
+        return Ok(Tried::nothing(alloc, None, later, name));
     };
     let records = records_behind(ends, &near_a, &near_b);
-    let mut tried = Tried::nothing(alloc, Some(records));
+    let edits = edits_near(alloc, ends, side, &near_a, &near_b)?;
+    let name = unit_name(alloc, &near_a, &near_b)?;
+    let tried = Tried::nothing(alloc, Some(records), comes_later(near_a, near_b), name);
     if records < FEW_RECORDS {
         return Ok(tried);
     }
+    try_each(alloc, a, b, edits, tried)
+}
+
+// Judges the pair under one edit after another.
+fn try_each<A: Read + Seek, B: Read + Seek>(
+    alloc: Global,
+    a: &mut A,
+    b: &mut B,
+    edits: Vec<Edit>,
+    mut tried: Tried,
+) -> Result<Tried, AllocError> {
     let mut read = 0u64;
-    for edit in edits_near(alloc, ends, side, &near_a, &near_b)? {
+    for edit in edits {
         if read >= MOST_BYTES {
             return Ok(tried);
         }
@@ -105,24 +147,55 @@ pub fn try_edits<A: Read + Seek, B: Read + Seek>(
     Ok(tried)
 }
 
-// How many records behind the one that a side stands at are looked at: of the other side than that of the refused record none, since they are not
-// made yet.
-fn behind(refused: Side, side: Side) -> u64 {
-    match refused == side {
-        true => BEHIND,
-        false => 0,
+fn nothing_later(alloc: Global) -> ComesLater {
+    ComesLater {
+        hints_a: Vec::new(alloc),
+        hints_b: Vec::new(alloc),
+        is_all: false,
     }
 }
 
-// What a capture has near the record with this number; `None` where the file can't be read again.
+fn comes_later(near_a: Near, near_b: Near) -> ComesLater {
+    ComesLater {
+        is_all: near_a.has_all_hints && near_b.has_all_hints,
+        hints_a: near_a.hints,
+        hints_b: near_b.hints,
+    }
+}
+
+// The number of the unit of this side that the hint of the refused record names.
+fn unit_asked(ends: &JudgedEnds, refused: Side, side: Side) -> Option<u64> {
+    if refused == side {
+        return None;
+    }
+    match ends.ahead(refused) {
+        Some((Entry::Received { hint, .. }, _)) => Some(hint),
+        _ => None,
+    }
+}
+
+// What the unit is that was asked for, with a comma and a blank behind it; nothing where none was, or it was never sent.
+fn unit_name(alloc: Global, near_a: &Near, near_b: &Near) -> Result<String, AllocError> {
+    if let Some(bytes) = &near_a.unit {
+        let words = said_by(bytes).brief();
+        return format!(in alloc; "{words}, ");
+    }
+    if let Some(bytes) = &near_b.unit {
+        let words = said_by(bytes).brief();
+        return format!(in alloc; "{words}, ");
+    }
+    Ok(String::new(alloc))
+}
+
+// What a capture has near the record with this number, and the unit that is asked for; `None` where the file can't be read again.
 fn near_of<R: Read + Seek>(
     alloc: Global,
     file: &mut R,
     place: u64,
-    behind: u64,
+    unit: Option<u64>,
 ) -> Result<Option<Near>, AllocError> {
     match file.rewind() {
-        Ok(()) => records_near(alloc, place, behind, &mut Tally::new(&mut *file)),
+        Ok(()) => records_near(alloc, place, unit, &mut Tally::new(&mut *file)),
         Err(_) => Ok(None),
     }
 }
@@ -145,30 +218,19 @@ fn edits_near(
     let Some((entry, bytes)) = ends.ahead(side) else {
         return Ok(Vec::new(alloc));
     };
-    let Verdict::Refused { place, reason, .. } = ends.verdict() else {
+    let Verdict::Refused { reason, .. } = ends.verdict() else {
         return Ok(Vec::new(alloc));
     };
+    let (own, other) = match side {
+        Side::A => (&near_a.stretch, &near_b.stretch),
+        Side::B => (&near_b.stretch, &near_a.stretch),
+    };
     let refused = Refused {
-        line: place.saturating_add(2),
         reason: u64::from(reason.number()),
-        due: due_before(alloc, entry, bytes)?,
+        due: due_near(alloc, own, entry, bytes)?,
+        damage: damage_of(entry, bytes),
     };
-    let edits = match side {
-        Side::A => candidates(
-            alloc,
-            side,
-            &refused,
-            near_a.rows.as_slice(),
-            near_b.rows.as_slice(),
-        )?,
-        Side::B => candidates(
-            alloc,
-            side,
-            &refused,
-            near_b.rows.as_slice(),
-            near_a.rows.as_slice(),
-        )?,
-    };
+    let edits = candidates(alloc, side, &refused, own, other)?;
     Ok(edits.into_vec())
 }
 

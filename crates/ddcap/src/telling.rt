@@ -6,8 +6,9 @@ ghost use Rattle.ddcap.specs.PrintedWhy.{AreObjects, AreRows, Explains, PrintsAc
 
 use crate::check::{print, print_fault, print_out_of_memory};
 use crate::last_rows::{LastRows, ROWS_BEFORE};
-use crate::recorder::{Tried, try_edits};
+use crate::recorder::{ComesLater, Tried, try_edits};
 use crate::text::verdict_text;
+use capture::Entry;
 use ladder::{Drawn, Ladder, Sending, What};
 use pair_judge::{JudgedEnds, Reason, Summary, Verdict, Watched, judge_watched};
 use std::alloc::{AllocError, Global};
@@ -139,13 +140,31 @@ fn refused_text(
         failed,
         says: entry,
         bytes,
+        unit_name: tried.unit_name.as_str(),
     };
     match printout.form {
         Form::Json => objects_text(alloc, refusal, &ends, &tried),
         Form::Rows => {
             ladder.refused(refused.side, entry, bytes);
+            tell_later(&mut ladder, &tried.later);
             rows_text(alloc, printout, refusal, &ends, &ladder, &tried)
         }
+    }
+}
+
+// The ladder is told what comes later.
+fn tell_later(ladder: &mut Ladder, later: &ComesLater) {
+    tell_hints(ladder, Side::A, &later.hints_a);
+    tell_hints(ladder, Side::B, &later.hints_b);
+    if later.is_all {
+        ladder.end();
+    }
+}
+
+fn tell_hints(ladder: &mut Ladder, side: Side, hints: &[u64]) {
+    for hint in hints {
+        let hint = *hint;
+        ladder.follows(side, Entry::Received { kept: false, hint });
     }
 }
 

@@ -1,5 +1,6 @@
 -- The first check that is not passed, by its name in the table, with what is seen there and what is allowed.
-use Rattle.std.specs.Prelude.{ℕ, ◌+◌, Bool, true, false, not, if◌then◌else◌, Option, Some, None, List, [], ◌∷◌, length}
+use Rattle.std.specs.Prelude.{ℕ, ◌+◌, Bool, true, false, not, ◌==◌, if◌then◌else◌, Option, Some, None, List, [], ◌∷◌, length, slice_get}
+use Rattle.std.specs.List.{common_prefix_len}
 use Rattle.ddcmp_msg.specs.Message.{MessageValue, Data, Ack, Nak, Rep}
 use Rattle.ddcmp_msg.specs.declared.nak_reason.NakReason.{NakReason}
 use Rattle.ddcmp_msg.specs.declared.nak_reason.NakReason.TheVariants.{HeaderFormat}
@@ -10,11 +11,12 @@ use Rattle.dna_station.specs.declared.tag.Tag.{Tag}
 use Rattle.dna_station.specs.Table.{Check, checks, Needs, Anything, Fresh, OfPair, row}
 use Rattle.dna_station.specs.Table as table
 use Rattle.dna_station.specs.Rules.{meets}
-use Rattle.dna_station.specs.Book.{ArrivalValue, Sound, HeaderBad, DataBad, resp_of, num_of, takes_by}
+use Rattle.dna_station.specs.Book.{ArrivalValue, Sound, HeaderBad, DataBad, resp_of, num_of, body_of, takes_by}
 use Rattle.dna_station.specs.Station.{wire}
-use Rattle.dna_station.specs.WireStation.{WireStation}
+use Rattle.dna_station.specs.WireStation.{HeldPacket, WireStation}
 use Rattle.dna_station.specs.WireBook.{wire_book, wire_is_new, wire_passes, wire_tag}
 use Rattle.ddcmp_station.specs.View.{open_of}
+use Rattle.ddcmp_station.specs.declared.failed.DataByte.{DataByte}
 use Rattle.ddcmp_station.specs.declared.failed.FailedSending.{FailedSending}
 use Rattle.ddcmp_station.specs.declared.failed.FailedSending.TheVariants as failed
 use Rattle.ddcmp_station.specs.declared.failed.FailedArrival.{FailedArrival}
@@ -31,7 +33,24 @@ abbrev pub first_failing : (passes : Check → Bool) → (named : Check → Fail
 first_failing passes named [] = None
 first_failing passes named (check ∷ next) = if passes check then first_failing passes named next else Some (named check)
 
+-- a place in data
+abbrev pub byte_at : (place : ℕ) → List ℕ → DataByte
+byte_at place bytes = record { place = place; byte = slice_get bytes place; length = length bytes }
+
+-- the first place where two differ, or the end of the shorter
+abbrev pub first_difference : List ℕ → List ℕ → ℕ
+first_difference bytes first = common_prefix_len (λ x y. x == y) bytes first
+
+abbrev pub not_as_first : (number : ℕ) → List ℕ → List ℕ → FailedSending
+not_as_first number bytes first =
+    failed.AsFirstGiven number (byte_at (first_difference bytes first) bytes) (byte_at (first_difference bytes first) first)
+
 module _ {L : Type 0} where
+  -- the data of the first sending of an outstanding packet
+  abbrev pub first_data : Option (HeldPacket L) → List ℕ
+  first_data None = []
+  first_data (Some packet) = packet.body
+
   -- A row for each check of the table
   abbrev pub failing : WireStation L → MessageValue → Check → FailedSending
   failing w m table.RespIsLast = failed.RespIsLast (resp_of m) w.variables.received
@@ -40,7 +59,7 @@ module _ {L : Type 0} where
   failing w m table.NumIsHighest = failed.NumIsHighest (num_of m) (wire (w.variables.acknowledged + length w.variables.held))
   failing w m table.SomeOutstanding = failed.SomeOutstanding
   failing w m table.RoomIfNew = failed.RoomIfNew (length w.variables.held) 254
-  failing w m table.AsFirstGiven = failed.AsFirstGiven (num_of m)
+  failing w m table.AsFirstGiven = not_as_first (num_of m) (body_of m) (first_data (slice_get w.variables.held w.variables.ahead))
   failing w m table.CauseIsOpen = failed.CauseIsOpen (reason_in m) (open_of w.causes)
 
   -- and one for a message that has no row
@@ -59,7 +78,7 @@ refusal_of_failed (failed.NumIsNext seen allowed again) = WrongNumber
 refusal_of_failed (failed.NumIsHighest seen allowed) = WrongNumber
 refusal_of_failed failed.SomeOutstanding = WrongState
 refusal_of_failed (failed.RoomIfNew seen allowed) = WindowFull
-refusal_of_failed (failed.AsFirstGiven number) = Changed
+refusal_of_failed (failed.AsFirstGiven number seen allowed) = Changed
 refusal_of_failed (failed.CauseIsOpen seen causes) = NoCause
 
 -- ---- an arrival

@@ -35,15 +35,29 @@ pub enum FailedSending {
         seen: usize,
         allowed: usize,
     },
-    /// The packet that goes again as this number has other data than at its first sending (reason 10). Allowed: those.
+    /// The packet that goes again as this number has other data than at its first sending (reason 10): the first byte that differs, as it
+    /// is and as it was first sent.
     AsFirstGiven {
         number: u8,
+        seen: DataByte,
+        allowed: DataByte,
     },
     /// A NAK has this reason, of which no cause is open (reason 11). Allowed: a reason of which one is open, or 9, 16 or 17.
     CauseIsOpen {
         seen: NakReason,
         open_causes: OpenCauses,
     },
+}
+
+/// A place in the data of a packet.
+#[derive(Clone, Copy, Debug, PartialEq, Eq)]
+pub struct DataByte {
+    /// The place, counted from 0.
+    pub place: usize,
+    /// The byte there; `None` where the data end before it.
+    pub byte: Option<u8>,
+    /// How many bytes the data have.
+    pub length: usize,
 }
 
 /// The first check that an arrival does not pass (DDCMP 4.1, startup state table, data transfer), with what is seen there and what is

@@ -14,7 +14,7 @@ mod view;
 
 pub use arrival::Arrival;
 pub use dna_station::{State, StationEvent, StationRefusal, Tag};
-pub use failed::{FailedArrival, FailedSending, PeriodNeed};
+pub use failed::{DataByte, FailedArrival, FailedSending, PeriodNeed};
 pub use fault::StationFault;
 pub use laws::{allowed_arrives, allowed_passes, view_shows_truth};
 pub use sent_as::SentAs;

@@ -20,7 +20,7 @@ pub use edits::{Edit, Edits, MAX_EDITS};
 pub use mistake::{Mistake, MistakeOf};
 pub use near::candidates;
 pub use reader::EditedReader;
-pub use row::{Due, Refused, Row};
+pub use row::{Damage, Due, Refused, Row, Stretch};
 
 #[cfg(test)]
 mod tests;

@@ -25,6 +25,16 @@ pub enum Mistake {
         unit: u64,
         like: u64,
     },
+    /// The receipt of a unit that was damaged is missing. The unit was sent in that line of the other side.
+    DamagedMissing {
+        before: u64,
+        unit: u64,
+        like: u64,
+    },
+    /// An `n` line is missing.
+    NoiseMissing {
+        before: u64,
+    },
     /// A line of the user is missing.
     UserMissing {
         before: u64,
@@ -45,7 +55,7 @@ pub enum Mistake {
         line: u64,
         unit: u64,
     },
-    /// From a receipt on all hints are shifted; that one should name this unit.
+    /// From a receipt on all hints are shifted; that one should name this unit. Where they begin again behind it, they go on from the last one.
     WrongHints {
         line: u64,
         unit: u64,
@@ -86,6 +96,16 @@ impl fmt::Display for MistakeOf {
                     "a `{kind}` line is missing before line {before} of {side}: "
                 )?;
                 write_like(other, unit, like, f)
+            }
+            Mistake::DamagedMissing { before, unit, like } => {
+                write!(f, "the `r` line of a damaged unit is missing before ")?;
+                write!(
+                    f,
+                    "line {before} of {side}: unit {unit} of {other}, sent in line {like} of {other}"
+                )
+            }
+            Mistake::NoiseMissing { before } => {
+                write!(f, "an `n` line is missing before line {before} of {side}")
             }
             Mistake::UserMissing { before, entry } => {
                 write_user(entry, f)?;

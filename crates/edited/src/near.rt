@@ -8,12 +8,12 @@ mod missing;
 mod moves;
 
 use crate::edits::Edits;
-use crate::row::{Refused, Row};
+use crate::row::{Refused, Row, Stretch};
 use std::alloc::{AllocError, Global};
 use wire_base::Side;
 
-/// What is known where a record of a side is refused: its side, the rows of this side in front of it, its own, those behind it, and the rows
-/// of the other side.
+/// What is known where a record of a side is refused: its side, the rows of this side in front of it, its own, those behind it, all receipts
+/// behind it, if they are at hand, and the rows of the other side.
 #[derive(Clone, Copy)]
 pub(crate) struct Near<'r> {
     pub(crate) alloc: Global,
@@ -21,6 +21,7 @@ pub(crate) struct Near<'r> {
     pub(crate) before: &'r [Row],
     pub(crate) row: &'r Row,
     pub(crate) behind: &'r [Row],
+    pub(crate) later: Option<&'r [Row]>,
     pub(crate) other: &'r [Row],
 }
 
@@ -40,42 +41,51 @@ enum Group {
 
 /// The edits that are worth a try, the likeliest for this reason first; none where the refused record is not among the rows of its side.
 ///
-/// `own` has rows of the side of the refused record, in the order of their lines: the last ones in front of it, its own, and as many behind it
-/// as are at hand. `other` has the last rows of the other side that were made, and the next one where there is one. Where no order of the
-/// records goes on (4), that next one may as well be the wrong one, and edits of it come last. `AllocError` where there is no memory for an edit.
+/// `own` is of the side of the refused record, and `other` of the other side. Where no order of the records goes on (4), the record that
+/// the other side comes to may as well be the wrong one, and edits of it come last. `AllocError` where there is no memory for an edit.
 pub fn candidates(
     alloc: Global,
     side: Side,
     refused: &Refused,
-    own: &[Row],
-    other: &[Row],
+    own: &Stretch,
+    other: &Stretch,
 ) -> Result<Edits, AllocError> {
     let mut edits = Edits::new(alloc);
-    let Some(at) = place_of(own, refused.line) else {
-        return Ok(edits);
-    };
-    let near = Near {
-        alloc,
-        side,
-        before: &own[..at],
-        row: &own[at],
-        behind: &own[at + 1..],
-        other,
-    };
-    add_near(&mut edits, near, refused)?;
-    if refused.reason == NO_ORDER && !other.is_empty() {
-        let last = other.len() - 1;
-        let near = Near {
-            alloc,
-            side: side.other(),
-            before: &other[..last],
-            row: &other[last],
-            behind: &[],
-            other: &own[..at + 1],
-        };
+    if let Some(near) = near_of(alloc, side, own, other) {
         add_near(&mut edits, near, refused)?;
+        if refused.reason == NO_ORDER
+            && let Some(near) = near_of(alloc, side.other(), other, own)
+        {
+            add_near(&mut edits, near, refused)?;
+        }
     }
     Ok(edits)
+}
+
+// What is known of the record that this side comes to; `None` where it is not among the rows.
+fn near_of<'r>(
+    alloc: Global,
+    side: Side,
+    own: &'r Stretch,
+    other: &'r Stretch,
+) -> Option<Near<'r>> {
+    let at = place_of(&own.rows, own.line)?;
+    Some(Near {
+        alloc,
+        side,
+        before: &own.rows[..at],
+        row: &own.rows[at],
+        behind: &own.rows[at + 1..],
+        later: rows_of(&own.later),
+        other: &other.rows,
+    })
+}
+
+fn rows_of(later: &Option<Vec<Row>>) -> Option<&[Row]> {
+    match later {
+        Some(rows) => Some(rows.as_slice()),
+        None => None,
+    }
 }
 
 // The edits near one record.
@@ -84,7 +94,7 @@ fn add_near(edits: &mut Edits, near: Near<'_>, refused: &Refused) -> Result<(), 
         match group {
             Group::Letters => letters::add_letters(edits, near)?,
             Group::Sent => missing::add_sent(edits, near)?,
-            Group::Receipts => missing::add_receipts(edits, near)?,
+            Group::Receipts => missing::add_receipts(edits, near, refused.damage)?,
             Group::User => missing::add_user(edits, near, &refused.due)?,
             Group::Moves => moves::add_moves(edits, near)?,
             Group::Hints => hints::add_hints(edits, near)?,

@@ -41,20 +41,42 @@ impl Row {
     }
 }
 
-/// A line of the user that may be missing.
+/// What a capture has near the record that its side comes to next.
+#[derive(Debug, Drop)]
+pub struct Stretch {
+    /// The line of that record, counted from 1.
+    pub line: u64,
+    /// The records near it, in the order of their lines.
+    pub rows: Vec<Row>,
+    /// All receipts behind it, in the order of their lines; `None` where not all are at hand.
+    pub later: Option<Vec<Row>>,
+}
+
+/// A line that may be missing: one of the user, or an `n` line.
 #[derive(Debug, Drop)]
 pub struct Due {
+    /// In front of which line it belongs, counted from 1.
+    pub before: u64,
     pub entry: Entry,
     pub bytes: Vec<u8>,
+}
+
+/// Which check of a unit that came fails where it was damaged.
+#[derive(Clone, Copy, Debug, PartialEq, Eq)]
+pub enum Damage {
+    /// That of its header, of 8 bytes.
+    Header,
+    /// That of what stands behind the header.
+    Body,
 }
 
 /// The refused record.
 #[derive(Debug, Drop)]
 pub struct Refused {
-    /// Its line, counted from 1.
-    pub line: u64,
     /// The number of the reason.
     pub reason: u64,
-    /// The lines of its user that its own bytes tell of, the likeliest first: `u open 1` where they are a CI of link 1, and the like.
+    /// The lines that may be missing by what the bytes near it tell, the likeliest first: `u open 1` where its own are a CI of link 1, and the like.
     pub due: Vec<Due>,
+    /// The damage of which it tells, where it does.
+    pub damage: Option<Damage>,
 }

@@ -4,7 +4,7 @@ use crate::candidates;
 use crate::change::Change;
 use crate::edits::Edit;
 use crate::reader::EditedReader;
-use crate::row::{Refused, Row};
+use crate::row::{Refused, Row, Stretch};
 use capture::{Entry, HintForm};
 use std::alloc::{AllocError, Global};
 use std::io::{self, Read};
@@ -56,6 +56,14 @@ fn first_put(edits: &[Edit]) -> &[u8] {
     }
 }
 
+fn stretch(line: u64, rows: Vec<Row>) -> Stretch {
+    Stretch {
+        line,
+        rows,
+        later: None,
+    }
+}
+
 // A response counts a packet whose receipt has an `r`.
 #[test]
 fn a_receipt_before_a_wrong_response_was_kept(rt: HostRuntime) -> Result<(), AllocError> {
@@ -72,11 +80,12 @@ fn a_receipt_before_a_wrong_response_was_kept(rt: HostRuntime) -> Result<(), All
     )?)?;
     own.push(row(alloc, 3, Entry::Sent, &[5])?)?;
     let refused = Refused {
-        line: 3,
         reason: 8,
         due: Vec::new(alloc),
+        damage: None,
     };
-    let edits = candidates(alloc, Side::B, &refused, &own, &[])?.into_vec();
+    let (own, other) = (stretch(3, own), stretch(2, Vec::new(alloc)));
+    let edits = candidates(alloc, Side::B, &refused, &own, &other)?.into_vec();
     let words = first_words(alloc, edits.as_slice())?;
     assert_eq!(rt; words.as_str(), "line 2 of b is `k`, not `r`");
     assert_eq!(rt; first_put(edits.as_slice()), b"k 4 81\n".as_slice());

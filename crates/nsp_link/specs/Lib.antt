@@ -1,4 +1,5 @@
 -- What a contract sees of the types of this crate; the rules stand in `dna_links`
+pub mod Due
 pub mod FailedArrival
 pub mod FailedEvent
 pub mod FailedSending

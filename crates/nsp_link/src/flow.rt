@@ -13,6 +13,7 @@ ghost use Rattle.dna_links.specs.WireFlow as spec;
 ghost use Rattle.nsp_link.specs.Fault.{IsFault};
 ghost use Rattle.nsp_link.specs.Given.{given_of};
 
+mod due;
 mod failing;
 mod receiving;
 mod sending;

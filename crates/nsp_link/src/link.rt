@@ -18,6 +18,7 @@ ghost use Rattle.nsp_link.specs.Flow.{is_held};
 ghost use Rattle.nsp_link.specs.Given.{given_of};
 ghost use Rattle.nsp_link.specs.inner.Index.{Stays};
 
+mod due;
 mod failing;
 mod shown;
 

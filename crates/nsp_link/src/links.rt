@@ -11,6 +11,7 @@ ghost use Rattle.nsp_link.specs.inner.Index as words;
 mod arriving;
 mod begin;
 mod change;
+mod due;
 mod failing;
 mod failing_arrival;
 mod failing_event;

@@ -6,6 +6,7 @@ ghost use Rattle.nsp_link.specs.View as link;
 ghost use Rattle.pair_judge.specs.inner.EndStopped.{shown_lone};
 ghost use Rattle.pair_judge.specs.inner.Ends.{shown_end};
 
+mod due;
 mod failing;
 
 use crate::course::{Ahead, Course};

@@ -1,13 +1,13 @@
 use capture::Entry;
-use ddcmp_msg::read_unit;
+use ddcmp_msg::{Reading, read_unit};
 use ddcmp_station::{FailedSending, OpenCauses, State, StationView};
 use dna_links::{Phase, Port};
-use nsp_link::{LinkNumbers, LinkView};
-use pair_judge::{FailedCheck, Verdict, judge_with_ends};
+use nsp_link::{FailedLinkSending, LinkNumbers, LinkView, NextPiece, PieceShape};
+use pair_judge::{FailedCheck, Reason, Verdict, judge_with_ends};
 use std::alloc::{AllocError, Global};
 use why::{
-    Accusation, EditRow, EditsTried, RecorderRow, Refusal, Shown, StateLine, is_of_user,
-    record_json, record_text, side_json, side_text, why_json, why_rows,
+    Accusation, CheckLine, EditRow, EditsTried, Fronts, RecorderRow, Refusal, Shown, StateLine,
+    is_of_user, record_json, record_text, side_json, side_text, why_json, why_rows,
 };
 use wire_base::{Side, Tally};
 
@@ -246,6 +246,7 @@ fn a_refusal_is_told_whole(rt: HostRuntime) -> Result<(), AllocError> {
         }),
         says: entry,
         bytes,
+        unit_name: "",
     };
     let tried = EditsTried {
         tried: 0,
@@ -263,5 +264,36 @@ fn a_refusal_is_told_whole(rt: HostRuntime) -> Result<(), AllocError> {
     };
     let told = why_rows(alloc, refusal, &ends, shown)?;
     assert_eq!(rt; told.as_str(), ROWS);
+    Ok(())
+}
+
+#[test]
+fn compared_bytes_are_told(rt: HostRuntime) -> Result<(), AllocError> {
+    let seen = PieceShape {
+        begins: true,
+        ends: true,
+        length: 1,
+    };
+    let allowed = Some(NextPiece {
+        begins: true,
+        left: 20,
+    });
+    let line = CheckLine {
+        side: Side::A,
+        reason: Reason::WrongSegment,
+        failed: FailedCheck::LinkSending(FailedLinkSending::NextPiece { seen, allowed }),
+        reading: Reading::HeaderBad,
+        fronts: Fronts {
+            seen: "05",
+            due: "0506",
+            unit_name: "",
+        },
+    };
+    let told = format!(in rt.alloc(); "{line}")?;
+    assert_eq!(rt;
+        told.as_str(),
+        "{\"what\": \"check\", \"check\": \"next piece\", \"seen\": \"1 bytes 05, begins and ends\", \"allowed\": \"the next of 20 bytes \
+         of the message: 0506.., begins it\", \"page\": \"docs/REASONS.md#20-wrongsegment\"}\n"
+    );
     Ok(())
 }

@@ -20,6 +20,7 @@ use Rattle.why.specs.StateLine.{state_name}
 use Rattle.why.specs.StationChecks.{sending_check, sending_seen, sending_allowed, arrival_check, arrival_seen, arrival_allowed}
 use Rattle.why.specs.LinkChecks.{link_sending_check, link_sending_seen, link_sending_allowed, link_arrival_check, link_arrival_seen}
 use Rattle.why.specs.LinkChecks.{link_arrival_allowed, link_event_check, link_event_seen, link_event_allowed}
+use Rattle.why.specs.Digits.{Fronts}
 use Rattle.why.specs.Pages.{page}
 
 -- of the station the name in its tables
@@ -45,22 +46,22 @@ both_wait side own other =
     codes "hint " ++ (decimal own.hint ++ (codes " while " ++ (side_letter (other_side side) ++ (codes " has sent " ++ (decimal own.sent
     ++ (codes " units and waits for hint " ++ (decimal other.hint ++ (codes " of " ++ side_letter side))))))))
 
--- of a record of this side, whose bytes are read so
-abbrev pub seen : Side → FailedCheck → ReadingValue → List ℕ
-seen side (check.Message departure) reading = reading_words reading
-seen side (check.HintOrder x lowest) reading = codes "hint " ++ decimal x
-seen side (check.NoSuchUnit awaited) reading = codes "hint " ++ decimal awaited.hint
-seen side (check.NoOrder own other) reading = both_wait side own other
-seen side (check.Undetected unit) reading = reading_name reading
-seen side (check.StationSending failed) reading = sending_seen failed reading
-seen side (check.StationArrival failed) reading = arrival_seen side failed reading
-seen side (check.StationEvent state) reading = codes "start in " ++ state_name state
-seen side (check.Packet fault) reading = packet_fault_words fault
-seen side (check.Nsp fault) reading = nsp_fault_words fault
-seen side (check.LinkSending failed) reading = link_sending_seen failed
-seen side (check.LinkArrival failed) reading = link_arrival_seen side failed
-seen side (check.LinkEvent failed) reading = link_event_seen failed
-seen side check.Noise reading = reading_name reading ++ codes ", which shows no damage"
+-- of a record of this side, whose bytes are read so, and of the digits of its first bytes that are compared
+abbrev pub seen : Side → FailedCheck → ReadingValue → (front : List ℕ) → List ℕ
+seen side (check.Message departure) reading front = reading_words reading
+seen side (check.HintOrder x lowest) reading front = codes "hint " ++ decimal x
+seen side (check.NoSuchUnit awaited) reading front = codes "hint " ++ decimal awaited.hint
+seen side (check.NoOrder own other) reading front = both_wait side own other
+seen side (check.Undetected unit) reading front = reading_name reading
+seen side (check.StationSending failed) reading front = sending_seen failed reading
+seen side (check.StationArrival failed) reading front = arrival_seen side failed reading
+seen side (check.StationEvent state) reading front = codes "start in " ++ state_name state
+seen side (check.Packet fault) reading front = packet_fault_words fault
+seen side (check.Nsp fault) reading front = nsp_fault_words fault
+seen side (check.LinkSending failed) reading front = link_sending_seen failed front
+seen side (check.LinkArrival failed) reading front = link_arrival_seen side failed
+seen side (check.LinkEvent failed) reading front = link_event_seen failed front
+seen side check.Noise reading front = reading_name reading ++ codes ", which shows no damage"
 
 -- units are counted from 0, so a hint lies below their number; where none was sent, no receipt is right
 abbrev pub below_words : Side → (sent : ℕ) → List ℕ
@@ -68,22 +69,23 @@ below_words other sent =
     if sent == 0 then codes "no receipt: " ++ (side_letter other ++ codes " sent no unit")
     else codes "a hint below " ++ (decimal sent ++ (codes ", the number of units that " ++ (side_letter other ++ codes " sent")))
 
-abbrev pub allowed : Side → FailedCheck → ReadingValue → List ℕ
-allowed side (check.Message departure) reading = codes "a sound message of DDCMP"
-allowed side (check.HintOrder x lowest) reading = codes "hint " ++ (decimal lowest ++ codes " or a higher one")
-allowed side (check.NoSuchUnit awaited) reading = below_words (other_side side) awaited.sent
-allowed side (check.NoOrder own other) reading = below_words (other_side side) own.sent
-allowed side (check.Undetected unit) reading =
-    codes "the bytes of unit " ++ (decimal unit ++ (codes " of " ++ (side_letter (other_side side) ++ codes "; or damaged bytes")))
-allowed side (check.StationSending failed) reading = sending_allowed failed
-allowed side (check.StationArrival failed) reading = arrival_allowed side failed reading
-allowed side (check.StationEvent state) reading = codes "start in HALTED"
-allowed side (check.Packet fault) reading = codes "a routing control packet, or a short data packet of at least six bytes"
-allowed side (check.Nsp fault) reading = codes "a message of NSP with all its fields, and nothing behind its end"
-allowed side (check.LinkSending failed) reading = link_sending_allowed failed
-allowed side (check.LinkArrival failed) reading = link_arrival_allowed side failed
-allowed side (check.LinkEvent failed) reading = link_event_allowed failed
-allowed side check.Noise reading = codes "bytes that read as header bad or data bad"
+-- behind the short name of the unit that the record names, where one is given
+abbrev pub allowed : Side → FailedCheck → ReadingValue → (front : List ℕ) → (unit_name : List ℕ) → List ℕ
+allowed side (check.Message departure) reading front unit_name = codes "a sound message of DDCMP"
+allowed side (check.HintOrder x lowest) reading front unit_name = codes "hint " ++ (decimal lowest ++ codes " or a higher one")
+allowed side (check.NoSuchUnit awaited) reading front unit_name = below_words (other_side side) awaited.sent
+allowed side (check.NoOrder own other) reading front unit_name = below_words (other_side side) own.sent
+allowed side (check.Undetected unit) reading front unit_name =
+    unit_name ++ (codes "the bytes of unit " ++ (decimal unit ++ (codes " of " ++ (side_letter (other_side side) ++ codes "; or damaged bytes"))))
+allowed side (check.StationSending failed) reading front unit_name = sending_allowed failed
+allowed side (check.StationArrival failed) reading front unit_name = arrival_allowed side failed reading
+allowed side (check.StationEvent state) reading front unit_name = codes "start in HALTED"
+allowed side (check.Packet fault) reading front unit_name = codes "a routing control packet, or a short data packet of at least six bytes"
+allowed side (check.Nsp fault) reading front unit_name = codes "a message of NSP with all its fields, and nothing behind its end"
+allowed side (check.LinkSending failed) reading front unit_name = link_sending_allowed failed front
+allowed side (check.LinkArrival failed) reading front unit_name = link_arrival_allowed side failed
+allowed side (check.LinkEvent failed) reading front unit_name = link_event_allowed failed front
+allowed side check.Noise reading front unit_name = codes "bytes that read as header bad or data bad"
 
 -- ---- the rule of a check of the station
 
@@ -98,7 +100,7 @@ sending_rule (sending.NumIsNext x y again) =
 sending_rule (sending.NumIsHighest x y) = codes "  rule     NUM of a REP is N, the highest number given (docs/PROTOCOL.md#what-may-be-sent)\n"
 sending_rule sending.SomeOutstanding = codes "  rule     A REP is sent while a packet is not acknowledged (docs/PROTOCOL.md#what-may-be-sent)\n"
 sending_rule (sending.RoomIfNew x y) = codes "  rule     At most 255 packets are not acknowledged (docs/PROTOCOL.md#what-may-be-sent)\n"
-sending_rule (sending.AsFirstGiven number) =
+sending_rule (sending.AsFirstGiven number x y) =
     codes "  rule     A packet that is sent again has the data of its first sending (docs/PROTOCOL.md#sending-again)\n"
 sending_rule (sending.CauseIsOpen x causes) =
     codes "  rule     A NAK of reason 1, 2, 3 or 8 answers what came, and each such thing once (docs/PROTOCOL.md#causes-of-a-nak)\n"
@@ -116,12 +118,13 @@ rule_row failed = []
 
 -- ---- together, of a record that is refused for this reason
 
-abbrev pub check_line : Side → Reason → FailedCheck → ReadingValue → List ℕ
-check_line side reason failed reading =
-    codes "{\"what\": \"check\", \"check\": \"" ++ (check_name failed ++ (codes "\", \"seen\": \"" ++ (seen side failed reading
-    ++ (codes "\", \"allowed\": \"" ++ (allowed side failed reading ++ (codes "\", \"page\": \"" ++ (page reason ++ codes "\"}\n")))))))
+abbrev pub check_line : Side → Reason → FailedCheck → ReadingValue → Fronts → List ℕ
+check_line side reason failed reading fronts =
+    codes "{\"what\": \"check\", \"check\": \"" ++ (check_name failed ++ (codes "\", \"seen\": \"" ++ (seen side failed reading fronts.seen
+    ++ (codes "\", \"allowed\": \"" ++ (allowed side failed reading fronts.due fronts.unit_name ++ (codes "\", \"page\": \"" ++ (page reason
+    ++ codes "\"}\n")))))))
 
-abbrev pub check_rows : Side → Reason → FailedCheck → ReadingValue → List ℕ
-check_rows side reason failed reading =
-    codes "  seen     " ++ (seen side failed reading ++ (codes "\n  allowed  " ++ (allowed side failed reading
+abbrev pub check_rows : Side → Reason → FailedCheck → ReadingValue → Fronts → List ℕ
+check_rows side reason failed reading fronts =
+    codes "  seen     " ++ (seen side failed reading fronts.seen ++ (codes "\n  allowed  " ++ (allowed side failed reading fronts.due fronts.unit_name
     ++ (codes "\n" ++ (rule_row failed ++ (codes "  page     " ++ (page reason ++ codes "\n")))))))

@@ -10,6 +10,7 @@ pub mod StateLine
 pub mod StateText
 pub mod LinkLine
 pub mod Sides
+pub mod Digits
 pub mod StationChecks
 pub mod LinkChecks
 pub mod Pages

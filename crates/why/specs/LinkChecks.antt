@@ -1,6 +1,6 @@
 -- The check of the links that a message or an event does not pass: its name, what is seen there, and what is allowed (NSP 4.0, port states,
 -- data segments and acknowledgements).
-use Rattle.std.specs.Prelude.{ℕ, ◌==◌, Bool, true, false, if◌then◌else◌, Option, Some, None, is_some, List, [], ◌++◌, codes}
+use Rattle.std.specs.Prelude.{ℕ, ◌==◌, ◌-◌, Bool, true, false, if◌then◌else◌, Option, Some, None, is_some, List, [], ◌++◌, codes}
 use Rattle.std.specs.Fmt.{decimal}
 use Rattle.wire_base.specs.Side.{other_side, side_letter}
 use Rattle.wire_base.specs.declared.side.Side.{Side}
@@ -19,7 +19,7 @@ use Rattle.nsp_link.specs.declared.failed.Numbers.{Numbers}
 use Rattle.nsp_link.specs.declared.failed.PieceShape.{PieceShape}
 use Rattle.nsp_link.specs.declared.failed.NextPiece.{NextPiece}
 use Rattle.why.specs.PacketWords.{address_words}
-use Rattle.why.specs.NspWords.{piece_words}
+use Rattle.why.specs.Digits.{spaced_front, told_front}
 use Rattle.why.specs.LinkLine.{phase_name}
 
 -- ---- what is asked for
@@ -50,10 +50,17 @@ far_words true = codes "; a live link has that far address"
 abbrev pub missing_words : MissingLink → List ℕ
 missing_words m = codes "no such link" ++ (own_words (is_some m.with_own) ++ far_words m.with_far)
 
--- where older numbers are allowed too
+-- the number in front of one
+abbrev pub number_below : ℕ → ℕ
+number_below number = if number == 0 then 4095 else number - 1
+
+abbrev pub up_to : (first last : ℕ) → List ℕ
+up_to first last = if first == last then [] else codes " to " ++ decimal last
+
+-- where older numbers are allowed too: those below the lowest
 abbrev pub again_words : (lowest : ℕ) → Option ℕ → List ℕ
 again_words lowest None = []
-again_words lowest (Some first) = codes ", or again " ++ (decimal first ++ (codes " to " ++ decimal lowest))
+again_words lowest (Some first) = codes ", or again " ++ (decimal first ++ up_to first (number_below lowest))
 
 abbrev pub range_words : Numbers → List ℕ
 range_words n = decimal n.lowest ++ (codes " to " ++ (decimal n.highest ++ again_words n.lowest n.again))
@@ -65,22 +72,30 @@ ack_range n = range_words n ++ codes ": the last one sent on this link, and the 
 abbrev pub number_words : Numbers → List ℕ
 number_words n = if n.lowest == n.highest then decimal n.lowest ++ again_words n.lowest n.again else range_words n
 
--- `1 bytes, a whole message`
-abbrev pub shape_words : PieceShape → List ℕ
-shape_words s = decimal s.length ++ (codes " bytes, " ++ piece_words s.begins s.ends)
+-- what a segment does with a message
+abbrev pub ends_words : (begins ends : Bool) → List ℕ
+ends_words true true = codes "begins and ends"
+ends_words true false = codes "begins"
+ends_words false true = codes "ends"
+ends_words false false = codes "neither begins nor ends"
+
+-- `1 bytes 05, begins and ends`, of digits that are put together already
+abbrev pub shape_words : PieceShape → (front : List ℕ) → List ℕ
+shape_words s front = decimal s.length ++ (codes " bytes" ++ (spaced_front front s.length ++ (codes ", " ++ ends_words s.begins s.ends)))
 
 abbrev pub begins_words : Bool → List ℕ
-begins_words true = codes " bytes that are handed in, begins a message"
-begins_words false = codes " bytes that are left of the message"
+begins_words true = codes ", begins it"
+begins_words false = codes ", goes on with it"
 
-abbrev pub next_words : Option NextPiece → List ℕ
-next_words None = codes "no new segment: nothing is left of what was handed in"
-next_words (Some next) = codes "the next of " ++ (decimal next.left ++ begins_words next.begins)
+abbrev pub next_words : Option NextPiece → (front : List ℕ) → List ℕ
+next_words None front = codes "no new segment: nothing is left of what was handed in"
+next_words (Some next) front =
+    codes "the next of " ++ (decimal next.left ++ (codes " bytes of the message" ++ (told_front front next.left ++ begins_words next.begins)))
 
-abbrev pub otherwise_words : (number : ℕ) → PieceShape → List ℕ
-otherwise_words number x = codes "segment " ++ (decimal number ++ (codes " again, otherwise: " ++ shape_words x))
+abbrev pub otherwise_words : (number : ℕ) → PieceShape → (front : List ℕ) → List ℕ
+otherwise_words number x front = codes "segment " ++ (decimal number ++ (codes " again, otherwise: " ++ shape_words x front))
 
--- ---- a message that is sent
+-- ---- a message that is sent, and the digits of the first bytes that are compared
 
 abbrev pub link_sending_check : FailedLinkSending → List ℕ
 link_sending_check (sending.Nodes x y) = codes "nodes"
@@ -94,30 +109,30 @@ link_sending_check (sending.NextPiece x y) = codes "next piece"
 link_sending_check (sending.Number x y) = codes "segment number"
 link_sending_check (sending.AsFirstGiven number x y) = codes "as first given"
 
-abbrev pub link_sending_seen : FailedLinkSending → List ℕ
-link_sending_seen (sending.Nodes x y) = nodes_words x
-link_sending_seen (sending.NoLink missing) = missing_words missing
-link_sending_seen (sending.Phase link x y) = codes "a link in " ++ phase_name x
-link_sending_seen (sending.Live link) = codes "a DC between the addresses of a live link"
-link_sending_seen (sending.Acknowledgement x y) = codes "ACK " ++ decimal x
-link_sending_seen (sending.Room x y) = codes "a new segment while " ++ (decimal x ++ codes " are outstanding")
-link_sending_seen (sending.Length x y) = decimal x ++ codes " bytes"
-link_sending_seen (sending.NextPiece x y) = shape_words x
-link_sending_seen (sending.Number x y) = codes "segment " ++ decimal x
-link_sending_seen (sending.AsFirstGiven number x y) = otherwise_words number x
+abbrev pub link_sending_seen : FailedLinkSending → (front : List ℕ) → List ℕ
+link_sending_seen (sending.Nodes x y) front = nodes_words x
+link_sending_seen (sending.NoLink missing) front = missing_words missing
+link_sending_seen (sending.Phase link x y) front = codes "a link in " ++ phase_name x
+link_sending_seen (sending.Live link) front = codes "a DC between the addresses of a live link"
+link_sending_seen (sending.Acknowledgement x y) front = codes "ACK " ++ decimal x
+link_sending_seen (sending.Room x y) front = codes "a new segment while " ++ (decimal x ++ codes " are outstanding")
+link_sending_seen (sending.Length x y) front = decimal x ++ codes " bytes"
+link_sending_seen (sending.NextPiece x y) front = shape_words x front
+link_sending_seen (sending.Number x y) front = codes "segment " ++ decimal x
+link_sending_seen (sending.AsFirstGiven number x y) front = otherwise_words number x front
 
-abbrev pub link_sending_allowed : FailedLinkSending → List ℕ
-link_sending_allowed (sending.Nodes x y) = nodes_words y
-link_sending_allowed (sending.NoLink missing) = wanted_words missing.wanted
-link_sending_allowed (sending.Phase link x y) = codes "a link in " ++ phase_name y
-link_sending_allowed (sending.Live link) = codes "a DC between the addresses of none"
-link_sending_allowed (sending.Acknowledgement x y) = ack_range y
-link_sending_allowed (sending.Room x y) = codes "a new segment while at most " ++ (decimal y ++ codes " are outstanding")
-link_sending_allowed (sending.Length x y) = codes "at most " ++ (decimal y ++ codes " bytes, the SEGSIZE of the other end")
-link_sending_allowed (sending.NextPiece x y) = next_words y
-link_sending_allowed (sending.Number x y) = codes "segment " ++ number_words y
-link_sending_allowed (sending.AsFirstGiven number x y) =
-    codes "segment " ++ (decimal number ++ (codes " again, as at first: " ++ shape_words y))
+abbrev pub link_sending_allowed : FailedLinkSending → (front : List ℕ) → List ℕ
+link_sending_allowed (sending.Nodes x y) front = nodes_words y
+link_sending_allowed (sending.NoLink missing) front = wanted_words missing.wanted
+link_sending_allowed (sending.Phase link x y) front = codes "a link in " ++ phase_name y
+link_sending_allowed (sending.Live link) front = codes "a DC between the addresses of none"
+link_sending_allowed (sending.Acknowledgement x y) front = ack_range y
+link_sending_allowed (sending.Room x y) front = codes "a new segment while at most " ++ (decimal y ++ codes " are outstanding")
+link_sending_allowed (sending.Length x y) front = codes "at most " ++ (decimal y ++ codes " bytes, the SEGSIZE of the other end")
+link_sending_allowed (sending.NextPiece x y) front = next_words y front
+link_sending_allowed (sending.Number x y) front = codes "segment " ++ number_words y
+link_sending_allowed (sending.AsFirstGiven number x y) front =
+    codes "segment " ++ (decimal number ++ (codes " again, as at first: " ++ shape_words y front))
 
 -- ---- a message that comes to this side; links are counted from 0 in the order in which they began
 
@@ -160,20 +175,20 @@ link_event_check (event.TakesMessages link phase) = codes "phase"
 link_event_check (event.IsConnected link phase) = codes "phase"
 link_event_check (event.Delivery link x y) = codes "delivery"
 
-abbrev pub link_event_seen : FailedLinkEvent → List ℕ
-link_event_seen (event.NoLink missing) = missing_words missing
-link_event_seen (event.AddressInUse own link) = codes "own address " ++ (decimal own ++ codes ", which a live link has")
-link_event_seen (event.TakesMessages link phase) = codes "a message at a link in " ++ phase_name phase
-link_event_seen (event.IsConnected link phase) = codes "a close of a link in " ++ phase_name phase
-link_event_seen (event.Delivery link x y) = codes "a message of " ++ (decimal x ++ codes " bytes")
+abbrev pub link_event_seen : FailedLinkEvent → (front : List ℕ) → List ℕ
+link_event_seen (event.NoLink missing) front = missing_words missing
+link_event_seen (event.AddressInUse own link) front = codes "own address " ++ (decimal own ++ codes ", which a live link has")
+link_event_seen (event.TakesMessages link phase) front = codes "a message at a link in " ++ phase_name phase
+link_event_seen (event.IsConnected link phase) front = codes "a close of a link in " ++ phase_name phase
+link_event_seen (event.Delivery link x y) front = codes "a message of " ++ (decimal x ++ (codes " bytes" ++ told_front front x))
 
-abbrev pub delivery_words : Option ℕ → List ℕ
-delivery_words None = codes "the next whole message, of which there is none yet"
-delivery_words (Some length) = codes "the next whole message, which has " ++ (decimal length ++ codes " bytes")
+abbrev pub delivery_words : Option ℕ → (front : List ℕ) → List ℕ
+delivery_words None front = codes "the next whole message, of which there is none yet"
+delivery_words (Some length) front = codes "the next whole message, which has " ++ (decimal length ++ (codes " bytes" ++ told_front front length))
 
-abbrev pub link_event_allowed : FailedLinkEvent → List ℕ
-link_event_allowed (event.NoLink missing) = wanted_words missing.wanted
-link_event_allowed (event.AddressInUse own link) = codes "an own address that no live link has"
-link_event_allowed (event.TakesMessages link phase) = codes "a message at a link in Calling, Confirming or RUN"
-link_event_allowed (event.IsConnected link phase) = codes "a close of a link in Confirming or RUN"
-link_event_allowed (event.Delivery link x y) = delivery_words y
+abbrev pub link_event_allowed : FailedLinkEvent → (front : List ℕ) → List ℕ
+link_event_allowed (event.NoLink missing) front = wanted_words missing.wanted
+link_event_allowed (event.AddressInUse own link) front = codes "an own address that no live link has"
+link_event_allowed (event.TakesMessages link phase) front = codes "a message at a link in Calling, Confirming or RUN"
+link_event_allowed (event.IsConnected link phase) front = codes "a close of a link in Confirming or RUN"
+link_event_allowed (event.Delivery link x y) front = delivery_words y front

@@ -9,6 +9,7 @@ use Rattle.ddcmp_msg.specs.Reading.{ReadingValue}
 use Rattle.dna_station.specs.declared.state.State.{State}
 use Rattle.dna_station.specs.declared.state.State.TheVariants.{Halted, Istrt, Astrt, Running}
 use Rattle.dna_station.specs.declared.tag.Tag.{Tag}
+use Rattle.ddcmp_station.specs.declared.failed.DataByte.{DataByte}
 use Rattle.ddcmp_station.specs.declared.failed.FailedSending.{FailedSending}
 use Rattle.ddcmp_station.specs.declared.failed.FailedSending.TheVariants.{State as OfState, RespIsLast, NumIsNext, NumIsHighest, SomeOutstanding}
 use Rattle.ddcmp_station.specs.declared.failed.FailedSending.TheVariants.{RoomIfNew, AsFirstGiven, CauseIsOpen}
@@ -17,6 +18,7 @@ use Rattle.ddcmp_station.specs.declared.failed.FailedArrival.TheVariants.{Period
 use Rattle.ddcmp_station.specs.declared.failed.PeriodNeed.{PeriodNeed}
 use Rattle.ddcmp_station.specs.declared.failed.PeriodNeed.TheVariants.{Anything, Fresh, OfPair}
 use Rattle.ddcmp_station.specs.declared.view.OpenCauses.{OpenCauses}
+use Rattle.why.specs.PacketWords.{byte_digits}
 use Rattle.why.specs.UnitWords.{reading_name}
 use Rattle.why.specs.StateLine.{state_name}
 
@@ -30,8 +32,25 @@ sending_check (NumIsNext x y again) = codes "NumIsNext"
 sending_check (NumIsHighest x y) = codes "NumIsHighest"
 sending_check SomeOutstanding = codes "SomeOutstanding"
 sending_check (RoomIfNew x y) = codes "RoomIfNew"
-sending_check (AsFirstGiven number) = codes "AsFirstGiven"
+sending_check (AsFirstGiven number x y) = codes "AsFirstGiven"
 sending_check (CauseIsOpen x causes) = codes "CauseIsOpen"
+
+-- the byte at a place, if the data have one there
+abbrev pub byte_words : Option ℕ → List ℕ
+byte_words None = codes "none"
+byte_words (Some byte) = byte_digits byte
+
+-- `byte 0 of the data is 07, and it has 1 bytes`
+abbrev pub seen_byte : DataByte → List ℕ
+seen_byte x =
+    codes "byte " ++ (decimal x.place ++ (codes " of the data is " ++ (byte_words x.byte ++ (codes ", and it has " ++ (decimal x.length
+    ++ codes " bytes")))))
+
+-- `byte 0 is 05, and 1 bytes, as number 1 was first sent`
+abbrev pub first_byte : (number : ℕ) → DataByte → List ℕ
+first_byte number y =
+    codes "byte " ++ (decimal y.place ++ (codes " is " ++ (byte_words y.byte ++ (codes ", and " ++ (decimal y.length
+    ++ (codes " bytes, as number " ++ (decimal number ++ codes " was first sent")))))))
 
 abbrev pub sending_seen : FailedSending → ReadingValue → List ℕ
 sending_seen (OfState state) reading = reading_name reading ++ (codes " in " ++ state_name state)
@@ -40,7 +59,7 @@ sending_seen (NumIsNext x y again) reading = codes "NUM " ++ decimal x
 sending_seen (NumIsHighest x y) reading = codes "NUM " ++ decimal x
 sending_seen SomeOutstanding reading = codes "a REP while no packet is outstanding"
 sending_seen (RoomIfNew x y) reading = codes "a new packet while " ++ (decimal x ++ codes " are outstanding")
-sending_seen (AsFirstGiven number) reading = codes "number " ++ (decimal number ++ codes " with other data than at first")
+sending_seen (AsFirstGiven number x y) reading = seen_byte x
 sending_seen (CauseIsOpen x causes) reading = codes "a NAK of reason " ++ (decimal (reason_number x) ++ codes ", of which no cause is open")
 
 -- what a state's row has
@@ -71,7 +90,7 @@ sending_allowed (NumIsNext x y again) = codes "NUM " ++ (decimal y ++ if_again a
 sending_allowed (NumIsHighest x y) = codes "NUM " ++ decimal y
 sending_allowed SomeOutstanding = codes "a REP while a packet is outstanding"
 sending_allowed (RoomIfNew x y) = codes "a new packet while at most " ++ (decimal y ++ codes " are outstanding")
-sending_allowed (AsFirstGiven number) = codes "number " ++ (decimal number ++ codes " with the data of its first sending")
+sending_allowed (AsFirstGiven number x y) = first_byte number y
 sending_allowed (CauseIsOpen x causes) = allowed_reasons causes
 
 -- ---- a message that comes to this side

@@ -12,6 +12,7 @@ use Rattle.why.specs.Refused.{refused_line, accused_row}
 use Rattle.why.specs.RecordLine.{record_line}
 use Rattle.why.specs.RecordText.{record_text}
 use Rattle.why.specs.Checks.{check_line, check_rows}
+use Rattle.why.specs.Digits.{fronts}
 use Rattle.why.specs.Ends.{state_by, live_by}
 use Rattle.why.specs.Pages.{page}
 use Rattle.why.specs.Sides.{side_lines, side_text}
@@ -35,9 +36,9 @@ unfoldable pub record_object : EndRefusal → List ℕ
 record_object r = record_line r.says r.bytes.now
 
 -- nothing, where no check is named
-unfoldable pub check_object : EndRefusal → Option FailedCheck → List ℕ
-check_object r None = []
-check_object r (Some failed) = check_line A r.reason failed (reading r.bytes.now)
+unfoldable pub check_object : EndRefusal → ShownEnd → Option FailedCheck → List ℕ
+check_object r end None = []
+check_object r end (Some failed) = check_line A r.reason failed (reading r.bytes.now) (fronts end.links r.says r.bytes.now [])
 
 -- the objects of the end: its station, and its live links
 unfoldable pub end_objects : ShownEnd → List ℕ
@@ -45,7 +46,7 @@ end_objects end = side_lines (state_alone end) (live_by end)
 
 -- The refusal, the record, the check, and the end
 abbrev pub end_lines : EndRefusal → ShownEnd → List ℕ
-end_lines r end = ((refused_part r ++ record_object r) ++ check_object r r.failed) ++ end_objects end
+end_lines r end = ((refused_part r ++ record_object r) ++ check_object r end r.failed) ++ end_objects end
 
 -- ---- in rows
 
@@ -54,9 +55,10 @@ unfoldable pub record_part : EndRefusal → (name : List ℕ) → List ℕ
 record_part r name = record_text name (r.place + 2) r.says r.bytes.now ++ codes "\n"
 
 -- the check, or the page of the reason alone, where none is named; and an empty row
-unfoldable pub check_part : EndRefusal → Option FailedCheck → List ℕ
-check_part r None = codes "  page     " ++ (page r.reason ++ codes "\n\n")
-check_part r (Some failed) = check_rows A r.reason failed (reading r.bytes.now) ++ codes "\n"
+unfoldable pub check_part : EndRefusal → ShownEnd → Option FailedCheck → List ℕ
+check_part r end None = codes "  page     " ++ (page r.reason ++ codes "\n\n")
+check_part r end (Some failed) =
+    check_rows A r.reason failed (reading r.bytes.now) (fronts end.links r.says r.bytes.now []) ++ codes "\n"
 
 unfoldable pub end_part : ShownEnd → List ℕ
 end_part end = side_text (state_alone end) (live_by end)
@@ -71,4 +73,4 @@ accused_part r = accused_row A r.accusation
 -- the record, the check, the end, the rows before it, and who is accused
 abbrev pub end_rows : EndRefusal → ShownEnd → (name ladder : List ℕ) → List ℕ
 end_rows r end name ladder =
-    (((record_part r name ++ check_part r r.failed) ++ end_part end) ++ ladder_part ladder) ++ accused_part r
+    (((record_part r name ++ check_part r end r.failed) ++ end_part end) ++ ladder_part ladder) ++ accused_part r

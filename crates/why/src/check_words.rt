@@ -14,24 +14,26 @@ use pair_judge::{Awaited, FailedCheck};
 use std::fmt;
 use wire_base::Side;
 
-/// What stands in a record of this side that does not pass the check.
+/// What stands in a record of this side that does not pass the check, with the digits of its first bytes that are compared.
 #[derive(Clone, Copy)]
-pub struct Seen<'a> {
+pub struct Seen<'a, 't> {
     pub side: Side,
     pub failed: FailedCheck,
     pub reading: Reading<'a>,
+    pub front: &'t str,
 }
 
-impl fmt::Display for Seen<'_> {
+impl fmt::Display for Seen<'_, '_> {
     ghost use Rattle.std.specs.Prelude.{Some};
     ghost use Rattle.ddcmp_msg.specs.Reading.{reading_view};
     ghost use Rattle.why.specs.Checks as checks;
 
-    ghost output = { λ words. Some (checks.seen words.side words.failed (reading_view words.reading)) };
+    ghost output = { λ words. Some (checks.seen words.side words.failed (reading_view words.reading) words.front.now) };
 
     fn fmt<W: fmt::Write>(&self, f: &mut fmt::Formatter<W>) -> fmt::Result {
         let side = self.side;
         let reading = self.reading;
+        let front = self.front;
         match self.failed {
             FailedCheck::Message(_) => write!(f, "{}", ReadingWords { reading }),
             FailedCheck::HintOrder { seen, .. } => write!(f, "hint {seen}"),
@@ -57,9 +59,9 @@ impl fmt::Display for Seen<'_> {
             }
             FailedCheck::Packet(fault) => write!(f, "{}", PacketFaultWords { fault }),
             FailedCheck::Nsp(fault) => write!(f, "{}", NspFaultWords { fault }),
-            FailedCheck::LinkSending(failed) => write!(f, "{}", LinkSendingSeen { failed }),
+            FailedCheck::LinkSending(failed) => write!(f, "{}", LinkSendingSeen { failed, front }),
             FailedCheck::LinkArrival(failed) => write!(f, "{}", LinkArrivalSeen { side, failed }),
-            FailedCheck::LinkEvent(failed) => write!(f, "{}", LinkEventSeen { failed }),
+            FailedCheck::LinkEvent(failed) => write!(f, "{}", LinkEventSeen { failed, front }),
             FailedCheck::Noise => {
                 let name = ReadingName { reading };
                 write!(f, "{name}, which shows no damage")
@@ -94,31 +96,39 @@ impl fmt::Display for BothWait {
     }
 }
 
-/// What would be right there: with it the check is passed.
+/// What would be right there, with the digits of the first bytes: with it the check is passed. `unit_name` is the short name of the unit that the
+/// record names, with a comma and a blank behind it, or nothing.
 #[derive(Clone, Copy)]
-pub struct Allowed<'a> {
+pub struct Allowed<'a, 't> {
     pub side: Side,
     pub failed: FailedCheck,
     pub reading: Reading<'a>,
+    pub front: &'t str,
+    pub unit_name: &'t str,
 }
 
-impl fmt::Display for Allowed<'_> {
+impl fmt::Display for Allowed<'_, '_> {
     ghost use Rattle.std.specs.Prelude.{Some};
     ghost use Rattle.ddcmp_msg.specs.Reading.{reading_view};
     ghost use Rattle.why.specs.Checks as checks;
 
-    ghost output = { λ words. Some (checks.allowed words.side words.failed (reading_view words.reading)) };
+    ghost output = { λ words. Some (checks.allowed words.side words.failed (reading_view words.reading) words.front.now words.unit_name.now) };
 
     fn fmt<W: fmt::Write>(&self, f: &mut fmt::Formatter<W>) -> fmt::Result {
         let side = self.side;
         let other = side.other();
+        let front = self.front;
         match self.failed {
             FailedCheck::Message(_) => f.write_str("a sound message of DDCMP"),
             FailedCheck::HintOrder { lowest, .. } => write!(f, "hint {lowest} or a higher one"),
             FailedCheck::NoSuchUnit(own) => write!(f, "{}", BelowWords { other, own }),
             FailedCheck::NoOrder { own, .. } => write!(f, "{}", BelowWords { other, own }),
             FailedCheck::Undetected { unit } => {
-                write!(f, "the bytes of unit {unit} of {other}; or damaged bytes")
+                let name = self.unit_name;
+                write!(
+                    f,
+                    "{name}the bytes of unit {unit} of {other}; or damaged bytes"
+                )
             }
             FailedCheck::StationSending(failed) => write!(f, "{}", SendingAllowed { failed }),
             FailedCheck::StationArrival(failed) => write!(
@@ -139,13 +149,15 @@ impl fmt::Display for Allowed<'_> {
             FailedCheck::Nsp(_) => {
                 f.write_str("a message of NSP with all its fields, and nothing behind its end")
             }
-            FailedCheck::LinkSending(failed) => write!(f, "{}", LinkSendingAllowed { failed }),
+            FailedCheck::LinkSending(failed) => {
+                write!(f, "{}", LinkSendingAllowed { failed, front })
+            }
             FailedCheck::LinkArrival(failed) => write!(
                 f,
                 "{}",
                 LinkArrivalAllowed { side, failed }
             ),
-            FailedCheck::LinkEvent(failed) => write!(f, "{}", LinkEventAllowed { failed }),
+            FailedCheck::LinkEvent(failed) => write!(f, "{}", LinkEventAllowed { failed, front }),
             FailedCheck::Noise => f.write_str("bytes that read as header bad or data bad"),
         }
     }

@@ -2,6 +2,7 @@
 
 use crate::arrival_checks::ArrivalCheck;
 use crate::check_words::{Allowed, Seen};
+use crate::digits::Fronts;
 use crate::link_arrival_checks::LinkArrivalCheck;
 use crate::link_event_checks::LinkEventCheck;
 use crate::link_sending_checks::LinkSendingCheck;
@@ -13,22 +14,25 @@ use pair_judge::{FailedCheck, Reason};
 use std::fmt;
 use wire_base::Side;
 
-/// The check that a record of this side does not pass, with the reason for which it is refused, and how its bytes are read (`HeaderBad` of a
-/// user's record, which has none). Printed as one JSON object with its LF.
+/// The check that a record of this side does not pass, with the reason for which it is refused, how its bytes are read (`HeaderBad` of a
+/// user's record, which has none), and what is shown of both sides of it ([`Fronts`]). Printed as one JSON object with its LF.
 #[derive(Clone, Copy)]
-pub struct CheckLine<'a> {
+pub struct CheckLine<'a, 't> {
     pub side: Side,
     pub reason: Reason,
     pub failed: FailedCheck,
     pub reading: Reading<'a>,
+    pub fronts: Fronts<'t>,
 }
 
-impl fmt::Display for CheckLine<'_> {
+impl fmt::Display for CheckLine<'_, '_> {
     ghost use Rattle.std.specs.Prelude.{Some};
     ghost use Rattle.ddcmp_msg.specs.Reading.{reading_view};
     ghost use Rattle.why.specs.Checks.{check_line};
+    ghost use Rattle.why.specs.Digits.{fronts_told};
 
-    ghost output = { λ line. Some (check_line line.side line.reason line.failed (reading_view line.reading)) };
+    ghost output = { λ line. Some (check_line line.side line.reason line.failed (reading_view line.reading)
+        (fronts_told line.fronts)) };
 
     fn fmt<W: fmt::Write>(&self, f: &mut fmt::Formatter<W>) -> fmt::Result {
         let CheckLine {
@@ -36,17 +40,21 @@ impl fmt::Display for CheckLine<'_> {
             reason,
             failed,
             reading,
+            fronts,
         } = *self;
         let name = CheckName { failed };
         let seen = Seen {
             side,
             failed,
             reading,
+            front: fronts.seen,
         };
         let allowed = Allowed {
             side,
             failed,
             reading,
+            front: fronts.due,
+            unit_name: fronts.unit_name,
         };
         let page = Page { reason };
         write!(
@@ -58,19 +66,22 @@ impl fmt::Display for CheckLine<'_> {
 
 /// The same check in rows: what is seen and what is allowed, the rule, if it is one of the station, and the page of the reason.
 #[derive(Clone, Copy)]
-pub struct CheckRows<'a> {
+pub struct CheckRows<'a, 't> {
     pub side: Side,
     pub reason: Reason,
     pub failed: FailedCheck,
     pub reading: Reading<'a>,
+    pub fronts: Fronts<'t>,
 }
 
-impl fmt::Display for CheckRows<'_> {
+impl fmt::Display for CheckRows<'_, '_> {
     ghost use Rattle.std.specs.Prelude.{Some};
     ghost use Rattle.ddcmp_msg.specs.Reading.{reading_view};
     ghost use Rattle.why.specs.Checks.{check_rows};
+    ghost use Rattle.why.specs.Digits.{fronts_told};
 
-    ghost output = { λ rows. Some (check_rows rows.side rows.reason rows.failed (reading_view rows.reading)) };
+    ghost output = { λ rows. Some (check_rows rows.side rows.reason rows.failed (reading_view rows.reading)
+        (fronts_told rows.fronts)) };
 
     fn fmt<W: fmt::Write>(&self, f: &mut fmt::Formatter<W>) -> fmt::Result {
         let CheckRows {
@@ -78,16 +89,20 @@ impl fmt::Display for CheckRows<'_> {
             reason,
             failed,
             reading,
+            fronts,
         } = *self;
         let seen = Seen {
             side,
             failed,
             reading,
+            front: fronts.seen,
         };
         let allowed = Allowed {
             side,
             failed,
             reading,
+            front: fronts.due,
+            unit_name: fronts.unit_name,
         };
         let rule = RuleRow { failed };
         let page = Page { reason };

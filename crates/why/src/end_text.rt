@@ -6,6 +6,7 @@ ghost use Rattle.why.specs.WholeEnd as spec;
 use crate::accusation::{Accusation, AccusedRow};
 use crate::checks::{CheckLine, CheckRows};
 use crate::ends::{live_links_at, state_at};
+use crate::front_texts::FrontTexts;
 use crate::pages::Page;
 use crate::record::{record_json, record_text};
 use crate::refused_line::RefusedLine;
@@ -47,7 +48,7 @@ pub fn why_end_json(
 {
     let mut text = refused_object(alloc, refusal)?;
     put_record_object(alloc, &mut text, refusal)?;
-    put_check_object(&mut text, refusal)?;
+    put_check_object(alloc, &mut text, refusal, end)?;
     put_end_objects(alloc, &mut text, end)?;
     Ok(text)
 }
@@ -65,7 +66,7 @@ pub fn why_end_rows(
     ensures { IfOk result (λ text. string_bytes text ≡ spec.end_rows refusal.entry end.now name.now ladder.now) }
 {
     let mut text = record_rows(alloc, refusal, name)?;
-    put_check_rows(&mut text, refusal)?;
+    put_check_rows(alloc, &mut text, refusal, end)?;
     put_end_rows(alloc, &mut text, end)?;
     put_ladder(&mut text, ladder)?;
     put_accused(&mut text, refusal)?;
@@ -115,17 +116,24 @@ fn put_record_object(
 
 // Appends the JSON object of the check, if one is named.
 #[tactic(auto, unfolding(crate::specs::WholeEnd::check_object))]
-fn put_check_object(text: &mut String, refusal: EndRefusal<'_>) -> Result<(), AllocError>
-    ensures { OnOk result (string_bytes text.new ≡ string_bytes text.old ++ spec.check_object refusal.entry refusal.entry.failed) }
+fn put_check_object(
+    alloc: Global,
+    text: &mut String,
+    refusal: EndRefusal<'_>,
+    end: &SideEnd,
+) -> Result<(), AllocError>
+    ensures { OnOk result (string_bytes text.new ≡ string_bytes text.old ++ spec.check_object refusal.entry end.now refusal.entry.failed) }
 {
     let Some(failed) = refusal.failed else {
         return Ok(());
     };
+    let fronts = FrontTexts::of(alloc, end, refusal.says, refusal.bytes, "")?;
     let line = CheckLine {
         side: Side::A,
         reason: refusal.reason,
         failed,
         reading: read_unit(refusal.bytes),
+        fronts: fronts.lent(),
     };
     write!(text, "{line}")
 }
@@ -152,8 +160,13 @@ fn record_rows(alloc: Global, refusal: EndRefusal<'_>, name: &str) -> Result<Str
 
 // Appends the rows of the check, or the page of the reason alone, and an empty one.
 #[tactic(auto, unfolding(crate::specs::WholeEnd::check_part))]
-fn put_check_rows(text: &mut String, refusal: EndRefusal<'_>) -> Result<(), AllocError>
-    ensures { OnOk result (string_bytes text.new ≡ string_bytes text.old ++ spec.check_part refusal.entry refusal.entry.failed) }
+fn put_check_rows(
+    alloc: Global,
+    text: &mut String,
+    refusal: EndRefusal<'_>,
+    end: &SideEnd,
+) -> Result<(), AllocError>
+    ensures { OnOk result (string_bytes text.new ≡ string_bytes text.old ++ spec.check_part refusal.entry end.now refusal.entry.failed) }
 {
     let Some(failed) = refusal.failed else {
         let page = Page {
@@ -161,11 +174,13 @@ fn put_check_rows(text: &mut String, refusal: EndRefusal<'_>) -> Result<(), Allo
         };
         return write!(text, "  page     {page}\n\n");
     };
+    let fronts = FrontTexts::of(alloc, end, refusal.says, refusal.bytes, "")?;
     let rows = CheckRows {
         side: Side::A,
         reason: refusal.reason,
         failed,
         reading: read_unit(refusal.bytes),
+        fronts: fronts.lent(),
     };
     write!(text, "{rows}\n")
 }

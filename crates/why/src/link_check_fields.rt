@@ -1,5 +1,8 @@
 //! What the checks of the links ask for, in words.
 
+ghost use Rattle.std.specs.Prelude.{◌≡◌};
+ghost use Rattle.why.specs.LinkChecks as spec;
+
 use crate::packet_words::AddressWords;
 use dna_links::LinkTest;
 use nsp_link::{MissingLink, Nodes, Numbers};
@@ -211,7 +214,7 @@ impl fmt::Display for NumberWords {
     }
 }
 
-// That older numbers are allowed too, where they are.
+// That older numbers are allowed too, where they are: those below the lowest.
 #[derive(Clone, Copy)]
 struct AgainWords {
     lowest: u16,
@@ -227,8 +230,43 @@ impl fmt::Display for AgainWords {
     fn fmt<W: fmt::Write>(&self, f: &mut fmt::Formatter<W>) -> fmt::Result {
         let lowest = self.lowest;
         match self.first {
-            Some(first) => write!(f, ", or again {first} to {lowest}"),
+            Some(first) => {
+                let last = number_below(lowest);
+                let up_to = UpTo { first, last };
+                write!(f, ", or again {first}{up_to}")
+            }
             None => Ok(()),
         }
+    }
+}
+
+// The number in front of one, modulo 4,096.
+fn number_below(number: u16) -> u16
+    ensures { result ≡ spec.number_below number }
+{
+    if number == 0 {
+        return 4095;
+    }
+    number - 1
+}
+
+// Through which number, where that is not the first one.
+#[derive(Clone, Copy)]
+struct UpTo {
+    first: u16,
+    last: u16,
+}
+
+impl fmt::Display for UpTo {
+    ghost use Rattle.std.specs.Prelude.{Some};
+
+    ghost output = { λ words. Some (spec.up_to words.first words.last) };
+
+    fn fmt<W: fmt::Write>(&self, f: &mut fmt::Formatter<W>) -> fmt::Result {
+        let last = self.last;
+        if self.first == last {
+            return Ok(());
+        }
+        write!(f, " to {last}")
     }
 }

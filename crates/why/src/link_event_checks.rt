@@ -1,5 +1,6 @@
 //! The check of the links that a user's event does not pass, in words.
 
+use crate::digits::ToldFront;
 use crate::link_check_fields::{MissingWords, WantedWords};
 use crate::link_fields::PhaseName;
 use nsp_link::FailedLinkEvent;
@@ -28,17 +29,18 @@ impl fmt::Display for LinkEventCheck {
     }
 }
 
-/// What the user did, or got.
+/// What the user did, or got, with the digits of the first bytes that are compared.
 #[derive(Clone, Copy)]
-pub struct LinkEventSeen {
+pub struct LinkEventSeen<'t> {
     pub failed: FailedLinkEvent,
+    pub front: &'t str,
 }
 
-impl fmt::Display for LinkEventSeen {
+impl fmt::Display for LinkEventSeen<'_> {
     ghost use Rattle.std.specs.Prelude.{Some};
     ghost use Rattle.why.specs.LinkChecks.{link_event_seen};
 
-    ghost output = { λ words. Some (link_event_seen words.failed) };
+    ghost output = { λ words. Some (link_event_seen words.failed words.front.now) };
 
     fn fmt<W: fmt::Write>(&self, f: &mut fmt::Formatter<W>) -> fmt::Result {
         match self.failed {
@@ -54,22 +56,29 @@ impl fmt::Display for LinkEventSeen {
                 let phase = PhaseName { phase: seen };
                 write!(f, "a close of a link in {phase}")
             }
-            FailedLinkEvent::Delivery { seen, .. } => write!(f, "a message of {seen} bytes"),
+            FailedLinkEvent::Delivery { seen, .. } => {
+                let bytes = ToldFront {
+                    front: self.front,
+                    count: seen,
+                };
+                write!(f, "a message of {seen} bytes{bytes}")
+            }
         }
     }
 }
 
-/// What would be right there: with it the check is passed.
+/// What would be right there, with the digits of the first bytes: with it the check is passed.
 #[derive(Clone, Copy)]
-pub struct LinkEventAllowed {
+pub struct LinkEventAllowed<'t> {
     pub failed: FailedLinkEvent,
+    pub front: &'t str,
 }
 
-impl fmt::Display for LinkEventAllowed {
+impl fmt::Display for LinkEventAllowed<'_> {
     ghost use Rattle.std.specs.Prelude.{Some};
     ghost use Rattle.why.specs.LinkChecks.{link_event_allowed};
 
-    ghost output = { λ words. Some (link_event_allowed words.failed) };
+    ghost output = { λ words. Some (link_event_allowed words.failed words.front.now) };
 
     fn fmt<W: fmt::Write>(&self, f: &mut fmt::Formatter<W>) -> fmt::Result {
         match self.failed {
@@ -83,30 +92,39 @@ impl fmt::Display for LinkEventAllowed {
             FailedLinkEvent::IsConnected { .. } => {
                 f.write_str("a close of a link in Confirming or RUN")
             }
-            FailedLinkEvent::Delivery { allowed, .. } => write!(
-                f,
-                "{}",
-                DeliveryWords { length: allowed }
-            ),
+            FailedLinkEvent::Delivery { allowed, .. } => {
+                let words = DeliveryWords {
+                    length: allowed,
+                    front: self.front,
+                };
+                write!(f, "{words}")
+            }
         }
     }
 }
 
 // The next message that is whole, if one is.
 #[derive(Clone, Copy)]
-struct DeliveryWords {
+struct DeliveryWords<'t> {
     length: Option<usize>,
+    front: &'t str,
 }
 
-impl fmt::Display for DeliveryWords {
+impl fmt::Display for DeliveryWords<'_> {
     ghost use Rattle.std.specs.Prelude.{Some};
     ghost use Rattle.why.specs.LinkChecks.{delivery_words};
 
-    ghost output = { λ words. Some (delivery_words words.length) };
+    ghost output = { λ words. Some (delivery_words words.length words.front.now) };
 
     fn fmt<W: fmt::Write>(&self, f: &mut fmt::Formatter<W>) -> fmt::Result {
         match self.length {
-            Some(length) => write!(f, "the next whole message, which has {length} bytes"),
+            Some(length) => {
+                let bytes = ToldFront {
+                    front: self.front,
+                    count: length,
+                };
+                write!(f, "the next whole message, which has {length} bytes{bytes}")
+            }
             None => f.write_str("the next whole message, of which there is none yet"),
         }
     }

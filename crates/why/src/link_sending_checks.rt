@@ -34,17 +34,18 @@ impl fmt::Display for LinkSendingCheck {
     }
 }
 
-/// What stands where a message does not pass the check.
+/// What stands where a message does not pass the check, with the digits of the first bytes that are compared.
 #[derive(Clone, Copy)]
-pub struct LinkSendingSeen {
+pub struct LinkSendingSeen<'t> {
     pub failed: FailedLinkSending,
+    pub front: &'t str,
 }
 
-impl fmt::Display for LinkSendingSeen {
+impl fmt::Display for LinkSendingSeen<'_> {
     ghost use Rattle.std.specs.Prelude.{Some};
     ghost use Rattle.why.specs.LinkChecks.{link_sending_seen};
 
-    ghost output = { λ words. Some (link_sending_seen words.failed) };
+    ghost output = { λ words. Some (link_sending_seen words.failed words.front.now) };
 
     fn fmt<W: fmt::Write>(&self, f: &mut fmt::Formatter<W>) -> fmt::Result {
         match self.failed {
@@ -62,16 +63,16 @@ impl fmt::Display for LinkSendingSeen {
                 write!(f, "a new segment while {seen} are outstanding")
             }
             FailedLinkSending::Length { seen, .. } => write!(f, "{seen} bytes"),
-            FailedLinkSending::NextPiece { seen, .. } => write!(
-                f,
-                "{}",
-                ShapeWords { shape: seen }
-            ),
+            FailedLinkSending::NextPiece { seen, .. } => {
+                let front = self.front;
+                write!(f, "{}", ShapeWords { shape: seen, front })
+            }
             FailedLinkSending::Number { seen, .. } => write!(f, "segment {seen}"),
             FailedLinkSending::AsFirstGiven { number, seen, .. } => {
                 let words = OtherwiseWords {
                     number,
                     shape: seen,
+                    front: self.front,
                 };
                 write!(f, "{words}")
             }
@@ -79,17 +80,18 @@ impl fmt::Display for LinkSendingSeen {
     }
 }
 
-/// What would be right there: with it the check is passed.
+/// What would be right there, with the digits of the first bytes: with it the check is passed.
 #[derive(Clone, Copy)]
-pub struct LinkSendingAllowed {
+pub struct LinkSendingAllowed<'t> {
     pub failed: FailedLinkSending,
+    pub front: &'t str,
 }
 
-impl fmt::Display for LinkSendingAllowed {
+impl fmt::Display for LinkSendingAllowed<'_> {
     ghost use Rattle.std.specs.Prelude.{Some};
     ghost use Rattle.why.specs.LinkChecks.{link_sending_allowed};
 
-    ghost output = { λ words. Some (link_sending_allowed words.failed) };
+    ghost output = { λ words. Some (link_sending_allowed words.failed words.front.now) };
 
     fn fmt<W: fmt::Write>(&self, f: &mut fmt::Formatter<W>) -> fmt::Result {
         match self.failed {
@@ -112,7 +114,15 @@ impl fmt::Display for LinkSendingAllowed {
                 write!(f, "at most {allowed} bytes, the SEGSIZE of the other end")
             }
             FailedLinkSending::NextPiece { allowed, .. } => {
-                write!(f, "{}", NextWords { next: allowed })
+                let front = self.front;
+                write!(
+                    f,
+                    "{}",
+                    NextWords {
+                        next: allowed,
+                        front
+                    }
+                )
             }
             FailedLinkSending::Number { allowed, .. } => {
                 let numbers = NumberWords { numbers: allowed };
@@ -123,7 +133,10 @@ impl fmt::Display for LinkSendingAllowed {
                 allowed,
                 ..
             } => {
-                let shape = ShapeWords { shape: allowed };
+                let shape = ShapeWords {
+                    shape: allowed,
+                    front: self.front,
+                };
                 write!(f, "segment {number} again, as at first: {shape}")
             }
         }

@@ -81,10 +81,10 @@ impl fmt::Display for HeaderWords {
     }
 }
 
-// A byte as two hexadecimal digits.
+/// A byte as two hexadecimal digits.
 #[derive(Clone, Copy)]
-struct ByteDigits {
-    byte: u8,
+pub struct ByteDigits {
+    pub byte: u8,
 }
 
 impl fmt::Display for ByteDigits {

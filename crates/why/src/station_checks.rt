@@ -1,5 +1,6 @@
 //! The check of the station that a sent message does not pass, in words.
 
+use crate::data_bytes::{FirstByte, SeenByte};
 use crate::state_line::StateName;
 use crate::unit_words::ReadingName;
 use ddcmp_msg::Reading;
@@ -62,9 +63,7 @@ impl fmt::Display for SendingSeen<'_> {
             FailedSending::RoomIfNew { seen, .. } => {
                 write!(f, "a new packet while {seen} are outstanding")
             }
-            FailedSending::AsFirstGiven { number } => {
-                write!(f, "number {number} with other data than at first")
-            }
+            FailedSending::AsFirstGiven { seen, .. } => write!(f, "{}", SeenByte { seen }),
             FailedSending::CauseIsOpen { seen, .. } => {
                 let reason = seen.number();
                 write!(f, "a NAK of reason {reason}, of which no cause is open")
@@ -105,9 +104,11 @@ impl fmt::Display for SendingAllowed {
             FailedSending::RoomIfNew { allowed, .. } => {
                 write!(f, "a new packet while at most {allowed} are outstanding")
             }
-            FailedSending::AsFirstGiven { number } => {
-                write!(f, "number {number} with the data of its first sending")
-            }
+            FailedSending::AsFirstGiven {
+                number,
+                allowed,
+                ..
+            } => { write!(f, "{}", FirstByte { number, allowed }) }
             FailedSending::CauseIsOpen { open_causes, .. } => write!(
                 f,
                 "{}",

@@ -7,12 +7,13 @@ use crate::accusation::{Accusation, AccusedRow};
 use crate::checks::{CheckLine, CheckRows};
 use crate::edits::{EditsTried, RecorderRow, SoRow};
 use crate::ends::{live_links, state_of};
+use crate::front_texts::FrontTexts;
 use crate::record::{record_json, record_text};
 use crate::refused_line::RefusedLine;
 use crate::sides::{side_json, side_text};
 use capture::Entry;
 use ddcmp_msg::read_unit;
-use pair_judge::{FailedCheck, JudgedEnds, Reason};
+use pair_judge::{FailedCheck, JudgedEnds, Reason, SideEnd};
 use std::alloc::{AllocError, Global};
 use std::fmt::Write;
 use wire_base::Side;
@@ -34,6 +35,8 @@ pub struct Refusal<'r> {
     pub says: Entry,
     /// Its bytes: none where its line has none.
     pub bytes: &'r [u8],
+    /// The short name of the unit that its hint names, with a comma and a blank behind it; nothing where it names none that is known.
+    pub unit_name: &'r str,
 }
 
 /// What is shown beside it, put together already: rows with their LF.
@@ -64,7 +67,7 @@ pub fn why_json(
 {
     let mut text = refused_object(alloc, refusal)?;
     put_record_object(alloc, &mut text, refusal)?;
-    put_check_object(&mut text, refusal)?;
+    put_own_check_object(alloc, &mut text, refusal, ends)?;
     put_side_objects(alloc, &mut text, ends, refusal.side)?;
     put_side_objects(alloc, &mut text, ends, refusal.side.other())?;
     put_edit_objects(&mut text, edits, tried)?;
@@ -82,7 +85,7 @@ pub fn why_rows(
     ensures { IfOk result (λ text. string_bytes text ≡ spec.why_rows refusal.entry ends.now shown.entry) }
 {
     let mut text = record_rows(alloc, refusal, shown)?;
-    put_check_rows(&mut text, refusal)?;
+    put_own_check_rows(alloc, &mut text, refusal, ends)?;
     put_side_rows(alloc, &mut text, ends, refusal.side)?;
     put_side_rows(alloc, &mut text, ends, refusal.side.other())?;
     put_ladder(&mut text, shown)?;
@@ -148,30 +151,70 @@ fn record_rows(alloc: Global, refusal: Refusal<'_>, shown: Shown<'_>) -> Result<
 
 // Appends the JSON object of the check.
 #[tactic(auto, unfolding(crate::specs::Whole::check_object))]
-fn put_check_object(text: &mut String, refusal: Refusal<'_>) -> Result<(), AllocError>
-    ensures { OnOk result (string_bytes text.new ≡ string_bytes text.old ++ spec.check_object refusal.entry) }
+fn put_check_object(
+    alloc: Global,
+    text: &mut String,
+    refusal: Refusal<'_>,
+    end: &SideEnd,
+) -> Result<(), AllocError>
+    ensures { OnOk result (string_bytes text.new ≡ string_bytes text.old ++ spec.check_object refusal.entry end.now) }
 {
+    let fronts = FrontTexts::of(alloc, end, refusal.says, refusal.bytes, refusal.unit_name)?;
     let line = CheckLine {
         side: refusal.side,
         reason: refusal.reason,
         failed: refusal.failed,
         reading: read_unit(refusal.bytes),
+        fronts: fronts.lent(),
     };
     write!(text, "{line}")
 }
 
+// The same at the end of the record's side.
+#[tactic(auto, unfolding(crate::specs::Whole::own_check_object))]
+fn put_own_check_object(
+    alloc: Global,
+    text: &mut String,
+    refusal: Refusal<'_>,
+    ends: &JudgedEnds,
+) -> Result<(), AllocError>
+    ensures { OnOk result (string_bytes text.new ≡ string_bytes text.old ++ spec.own_check_object refusal.entry ends.now) }
+{
+    put_check_object(alloc, text, refusal, ends.end(refusal.side))
+}
+
 // Appends the rows of the check, and an empty one.
 #[tactic(auto, unfolding(crate::specs::Whole::check_part))]
-fn put_check_rows(text: &mut String, refusal: Refusal<'_>) -> Result<(), AllocError>
-    ensures { OnOk result (string_bytes text.new ≡ string_bytes text.old ++ spec.check_part refusal.entry) }
+fn put_check_rows(
+    alloc: Global,
+    text: &mut String,
+    refusal: Refusal<'_>,
+    end: &SideEnd,
+) -> Result<(), AllocError>
+    ensures { OnOk result (string_bytes text.new ≡ string_bytes text.old ++ spec.check_part refusal.entry end.now) }
 {
+    let fronts = FrontTexts::of(alloc, end, refusal.says, refusal.bytes, refusal.unit_name)?;
     let rows = CheckRows {
         side: refusal.side,
         reason: refusal.reason,
         failed: refusal.failed,
         reading: read_unit(refusal.bytes),
+        fronts: fronts.lent(),
     };
     write!(text, "{rows}\n")
+}
+
+// The same at the end of the record's side.
+#[tactic(auto, unfolding(crate::specs::Whole::own_check_part))]
+fn put_own_check_rows(
+    alloc: Global,
+    text: &mut String,
+    refusal: Refusal<'_>,
+    ends: &JudgedEnds,
+) -> Result<(), AllocError>
+    ensures { OnOk result (string_bytes text.new ≡ string_bytes text.old ++ spec.own_check_part refusal.entry ends.now) }
+{
+    put_check_rows(alloc, text, refusal, ends.end(refusal.side))
 }
 
 // Appends the JSON objects of a side and of its live links.

@@ -6,11 +6,12 @@ ghost use Rattle.dna_station.specs.Causes.{has_cause};
 ghost use Rattle.dna_station.specs.Station.{wire};
 ghost use Rattle.dna_station.specs.Table.{WINDOW, checks};
 ghost use Rattle.dna_station.specs.WireBook.{is_held_packet, wire_is_new, wire_sending_refusal};
-ghost use Rattle.ddcmp_station.specs.Failed.{failed_of, failed_sending, refusal_of_failed};
+ghost use Rattle.ddcmp_station.specs.Failed.{failed_of, failed_sending, first_data, not_as_first, refusal_of_failed};
+ghost use Rattle.ddcmp_station.specs.Failed as spec;
 ghost use Rattle.ddcmp_station.specs.View.{open_of};
 
 use super::{HeldPacket, Station};
-use crate::failed::FailedSending;
+use crate::failed::{DataByte, FailedSending};
 use ddcmp_msg::{Message, NakReason};
 use dna_station::State;
 use wire_base::Window;
@@ -132,7 +133,7 @@ impl<T: Copy, W: Window<HeldPacket<T>, 256>> Station<T, W> {
             then (if (if wire_is_new self.now.variables then true
             else is_held_packet (slice_get self.now.variables.held self.now.variables.ahead) body.now)
             then None
-            else Some (FailedSending.AsFirstGiven number))
+            else Some (not_as_first number body.now (first_data (slice_get self.now.variables.held self.now.variables.ahead))))
             else Some (FailedSending.RoomIfNew (length self.now.variables.held) 254) }
     {
         if self.variables.is_new() {
@@ -147,6 +148,46 @@ impl<T: Copy, W: Window<HeldPacket<T>, 256>> Station<T, W> {
         if self.variables.is_first_given(body) {
             return None;
         }
-        Some(FailedSending::AsFirstGiven { number })
+        let first = self.first_data();
+        let place = first_difference(body, first);
+        Some(FailedSending::AsFirstGiven {
+            number,
+            seen: byte_at(body, place),
+            allowed: byte_at(first, place),
+        })
     }
+
+    // The data with which the next packet to send was first sent; none of a new one.
+    fn first_data(&self) -> &[u8]
+        ensures { result.now ≡ first_data (slice_get self.now.variables.held self.now.variables.ahead) }
+    {
+        match self.variables.packet_to_send() {
+            Some(packet) => packet.body().as_slice(),
+            None => &[],
+        }
+    }
+}
+
+// A place in data.
+fn byte_at(bytes: &[u8], place: usize) -> DataByte
+    ensures { result ≡ spec.byte_at place bytes.now }
+{
+    DataByte {
+        place,
+        byte: bytes.get(place).copied(),
+        length: bytes.len(),
+    }
+}
+
+// The first place where two differ, or the end of the shorter.
+fn first_difference(bytes: &[u8], first: &[u8]) -> usize
+    ensures { result ≡ spec.first_difference bytes.now first.now }
+{
+    let shorter = bytes.len().min(first.len());
+    for place in 0..shorter {
+        if bytes[place] != first[place] {
+            return place;
+        }
+    }
+    shorter
 }

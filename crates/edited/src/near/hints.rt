@@ -1,6 +1,7 @@
 //! Hints that are shifted.
 
 use super::Near;
+use super::missing::lowest_unit;
 use super::moves::{first_receipt, last_receipt};
 use crate::change::Change;
 use crate::edits::Edits;
@@ -17,6 +18,10 @@ pub(crate) fn add_hints(edits: &mut Edits, near: Near<'_>) -> Result<(), AllocEr
         return Ok(());
     };
     let next = first_receipt(near.behind);
+    let low = lowest_unit(near.before);
+    if unit < low {
+        add_begun_again(edits, near, low)?;
+    }
     for other in [unit.checked_sub(1), unit.checked_add(1)] {
         if let Some(unit) = other {
             add_hint(edits, near, row, next, unit)?;
@@ -24,6 +29,29 @@ pub(crate) fn add_hints(edits: &mut Edits, near: Near<'_>) -> Result<(), AllocEr
         }
     }
     add_last_hint(edits, near)
+}
+
+// The hints begin at 0 again, where the other side goes on: with its next unit, or with the first one that has these bytes.
+fn add_begun_again(edits: &mut Edits, near: Near<'_>, low: u64) -> Result<(), AllocError> {
+    if let Some(unit) = unit_like(near.other, low, &near.row.bytes)
+        && unit != low
+    {
+        add_hints_from(edits, near, unit)?;
+    }
+    add_hints_from(edits, near, low)
+}
+
+// The first unit, from that one on, that was sent with these bytes.
+fn unit_like(other: &[Row], low: u64, bytes: &[u8]) -> Option<u64> {
+    for row in other {
+        if let Some(unit) = row.sent()
+            && unit >= low
+            && row.bytes.as_slice() == bytes
+        {
+            return Some(unit);
+        }
+    }
+    None
 }
 
 // The last receipt in front of the refused one names a unit that is one too high.
@@ -92,18 +120,55 @@ fn add_next_distance(
     Ok(())
 }
 
-// From the refused receipt on, which is one line in format 2.
+// From the refused receipt on, which is one line in format 2, and each receipt in format 1.
 fn add_hints_from(edits: &mut Edits, near: Near<'_>, unit: u64) -> Result<(), AllocError> {
     let (form, line) = (near.row.form, near.row.line);
-    let HintForm::Distance { mark: _ } = form else {
-        return Ok(());
-    };
-    let Entry::Received { kept, hint: _ } = near.row.entry else {
+    let Entry::Received { kept, hint } = near.row.entry else {
         return Ok(());
     };
     let Some(put) = receipt_line(near.alloc, form, (kept, unit), &near.row.bytes)? else {
         return Ok(());
     };
-    let changes = line_replaced(near.alloc, line, put)?;
+    let mut changes = line_replaced(near.alloc, line, put)?;
+    if !near.row.is_told_by_distance() {
+        let Some(later) = near.later else {
+            return Ok(());
+        };
+        if later.is_empty() || !add_later_hints(&mut changes, near, (line, hint, unit), later)? {
+            return Ok(());
+        }
+    }
     edits.add(near.side, Mistake::WrongHints { line, unit }, changes)
+}
+
+// Shifts the hints behind a line as far as that line's, whose hint names this unit; where they begin again, they go on from the last one. `false`
+// where a number would be none.
+fn add_later_hints(
+    changes: &mut Vec<Change>,
+    near: Near<'_>,
+    first: (u64, u64, u64),
+    later: &[Row],
+) -> Result<bool, AllocError> {
+    let (mut line, mut hint, mut unit) = first;
+    for row in later {
+        let Entry::Received { kept, hint: next } = row.entry else {
+            continue;
+        };
+        unit = match next.checked_sub(hint) {
+            Some(far) => unit.saturating_add(far),
+            None => unit.saturating_add(1),
+        };
+        let Some(put) = receipt_line(near.alloc, row.form, (kept, unit), &row.bytes)? else {
+            return Ok(false);
+        };
+        let passed = row.line.saturating_sub(line).saturating_sub(1);
+        changes.push(Change {
+            passed,
+            put,
+            dropped: 1,
+        })?;
+        line = row.line;
+        hint = next;
+    }
+    Ok(true)
 }

@@ -6,7 +6,7 @@ use crate::change::Change;
 use crate::edits::Edits;
 use crate::line_changes::put_before;
 use crate::mistake::Mistake;
-use crate::row::{Due, Row};
+use crate::row::{Damage, Due, Row};
 use crate::spelling::{line_of, receipt_line};
 use capture::{Entry, HintForm};
 use std::alloc::AllocError;
@@ -14,6 +14,9 @@ use wire_base::Side;
 
 // Of how many units, the last ones, it may be one that has no `s` line.
 const LAST_UNITS: u64 = 3;
+
+// How many bytes the header of a unit has, with its check.
+const HEADER_LEN: usize = 8;
 
 // How many units that have no receipt are looked at.
 const UNITS: usize = 4;
@@ -76,32 +79,41 @@ fn add_sent_place(
     edits.add(side, Mistake::SentMissing { before, unit, like }, changes)
 }
 
-// In front of the refused record: `u start`, `u halt`, and the lines that its bytes tell of.
+// The lines that bytes near by tell of, and in front of the refused record `u start` and `u halt`.
 pub(crate) fn add_user(edits: &mut Edits, near: Near<'_>, due: &[Due]) -> Result<(), AllocError> {
     for line in due {
-        add_user_line(edits, near, line.entry, &line.bytes)?;
+        add_user_line(edits, near, line.before, (line.entry, &line.bytes))?;
     }
-    add_user_line(edits, near, Entry::Start, &[])?;
-    add_user_line(edits, near, Entry::Halt, &[])
+    let before = near.row.line;
+    add_user_line(edits, near, before, (Entry::Start, &[]))?;
+    add_user_line(edits, near, before, (Entry::Halt, &[]))
 }
 
 fn add_user_line(
     edits: &mut Edits,
     near: Near<'_>,
-    entry: Entry,
-    bytes: &[u8],
+    before: u64,
+    line: (Entry, &[u8]),
 ) -> Result<(), AllocError> {
-    let before = near.row.line;
+    let (entry, bytes) = line;
     let Some(put) = line_of(near.alloc, entry, bytes)? else {
         return Ok(());
     };
     let changes = put_before(near.alloc, before, put)?;
-    edits.add(near.side, Mistake::UserMissing { before, entry }, changes)
+    let mistake = match entry {
+        Entry::Noise => Mistake::NoiseMissing { before },
+        _ => Mistake::UserMissing { before, entry },
+    };
+    edits.add(near.side, mistake, changes)
 }
 
 // The receipts of units that have none, in front of the refused record. In format 2 the next receipt has to be at hand, or the later ones would be
 // shifted.
-pub(crate) fn add_receipts(edits: &mut Edits, near: Near<'_>) -> Result<(), AllocError> {
+pub(crate) fn add_receipts(
+    edits: &mut Edits,
+    near: Near<'_>,
+    damage: Option<Damage>,
+) -> Result<(), AllocError> {
     if near.row.is_told_by_distance() && next_receipt(near).is_none() {
         return Ok(());
     }
@@ -118,6 +130,9 @@ pub(crate) fn add_receipts(edits: &mut Edits, near: Near<'_>) -> Result<(), Allo
             return Ok(());
         }
         seen = seen.saturating_add(1);
+        if let Some(damage) = damage {
+            add_damaged(edits, near, sent, (unit, damage))?;
+        }
         add_receipt(edits, near, sent, (true, unit))?;
         add_receipt(edits, near, sent, (false, unit))?;
     }
@@ -125,7 +140,7 @@ pub(crate) fn add_receipts(edits: &mut Edits, near: Near<'_>) -> Result<(), Allo
 }
 
 // The unit behind that of the last receipt.
-fn lowest_unit(before: &[Row]) -> u64 {
+pub(crate) fn lowest_unit(before: &[Row]) -> u64 {
     match last_receipt(before) {
         Some(row) => match row.received() {
             Some(unit) => unit.saturating_add(1),
@@ -161,18 +176,63 @@ fn add_receipt(
     entry: (bool, u64),
 ) -> Result<(), AllocError> {
     let (kept, unit) = entry;
-    let (before, like) = (near.row.line, sent.line);
-    let Some(put) = receipt_line(near.alloc, near.row.form, entry, &sent.bytes)? else {
-        return Ok(());
-    };
-    let mut changes = put_before(near.alloc, before, put)?;
-    add_next_distance(&mut changes, near, unit)?;
     let mistake = Mistake::ReceiptMissing {
-        before,
+        before: near.row.line,
         kept,
         unit,
-        like,
+        like: sent.line,
     };
+    add_receipt_line(edits, near, mistake, (entry, &sent.bytes))
+}
+
+// The unit came with other bytes, so that a check of it failed.
+fn add_damaged(
+    edits: &mut Edits,
+    near: Near<'_>,
+    sent: &Row,
+    damaged: (u64, Damage),
+) -> Result<(), AllocError> {
+    let (unit, damage) = damaged;
+    let mut bytes = sent.bytes.to_vec(near.alloc)?;
+    if !turn_bit(&mut bytes, damage) {
+        return Ok(());
+    }
+    let mistake = Mistake::DamagedMissing {
+        before: near.row.line,
+        unit,
+        like: sent.line,
+    };
+    add_receipt_line(edits, near, mistake, ((false, unit), &bytes))
+}
+
+// Turns a bit of the check: whether the unit has that check.
+fn turn_bit(bytes: &mut [u8], damage: Damage) -> bool {
+    let len = bytes.len();
+    let at = match damage {
+        Damage::Header => HEADER_LEN - 1,
+        Damage::Body if len > HEADER_LEN => len - 1,
+        Damage::Body => len,
+    };
+    if at >= len {
+        return false;
+    }
+    bytes[at] ^= 1;
+    true
+}
+
+// A receipt in front of the refused record.
+fn add_receipt_line(
+    edits: &mut Edits,
+    near: Near<'_>,
+    mistake: Mistake,
+    receipt: ((bool, u64), &[u8]),
+) -> Result<(), AllocError> {
+    let (entry, bytes) = receipt;
+    let Some(put) = receipt_line(near.alloc, near.row.form, entry, bytes)? else {
+        return Ok(());
+    };
+    let mut changes = put_before(near.alloc, near.row.line, put)?;
+    add_next_distance(&mut changes, near, entry.1)?;
     edits.add(near.side, mistake, changes)
 }
 

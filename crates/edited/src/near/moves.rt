@@ -6,7 +6,6 @@ use crate::line_changes::{line_moved_down, line_moved_up};
 use crate::mistake::Mistake;
 use crate::row::Row;
 use crate::spelling::line_as_it_is;
-use capture::Entry;
 use std::alloc::AllocError;
 
 // Across how many lines one is moved.
@@ -32,13 +31,9 @@ pub(crate) fn add_moves(edits: &mut Edits, near: Near<'_>) -> Result<(), AllocEr
     Ok(())
 }
 
-// Receipts keep their order, and so do units that were sent.
+// Receipts keep their order: their hints would fall.
 fn may_pass(row: &Row, other: &Row) -> bool {
-    match row.entry {
-        Entry::Received { .. } => other.received().is_none(),
-        Entry::Sent => other.sent().is_none(),
-        _ => true,
-    }
+    row.received().is_none() || other.received().is_none()
 }
 
 // The last receipt in front of the refused record belongs behind it, or further behind.
