@@ -23,6 +23,21 @@ def segments_played(text, length, steps):
         text.write('b deliver\n' * AT_ONCE + 'b send\na deliver\n')
 
 
+# what becomes of a segment that does not come at first, until it is to be sent again
+REFUSED = 'b refuse;b send;a deliver'
+LOST = 'b lose;a timer;a send;b deliver;b send;a deliver'
+
+
+def segments_sent_again(text, messages, each, meanwhile):
+    """So many messages of one byte over one link, one after another; of one in so many the segment does not come at first."""
+    text.write('ddplay 1 1.1 1.2\n' + lines(STARTED) + lines(OPENED % 1))
+    for message in range(messages):
+        text.write('a in 1 61\n')
+        if message % each == each - 1:
+            text.write(lines('a send;' + meanwhile))
+        text.write(lines('a send;b deliver;b send;a deliver;a send;b deliver'))
+
+
 def links_played(text, links):
     """So many links, each opened, used and closed before the next."""
     text.write('ddplay 1 1.1 1.2\n' + lines(STARTED))

@@ -1,11 +1,14 @@
-"""Two DDCMP stations that talk over a TCP connection, as emulators do, by rules of their own, and a relay between them that writes down what passes
-(the text that `ddcap tap` reads). They stand apart from the crates and from tools/reading.py: what a station sends is made here anew. They carry
-routing control packets both ways, keep up to seven outstanding, ask by a REP where nothing is acknowledged, and refuse some packets for want of a
-buffer, as a seed says. `recorded(seed, packets)` is the text of such a session."""
+"""Two DDCMP stations that talk over a TCP connection, as emulators do, by rules of their own, and tools/wire_relay between them, which writes down
+what passes (the text that `ddcap tap` reads). They stand apart from the crates and from tools/reading.py: what a station sends is made here anew.
+They carry routing control packets both ways, keep up to seven outstanding, ask by a REP where nothing is acknowledged, and refuse some packets for
+want of a buffer, as a seed says. `recorded(seed, packets)` is the text of such a session."""
 import asyncio
+import os
 import random
+import socket
 import struct
 
+RELAY = os.path.join(os.path.dirname(os.path.realpath(__file__)), 'wire_relay')
 ACK, NAK, REP, STRT, STACK = 1, 2, 3, 6, 7
 MOST_OUTSTANDING = 7
 NO_BUFFER = 8
@@ -150,49 +153,44 @@ class Station:
             self.say(control(REP, 0, 0, self.given % 256))
 
 
-async def relayed(name, reader, writer, lines):
-    """Hands on what comes, and writes it down in the order in which it passes."""
-    while True:
-        piece = await reader.read(4096)
-        if not piece:
-            writer.close()
-            return
-        lines.append('%s %s' % (name, piece.hex()))
-        writer.write(piece)
-        await writer.drain()
+async def connected(port):
+    """A connection to this port, as soon as somebody listens there."""
+    for _ in range(200):
+        try:
+            return await asyncio.open_connection('127.0.0.1', port)
+        except ConnectionRefusedError:
+            await asyncio.sleep(WAIT)
+    raise ConnectionRefusedError('nobody listens on %d' % port)
+
+
+def free_port():
+    with socket.create_server(('127.0.0.1', 0)) as listening:
+        return listening.getsockname()[1]
 
 
 async def session(seed, packets):
-    rng, lines, relays = random.Random(seed), [], []
+    rng = random.Random(seed)
     bodies = {name: [b'\x05packet %d of %s' % (number, name.encode()) for number in range(1, packets + 1)] for name in 'ab'}
     arrived = asyncio.Queue()
 
     async def accepted(reader, writer):
         await arrived.put((reader, writer))
 
-    async def between(reader, writer):
-        there = await asyncio.open_connection('127.0.0.1', port_of(listener))
-        relays.append(asyncio.create_task(relayed('a', reader, there[1], lines)))
-        relays.append(asyncio.create_task(relayed('b', there[0], writer, lines)))
-
     listener = await asyncio.start_server(accepted, '127.0.0.1', 0)
-    relay = await asyncio.start_server(between, '127.0.0.1', 0)
-    a = await asyncio.open_connection('127.0.0.1', port_of(relay))
+    port, port_b = free_port(), listener.sockets[0].getsockname()[1]
+    relay = await asyncio.create_subprocess_exec(RELAY, str(port), '127.0.0.1:%d' % port_b, '1.1', '1.2', stdout=asyncio.subprocess.PIPE)
+    wire = asyncio.create_task(relay.communicate())
+    a = await connected(port)
     b = await arrived.get()
     stations = [Station(*ends, random.Random(rng.random()), bodies[name], packets) for name, ends in (('a', a), ('b', b))]
     await asyncio.gather(*(station.run() for station in stations))
     for _, writer in (a, b):
         writer.close()
-    await asyncio.gather(*relays, return_exceptions=True)
-    for server in (listener, relay):
-        server.close()
-    return 'ddwire 1 1.1 1.2\n' + ''.join(line + '\n' for line in lines)
-
-
-def port_of(server):
-    return server.sockets[0].getsockname()[1]
+    text, _ = await wire
+    listener.close()
+    return text.decode()
 
 
 def recorded(seed, packets):
-    """What passed between two stations, as a relay saw it."""
+    """What passed between two stations, as tools/wire_relay wrote it down."""
     return asyncio.run(asyncio.wait_for(session(seed, packets), 60))

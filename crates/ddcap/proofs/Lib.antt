@@ -9,3 +9,4 @@ pub mod Rungs
 pub mod Tellings
 pub mod AnsweringWhy
 pub mod AnsweringWhyEnd
+pub mod TapTelling

@@ -10,4 +10,5 @@ pub mod Explaining
 pub mod Helping
 pub mod PrintedWhy
 pub mod PrintedWhyEnd
+pub mod PrintedTap
 pub mod inner

@@ -96,6 +96,7 @@ words_fault_status words.OutOfMemory = 3
 -- where a file can't be opened
 abbrev pub not_opened_text : Named → List ℕ
 not_opened_text named.Script = codes "script: cannot open\n"
+not_opened_text named.Wire = codes "wire: cannot open\n"
 not_opened_text named.A = codes "a: cannot open\n"
 not_opened_text named.B = codes "b: cannot open\n"
 

@@ -60,7 +60,7 @@ pub fn check_line_to<A: Read, B: Read, O: Write, E: Write>(
     }
 }
 
-/// Prints why there is no verdict, and answers the status.
+/// Prints why there is no verdict, and answers the status: 2 where a text departs, else 3.
 pub fn print_fault<E: Write>(alloc: Global, fault: JudgeFault, err: &mut Tally<E>) -> u8
     ensures { TellsFault (moved E.contents err.old err.new) fault result }
 {

@@ -15,6 +15,7 @@ pub fn program<'a>(alloc: Global) -> Result<Command<'a>, AllocError> {
         .subcommand(show(alloc)?)?
         .subcommand(play(alloc)?)?
         .subcommand(convert(alloc)?)?
+        .subcommand(tap(alloc)?)?
         .subcommand(help(alloc)?)?
         .subcommand(explain(alloc)?)
 }
@@ -78,6 +79,15 @@ fn convert<'a>(alloc: Global) -> Result<Command<'a>, AllocError> {
         .arg(Arg::new(alloc, "N").required(true))?
         .arg(Arg::new(alloc, "IN").required(true))?
         .arg(Arg::new(alloc, "OUT").required(true))
+}
+
+// `tap [--line] WIRE A B`
+fn tap<'a>(alloc: Global) -> Result<Command<'a>, AllocError> {
+    Command::new(alloc, "tap")
+        .arg(Arg::new(alloc, "WIRE").required(true))?
+        .arg(Arg::new(alloc, "A").required(true))?
+        .arg(Arg::new(alloc, "B").required(true))?
+        .arg(line_alone(alloc))
 }
 
 // `help [WORD]`

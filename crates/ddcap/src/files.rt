@@ -14,6 +14,7 @@ use wire_base::Tally;
 #[derive(Clone, Copy, Debug, PartialEq, Eq)]
 pub enum Named {
     Script,
+    Wire,
     A,
     B,
 }
@@ -65,6 +66,7 @@ fn print_not_opened<W: Write>(err: &mut Tally<W>, named: Named, error: &io::Erro
     }
     match named {
         Named::Script => print(err, b"script: cannot open\n", FAILED),
+        Named::Wire => print(err, b"wire: cannot open\n", FAILED),
         Named::A => print(err, b"a: cannot open\n", FAILED),
         Named::B => print(err, b"b: cannot open\n", FAILED),
     }

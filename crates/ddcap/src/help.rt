@@ -5,7 +5,7 @@ ghost use Rattle.ddcap.specs.Helping.{help_text};
 ghost use Rattle.ddcap.specs.Printed.{Writes, stream_of};
 
 use crate::check::print;
-use crate::help_pages::{CONVERT, EXPLAIN, HELP, PLAY, PROGRAM, SHOW};
+use crate::help_pages::{CONVERT, EXPLAIN, HELP, PLAY, PROGRAM, SHOW, TAP};
 use crate::judging_pages::{ALONE, CHECK, COVER, WHY};
 use crate::text::FAILED;
 use std::io::Write;
@@ -29,6 +29,7 @@ pub enum Topic {
     Show,
     Play,
     Convert,
+    Tap,
     Help,
     Explain,
 }
@@ -46,6 +47,7 @@ pub fn help_to<W: Write>(stream: &mut Tally<W>, topic: Topic) -> u8
         Topic::Show => print(stream, SHOW.as_bytes(), HELPED),
         Topic::Play => print(stream, PLAY.as_bytes(), HELPED),
         Topic::Convert => print(stream, CONVERT.as_bytes(), HELPED),
+        Topic::Tap => print(stream, TAP.as_bytes(), HELPED),
         Topic::Help => print(stream, HELP.as_bytes(), HELPED),
         Topic::Explain => print(stream, EXPLAIN.as_bytes(), HELPED),
     }

@@ -11,6 +11,7 @@ pub const PROGRAM: &str = "\
   ddcap show A            print what a capture says, a line a record
   ddcap play SCRIPT A B   write both captures of a script
   ddcap convert N IN OUT  write a capture in format N: 1 or 2
+  ddcap tap WIRE A B      find and judge the captures of what passed on a line
   ddcap help [WORD]       print this page, or one on check, show, ..
   ddcap explain N         tell what reason N of a refusal means: 1 to 27
 
@@ -146,4 +147,41 @@ Status:
   0  the reason was printed
   2  bad words: no such reason, another spelling as 06, or a word too many
   3  out of memory, or a failed write
+";
+
+pub const TAP: &str = "\
+ddcap tap WIRE A B
+
+Reads what passed on a line in both directions, finds what both nodes did,
+writes it into the captures A and B, and judges these. WIRE has a head, and a
+line for each piece of bytes, from a or from b, in the order in which they
+passed; a piece may be cut anywhere. Each unit that was sent has to have
+passed, from before the first start. Name three different files.
+
+Example, in the top folder of the sources:
+
+  ./ddcap tap examples/two_way_links.wire tapped.a tapped.b
+
+It ends with status 0 and prints a text that begins:
+
+  accepted
+  a records 25 sent 11 received 9 damaged 0 kept 8 periods 1 links 2 up 0
+  b records 27 sent 10 received 11 damaged 0 kept 9 periods 1 links 2 up 0
+
+Where no placing is found for a unit it prints, as for unit 7 of a (counted
+from 0) whose first byte is on line 16 of WIRE:
+
+  unexplained a unit 7 line 16: 7 WrongNumber
+
+The captures end with it. Then: ddcap check A B
+
+With --line stations and line are judged alone: a packet is any bytes.
+
+Status:
+  0  accepted
+  1  unexplained
+  2  a faulty line, as wire: line 3: syntax (or too long, too many), or a unit
+     with too wide a choice before it
+  3  wire: cannot open (or a: or b:), wire: read failed, a: write failed (or
+     b:), out of memory, or a failed write to standard output or error
 ";

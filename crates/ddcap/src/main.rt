@@ -30,6 +30,8 @@ mod recorder;
 mod run;
 mod show;
 mod shown_line;
+mod tap;
+mod tap_files;
 mod telling;
 mod text;
 mod words;

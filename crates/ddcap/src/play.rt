@@ -84,8 +84,8 @@ fn print_script_line<W: Write>(page: &mut Page, err: &mut Tally<W>, line: u64, w
     print(err, page.as_slice(), FAULTY)
 }
 
-// Prints that a write to the capture of this side failed, from a constant.
-fn print_failed_write<W: Write>(err: &mut Tally<W>, side: Side) -> u8
+/// Prints that a write to the capture of this side failed, from a constant, and answers the status, 3.
+pub fn print_failed_write<W: Write>(err: &mut Tally<W>, side: Side) -> u8
     ensures { Writes (stream_of W.contents err.old) (stream_of W.contents err.new) (failed_write_text side) 3 result }
 {
     match side {

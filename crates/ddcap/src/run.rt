@@ -13,6 +13,7 @@ use crate::files::{Named, created, opened, opened_plain};
 use crate::help::help_to;
 use crate::play::play_to;
 use crate::show::show_to;
+use crate::tap_files::tap_files;
 use crate::telling::{Form, Printout, why_to};
 use crate::words::{Task, WordsFault, task_of};
 use capture::Format;
@@ -73,6 +74,7 @@ fn do_task<R: Files + AllocGlobal, O: Write, E: Write>(
         Task::Show { a } => show_file(rt, a, out, err),
         Task::Play { script, a, b } => play_file(rt, script, a, b, out, err),
         Task::Convert { to, a, b } => convert_file(rt, to, a, b, out, err),
+        Task::Tap { paths } => tap_files(rt, paths, out, err),
         Task::Help { topic } => Ok(help_to(out, topic)),
         Task::Explain { reason } => Ok(explain_to(rt.alloc(), &explanation_of(reason), out, err)),
     }

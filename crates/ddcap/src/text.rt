@@ -82,9 +82,9 @@ impl fmt::Display for StationLine {
 
 /// A line that departs, as it is told behind its side.
 #[derive(Clone, Copy)]
-struct FaultyLine {
-    kind: Departure,
-    line: u64,
+pub struct FaultyLine {
+    pub kind: Departure,
+    pub line: u64,
 }
 
 impl fmt::Display for FaultyLine {

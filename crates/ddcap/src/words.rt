@@ -3,6 +3,7 @@
 use crate::commands::program;
 use crate::explanations::reason_spelled;
 use crate::help::Topic;
+use crate::tap_files::TapPaths;
 use crate::telling::Form;
 use capture::Format;
 use clap::ArgMatches;
@@ -57,6 +58,10 @@ pub enum Task<'a> {
         a: &'a str,
         b: &'a str,
     },
+    /// To find the captures of what passed on a line, to write them into files, and to judge them, or stations and line alone.
+    Tap {
+        paths: TapPaths<'a>,
+    },
     /// To write the capture in the file `a` in this format, into the file `b`.
     Convert {
         to: Format,
@@ -99,6 +104,7 @@ pub fn task_of<'a, S: AsStr>(alloc: Global, words: &'a [S]) -> Result<Task<'a>, 
             },
             Some(("play", found)) => played_of(found),
             Some(("convert", found)) => conversion_of(found),
+            Some(("tap", found)) => tapped_of(found),
             Some(("help", found)) => help_of(found),
             Some(("explain", found)) => explanation_asked(found),
             _ => Err(WordsFault::BadWords),
@@ -197,6 +203,27 @@ fn played_of<'a>(found: &ArgMatches<'a>) -> Result<Task<'a>, WordsFault> {
     }
 }
 
+// The text and the captures that the words behind `tap` name, and whether the line alone is judged.
+fn tapped_of<'a>(found: &ArgMatches<'a>) -> Result<Task<'a>, WordsFault> {
+    match (
+        found.get_str("WIRE"),
+        found.get_str("A"),
+        found.get_str("B"),
+    ) {
+        (Some(wire), Some(a), Some(b)) => {
+            let line_alone = found.get_flag("line");
+            let paths = TapPaths {
+                wire,
+                a,
+                b,
+                line_alone,
+            };
+            Ok(Task::Tap { paths })
+        }
+        _ => Err(WordsFault::BadWords),
+    }
+}
+
 // The page that the word behind `help` asks for; with no word, that of the whole.
 fn help_of<'a>(found: &ArgMatches<'a>) -> Result<Task<'a>, WordsFault> {
     let topic = match found.get_str("WORD") {
@@ -208,6 +235,7 @@ fn help_of<'a>(found: &ArgMatches<'a>) -> Result<Task<'a>, WordsFault> {
         Some("show") => Topic::Show,
         Some("play") => Topic::Play,
         Some("convert") => Topic::Convert,
+        Some("tap") => Topic::Tap,
         Some("help") => Topic::Help,
         Some("explain") => Topic::Explain,
         Some(_) => return Err(WordsFault::BadWords),

@@ -18,3 +18,8 @@ pub returns-in-Script : goal.returns-in-Script
 returns-in-Script g c =
     let other = same_false the_type _ _ (sym c.if-eq.ensures) in
     rw (says_file c.args.named _ (λ e. other (c.kind.ensures ∙ e))) (rw c.in-Script.is c.print.ensures)
+
+pub returns-in-Wire : goal.returns-in-Wire
+returns-in-Wire g c =
+    let other = same_false the_type _ _ (sym c.if-eq.ensures) in
+    rw (says_file c.args.named _ (λ e. other (c.kind.ensures ∙ e))) (rw c.in-Wire.is c.print-in-Wire.ensures)

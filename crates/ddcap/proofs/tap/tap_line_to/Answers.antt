@@ -1,0 +1,29 @@
+-- What is said of the verdict, or a fault, is told of the judge's own answer.
+use Rattle.std.proofs.Common.{refl}
+use Rattle.dna_node.specs.Kind.{stations_alone}
+use Rattle.ddcap.specs.Printed.{moved, line_verdict_text}
+use Rattle.ddcap.specs.PrintedTap.{streams}
+use Rattle.ddcap.proofs.Answering.{answered_fault}
+use Rattle.ddcap.proofs.TapTelling.{tells_fault, tells_verdict, told_there}
+use Rattle.tap_answer.specs.Telling.{telling}
+use Rattle.ddcap.proofs.tap.tap_line_to.Goals as goal
+
+pub returns-in_default-clause-checks : goal.returns-in_default-clause-checks
+returns-in_default-clause-checks g c =
+    let s = streams (moved g.A.Read.remaining c.args.a.now c.judge_line.new.a) (moved g.B.Read.remaining c.args.b.now c.judge_line.new.b)
+    (moved g.O.Write.contents c.args.out.now c.print_told.new.out) (moved g.E.Write.contents c.args.err.now c.print_told.new.err) in
+    let verdict = c.in-Ok.verdict in
+    let known = c.in-Ok.ensures in
+    tells_verdict stations_alone line_verdict_text c.args.tapped s verdict c.print_told.result
+    (record { exact = known.exact; accepted = known.accepted; refused = known.refused; faulty = known.faulty }) (known.reads_a, known.reads_b)
+    (told_there (line_verdict_text verdict) c.args.tapped s (telling c.args.tapped.ending verdict) c.print_told.result
+    (c.print_told.ensures (line_verdict_text verdict) c.line_verdict_text-text.ensures))
+
+pub returns-in-Err-clause-checks : goal.returns-in-Err-clause-checks
+returns-in-Err-clause-checks g c =
+    let s = streams (moved g.A.Read.remaining c.args.a.now c.judge_line.new.a) (moved g.B.Read.remaining c.args.b.now c.judge_line.new.b)
+    (moved g.O.Write.contents c.args.out.now c.args.out.now) (moved g.E.Write.contents c.args.err.now c.print_fault.new.err) in
+    let known = c.in-Err.ensures in
+    let answered = answered_fault stations_alone _ _ c.in-Err.fault known.exact known.faulty in
+    let counts = (known.reads_a, known.reads_b) in
+    tells_fault stations_alone line_verdict_text c.args.tapped s c.in-Err.fault c.print_fault.result answered counts c.print_fault.ensures refl

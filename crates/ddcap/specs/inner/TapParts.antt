@@ -1,0 +1,25 @@
+-- The parts of what `tap` prints.
+use Rattle.std.specs.Prelude.{◌≡◌, ℕ, ◌⊎◌, List, ◌++◌}
+use Rattle.pair_judge.specs.declared.fault.JudgeFault.TheVariants as judge
+use Rattle.wire_tap.specs.declared.tapped.Tapped.{Tapped}
+use Rattle.tap_answer.specs.declared.told.Told.{Told}
+use Rattle.tap_answer.specs.Words.{premise_words}
+use Rattle.ddcap.specs.Printed.{Moved, Stream, Writes, fault_text}
+use Rattle.ddcap.specs.PrintedTap.{Streams, TellsAs}
+
+-- what both streams show, before and after a call
+abbrev pub both_streams : (out err : Moved) → Streams
+both_streams out err = record { a = out; b = out; out = out; err = err }
+
+-- that memory was wanting is told
+abbrev pub TellsNoMemory : (out err : Moved) → ℕ → Type 0
+TellsNoMemory out err status = Writes err.old err.new (fault_text judge.OutOfMemory) 3 status × (out.new ≡ out.old)
+
+-- this text is written with what it rests on behind it, or there was no memory for it
+abbrev pub WritesBehind : List ℕ → Tapped → (out err : Moved) → (meant status : ℕ) → Type 0
+WritesBehind text tapped out err meant status =
+    (Writes out.old out.new (text ++ premise_words tapped) meant status × (err.new ≡ err.old)) ⊎ TellsNoMemory out err status
+
+-- what is said is told, or there was no memory for it
+abbrev pub TellsTold : List ℕ → Tapped → Streams → Told → ℕ → Type 0
+TellsTold verdict tapped s said status = TellsAs verdict tapped s said status ⊎ TellsNoMemory s.out s.err status

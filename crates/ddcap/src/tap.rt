@@ -1,0 +1,190 @@
+//! `tap`: what is printed of the captures that were written of what passed.
+
+ghost use Rattle.std.specs.Prelude.{◌≡◌, ◌⊎◌, true, is_ok, ℕ, List, IfSome, IfOk, None, string_bytes};
+ghost use Rattle.tap_answer.specs.Telling.{telling};
+ghost use Rattle.pair_judge.specs.declared.fault.JudgeFault.TheVariants.{OutOfMemory};
+ghost use Rattle.dna_node.specs.Kind.{both_layers, stations_alone};
+ghost use Rattle.ddcap.specs.Printed.{Writes, fault_text, moved, stream_of};
+ghost use Rattle.ddcap.specs.Printed.{line_verdict_text as line_verdict_text_of, verdict_text as verdict_text_of};
+ghost use Rattle.ddcap.specs.PrintedTap.{ChecksTap, IsRefusedAt, TellsTapFault, streams, wire_line_text};
+ghost use Rattle.ddcap.specs.inner.TapParts.{TellsTold, WritesBehind, both_streams};
+
+use crate::check::{print, print_fault, print_out_of_memory};
+use crate::play::print_failed_write;
+use crate::text::{FAILED, FAULTY, FaultyLine, line_verdict_text, verdict_text};
+use capture::Departure;
+use pair_judge::{Verdict, judge, judge_line};
+use std::alloc::{AllocError, Global};
+use std::io::{Read, Write};
+use tap_answer::{
+    Told, premise_text, said_of, too_wide_text, unexplained_end_text, unexplained_text,
+};
+use wire_base::{Side, Tally};
+use wire_tap::{TapFault, Tapped};
+
+/// The status where the captures are accepted.
+const ACCEPTED: u8 = 0;
+
+/// The status where they are not.
+const UNEXPLAINED: u8 = 1;
+
+/// A refused record of captures that are to be cut there, before anything is printed.
+#[derive(Clone, Copy, Debug, PartialEq, Eq)]
+pub struct RefusedAt {
+    pub side: Side,
+    pub place: u64,
+}
+
+/// Judges the captures that two readers give, which a tap wrote as `tapped` says, prints the answer, and answers the status. Where they are refused,
+/// and `is_cut` does not say that they were cut for that, nothing is printed, and the answer is the refused record.
+///
+/// Printed to `out`: the verdict as `check_to` prints it, status 0, or `unexplained ..`, status 1, with what it rests on and what was skipped behind
+/// it. To `err`: `.. too wide a choice`, status 2, and the faults that `check_to` tells, with their statuses.
+pub fn tap_to<A: Read, B: Read, O: Write, E: Write>(
+    alloc: Global,
+    a: &mut Tally<A>,
+    b: &mut Tally<B>,
+    tapped: Tapped,
+    is_cut: bool,
+    out: &mut Tally<O>,
+    err: &mut Tally<E>,
+) -> Result<u8, RefusedAt>
+    ensures checks { ChecksTap both_layers verdict_text_of tapped (streams (moved A.remaining a.old a.new) (moved B.remaining b.old b.new)
+        (moved O.contents out.old out.new) (moved E.contents err.old err.new)) result }
+    ensures cut { is_cut ≡ true → is_ok result ≡ true }
+{
+    match judge(alloc, a, b) {
+        Ok(verdict) => {
+            if let Some(refused) = to_be_cut(verdict, is_cut) {
+                return Err(refused);
+            }
+            let text = verdict_text(alloc, verdict);
+            Ok(print_told(alloc, verdict, text, tapped, out, err))
+        }
+        Err(fault) => Ok(print_fault(alloc, fault, err)),
+    }
+}
+
+/// Judges stations and line alone, and prints the answer as `tap_to` does, with the verdict as `check_line_to` prints it.
+pub fn tap_line_to<A: Read, B: Read, O: Write, E: Write>(
+    alloc: Global,
+    a: &mut Tally<A>,
+    b: &mut Tally<B>,
+    tapped: Tapped,
+    is_cut: bool,
+    out: &mut Tally<O>,
+    err: &mut Tally<E>,
+) -> Result<u8, RefusedAt>
+    ensures checks { ChecksTap stations_alone line_verdict_text_of tapped (streams (moved A.remaining a.old a.new) (moved B.remaining b.old b.new)
+        (moved O.contents out.old out.new) (moved E.contents err.old err.new)) result }
+    ensures cut { is_cut ≡ true → is_ok result ≡ true }
+{
+    match judge_line(alloc, a, b) {
+        Ok(verdict) => {
+            if let Some(refused) = to_be_cut(verdict, is_cut) {
+                return Err(refused);
+            }
+            let text = line_verdict_text(alloc, verdict);
+            Ok(print_told(alloc, verdict, text, tapped, out, err))
+        }
+        Err(fault) => Ok(print_fault(alloc, fault, err)),
+    }
+}
+
+// The refused record, where the captures are still to be cut there.
+fn to_be_cut(verdict: Verdict, is_cut: bool) -> Option<RefusedAt>
+    ensures refused { IfSome result (IsRefusedAt verdict) }
+    ensures cut { is_cut ≡ true → result ≡ None }
+{
+    if is_cut {
+        return None;
+    }
+    match verdict {
+        Verdict::Accepted(_) => None,
+        Verdict::Refused { side, place, .. } => Some(RefusedAt { side, place }),
+    }
+}
+
+// Prints what is said of the verdict, whose own text is given, and answers the status.
+fn print_told<O: Write, E: Write>(
+    alloc: Global,
+    verdict: Verdict,
+    text: Result<String, AllocError>,
+    tapped: Tapped,
+    out: &mut Tally<O>,
+    err: &mut Tally<E>,
+) -> u8
+    ensures { (words : List ℕ) → IfOk text (λ t. string_bytes t ≡ words) → TellsTold words tapped
+        (both_streams (moved O.contents out.old out.new) (moved E.contents err.old err.new)) (telling tapped.ending verdict) result }
+{
+    match said_of(tapped.ending, verdict) {
+        Told::Accepted => print_behind(alloc, text, tapped, ACCEPTED, out, err),
+        Told::Unexplained { passed, reason } => {
+            let text = unexplained_text(alloc, passed, reason);
+            print_behind(alloc, text, tapped, UNEXPLAINED, out, err)
+        }
+        Told::UnexplainedEnd { reason } => {
+            let text = unexplained_end_text(alloc, reason);
+            print_behind(alloc, text, tapped, UNEXPLAINED, out, err)
+        }
+        Told::TooWide(passed) => match too_wide_text(alloc, passed) {
+            Ok(text) => print(err, text.as_bytes(), FAULTY),
+            Err(_) => print_out_of_memory(err),
+        },
+    }
+}
+
+// Prints a text, if there was memory for it, with what it rests on behind it, and answers the status.
+fn print_behind<O: Write, E: Write>(
+    alloc: Global,
+    text: Result<String, AllocError>,
+    tapped: Tapped,
+    status: u8,
+    out: &mut Tally<O>,
+    err: &mut Tally<E>,
+) -> u8
+    ensures { (words : List ℕ) → IfOk text (λ t. string_bytes t ≡ words) → WritesBehind words tapped
+        (moved O.contents out.old out.new) (moved E.contents err.old err.new) status result }
+{
+    let Ok(text) = text else {
+        return print_out_of_memory(err);
+    };
+    let Ok(premise) = premise_text(alloc, tapped) else {
+        return print_out_of_memory(err);
+    };
+    match format!(in alloc; "{text}{premise}") {
+        Ok(all) => print(out, all.as_bytes(), status),
+        Err(_) => print_out_of_memory(err),
+    }
+}
+
+/// Prints why there are no whole captures, and answers the status: 2 where the text departs, else 3.
+pub fn print_tap_fault<E: Write>(alloc: Global, fault: TapFault, err: &mut Tally<E>) -> u8
+    ensures { TellsTapFault (moved E.contents err.old err.new) fault result }
+{
+    match fault {
+        TapFault::Departs { kind, line } => print_wire_line(alloc, kind, line, err),
+        TapFault::Read => print(err, b"wire: read failed\n", FAILED),
+        TapFault::Write { side } => print_failed_write(err, side),
+        TapFault::OutOfMemory => print_out_of_memory(err),
+    }
+}
+
+// Prints what is wrong with a line of the text of what passed, and answers the status: 2, or 3 where there is no memory for it.
+fn print_wire_line<E: Write>(alloc: Global, kind: Departure, line: u64, err: &mut Tally<E>) -> u8
+    ensures { Writes (stream_of E.contents err.old) (stream_of E.contents err.new) (wire_line_text kind line) 2 result
+        ⊎ Writes (stream_of E.contents err.old) (stream_of E.contents err.new) (fault_text OutOfMemory) 3 result }
+{
+    match wire_fault_text(alloc, kind, line) {
+        Ok(text) => print(err, text.as_bytes(), FAULTY),
+        Err(_) => print_out_of_memory(err),
+    }
+}
+
+// The text of a line that departs. Fails for want of memory alone.
+fn wire_fault_text(alloc: Global, kind: Departure, line: u64) -> Result<String, AllocError>
+    ensures { IfOk result (λ text. string_bytes text ≡ wire_line_text kind line) }
+{
+    let faulty = FaultyLine { kind, line };
+    format!(in alloc; "wire: {faulty}\n")
+}

@@ -1,0 +1,104 @@
+//! `tap` between the names of its files and its status.
+
+ghost use Rattle.std.specs.Prelude.{◌≡◌, true, is_ok, IfOk};
+
+use crate::check::print_failed_read;
+use crate::files::{Named, created, opened};
+use crate::tap::{RefusedAt, print_tap_fault, tap_line_to, tap_to};
+use std::io::Write;
+use std::rt::Files;
+use tap_answer::units_before;
+use wire_base::{Side, Tally};
+use wire_tap::{Tapped, tap};
+
+/// The names of the files: what passed, and the captures to be written; and whether stations and line alone are judged.
+#[derive(Clone, Copy, Debug, PartialEq, Eq)]
+pub struct TapPaths<'a> {
+    pub wire: &'a str,
+    pub a: &'a str,
+    pub b: &'a str,
+    pub line_alone: bool,
+}
+
+/// Writes the captures of what passed, judges them as they were written, prints the answer, and answers the status. Where they are refused, they are
+/// written once more, as far as the refused unit, and judged again. `Err`: the status of a file which can't be opened, or of another fault, which was
+/// told.
+pub fn tap_files<R: Files + AllocGlobal, O: Write, E: Write>(
+    rt: &R,
+    paths: TapPaths<'_>,
+    out: &mut Tally<O>,
+    err: &mut Tally<E>,
+) -> Result<u8, u8> {
+    let tapped = write_captures(rt, paths, None, err)?;
+    match judge_captures(rt, paths, tapped, false, out, err)? {
+        Ok(status) => Ok(status),
+        Err(refused) => {
+            let unit = refused_unit(rt, paths, refused, err)?;
+            let tapped = write_captures(rt, paths, Some((refused.side, unit)), err)?;
+            match judge_captures(rt, paths, tapped, true, out, err)? {
+                Ok(status) => Ok(status),
+                Err(_) => unreachable!(),
+            }
+        }
+    }
+}
+
+// Writes the captures of what passed, to the end, or to this unit of that side.
+fn write_captures<R: Files + AllocGlobal, E: Write>(
+    rt: &R,
+    paths: TapPaths<'_>,
+    last: Option<(Side, u64)>,
+    err: &mut Tally<E>,
+) -> Result<Tapped, u8> {
+    let mut wire = opened(rt, paths.wire, Named::Wire, err)?;
+    let mut a = created(rt, paths.a, Named::A, err)?;
+    let mut b = created(rt, paths.b, Named::B, err)?;
+    match tap(
+        rt.alloc(),
+        &mut wire,
+        &mut a,
+        &mut b,
+        paths.line_alone,
+        last,
+    ) {
+        Ok(tapped) => Ok(tapped),
+        Err(fault) => Err(print_tap_fault(rt.alloc(), fault, err)),
+    }
+}
+
+// Judges the captures that were written, and prints the answer; or answers the refused record, unless they were cut for that.
+fn judge_captures<R: Files + AllocGlobal, O: Write, E: Write>(
+    rt: &R,
+    paths: TapPaths<'_>,
+    tapped: Tapped,
+    is_cut: bool,
+    out: &mut Tally<O>,
+    err: &mut Tally<E>,
+) -> Result<Result<u8, RefusedAt>, u8>
+    ensures { IfOk result (λ told. is_cut ≡ true → is_ok told ≡ true) }
+{
+    let mut a = opened(rt, paths.a, Named::A, err)?;
+    let mut b = opened(rt, paths.b, Named::B, err)?;
+    if paths.line_alone {
+        return Ok(tap_line_to(rt.alloc(), &mut a, &mut b, tapped, is_cut, out, err));
+    }
+    Ok(tap_to(rt.alloc(), &mut a, &mut b, tapped, is_cut, out, err))
+}
+
+// The unit of a refused record, or, where it is no unit's, the next one.
+fn refused_unit<R: Files + AllocGlobal, E: Write>(
+    rt: &R,
+    paths: TapPaths<'_>,
+    refused: RefusedAt,
+    err: &mut Tally<E>,
+) -> Result<u64, u8> {
+    let (path, named) = match refused.side {
+        Side::A => (paths.a, Named::A),
+        Side::B => (paths.b, Named::B),
+    };
+    let mut capture = opened(rt, path, named, err)?;
+    match units_before(rt.alloc(), &mut capture, refused.place) {
+        Some(unit) => Ok(unit),
+        None => Err(print_failed_read(err, refused.side)),
+    }
+}

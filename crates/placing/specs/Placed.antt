@@ -1,0 +1,73 @@
+-- What is written of one side: its units, each once and in order, and between them what came to it and what its user did.
+use Rattle.std.specs.Prelude.{◌≡◌, ℕ, ◌+◌, List, [], ◌∷◌, ◌++◌, Option, Some, None}
+use Rattle.capture.specs.declared.record.Record.{Record}
+use Rattle.capture.specs.declared.record.Record.TheVariants.{Sent, Received, Noise, User}
+use Rattle.capture.specs.declared.hint.HintForm.TheVariants.{Number}
+use Rattle.capture.specs.Text.{record_lines}
+
+-- The units of the side that are not written yet; those of the other side that may still come, and how many can't any more.
+pub record Units : Type 0 where
+  pub own : List (List ℕ)
+  pub other : List (List ℕ)
+  pub gone : ℕ
+
+-- these, and the lines that are put
+pub record Waiting : Type 0 where
+  pub units : Units
+  pub text : List ℕ
+
+abbrev pub nothing : Waiting
+nothing = record { units = record { own = []; other = []; gone = 0 }; text = [] }
+
+-- one more unit of the side passed, and one more of the other side
+abbrev pub with_own : List ℕ → Waiting → Waiting
+with_own unit w = record w { units = record w.units { own = w.units.own ++ unit ∷ [] } }
+
+abbrev pub with_other : List ℕ → Waiting → Waiting
+with_other unit w = record w { units = record w.units { other = w.units.other ++ unit ∷ [] } }
+
+-- the next unit of the side is the one with these bytes, and waits no more
+pub record NextIsSent (bytes : List ℕ) (old new : Units) : Type 0 where
+  pub own : old.own ≡ bytes ∷ new.own
+  pub other : new.other ≡ old.other
+  pub gone : new.gone ≡ old.gone
+
+-- the next unit of the other side is the one with these bytes, and can't come any more
+pub record NextIsPast (bytes : List ℕ) (old new : Units) : Type 0 where
+  pub own : new.own ≡ old.own
+  pub other : old.other ≡ bytes ∷ new.other
+  pub gone : new.gone ≡ old.gone + 1
+
+-- A record is of the next unit of the side; or of the next one of the other side, which its hint names; or of no unit. None: the next unit of the
+-- other side was lost, which no record tells.
+abbrev pub Follows : Units → Option Record → Units → Type 0
+Follows old None new = (bytes : List ℕ) × NextIsPast bytes old new
+Follows old (Some (Sent bytes)) new = NextIsSent bytes old new
+Follows old (Some (Received hint kept bytes)) new = (hint ≡ old.gone) × NextIsPast bytes old new
+Follows old (Some (Noise bytes)) new = new ≡ old
+Follows old (Some (User event)) new = new ≡ old
+
+-- one after another
+abbrev pub AllFollow : Units → List (Option Record) → Units → Type 0
+AllFollow old [] new = new ≡ old
+AllFollow old (act ∷ acts) new = (between : Units) × Follows old act between × AllFollow between acts new
+
+-- the records among them
+abbrev pub records_of : List (Option Record) → List Record
+records_of [] = []
+records_of (None ∷ acts) = records_of acts
+records_of (Some r ∷ acts) = r ∷ records_of acts
+
+-- Their lines are put behind those that stood.
+pub record Puts (old new : Waiting) : Type 0 where
+  pub acts : List (Option Record)
+  pub follow : AllFollow old.units acts new.units
+  pub text : new.text ≡ old.text ++ record_lines Number (records_of acts)
+
+-- the units in records of what was sent
+abbrev pub units_sent : List Record → List (List ℕ)
+units_sent [] = []
+units_sent (Sent bytes ∷ rs) = bytes ∷ units_sent rs
+units_sent (Received hint kept bytes ∷ rs) = units_sent rs
+units_sent (Noise bytes ∷ rs) = units_sent rs
+units_sent (User event ∷ rs) = units_sent rs

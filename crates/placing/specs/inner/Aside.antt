@@ -1,0 +1,17 @@
+-- Lines of no unit.
+use Rattle.capture.specs.declared.entry.Entry.{Entry}
+use Rattle.capture.specs.declared.entry.Entry.TheVariants.{Sent, Received, Noise, Start, Halt, Open, Accept, Reject, In, Up, Close}
+
+-- it says of no unit that it was sent or came
+abbrev pub IsOfNoUnit : Entry → Type 0
+IsOfNoUnit Sent = ⊥
+IsOfNoUnit (Received kept hint) = ⊥
+IsOfNoUnit Noise = Unit {0}
+IsOfNoUnit Start = Unit {0}
+IsOfNoUnit Halt = Unit {0}
+IsOfNoUnit (Open link) = Unit {0}
+IsOfNoUnit (Accept partner link) = Unit {0}
+IsOfNoUnit (Reject partner link) = Unit {0}
+IsOfNoUnit (In link) = Unit {0}
+IsOfNoUnit (Up link) = Unit {0}
+IsOfNoUnit (Close link) = Unit {0}

@@ -1,0 +1,76 @@
+//! What a unit says, as far as a station goes by it.
+
+use ddcmp_msg::{Message, NakReason, Reading, read_unit};
+
+/// What a unit says without its packet (DDCMP 4.1, message formats).
+#[derive(Clone, Copy, Debug, PartialEq, Eq)]
+pub(crate) enum Said {
+    Strt,
+    Stack,
+    Ack { resp: u8 },
+    Nak { reason: NakReason, resp: u8 },
+    Rep { num: u8 },
+    Data { resp: u8, num: u8 },
+    /// It is no message, or is damaged.
+    Nothing,
+}
+
+impl Said {
+    /// What this unit says. Takes no memory.
+    pub(crate) fn of(unit: &[u8]) -> Said {
+        match read_unit(unit) {
+            Reading::Sound(message) => match message {
+                Message::Strt { flags: _ } => Said::Strt,
+                Message::Stack { flags: _ } => Said::Stack,
+                Message::Ack { flags: _, resp } => Said::Ack { resp },
+                Message::Nak {
+                    flags: _,
+                    reason,
+                    resp,
+                } => Said::Nak { reason, resp },
+                Message::Rep { flags: _, num } => Said::Rep { num },
+                Message::Data {
+                    flags: _,
+                    resp,
+                    num,
+                    body: _,
+                } => Said::Data { resp, num },
+            },
+            Reading::HeaderBad | Reading::DataBad | Reading::Malformed(_) => Said::Nothing,
+        }
+    }
+
+    /// The response that it carries, if it carries one.
+    pub(crate) fn resp(self) -> Option<u8> {
+        match self {
+            Said::Ack { resp } | Said::Nak { reason: _, resp } | Said::Data { resp, num: _ } => {
+                Some(resp)
+            }
+            Said::Strt | Said::Stack | Said::Rep { num: _ } | Said::Nothing => None,
+        }
+    }
+
+    /// Whether it is of the start of a line.
+    pub(crate) fn is_of_start(self) -> bool {
+        match self {
+            Said::Strt | Said::Stack => true,
+            _ => false,
+        }
+    }
+
+    /// Whether it is data.
+    pub(crate) fn is_data(self) -> bool {
+        match self {
+            Said::Data { resp: _, num: _ } => true,
+            _ => false,
+        }
+    }
+
+    /// Whether it is a STRT.
+    pub(crate) fn is_strt(self) -> bool {
+        match self {
+            Said::Strt => true,
+            _ => false,
+        }
+    }
+}

@@ -1,0 +1,117 @@
+//! What a station may send, and what that changes.
+
+use super::Station;
+use crate::said::Said;
+use ddcmp_msg::NakReason;
+use dna_station::State;
+
+impl Station {
+    /// Whether it may send this, where data are not judged by their packet.
+    pub(crate) fn may_send(self, said: Said) -> bool {
+        match self.state {
+            State::Halted => false,
+            State::Istrt => match said {
+                Said::Strt => true,
+                _ => false,
+            },
+            State::Astrt => match said {
+                Said::Stack => true,
+                _ => false,
+            },
+            State::Running => self.may_send_running(said),
+        }
+    }
+
+    fn may_send_running(self, said: Said) -> bool {
+        match said {
+            Said::Ack { resp } => resp == self.received,
+            Said::Nak { reason, resp } => {
+                if resp != self.received {
+                    return false;
+                }
+                match reason {
+                    NakReason::RepResponse => self.answers > 0,
+                    NakReason::NoBuffer => self.refused > 0,
+                    _ => true,
+                }
+            }
+            Said::Rep { num } => {
+                if self.outstanding == 0 {
+                    return false;
+                }
+                num == self.acknowledged.wrapping_add(self.outstanding)
+            }
+            Said::Data { resp, num } => self.may_send_data(resp, num),
+            Said::Strt | Said::Stack | Said::Nothing => false,
+        }
+    }
+
+    fn may_send_data(self, resp: u8, num: u8) -> bool {
+        if resp != self.received {
+            return false;
+        }
+        if num != self.next_to_send() {
+            return false;
+        }
+        if self.ahead == self.outstanding {
+            return self.outstanding < 255;
+        }
+        true
+    }
+
+    fn next_to_send(self) -> u8 {
+        self.acknowledged.wrapping_add(self.ahead).wrapping_add(1)
+    }
+
+    /// Whether this is data with the number that is next to send.
+    pub(crate) fn is_next(self, said: Said) -> bool {
+        match said {
+            Said::Data { resp: _, num } => num == self.next_to_send(),
+            _ => false,
+        }
+    }
+
+    /// Whether the data that it sends next are of a new packet.
+    pub(crate) fn is_new(self, said: Said) -> bool {
+        said.is_data() && self.ahead == self.outstanding
+    }
+
+    /// Whether it may send these data, had it got a NAK with this response before.
+    pub(crate) fn may_send_set_back(self, said: Said, nak_resp: u8) -> bool {
+        match self.state {
+            State::Running => self.set_back(nak_resp).may_send_running(said),
+            _ => false,
+        }
+    }
+
+    /// It sent this, which it might send.
+    pub(crate) fn sent(self, said: Said) -> Station {
+        match said {
+            Said::Nak { reason, resp: _ } => match reason {
+                NakReason::RepResponse => Station {
+                    answers: self.answers.saturating_sub(1),
+                    ..self
+                },
+                NakReason::NoBuffer => Station {
+                    refused: self.refused.saturating_sub(1),
+                    ..self
+                },
+                _ => self,
+            },
+            Said::Data { resp: _, num: _ } => self.sent_data(),
+            _ => self,
+        }
+    }
+
+    fn sent_data(self) -> Station {
+        let ahead = self.ahead.saturating_add(1);
+        if self.ahead == self.outstanding {
+            return Station {
+                ahead,
+                outstanding: ahead,
+                ..self
+            };
+        }
+        Station { ahead, ..self }
+    }
+}

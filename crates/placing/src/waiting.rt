@@ -1,0 +1,203 @@
+//! The units that are not written yet, and the lines that are.
+
+ghost use Rattle.std.specs.Prelude.{◌≡◌, ◌≤◌, ◌<◌, ◌+◌, ◌-◌, ◌↔◌, IsTrue, [], ◌∷◌, ◌++◌, length, None, IfSome, OnOk, OnErr};
+ghost use Rattle.capture.specs.Entries.{record_with};
+ghost use Rattle.capture.specs.Text.{record_line};
+ghost use Rattle.capture.specs.declared.hint.HintForm.TheVariants.{Number};
+ghost use Rattle.capture.specs.declared.limit.TheConstants.{MAX_UNIT, MAX_HINT, MAX_MESSAGE};
+ghost use Rattle.placing.specs.inner.Aside.{IsOfNoUnit};
+ghost use Rattle.placing.specs.Placed.{Puts, nothing, with_other, with_own};
+
+mod other_units;
+mod own_units;
+
+use crate::movement::Move;
+use crate::passed_unit::PassedUnit;
+use crate::user_links::UserLinks;
+use capture::{Entry, MAX_HINT, put_line};
+use std::alloc::{AllocError, Global};
+use std::collections::VecDeque;
+use std::marker::Model;
+
+/// The units of a side that are not written yet, those of the other side that may still come, and the lines that wait to be written. It writes the
+/// units of the side as they were given, each once and in order; what stands between them, it is told.
+#[derive(Drop)]
+pub(crate) struct Waiting {
+    own: VecDeque<PassedUnit>,
+    other: VecDeque<PassedUnit>,
+    // how many units of the other side can't come any more
+    gone: u64,
+    text: Vec<u8>,
+    // the links that its packets tell of, unless nobody asks for them
+    links: Option<UserLinks>,
+    alloc: Global,
+}
+
+impl Model for Waiting {
+    ghost use Rattle.std.specs.Prelude.{◌+◌, ◌≤◌, length};
+    ghost use Rattle.capture.specs.declared.limit.TheConstants.{MAX_HINT};
+    ghost use Rattle.placing.specs.Placed.{Waiting};
+
+    ghost Value = { Waiting };
+
+    ghost view = { λ w. record { units = record { own = w.own.items; other = w.other.items; gone = w.gone }; text = w.text.items } };
+
+    ghost invariant = { λ w. w.gone + length w.other.items ≤ MAX_HINT };
+}
+
+impl Waiting {
+    /// No unit and no line. With `line_alone` no packet is read, and no event of a link is put.
+    pub(crate) fn new(alloc: Global, line_alone: bool) -> Waiting
+        ensures { result ≡ nothing }
+    {
+        let links = if line_alone {
+            None
+        } else {
+            Some(UserLinks::new(alloc))
+        };
+        Waiting {
+            own: VecDeque::new(alloc),
+            other: VecDeque::new(alloc),
+            gone: 0,
+            text: Vec::new(alloc),
+            links,
+            alloc,
+        }
+    }
+
+    /// The lines.
+    pub(crate) fn text(&self) -> &[u8]
+        ensures { result.now ≡ self.now.text }
+    {
+        self.text.as_slice()
+    }
+
+    /// The lines were written.
+    pub(crate) fn clear_text(&mut self)
+        ensures { self.new ≡ record self.old { text = [] } }
+    {
+        self.text.clear();
+    }
+
+    /// The side sent this unit. `AllocError` where there is no memory for it; then it waits not.
+    pub(crate) fn push_own(&mut self, unit: &[u8]) -> Result<(), AllocError>
+        requires { length unit.now ≤ MAX_UNIT }
+        ensures ok { OnOk result (self.new ≡ with_own unit.now self.old) }
+        ensures err { OnErr result (self.new ≡ self.old) }
+    {
+        let copy = PassedUnit::of(self.alloc, unit)?;
+        self.own.reserve(1)?;
+        self.own.push_back_reserved(copy);
+        Ok(())
+    }
+
+    /// The other side sent this unit. `AllocError` as there, and where it would be the one behind number 999,999,999,999,999,999.
+    pub(crate) fn push_other(&mut self, unit: &[u8]) -> Result<(), AllocError>
+        requires { length unit.now ≤ MAX_UNIT }
+        ensures ok { OnOk result (self.new ≡ with_other unit.now self.old) }
+        ensures err { OnErr result (self.new ≡ self.old) }
+    {
+        if self.other.len() as u64 >= MAX_HINT - self.gone {
+            return Err(AllocError);
+        }
+        let copy = PassedUnit::of(self.alloc, unit)?;
+        self.other.reserve(1)?;
+        self.other.push_back_reserved(copy);
+        Ok(())
+    }
+
+    /// Puts the lines of this move. `AllocError` where there is no memory for them.
+    pub(crate) fn put(&mut self, made: Move) -> Result<(), AllocError>
+        ensures { OnOk result (Puts self.old self.new) }
+    {
+        match made {
+            Move::Send {
+                is_new,
+                set_back: _,
+            } => self.put_own(is_new),
+            Move::Keep => self.put_other(true),
+            Move::Receive => self.put_other(false),
+            Move::Leave | Move::Lose => {
+                self.lose();
+                Ok(())
+            }
+            Move::Start => self.put_aside(Entry::Start, &[]),
+            Move::Halt => self.put_aside(Entry::Halt, &[]),
+        }
+    }
+
+    /// Puts the lines of all units of the side that wait.
+    #[tactic(auto, using(crate::proofs::Puts::puts_then, crate::proofs::Puts::puts_nothing))]
+    pub(crate) fn put_rest(&mut self) -> Result<(), AllocError>
+        ensures puts { OnOk result (Puts self.old self.new) }
+        ensures all { OnOk result (self.new.units.own ≡ []) }
+    {
+        while self.has_own() {
+            self.put_own(true)?;
+        }
+        Ok(())
+    }
+
+    // Whether a unit of the side waits.
+    fn has_own(&self) -> bool
+        ensures { IsTrue result ↔ (0 < length self.now.units.own) }
+    {
+        !self.own.is_empty()
+    }
+
+    // The next unit of the side waits no more.
+    fn take_own(&mut self) -> Option<PassedUnit>
+        ensures taken { IfSome result (λ unit. self.old.units.own ≡ unit ∷ self.new.units.own) }
+        ensures none { result ≡ None → self.new ≡ self.old }
+        ensures empty { result ≡ None → self.old.units.own ≡ [] }
+        ensures other { self.new.units.other ≡ self.old.units.other }
+        ensures gone { self.new.units.gone ≡ self.old.units.gone }
+        ensures text { self.new.text ≡ self.old.text }
+    {
+        self.own.pop_front()
+    }
+
+    // The next unit of the other side can't come any more.
+    fn take_other(&mut self) -> Option<PassedUnit>
+        ensures taken { IfSome result (λ unit. self.old.units.other ≡ unit ∷ self.new.units.other) }
+        ensures counted { IfSome result (λ unit. self.new.units.gone ≡ self.old.units.gone + 1) }
+        ensures none { result ≡ None → self.new ≡ self.old }
+        ensures own { self.new.units.own ≡ self.old.units.own }
+        ensures text { self.new.text ≡ self.old.text }
+    {
+        match self.other.pop_front() {
+            Some(unit) => {
+                self.gone += 1;
+                Some(unit)
+            }
+            None => None,
+        }
+    }
+
+    // One line.
+    fn line(&mut self, entry: Entry, bytes: &[u8]) -> Result<(), AllocError>
+        requires { length bytes.now ≤ MAX_MESSAGE }
+        ensures text { OnOk result (self.new.text ≡ self.old.text ++ record_line Number (record_with entry bytes.now)) }
+        ensures units { self.new.units ≡ self.old.units }
+    {
+        put_line(&mut self.text, entry, bytes)
+    }
+
+    // A line of no unit.
+    fn put_aside(&mut self, entry: Entry, bytes: &[u8]) -> Result<(), AllocError>
+        requires short { length bytes.now ≤ MAX_MESSAGE }
+        requires aside { IsOfNoUnit entry }
+        ensures puts { OnOk result (Puts self.old self.new) }
+        ensures same { self.new.units ≡ self.old.units }
+    {
+        self.line(entry, bytes)
+    }
+
+    // No line.
+    fn put_nothing(&mut self) -> Result<(), AllocError>
+        ensures puts { OnOk result (Puts self.old self.new) }
+        ensures same { self.new.units ≡ self.old.units }
+    {
+        Ok(())
+    }
+}

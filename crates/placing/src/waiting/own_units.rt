@@ -1,0 +1,128 @@
+//! The units of a side, and what its user did before them.
+
+ghost use Rattle.std.specs.Prelude.{◌≡◌, ◌≤◌, ◌-◌, length, OnOk};
+ghost use Rattle.placing.specs.Placed.{Puts};
+
+use super::Waiting;
+use crate::said::Said;
+use crate::user_links::{UserAct, message_of, next_number};
+use capture::{Entry, MAX_MESSAGE};
+use ddcmp_msg::NakReason;
+use dna_packet::Nsp;
+use std::alloc::AllocError;
+
+// Bytes that a station reads as a damaged header, and as a good one of damaged data.
+const BAD_HEADER: [u8; 1] = [0];
+
+const BAD_DATA: [u8; 8] = [0x81, 0x01, 0x00, 0x00, 0x00, 0x01, 0xe3, 0x81];
+
+impl Waiting {
+    /// Puts the line of the next unit of the side, behind what comes before it. `AllocError` where there is no memory for them.
+    #[tactic(auto, using(crate::proofs::Puts::puts_then))]
+    pub(super) fn put_own(&mut self, is_new: bool) -> Result<(), AllocError>
+        ensures puts { OnOk result (Puts self.old self.new) }
+        ensures fewer { OnOk result (length self.new.units.own ≤ length self.old.units.own - 1) }
+    {
+        self.put_before(is_new)?;
+        self.put_unit()
+    }
+
+    #[tactic(auto, using(crate::proofs::Puts::puts_nothing))]
+    fn put_unit(&mut self) -> Result<(), AllocError>
+        ensures puts { OnOk result (Puts self.old self.new) }
+        ensures fewer { OnOk result (length self.new.units.own ≡ length self.old.units.own - 1) }
+    {
+        match self.take_own() {
+            Some(unit) => self.line(Entry::Sent, unit.as_slice()),
+            None => Ok(()),
+        }
+    }
+
+    // What comes before the next unit: what the user did with a link; or noise, where it is a NAK that tells of damage.
+    fn put_before(&mut self, is_new: bool) -> Result<(), AllocError>
+        ensures puts { OnOk result (Puts self.old self.new) }
+        ensures same { self.new.units ≡ self.old.units }
+    {
+        if is_new {
+            return self.put_act();
+        }
+        match self.next_damage() {
+            Some(NakReason::HeaderCheck) => self.put_aside(Entry::Noise, &BAD_HEADER),
+            Some(NakReason::DataCheck) => self.put_aside(Entry::Noise, &BAD_DATA),
+            _ => self.put_nothing(),
+        }
+    }
+
+    // The reason of the next unit of the side, if it is a NAK.
+    fn next_damage(&self) -> Option<NakReason> {
+        let unit = self.own.front()?;
+        match Said::of(unit.as_slice()) {
+            Said::Nak { reason, resp: _ } => Some(reason),
+            _ => None,
+        }
+    }
+
+    // What the user did with a link before the next unit.
+    fn put_act(&mut self) -> Result<(), AllocError>
+        ensures puts { OnOk result (Puts self.old self.new) }
+        ensures same { self.new.units ≡ self.old.units }
+    {
+        match self.next_act()? {
+            Some(UserAct::Open { link }) => self.put_aside(Entry::Open { link }, &[]),
+            Some(UserAct::Accept { partner, link }) => {
+                self.put_aside(Entry::Accept { partner, link }, &[])
+            }
+            Some(UserAct::Reject { partner, link }) => {
+                self.put_aside(Entry::Reject { partner, link }, &[])
+            }
+            Some(UserAct::Close { link }) => self.put_aside(Entry::Close { link }, &[]),
+            Some(UserAct::HandIn { link, far, number }) => {
+                let message = self.message(link, far, number)?;
+                self.put_message(link, message.as_slice())
+            }
+            None => self.put_nothing(),
+        }
+    }
+
+    fn next_act(&mut self) -> Result<Option<UserAct>, AllocError>
+        ensures { self.new ≡ self.old }
+    {
+        let (Some(unit), Some(links)) = (self.own.front(), &mut self.links) else {
+            return Ok(None);
+        };
+        links.before(unit.as_slice())
+    }
+
+    // A message that is handed in. One that is too long has no line; the judge will say so.
+    fn put_message(&mut self, link: u16, message: &[u8]) -> Result<(), AllocError>
+        ensures puts { OnOk result (Puts self.old self.new) }
+        ensures same { self.new.units ≡ self.old.units }
+    {
+        if message.len() > MAX_MESSAGE {
+            return self.put_nothing();
+        }
+        self.put_aside(Entry::In { link }, message)
+    }
+
+    // The message whose segments begin with this number. Where its last one did not pass, a byte more stands for what is missing.
+    fn message(&self, link: u16, far: u16, number: u16) -> Result<Vec<u8>, AllocError> {
+        let mut message = Vec::new(self.alloc);
+        let mut wanted = number;
+        for at in 0..self.own.len() {
+            let Some(unit) = self.own.get(at) else {
+                return Ok(message);
+            };
+            if let Some(Nsp::DataSegment(segment)) = message_of(unit.as_slice()) {
+                if segment.srcaddr == link && segment.dstaddr == far && segment.number == wanted {
+                    message.extend_from_slice(segment.body)?;
+                    if segment.ends || message.len() > MAX_MESSAGE {
+                        return Ok(message);
+                    }
+                    wanted = next_number(wanted);
+                }
+            }
+        }
+        message.push(0)?;
+        Ok(message)
+    }
+}

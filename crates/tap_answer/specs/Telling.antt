@@ -1,0 +1,21 @@
+-- What is said of captures that a tap wrote, by how they end and by the verdict on them.
+use Rattle.std.specs.Prelude.{Some, None}
+use Rattle.pair_judge.specs.declared.verdict.Verdict.{Verdict}
+use Rattle.pair_judge.specs.declared.verdict.Verdict.TheVariants.{Accepted, Refused}
+use Rattle.wire_tap.specs.declared.tapped.Ending.{Ending}
+use Rattle.wire_tap.specs.declared.tapped.Ending.TheVariants as ends
+use Rattle.wire_tap.specs.declared.tapped.Passed.{Passed}
+use Rattle.tap_answer.specs.declared.told.Told.{Told}
+use Rattle.tap_answer.specs.declared.told.Told.TheVariants as says
+
+-- they end with this unit
+abbrev pub unexplained : Passed → Verdict → Told
+unexplained passed (Accepted summary) = says.Unexplained passed None
+unexplained passed (Refused side place reason) = says.Unexplained passed (Some reason)
+
+abbrev pub telling : Ending → Verdict → Told
+telling ends.Whole (Accepted summary) = says.Accepted
+telling ends.Whole (Refused side place reason) = says.UnexplainedEnd reason
+telling (ends.Unplaced passed) verdict = unexplained passed verdict
+telling (ends.TooWide passed) verdict = says.TooWide passed
+telling (ends.Asked passed) verdict = unexplained passed verdict

@@ -1,0 +1,45 @@
+-- The words of what is said of captures that a tap wrote.
+use Rattle.std.specs.Prelude.{ℕ, List, ◌++◌, codes, Option, Some, None}
+use Rattle.std.specs.Fmt.{decimal}
+use Rattle.wire_base.specs.declared.side.Side.{Side}
+use Rattle.wire_base.specs.declared.side.Side.TheVariants.{A, B}
+use Rattle.wire_base.specs.Side.{side_letter}
+use Rattle.pair_judge.specs.declared.reason.Reason.{Reason}
+use Rattle.pair_judge.specs.Reason.{reason_name, reason_number}
+use Rattle.wire_tap.specs.declared.tapped.Passed.{Passed}
+use Rattle.wire_tap.specs.declared.tapped.Skipped.{Skipped}
+use Rattle.wire_tap.specs.declared.tapped.Tapped.{Tapped}
+
+-- `a unit 7 line 16`
+abbrev pub unit_words : Passed → List ℕ
+unit_words passed =
+    side_letter passed.side ++ (codes " unit " ++ (decimal passed.unit ++ (codes " line " ++ decimal passed.line)))
+
+-- `7 WrongNumber`, or that no placing was found
+abbrev pub reason_words : Option Reason → List ℕ
+reason_words (Some reason) = decimal (reason_number reason) ++ (codes " " ++ reason_name reason)
+reason_words None = codes "no placing was found"
+
+-- `unexplained a unit 7 line 16: 7 WrongNumber`
+abbrev pub unexplained_words : Passed → Option Reason → List ℕ
+unexplained_words passed reason = codes "unexplained " ++ (unit_words passed ++ (codes ": " ++ (reason_words reason ++ codes "\n")))
+
+-- `unexplained behind the last unit: 14 WrongUserEvent`
+abbrev pub unexplained_end_words : Reason → List ℕ
+unexplained_end_words reason = codes "unexplained behind the last unit: " ++ (reason_words (Some reason) ++ codes "\n")
+
+-- `a unit 7 line 16: too wide a choice`
+abbrev pub too_wide_words : Passed → List ℕ
+too_wide_words passed = unit_words passed ++ codes ": too wide a choice\n"
+
+-- `a skipped maintenance messages 0 bytes between units 3`
+abbrev pub skipped_words : Side → Skipped → List ℕ
+skipped_words side skipped =
+    side_letter side ++ (codes " skipped maintenance messages " ++ (decimal skipped.maintenance
+    ++ (codes " bytes between units " ++ decimal skipped.bytes)))
+
+-- what an answer rests on, and what was skipped
+abbrev pub premise_words : Tapped → List ℕ
+premise_words tapped =
+    codes "each unit that was sent has to have passed here, from before the first start\n"
+    ++ (skipped_words A tapped.skipped_a ++ (codes "\n" ++ (skipped_words B tapped.skipped_b ++ codes "\n")))

@@ -1,0 +1,62 @@
+//! What is said of captures, by how they end and by the judge's verdict.
+
+ghost use Rattle.std.specs.Prelude.{◌≡◌};
+ghost use Rattle.tap_answer.specs.Telling.{telling, unexplained};
+
+use pair_judge::{Reason, Verdict};
+use wire_tap::{Ending, Passed};
+
+/// What is said of the captures that a tap wrote.
+#[derive(Clone, Copy, Debug, PartialEq, Eq)]
+pub enum Told {
+    /// They hold all that passed, and are accepted.
+    Accepted,
+    /// They end with this unit, and are refused for this reason; with none they are accepted, and no placing was found for the unit.
+    Unexplained {
+        passed: Passed,
+        reason: Option<Reason>,
+    },
+    /// They hold all that passed, and are refused behind the last unit of a side, for this reason.
+    UnexplainedEnd {
+        reason: Reason,
+    },
+    /// They end with this unit, before which there were too many states to try.
+    TooWide(Passed),
+}
+
+/// What is said of captures that end so, by the verdict on them. Takes no memory.
+///
+/// ```text
+/// Whole, accepted                   Accepted
+/// Unplaced(a 7), refused for 7      Unexplained, a 7, for 7
+/// TooWide(a 7)                      TooWide(a 7)
+/// ```
+pub fn said_of(ending: Ending, verdict: Verdict) -> Told
+    ensures { result ≡ telling ending verdict }
+{
+    match ending {
+        Ending::Whole => match verdict {
+            Verdict::Accepted(_) => Told::Accepted,
+            Verdict::Refused { reason, .. } => Told::UnexplainedEnd { reason },
+        },
+        Ending::Unplaced(passed) => unexplained(passed, verdict),
+        Ending::Asked(passed) => unexplained(passed, verdict),
+        Ending::TooWide(passed) => Told::TooWide(passed),
+    }
+}
+
+// What is said of a unit with which the captures end.
+fn unexplained(passed: Passed, verdict: Verdict) -> Told
+    ensures { result ≡ unexplained passed verdict }
+{
+    match verdict {
+        Verdict::Accepted(_) => Told::Unexplained {
+            passed,
+            reason: None,
+        },
+        Verdict::Refused { reason, .. } => Told::Unexplained {
+            passed,
+            reason: Some(reason),
+        },
+    }
+}

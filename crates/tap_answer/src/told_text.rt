@@ -1,0 +1,123 @@
+//! The texts of what is said.
+
+ghost use Rattle.std.specs.Prelude.{◌≡◌, IfOk, string_bytes};
+ghost use Rattle.tap_answer.specs.Words.{premise_words, too_wide_words, unexplained_end_words, unexplained_words};
+
+use pair_judge::Reason;
+use std::alloc::{AllocError, Global};
+use std::fmt;
+use wire_base::Side;
+use wire_tap::{Passed, Skipped, Tapped};
+
+// A unit, as it is named.
+#[derive(Clone, Copy)]
+struct UnitWords {
+    passed: Passed,
+}
+
+impl fmt::Display for UnitWords {
+    ghost use Rattle.std.specs.Prelude.{Some};
+    ghost use Rattle.tap_answer.specs.Words.{unit_words};
+
+    ghost output = { λ words. Some (unit_words words.passed) };
+
+    fn fmt<W: fmt::Write>(&self, f: &mut fmt::Formatter<W>) -> fmt::Result {
+        let Passed { side, unit, line } = self.passed;
+        write!(f, "{side} unit {unit} line {line}")
+    }
+}
+
+// A reason with its number, or that no placing was found.
+#[derive(Clone, Copy)]
+struct ReasonWords {
+    reason: Option<Reason>,
+}
+
+impl fmt::Display for ReasonWords {
+    ghost use Rattle.std.specs.Prelude.{Some};
+    ghost use Rattle.tap_answer.specs.Words.{reason_words};
+
+    ghost output = { λ words. Some (reason_words words.reason) };
+
+    fn fmt<W: fmt::Write>(&self, f: &mut fmt::Formatter<W>) -> fmt::Result {
+        match self.reason {
+            Some(reason) => {
+                let number = reason.number();
+                write!(f, "{number} {reason}")
+            }
+            None => f.write_str("no placing was found"),
+        }
+    }
+}
+
+// What was skipped of a side.
+#[derive(Clone, Copy)]
+struct SkippedWords {
+    side: Side,
+    skipped: Skipped,
+}
+
+impl fmt::Display for SkippedWords {
+    ghost use Rattle.std.specs.Prelude.{Some};
+    ghost use Rattle.tap_answer.specs.Words.{skipped_words};
+
+    ghost output = { λ words. Some (skipped_words words.side words.skipped) };
+
+    fn fmt<W: fmt::Write>(&self, f: &mut fmt::Formatter<W>) -> fmt::Result {
+        let side = self.side;
+        let Skipped { maintenance, bytes } = self.skipped;
+        write!(
+            f,
+            "{side} skipped maintenance messages {maintenance} bytes between units {bytes}"
+        )
+    }
+}
+
+/// `unexplained a unit 7 line 16: 7 WrongNumber`, with its LF: the unit with which the captures end, and why they are refused; without a reason they
+/// are accepted, and no placing was found. Fails for want of memory alone.
+pub fn unexplained_text(
+    alloc: Global,
+    passed: Passed,
+    reason: Option<Reason>,
+) -> Result<String, AllocError>
+    ensures { IfOk result (λ text. string_bytes text ≡ unexplained_words passed reason) }
+{
+    let unit = UnitWords { passed };
+    let why = ReasonWords { reason };
+    format!(in alloc; "unexplained {unit}: {why}\n")
+}
+
+/// `unexplained behind the last unit: 14 WrongUserEvent`, with its LF: captures of all that passed are refused there. Fails for want of memory alone.
+pub fn unexplained_end_text(alloc: Global, reason: Reason) -> Result<String, AllocError>
+    ensures { IfOk result (λ text. string_bytes text ≡ unexplained_end_words reason) }
+{
+    let why = ReasonWords {
+        reason: Some(reason),
+    };
+    format!(in alloc; "unexplained behind the last unit: {why}\n")
+}
+
+/// `a unit 7 line 16: too wide a choice`, with its LF. Fails for want of memory alone.
+pub fn too_wide_text(alloc: Global, passed: Passed) -> Result<String, AllocError>
+    ensures { IfOk result (λ text. string_bytes text ≡ too_wide_words passed) }
+{
+    let unit = UnitWords { passed };
+    format!(in alloc; "{unit}: too wide a choice\n")
+}
+
+/// What an answer rests on, and of each side what was skipped, a line each. Fails for want of memory alone.
+pub fn premise_text(alloc: Global, tapped: Tapped) -> Result<String, AllocError>
+    ensures { IfOk result (λ text. string_bytes text ≡ premise_words tapped) }
+{
+    let line_a = SkippedWords {
+        side: Side::A,
+        skipped: tapped.skipped_a,
+    };
+    let line_b = SkippedWords {
+        side: Side::B,
+        skipped: tapped.skipped_b,
+    };
+    format!(in alloc;
+        "each unit that was sent has to have passed here, from before the first start\n{line_a}\n{line_b}\n"
+    )
+}

@@ -1,0 +1,88 @@
+//! What is said of the captures of what passed on a line.
+
+use pair_judge::{Reason, Verdict};
+use std::alloc::AllocError;
+use tap_answer::{
+    Told, premise_text, said_of, too_wide_text, unexplained_end_text, unexplained_text,
+    units_before,
+};
+use wire_base::{Side, Tally};
+use wire_tap::{Ending, Passed, Skipped, Tapped};
+
+const CAPTURE: &str = "ddcap 1 1.1 1.2
+u start
+s 0506c00000017595
+r 0 0507c00000014855
+s 050100000001fc55
+";
+
+#[test]
+fn an_unplaced_unit_is_named_with_the_reason(rt: HostRuntime) -> Result<(), AllocError> {
+    let passed = Passed {
+        side: Side::A,
+        unit: 7,
+        line: 16,
+    };
+    let verdict = Verdict::Refused {
+        side: Side::A,
+        place: 20,
+        reason: Reason::WrongNumber,
+    };
+    let reason = Some(Reason::WrongNumber);
+    assert_eq!(rt;
+        said_of(Ending::Unplaced(passed), verdict),
+        Told::Unexplained { passed, reason }
+    );
+    let text = unexplained_text(rt.alloc(), passed, reason)?;
+    assert_eq!(rt;
+        text.as_str(),
+        "unexplained a unit 7 line 16: 7 WrongNumber\n"
+    );
+    let text = unexplained_text(rt.alloc(), passed, None)?;
+    assert_eq!(rt;
+        text.as_str(),
+        "unexplained a unit 7 line 16: no placing was found\n"
+    );
+    let text = too_wide_text(rt.alloc(), passed)?;
+    assert_eq!(rt; text.as_str(), "a unit 7 line 16: too wide a choice\n");
+    Ok(())
+}
+
+#[test]
+fn what_was_skipped_stands_behind_the_premise(rt: HostRuntime) -> Result<(), AllocError> {
+    let skipped_a = Skipped {
+        maintenance: 1,
+        bytes: 12,
+    };
+    let skipped_b = Skipped {
+        maintenance: 0,
+        bytes: 0,
+    };
+    let tapped = Tapped {
+        ending: Ending::Whole,
+        skipped_a,
+        skipped_b,
+    };
+    let text = premise_text(rt.alloc(), tapped)?;
+    assert_eq!(rt;
+        text.as_str(),
+        "each unit that was sent has to have passed here, from before the first start
+a skipped maintenance messages 1 bytes between units 12
+b skipped maintenance messages 0 bytes between units 0
+"
+    );
+    let text = unexplained_end_text(rt.alloc(), Reason::WrongUserEvent)?;
+    assert_eq!(rt;
+        text.as_str(),
+        "unexplained behind the last unit: 14 WrongUserEvent\n"
+    );
+    Ok(())
+}
+
+#[test]
+fn the_units_before_a_record_are_counted(rt: HostRuntime) {
+    let mut capture = Tally::new(CAPTURE.as_bytes());
+    assert_eq!(rt; units_before(rt.alloc(), &mut capture, 3), Some(1));
+    let mut capture = Tally::new(CAPTURE.as_bytes());
+    assert_eq!(rt; units_before(rt.alloc(), &mut capture, 9), None);
+}

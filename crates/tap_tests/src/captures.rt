@@ -1,0 +1,47 @@
+//! Both captures of what passed on a line.
+
+use std::alloc::Global;
+use wire_base::Tally;
+use wire_tap::{Ending, Skipped, TapFault, Tapped, tap};
+
+const STARTUP: &str = "ddwire 1 1.1 1.2
+a 96960506c00000
+a 017595ff07
+b 0507c00000014855
+a 050100000001fc55
+";
+
+const LINES_A: &str = "ddcap 1 1.1 1.2
+u start
+s 0506c00000017595
+r 0 0507c00000014855
+s 050100000001fc55
+";
+
+const LINES_B: &str = "ddcap 1 1.2 1.1
+u start
+r 0 0506c00000017595
+s 0507c00000014855
+";
+
+fn tapped(alloc: Global, text: &str) -> Result<(Tapped, Vec<u8>, Vec<u8>), TapFault> {
+    let mut wire = Tally::new(text.as_bytes());
+    let mut a = Tally::new(Vec::new(alloc));
+    let mut b = Tally::new(Vec::new(alloc));
+    let tapped = tap(alloc, &mut wire, &mut a, &mut b, false, None)?;
+    Ok((tapped, a.into_inner(), b.into_inner()))
+}
+
+#[test]
+fn a_startup_that_passed_gives_both_captures(rt: HostRuntime) -> Result<(), TapFault> {
+    let (tapped, a, b) = tapped(rt.alloc(), STARTUP)?;
+    assert_eq!(rt; tapped.ending, Ending::Whole);
+    let skipped = Skipped {
+        maintenance: 0,
+        bytes: 1,
+    };
+    assert_eq!(rt; tapped.skipped_a, skipped);
+    assert_eq!(rt; a.as_slice(), LINES_A.as_bytes());
+    assert_eq!(rt; b.as_slice(), LINES_B.as_bytes());
+    Ok(())
+}

@@ -1,0 +1,10 @@
+//! From what passed on a line to the answer: a case of each public call of `placing`, `wire_tap` and `tap_answer`. They stand in a crate of their
+//! own, which is proved in its tests alone.
+#![tactic(auto)]
+
+#[cfg(test)]
+mod answers;
+#[cfg(test)]
+mod captures;
+#[cfg(test)]
+mod placings;

@@ -1,0 +1,106 @@
+-- What a tap wrote before the first piece.
+use Rattle.std.proofs.Common.{◌≡◌, ℕ, inl, List, [], Option, Ok, Err, refl, sym, ap, subst}
+use Rattle.std.proofs.Common.{append-nil}
+use Rattle.std.proofs.KnownBytes.{Keeps-refl}
+use Rattle.wire_base.specs.Tally.{AppendsBeginning}
+use Rattle.wire_base.specs.declared.side.Side.{Side}
+use Rattle.wire_base.specs.declared.side.Side.TheVariants.{A, B}
+use Rattle.capture.specs.declared.fault.CaptureFault.{CaptureFault}
+use Rattle.capture.specs.declared.fault.CaptureFault.TheVariants as of_text
+use Rattle.capture.specs.Lines.{to_come}
+use Rattle.capture.specs.Paged.{HandsOver}
+use Rattle.capture.specs.Reader.{FaultShows}
+use Rattle.framer.specs.SoFar.{IsFramedSoFar, nothing}
+use Rattle.framer.proofs.Framings.{framing-nil}
+use Rattle.framer.proofs.SoFarLaws.{start}
+use Rattle.placing.specs.Placed.{Waiting}
+use Rattle.wire_text.specs.Reader.{Opens, WireState}
+use Rattle.wire_text.specs.SoFar.{IsReadSoFar, no_pieces}
+use Rattle.wire_text.specs.WireText.{Wire, WireHeadDeparts}
+use Rattle.wire_text.proofs.SoFarLaws as read
+use Rattle.wire_tap.specs.Tapping.{AppendsSome, HasCut, HaveFirst, Held, Reached, Taps, TakesNothing, held}
+use Rattle.wire_tap.specs.Units.{units_of}
+use Rattle.wire_tap.specs.declared.fault.TapFault.TheVariants as faults
+use Rattle.wire_tap.specs.inner.Moving.{IsLineUnderWay, IsUnderWay, Outlet}
+use Rattle.wire_tap.specs.inner.Moving.{FailsAt, fault_of, head_a, head_b}
+use Rattle.wire_tap.specs.inner.Moving.{line_state, outlet}
+use Rattle.wire_tap.specs.declared.side_tap.SideTap.{SideTap}
+use Rattle.wire_tap.specs.inner.Side.{IsNew, side_state}
+
+-- ---- before the first piece
+
+takes_nothing : (old : Held) → TakesNothing old old
+takes_nothing old = record { a = Keeps-refl old.a; b = Keeps-refl old.b }
+
+-- no head was read
+pub no_head : (last : Option (Side × ℕ)) (text : Option (List ℕ)) (old : Held) (fault : CaptureFault) → FaultShows WireHeadDeparts 1 text fault →
+    Taps last text old old (Err (fault_of fault))
+no_head last text old (of_text.Departs kind line) shows = inl (record { departs = shows.1; line_is = shows.0 }, takes_nothing old)
+no_head last text old of_text.Read shows = inl (takes_nothing old)
+no_head last text old of_text.OutOfMemory shows = inl (takes_nothing old)
+no_head last text old of_text.Failed shows = absurd shows
+
+-- memory is refused
+pub none_taken : (last : Option (Side × ℕ)) (text : Option (List ℕ)) (old : Held) → Taps last text old old (Err faults.OutOfMemory)
+none_taken last text old = inl (takes_nothing old)
+
+module _ (text left : Option (List ℕ)) (old : Held) (state : WireState) (opens : Opens text left (Ok state)) where
+  abbrev pub wire_begun : Wire
+  wire_begun = no_pieces state.node_a state.node_b
+
+  abbrev pub come_begun : Option (List ℕ)
+  come_begun = to_come state.unread left
+
+  read_begun : IsReadSoFar text wire_begun come_begun
+  read_begun = read.opened text left state opens
+
+  abbrev nothing_sent : Reached
+  nothing_sent = record { wire = wire_begun; come = come_begun; a = []; b = [] }
+
+  -- the writer of a side fails at its head
+  pub head_fails : (last : Option (Side × ℕ)) (side : Side) (n m : ℕ) (of_a of_b : List ℕ) (new : Outlet × Outlet) → of_a ≡ head_a wire_begun →
+      of_b ≡ head_b wire_begun → FailsAt side (outlet of_a old.a n, outlet of_b old.b m) new
+      → Taps last text old (held new.0.held new.1.held) (Err (faults.Write side))
+  head_fails last side n m of_a of_b new is_a is_b f = (nothing_sent, read_begun, first, by_side side fails_at)
+    where
+      fails_at : FailsAt side (outlet (head_a wire_begun) old.a n, outlet (head_b wire_begun) old.b m) new
+      fails_at = subst (λ (x : List ℕ). FailsAt side (outlet (head_a wire_begun) old.a n, outlet x old.b m) new) is_b
+          (subst (λ (x : List ℕ). FailsAt side (outlet x old.a n, outlet of_b old.b m) new) is_a f)
+
+      first : HaveFirst nothing_sent
+      first = record { others_a = units_of A wire_begun; others_b = units_of B wire_begun; a = refl; b = refl }
+
+      by_side : (side : Side) → FailsAt side (outlet (head_a wire_begun) old.a n, outlet (head_b wire_begun) old.b m) new →
+          HasCut side old (held new.0.held new.1.held) nothing_sent
+      by_side A f = (
+        subst (AppendsBeginning old.a new.0.held) (sym (append-nil (head_a wire_begun))) f.0.some,
+        subst (AppendsSome old.b new.1.held) (sym (append-nil (head_b wire_begun))) f.1.some,
+      )
+      by_side B f = (
+        subst (AppendsSome old.a new.0.held) (sym (append-nil (head_a wire_begun))) f.0.some,
+        subst (AppendsBeginning old.b new.1.held) (sym (append-nil (head_b wire_begun))) f.1.some,
+      )
+
+  side_begun : (head : List ℕ) (was now : Option (List ℕ)) (tap : SideTap) → IsNew tap → HandsOver head [] was now →
+      IsUnderWay [] head was now (side_state tap)
+  side_begun head was now tap new over = record {
+    records = [];
+    found = nothing;
+    framed = subst (IsFramedSoFar [] nothing) (sym new.held) start;
+    left = rw new.held framing-nil;
+    sent = ap (λ (w : Waiting). w.units.own) new.waiting;
+    count = new.count;
+    over = subst (λ (t : List ℕ). HandsOver t tap.units.placing.text was now) (sym (append-nil head))
+        (subst (λ (w : Waiting). HandsOver head w.text was now) (sym new.waiting) over);
+  }
+
+  -- both heads are written
+  pub line_begun : (now : Held) (a b : SideTap) (of_a of_b : List ℕ) → IsNew a → IsNew b → of_a ≡ head_a wire_begun → of_b ≡ head_b wire_begun →
+      HandsOver of_a [] old.a now.a → HandsOver of_b [] old.b now.b → IsLineUnderWay text old (line_state state.pieces come_begun a b now)
+  line_begun now a b of_a of_b new_a new_b is_a is_b over_a over_b = record {
+    wire = wire_begun;
+    read = read_begun;
+    count = sym opens.2;
+    a = side_begun (head_a wire_begun) old.a now.a a new_a (subst (λ (x : List ℕ). HandsOver x [] old.a now.a) is_a over_a);
+    b = side_begun (head_b wire_begun) old.b now.b b new_b (subst (λ (x : List ℕ). HandsOver x [] old.b now.b) is_b over_b);
+  }

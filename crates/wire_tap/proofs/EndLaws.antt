@@ -1,0 +1,208 @@
+-- Both sides of what a tap wrote, where no more is read, and behind the last line.
+use Rattle.std.proofs.Common.{◌≡◌, ℕ, ◌+◌, ◌<◌, ◌^◌, inr, List, [], ◌++◌, length, Option, Ok, Err, refl, sym, ap, subst}
+use Rattle.std.proofs.Common.{◌∙◌, append_assoc, append-nil}
+use Rattle.wire_base.specs.Side.{other_side}
+use Rattle.wire_base.specs.declared.side.Side.{Side}
+use Rattle.wire_base.specs.declared.side.Side.TheVariants.{A, B}
+use Rattle.capture.specs.declared.fault.CaptureFault.{CaptureFault}
+use Rattle.capture.specs.declared.fault.CaptureFault.TheVariants as of_text
+use Rattle.capture.specs.Paged.{HandsOver}
+use Rattle.capture.specs.Reader.{FaultShows}
+use Rattle.placing.specs.Placed.{Waiting, units_sent}
+use Rattle.wire_text.specs.WireText.{PieceDeparts}
+use Rattle.wire_tap.specs.Tapping.{EndWith, HasWritten, HaveAll, HaveFirst, Held, Reached, Taps, held}
+use Rattle.wire_tap.specs.Tapping.{EndsAs, sent_at}
+use Rattle.wire_tap.specs.Units.{units_of}
+use Rattle.wire_tap.specs.declared.fault.TapFault.TheVariants as faults
+use Rattle.wire_tap.specs.declared.stop.Stop.{Stop}
+use Rattle.wire_tap.specs.declared.stop.Stop.TheVariants as stops
+use Rattle.wire_tap.specs.declared.tapped.Ending.{Ending}
+use Rattle.wire_tap.specs.declared.tapped.Ending.TheVariants.{Whole, Unplaced, TooWide, Asked}
+use Rattle.wire_tap.specs.declared.tapped.Passed.{Passed}
+use Rattle.wire_tap.specs.declared.tapped.Tapped.{Tapped}
+use Rattle.wire_tap.specs.inner.Moving.{IsLineOver, LineState, Outlet, others_at, units_at}
+use Rattle.wire_tap.specs.inner.Moving.{EndsOver, FailsAt, IsAllOver, PutsAll, StopsAs, fault_of}
+use Rattle.wire_tap.specs.inner.Moving.{outlet}
+use Rattle.wire_tap.specs.inner.Side.{EndsAt, IsUnitAt, aim}
+use Rattle.wire_tap.proofs.OverLaws.{all_over, begun_over, beginning_over, on_over, some_over}
+use Rattle.wire_tap.proofs.SideLaws.{over_put, same_units}
+
+-- ---- both sides, where no more is read
+
+module _ (last : Option (Side × ℕ)) (text : Option (List ℕ)) (old : Held) (line : LineState) (h : IsLineOver text old line) where
+  abbrev reached : Reached
+  reached = record { wire = h.wire; come = h.come; a = h.a.records; b = h.b.records }
+
+  have_first : HaveFirst reached
+  have_first = record {
+    others_a = line.a.units.waiting.units.own ++ h.a.others;
+    others_b = line.b.units.waiting.units.own ++ h.b.others;
+    a = sym (append_assoc (units_sent h.a.records) line.a.units.waiting.units.own h.a.others) ∙ h.a.sent;
+    b = sym (append_assoc (units_sent h.b.records) line.b.units.waiting.units.own h.b.others) ∙ h.b.sent;
+  }
+
+  -- memory is refused
+  pub refused : Taps last text old line.now (Err faults.OutOfMemory)
+  refused = inr (reached, h.read, have_first, record { a = begun_over _ _ _ _ h.a.over; b = begun_over _ _ _ _ h.b.over })
+
+  -- a write fails
+  pub fails : (side : Side) (n m : ℕ) (new : Outlet × Outlet) →
+      FailsAt side (outlet line.a.units.waiting.text line.now.a n, outlet line.b.units.waiting.text line.now.b m) new
+      → Taps last text old (held new.0.held new.1.held) (Err (faults.Write side))
+  fails A n m new f =
+      (reached, h.read, have_first, (beginning_over _ _ _ _ h.a.over new.0.held f.0.some, some_over _ _ _ _ h.b.over new.1.held f.1.some))
+  fails B n m new f =
+      (reached, h.read, have_first, (some_over _ _ _ _ h.a.over new.0.held f.0.some, beginning_over _ _ _ _ h.b.over new.1.held f.1.some))
+
+  -- ---- all lines were put
+
+  module _ (none_a : line.a.units.waiting.units.own ≡ []) (none_b : line.b.units.waiting.units.own ≡ []) where
+    sent_a : units_sent h.a.records ≡ units_sent h.a.records ++ line.a.units.waiting.units.own
+    sent_a = sym (append-nil (units_sent h.a.records)) ∙ ap (λ (own : List (List ℕ)). units_sent h.a.records ++ own) (sym none_a)
+
+    sent_b : units_sent h.b.records ≡ units_sent h.b.records ++ line.b.units.waiting.units.own
+    sent_b = sym (append-nil (units_sent h.b.records)) ∙ ap (λ (own : List (List ℕ)). units_sent h.b.records ++ own) (sym none_b)
+
+    first : (side : Side) → sent_at side reached ++ others_at side h ≡ units_of side h.wire
+    first A = ap (λ (units : List (List ℕ)). units ++ h.a.others) sent_a ∙ h.a.sent
+    first B = ap (λ (units : List (List ℕ)). units ++ h.b.others) sent_b ∙ h.b.sent
+
+    all : (side : Side) → others_at side h ≡ [] → sent_at side reached ≡ units_of side h.wire
+    all side none =
+        sym (append-nil (sent_at side reached)) ∙ ap (λ (others : List (List ℕ)). sent_at side reached ++ others) (sym none) ∙ first side
+
+    have_all : IsAllOver h → HaveAll reached
+    have_all over = record { a = all A over.a; b = all B over.b }
+
+    number : (side : Side) → units_at side h ≡ length (sent_at side reached)
+    number A = ap length (sym sent_a)
+    number B = ap length (sym sent_b)
+
+    end_with : (passed : Passed) → EndsOver h passed → EndWith passed reached
+    end_with passed ends = record {
+      others = others_at passed.side h;
+      own = first passed.side;
+      other = all (other_side passed.side) ends.other;
+      number = subst (λ (n : ℕ). n < 2 ^ 64 → passed.unit + 1 ≡ n) (number passed.side) ends.number;
+    }
+
+    module _ (later : Held) (over_a : HandsOver line.a.units.waiting.text [] line.now.a later.a)
+        (over_b : HandsOver line.b.units.waiting.text [] line.now.b later.b) where
+      written : HasWritten old later reached
+      written = record {
+        a = all_over _ [] _ _ (on_over _ _ _ _ h.a.over [] later.a over_a) refl;
+        b = all_over _ [] _ _ (on_over _ _ _ _ h.b.over [] later.b over_b) refl;
+      }
+
+      pub tapped_all : (tapped : Tapped) → StopsAs h last (stops.Ends tapped.ending) → Taps last text old later (Ok tapped)
+      tapped_all tapped stop = (reached, h.read, written, by_ending tapped.ending stop)
+        where
+          by_ending : (ending : Ending) → StopsAs h last (stops.Ends ending) → EndsAs last ending reached
+          by_ending Whole stop = (have_all stop.0, stop.1)
+          by_ending (Unplaced passed) stop = end_with passed stop
+          by_ending (TooWide passed) stop = end_with passed stop
+          by_ending (Asked passed) stop = (end_with passed stop.0, stop.1)
+
+      pub text_fault : (fault : CaptureFault) → StopsAs h last (stops.Text fault) → Taps last text old later (Err (fault_of fault))
+      text_fault fault stop = by_fault fault stop.1 stop.2
+        where
+          by_fault : (fault : CaptureFault) → FaultShows (PieceDeparts (length h.wire.pieces)) (length h.wire.pieces + 2) h.come fault →
+              (fault ≡ of_text.OutOfMemory → ⊥) → Taps last text old later (Err (fault_of fault))
+          by_fault (of_text.Departs kind at) shows memory =
+              inr (reached, h.read, written, (have_all stop.0, record { departs = shows.1; line_is = shows.0 }))
+          by_fault of_text.Read shows memory = inr (reached, h.read, written, have_all stop.0)
+          by_fault of_text.OutOfMemory shows memory = absurd (memory refl)
+          by_fault of_text.Failed shows memory = absurd shows
+
+-- the lines of all units were put
+module _ (last : Option (Side × ℕ)) (text : Option (List ℕ)) (old : Held) (line : LineState) (a b : Waiting) (h : IsLineOver text old line)
+    (put_a : PutsAll line.a.units.waiting a) (put_b : PutsAll line.b.units.waiting b) where
+  abbrev pub put_line : LineState
+  put_line = record line {
+    a = record line.a { units = record line.a.units { waiting = a } };
+    b = record line.b { units = record line.b.units { waiting = b } };
+  }
+
+  pub put_over : IsLineOver text old put_line
+  put_over = record {
+    wire = h.wire;
+    come = h.come;
+    read = h.read;
+    a = over_put _ _ _ _ line.a.units.waiting a h.a put_a.moves;
+    b = over_put _ _ _ _ line.b.units.waiting b h.b put_b.moves;
+  }
+
+  number_put : (side : Side) → units_at side h ≡ units_at side put_over
+  unfolding put_over over_put
+  number_put A = ap length (sym (same_units _ _ _ _ line.a.units.waiting a h.a put_a.moves))
+  number_put B = ap length (sym (same_units _ _ _ _ line.b.units.waiting b h.b put_b.moves))
+
+  others_put : (side : Side) → others_at side put_over ≡ others_at side h
+  unfolding put_over over_put
+  others_put A = refl
+  others_put B = refl
+
+  ends_put : (passed : Passed) → EndsOver h passed → EndsOver put_over passed
+  ends_put passed ends = record {
+    other = others_put (other_side passed.side) ∙ ends.other;
+    number = subst (λ (n : ℕ). n < 2 ^ 64 → passed.unit + 1 ≡ n) (number_put passed.side) ends.number;
+  }
+
+  all_put : IsAllOver h → IsAllOver put_over
+  unfolding put_over over_put
+  all_put over = record { a = over.a; b = over.b }
+
+  pub stops_put : (stop : Stop) → StopsAs h last stop → StopsAs put_over last stop
+  unfolding put_over
+  stops_put (stops.Ends Whole) s = (all_put s.0, s.1)
+  stops_put (stops.Ends (Unplaced passed)) s = ends_put passed s
+  stops_put (stops.Ends (TooWide passed)) s = ends_put passed s
+  stops_put (stops.Ends (Asked passed)) s = (ends_put passed s.0, s.1)
+  stops_put (stops.Text fault) s = (all_put s.0, s.1, s.2)
+
+-- the captures end with the last unit of a side, where of the other all passed
+pub stop_from : (last : Option (Side × ℕ)) (text : Option (List ℕ)) (old : Held) (line : LineState) (over : IsLineOver text old line) (side : Side)
+    (ending : Ending) → others_at (other_side side) over ≡ [] → EndsAt (aim last side) (units_at side over) ending
+    → StopsAs over last (stops.Ends ending)
+stop_from last text old line over side ending none ends = by_ending ending ends
+  where
+    end_over : (passed : Passed) → IsUnitAt side (units_at side over) passed → EndsOver over passed
+    end_over passed is = record {
+      other = subst (λ (s : Side). others_at (other_side s) over ≡ []) (sym is.0) none;
+      number = subst (λ (s : Side). units_at s over < 2 ^ 64 → passed.unit + 1 ≡ units_at s over) (sym is.0) is.1;
+    }
+
+    by_ending : (ending : Ending) → EndsAt (aim last side) (units_at side over) ending → StopsAs over last (stops.Ends ending)
+    by_ending Whole ends = absurd ends
+    by_ending (Unplaced passed) ends = end_over passed ends
+    by_ending (TooWide passed) ends = end_over passed ends
+    by_ending (Asked passed) ends = (end_over passed ends.0, ends.1)
+
+-- ---- behind the last piece
+
+module _ (last : Option (Side × ℕ)) (text : Option (List ℕ)) (old : Held) (line : LineState) (a b : Waiting) (h : IsLineOver text old line)
+    (put_a : PutsAll line.a.units.waiting a) (put_b : PutsAll line.b.units.waiting b) where
+  -- a write fails
+  pub put_fails : (side : Side) (n m : ℕ) (new : Outlet × Outlet) → FailsAt side (outlet a.text line.now.a n, outlet b.text line.now.b m) new →
+      Taps last text old (held new.0.held new.1.held) (Err (faults.Write side))
+  put_fails side n m new f = fails last text old _ (put_over last text old line a b h put_a put_b) side n m new f
+
+  module _ (later : Held) (rest_a rest_b : List ℕ) (none_a : rest_a ≡ []) (none_b : rest_b ≡ []) (over_a : HandsOver a.text rest_a line.now.a later.a)
+      (over_b : HandsOver b.text rest_b line.now.b later.b) where
+    all_a : HandsOver a.text [] line.now.a later.a
+    all_a = subst (λ (x : List ℕ). HandsOver a.text x line.now.a later.a) none_a over_a
+
+    all_b : HandsOver b.text [] line.now.b later.b
+    all_b = subst (λ (x : List ℕ). HandsOver b.text x line.now.b later.b) none_b over_b
+
+    pub tap_ends : (ending : Ending) (tapped : Tapped) → tapped.ending ≡ ending → StopsAs h last (stops.Ends ending) →
+        Taps last text old later (Ok tapped)
+    tap_ends ending tapped same stop =
+        tapped_all last text old _ (put_over last text old line a b h put_a put_b) put_a.all put_b.all later all_a all_b tapped
+        (subst (λ (e : Ending). StopsAs (put_over last text old line a b h put_a put_b) last (stops.Ends e)) (sym same)
+        (stops_put last text old line a b h put_a put_b (stops.Ends ending) stop))
+
+    pub tap_departs : (fault : CaptureFault) → StopsAs h last (stops.Text fault) → Taps last text old later (Err (fault_of fault))
+    tap_departs fault stop =
+        text_fault last text old _ (put_over last text old line a b h put_a put_b) put_a.all put_b.all later all_a all_b fault
+        (stops_put last text old line a b h put_a put_b (stops.Text fault) stop)

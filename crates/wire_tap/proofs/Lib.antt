@@ -1,0 +1,8 @@
+pub mod CountLaws
+pub mod OverLaws
+pub mod MoveLaws
+pub mod PassLaws
+pub mod SideLaws
+pub mod EndLaws
+pub mod LineLaws
+pub mod BeginLaws

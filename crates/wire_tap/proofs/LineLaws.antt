@@ -1,0 +1,162 @@
+-- Both sides of what a tap wrote, from one piece to the next.
+use Rattle.std.proofs.Common.{◌≡◌, ℕ, ◌+◌, ◌<◌, ◌^◌, List, [], ◌∷◌, ◌++◌, length, Option, Some, None, Result, Ok, refl, sym, subst}
+use Rattle.std.proofs.Common.{◌∙◌, arith, append-nil, length-append}
+use Rattle.std.specs.Prelude.{IfOk}
+use Rattle.std.specs.Io.KnownBytes.{IsAtEnd}
+use Rattle.wire_base.specs.declared.side.Side.{Side}
+use Rattle.wire_base.specs.declared.side.Side.TheVariants.{A, B}
+use Rattle.capture.specs.declared.fault.CaptureFault.{CaptureFault}
+use Rattle.capture.specs.declared.fault.CaptureFault.TheVariants as of_text
+use Rattle.capture.specs.Paged.{HandsOver}
+use Rattle.capture.specs.Reader.{FaultShows}
+use Rattle.placing.specs.Placed.{Waiting}
+use Rattle.wire_text.specs.Reader.{Advances, WireState, piece}
+use Rattle.wire_text.specs.SoFar.{IsReadSoFar, with_piece}
+use Rattle.wire_text.specs.WireText.{Piece, PieceDeparts, Wire}
+use Rattle.wire_text.specs.declared.limit.TheConstants.{MAX_PIECES}
+use Rattle.wire_text.proofs.SoFarLaws as read
+use Rattle.wire_tap.specs.Tapping.{Held, held}
+use Rattle.wire_tap.specs.Units.{bytes_of, messages}
+use Rattle.wire_tap.specs.declared.stop.Stop.TheVariants as stops
+use Rattle.wire_tap.specs.declared.tapped.Ending.{Ending}
+use Rattle.wire_tap.specs.declared.tapped.Ending.TheVariants.{Whole}
+use Rattle.wire_tap.specs.inner.Moving.{IsLineOver, IsLineUnderWay, LineState, units_at}
+use Rattle.wire_tap.specs.inner.Moving.{IsAllOver, PassesPiece, Stopped}
+use Rattle.wire_tap.specs.inner.Side.{MovesOn, PassesBytes, SideState, aim}
+use Rattle.wire_tap.proofs.MoveLaws.{if_ok_both}
+use Rattle.wire_tap.proofs.PassLaws.{ends_same}
+use Rattle.wire_tap.proofs.SideLaws.{beside, bytes_more, over_all, over_some, piece_on, units_same, written_on}
+use Rattle.wire_tap.proofs.EndLaws.{stop_from}
+
+-- ---- both sides, from one piece to the next
+
+module _ (text : Option (List ℕ)) (old : Held) (line : LineState) (h : IsLineUnderWay text old line) where
+  pub line_over : IsLineOver text old line
+  line_over = record { wire = h.wire; come = line.come; read = h.read; a = over_all _ _ _ _ line.a h.a; b = over_all _ _ _ _ line.b h.b }
+
+  all_over_line : IsAllOver line_over
+  unfolding line_over over_all
+  all_over_line = record { a = refl; b = refl }
+
+  pub line_ends : (last : Option (Side × ℕ)) → IsAtEnd line.come → Stopped last text old line (stops.Ends Whole)
+  unfolding line_over
+  line_ends last end = (line_over, (all_over_line, end))
+
+  pub line_departs : (last : Option (Side × ℕ)) (fault : CaptureFault) → FaultShows (PieceDeparts line.pieces) (line.pieces + 2) line.come fault →
+      (fault ≡ of_text.OutOfMemory → ⊥) → Stopped last text old line (stops.Text fault)
+  unfolding line_over
+  line_departs last fault shows memory =
+      (line_over, (all_over_line, subst (λ (n : ℕ). FaultShows (PieceDeparts n) (n + 2) line.come fault) (sym h.count) shows, memory))
+
+  -- the first of the lines that wait were written
+  pub line_written : (later : Held) (a b : Waiting) → HandsOver line.a.units.waiting.text a.text line.now.a later.a →
+      HandsOver line.b.units.waiting.text b.text line.now.b later.b → a.units ≡ line.a.units.waiting.units → b.units ≡ line.b.units.waiting.units
+      → IsLineUnderWay text old (record line {
+        a = record line.a { units = record line.a.units { waiting = a } };
+        b = record line.b { units = record line.b.units { waiting = b } };
+        now = later;
+      })
+  line_written later a b over_a over_b same_a same_b = record {
+    wire = h.wire;
+    read = h.read;
+    count = h.count;
+    a = written_on _ _ _ _ line.a h.a later.a a over_a same_a;
+    b = written_on _ _ _ _ line.b h.b later.b b over_b same_b;
+  }
+
+  module _ (side : Side) (was now : WireState) (same : line.pieces ≡ was.pieces) (after : Option (List ℕ)) (a b : SideState)
+      (advances : Advances was now line.come after (Ok (Some side))) where
+    abbrev pub line_on : LineState
+    line_on = record { pieces = now.pieces; come = after; a = a; b = b; now = line.now }
+
+    abbrev wire_on : Wire
+    wire_on = with_piece h.wire (piece side now.bytes)
+
+    few_read : length h.wire.pieces < MAX_PIECES
+    few_read = let few = advances.1 in omega (arith, h.count)
+
+    read_on : IsReadSoFar text wire_on after
+    read_on = read.one_more text line.come after h.wire (piece side now.bytes) h.read few_read advances.0 advances.4
+
+    count_on : length wire_on.pieces ≡ now.pieces
+    count_on = let more = advances.2 in omega (arith, length-append h.wire.pieces (piece side now.bytes ∷ []), h.count, same)
+
+  -- the bytes of the other side
+  beside_a : (pieces : List Piece) (bytes : List ℕ) → bytes_of A (pieces ++ piece B bytes ∷ []) ≡ bytes_of A pieces
+  beside_a pieces bytes = bytes_more A pieces (piece B bytes) ∙ append-nil (bytes_of A pieces)
+
+  beside_b : (pieces : List Piece) (bytes : List ℕ) → bytes_of B (pieces ++ piece A bytes ∷ []) ≡ bytes_of B pieces
+  beside_b pieces bytes = bytes_more B pieces (piece A bytes) ∙ append-nil (bytes_of B pieces)
+
+  -- the piece passed
+  pub line_goes : (last : Option (Side × ℕ)) (side : Side) (was now : WireState) (same : line.pieces ≡ was.pieces)
+      (after : Option (List ℕ)) (a b : SideState) (advances : Advances was now line.come after (Ok (Some side)))
+      → PassesPiece last side now.bytes (line.a, line.b) (a, b) None → IsLineUnderWay text old (line_on side was now same after a b advances)
+  line_goes last A was now same after a b advances p = record {
+    wire = wire_on A was now same after a b advances;
+    read = read_on A was now same after a b advances;
+    count = count_on A was now same after a b advances;
+    a = piece_on _ _ _ _ line.a h.a now.bytes _ a (bytes_more A h.wire.pieces (piece A now.bytes)) p.0;
+    b = beside _ _ _ _ line.b h.b _ b (beside_b h.wire.pieces now.bytes) p.1;
+  }
+  line_goes last B was now same after a b advances p = record {
+    wire = wire_on B was now same after a b advances;
+    read = read_on B was now same after a b advances;
+    count = count_on B was now same after a b advances;
+    a = beside _ _ _ _ line.a h.a _ a (beside_a h.wire.pieces now.bytes) p.0;
+    b = piece_on _ _ _ _ line.b h.b now.bytes _ b (bytes_more B h.wire.pieces (piece B now.bytes)) p.1;
+  }
+
+  -- the captures end with a unit of it
+  pub over_on : (last : Option (Side × ℕ)) (side : Side) (was now : WireState) (same : line.pieces ≡ was.pieces)
+      (after : Option (List ℕ)) (a b : SideState) (advances : Advances was now line.come after (Ok (Some side)))
+      (ending : Ending) → PassesPiece last side now.bytes (line.a, line.b) (a, b) (Some ending)
+      → Stopped last text old (line_on side was now same after a b advances) (stops.Ends ending)
+  unfolding over_some over_all
+  over_on last A was now same after a b advances ending p =
+      (over, stop_from last text old _ over A ending refl (ends_same _ _ _ ending same_a p.0.ends))
+    where
+      over : IsLineOver text old (line_on A was now same after a b advances)
+      over = record {
+        wire = wire_on A was now same after a b advances;
+        come = after;
+        read = read_on A was now same after a b advances;
+        a = over_some _ _ _ _ line.a h.a now.bytes p.0.come a p.0.some _ (bytes_more A h.wire.pieces (piece A now.bytes));
+        b = over_all _ _ _ _ b (beside _ _ _ _ line.b h.b _ b (beside_b h.wire.pieces now.bytes) p.1);
+      }
+
+      same_a : units_at A over < 2 ^ 64 → units_at A over ≡ line.a.units.count + length (messages p.0.some.found.units)
+      same_a = units_same _ _ _ _ line.a h.a now.bytes p.0.come a p.0.some
+  over_on last B was now same after a b advances ending p =
+      (over, stop_from last text old _ over B ending refl (ends_same _ _ _ ending same_b p.1.ends))
+    where
+      over : IsLineOver text old (line_on B was now same after a b advances)
+      over = record {
+        wire = wire_on B was now same after a b advances;
+        come = after;
+        read = read_on B was now same after a b advances;
+        a = over_all _ _ _ _ a (beside _ _ _ _ line.a h.a _ a (beside_a h.wire.pieces now.bytes) p.0);
+        b = over_some _ _ _ _ line.b h.b now.bytes p.1.come b p.1.some _ (bytes_more B h.wire.pieces (piece B now.bytes));
+      }
+
+      same_b : units_at B over < 2 ^ 64 → units_at B over ≡ line.b.units.count + length (messages p.1.some.found.units)
+      same_b = units_same _ _ _ _ line.b h.b now.bytes p.1.come b p.1.some
+
+-- ---- one piece
+
+-- a piece of one side passed, beside the other
+pub piece_of_a : {E : Type 0} (last : Option (Side × ℕ)) (bytes : List ℕ) (old new : SideState) (other later : SideState)
+    (r : Result (Option Ending) E) → IfOk r (PassesBytes (aim last A) (old.held ++ bytes) old new)
+    → IfOk r (λ ending. MovesOn [] other.units.waiting later.units.waiting) → later.held ≡ other.held → later.units.count ≡ other.units.count
+    → IfOk r (PassesPiece last A bytes (old, other) (new, later))
+piece_of_a last bytes old new other later r own moves held count =
+    if_ok_both r (PassesBytes (aim last A) (old.held ++ bytes) old new) (λ ending. MovesOn [] other.units.waiting later.units.waiting)
+    (PassesPiece last A bytes (old, other) (new, later)) (λ ending p q. (p, record { moves = q; held = held; count = count })) own moves
+
+pub piece_of_b : {E : Type 0} (last : Option (Side × ℕ)) (bytes : List ℕ) (old new : SideState) (other later : SideState)
+    (r : Result (Option Ending) E) → IfOk r (PassesBytes (aim last B) (old.held ++ bytes) old new)
+    → IfOk r (λ ending. MovesOn [] other.units.waiting later.units.waiting) → later.held ≡ other.held → later.units.count ≡ other.units.count
+    → IfOk r (PassesPiece last B bytes (other, old) (later, new))
+piece_of_b last bytes old new other later r own moves held count =
+    if_ok_both r (PassesBytes (aim last B) (old.held ++ bytes) old new) (λ ending. MovesOn [] other.units.waiting later.units.waiting)
+    (PassesPiece last B bytes (other, old) (later, new)) (λ ending p q. (record { moves = q; held = held; count = count }, p)) own moves

@@ -1,0 +1,181 @@
+-- One side of what a tap wrote, from one piece to the next, and where no more is read.
+use Rattle.std.proofs.Common.{◌≡◌, ℕ, ◌+◌, ◌<◌, ◌^◌, List, [], ◌∷◌, ◌++◌, length, Option, refl, sym, ap, subst}
+use Rattle.std.proofs.Common.{◌∙◌, arith, append_assoc, append-nil, length-append}
+use Rattle.wire_base.specs.declared.side.Side.{Side}
+use Rattle.capture.specs.declared.hint.HintForm.TheVariants.{Number}
+use Rattle.capture.specs.declared.record.Record.{Record}
+use Rattle.capture.specs.Paged.{HandsOver}
+use Rattle.capture.specs.Text.{record_lines}
+use Rattle.framer.specs.Framing.{Framing, framing, joined}
+use Rattle.framer.specs.SoFar.{IsFramedSoFar}
+use Rattle.framer.proofs.Passing.{ends_on}
+use Rattle.framer.proofs.SoFarLaws.{piece_more, whole}
+use Rattle.placing.specs.Placed.{Waiting, units_sent}
+use Rattle.wire_text.specs.WireText.{Piece}
+use Rattle.wire_tap.specs.Units.{bytes_if, bytes_of, messages}
+use Rattle.wire_tap.specs.inner.Moving.{IsOver, IsUnderWay, StandsBeside}
+use Rattle.wire_tap.specs.inner.Side.{MovesOn, PassesAll, PassesFound, SideState, counted}
+use Rattle.wire_tap.proofs.MoveLaws.{lines-append, messages-append, sent-append}
+use Rattle.wire_tap.proofs.OverLaws.{more_over, on_over}
+
+-- ---- the bytes of a side
+
+pub bytes_more : (side : Side) (pieces : List Piece) (p : Piece) →
+    bytes_of side (pieces ++ p ∷ []) ≡ bytes_of side pieces ++ bytes_if side p.side p.bytes
+bytes_more side [] p = append-nil (bytes_if side p.side p.bytes)
+bytes_more side (q ∷ pieces) p =
+    ap (λ (rest : List ℕ). bytes_if side q.side q.bytes ++ rest) (bytes_more side pieces p)
+    ∙ sym (append_assoc (bytes_if side q.side q.bytes) (bytes_of side pieces) (bytes_if side p.side p.bytes))
+
+-- what was found of some bytes, and then of what they left
+framed_then : (all mid come : List ℕ) (f g : Framing) → IsFramedSoFar all f mid → IsFramedSoFar mid g come →
+    IsFramedSoFar all (record f { units = f.units ++ g.units; strays = f.strays + g.strays }) come
+framed_then all mid come f g p q = record {
+  framed = p.framed ∙ ap (joined f) q.framed ∙ together (framing come);
+  ends = ends_on all mid come p.ends q.ends;
+}
+  where
+    together : (h : Framing) → joined f (joined g h) ≡ joined (record f { units = f.units ++ g.units; strays = f.strays + g.strays }) h
+    together h =
+        let count : f.strays + (g.strays + h.strays) ≡ f.strays + g.strays + h.strays = omega arith in
+        rw (append_assoc f.units g.units h.units, count) refl
+
+-- ---- one side
+
+-- more was put, and nothing written
+pub over_more : (head : List ℕ) (records more : List Record) (text text' : List ℕ) (old now : Option (List ℕ)) →
+    HandsOver (head ++ record_lines Number records) text old now → text' ≡ text ++ record_lines Number more →
+    HandsOver (head ++ record_lines Number (records ++ more)) text' old now
+over_more head records more text text' old now over e =
+    more_over (head ++ record_lines Number records) text old now over (record_lines Number more) _ text'
+    (ap (λ (lines : List ℕ). head ++ lines) (lines-append records more)
+    ∙ sym (append_assoc head (record_lines Number records) (record_lines Number more))) e
+
+-- these records more, with units that wait no more
+sent_more : (records more : List Record) (own own' units : List (List ℕ)) (passed : List (List ℕ)) → units_sent records ++ own ≡ units →
+    units_sent more ++ own' ≡ own ++ passed → units_sent (records ++ more) ++ own' ≡ units ++ passed
+sent_more records more own own' units passed e f =
+    ap (λ (sent : List (List ℕ)). sent ++ own') (sent-append records more)
+    ∙ append_assoc (units_sent records) (units_sent more) own'
+    ∙ ap (λ (rest : List (List ℕ)). units_sent records ++ rest) f
+    ∙ sym (append_assoc (units_sent records) own passed)
+    ∙ ap (λ (sent : List (List ℕ)). sent ++ passed) e
+
+module _ (bytes head : List ℕ) (old now : Option (List ℕ)) (side : SideState) (h : IsUnderWay bytes head old now side) where
+  -- all that was read passed
+  unfoldable pub over_all : IsOver bytes head old now side.units.waiting
+  over_all = record {
+    records = h.records;
+    others = [];
+    sent = append-nil (units_sent h.records ++ side.units.waiting.units.own) ∙ h.sent
+        ∙ sym (ap (λ (f : Framing). messages f.units) (whole bytes side.held h.found h.framed h.left));
+    over = h.over;
+  }
+
+  -- a unit of the other side passed
+  pub beside : (bytes' : List ℕ) (new : SideState) → bytes' ≡ bytes → StandsBeside side new → IsUnderWay bytes' head old now new
+  beside bytes' new same stands = record {
+    records = h.records ++ stands.moves.records;
+    found = h.found;
+    framed = subst (λ (b : List ℕ). IsFramedSoFar b h.found new.held) (sym same)
+        (subst (IsFramedSoFar bytes h.found) (sym stands.held) h.framed);
+    left = rw stands.held h.left;
+    sent = sent_more h.records stands.moves.records side.units.waiting.units.own new.units.waiting.units.own _ [] h.sent stands.moves.sent
+        ∙ append-nil (messages h.found.units);
+    count = stands.count ∙ h.count;
+    over = over_more head h.records stands.moves.records side.units.waiting.text new.units.waiting.text old now h.over stands.moves.text;
+  }
+
+  module _ (more come : List ℕ) (new : SideState) (p : PassesFound (side.held ++ more) come side new) where
+    abbrev all_found : Framing
+    all_found = record h.found { units = h.found.units ++ p.found.units; strays = h.found.strays + p.found.strays }
+
+    pub all_framed : IsFramedSoFar (bytes ++ more) all_found come
+    all_framed =
+        framed_then (bytes ++ more) (side.held ++ more) come h.found p.found (piece_more bytes side.held more h.found h.framed h.left) p.framed
+
+    units_are : messages all_found.units ≡ messages h.found.units ++ messages p.found.units
+    units_are = messages-append h.found.units p.found.units
+
+    pub all_sent : units_sent (h.records ++ p.passes.moves.records) ++ new.units.waiting.units.own ≡ messages all_found.units
+    all_sent =
+        sent_more h.records p.passes.moves.records side.units.waiting.units.own new.units.waiting.units.own _ (messages p.found.units) h.sent
+        p.passes.moves.sent ∙ sym units_are
+
+    pub all_over_now : HandsOver (head ++ record_lines Number (h.records ++ p.passes.moves.records)) new.units.waiting.text old now
+    all_over_now =
+        over_more head h.records p.passes.moves.records side.units.waiting.text new.units.waiting.text old now h.over p.passes.moves.text
+
+    all_count : new.units.count ≡ counted 0 (length (messages all_found.units))
+    all_count =
+        let before = h.count in
+        let below : side.units.count < 2 ^ 64 = omega arith in
+        let after = p.passes.count below in
+        let len = ap length units_are in
+        let both = length-append (messages h.found.units) (messages p.found.units) in
+        omega arith
+
+    pub units_same : length (units_sent (h.records ++ p.passes.moves.records) ++ new.units.waiting.units.own) < 2 ^ 64 →
+        length (units_sent (h.records ++ p.passes.moves.records) ++ new.units.waiting.units.own)
+        ≡ side.units.count + length (messages p.found.units)
+    units_same few =
+        let before = h.count in
+        let sent = ap length all_sent in
+        let len = ap length units_are in
+        let both = length-append (messages h.found.units) (messages p.found.units) in
+        omega arith
+
+    -- no more is read
+    unfoldable pub over_some : (bytes' : List ℕ) → bytes' ≡ bytes ++ more → IsOver bytes' head old now new.units.waiting
+    over_some bytes' same = record {
+      records = h.records ++ p.passes.moves.records;
+      others = messages (framing come).units;
+      sent = ap (λ (units : List (List ℕ)). units ++ messages (framing come).units) all_sent
+          ∙ sym (ap (λ (b : List ℕ). messages (framing b).units) same
+          ∙ ap (λ (f : Framing). messages f.units) all_framed.framed ∙ messages-append all_found.units (framing come).units);
+      over = all_over_now;
+    }
+
+  -- a piece of the side passed
+  pub piece_on : (more bytes' : List ℕ) (new : SideState) → bytes' ≡ bytes ++ more → PassesAll (side.held ++ more) side new →
+      IsUnderWay bytes' head old now new
+  piece_on more bytes' new same p = record {
+    records = h.records ++ p.all.passes.moves.records;
+    found = all_found more new.held new p.all;
+    framed = subst (λ (b : List ℕ). IsFramedSoFar b (all_found more new.held new p.all) new.held) (sym same)
+        (all_framed more new.held new p.all);
+    left = p.left;
+    sent = all_sent more new.held new p.all;
+    count = all_count more new.held new p.all;
+    over = all_over_now more new.held new p.all;
+  }
+
+  -- the first of the lines that wait were written
+  pub written_on : (later : Option (List ℕ)) (waiting : Waiting) → HandsOver side.units.waiting.text waiting.text now later →
+      waiting.units ≡ side.units.waiting.units
+      → IsUnderWay bytes head old later (record side { units = record side.units { waiting = waiting } })
+  written_on later waiting over same = record {
+    records = h.records;
+    found = h.found;
+    framed = h.framed;
+    left = h.left;
+    sent = rw same h.sent;
+    count = h.count;
+    over = on_over _ side.units.waiting.text old now h.over waiting.text later over;
+  }
+
+pub same_units : (bytes head : List ℕ) (old now : Option (List ℕ)) (waiting new : Waiting) (h : IsOver bytes head old now waiting)
+    (moves : MovesOn [] waiting new)
+    → units_sent (h.records ++ moves.records) ++ new.units.own ≡ units_sent h.records ++ waiting.units.own
+same_units bytes head old now waiting new h moves =
+    sent_more h.records moves.records waiting.units.own new.units.own _ [] refl moves.sent ∙ append-nil (units_sent h.records ++ waiting.units.own)
+
+-- more lines were put
+unfoldable pub over_put : (bytes head : List ℕ) (old now : Option (List ℕ)) (waiting new : Waiting) (h : IsOver bytes head old now waiting) →
+    MovesOn [] waiting new → IsOver bytes head old now new
+over_put bytes head old now waiting new h moves = record {
+  records = h.records ++ moves.records;
+  others = h.others;
+  sent = ap (λ (units : List (List ℕ)). units ++ h.others) (same_units bytes head old now waiting new h moves) ∙ h.sent;
+  over = over_more head h.records moves.records waiting.text new.text old now h.over moves.text;
+}

@@ -1,0 +1,18 @@
+use Rattle.std.proofs.Common.{◌++◌}
+use Rattle.wire_tap.specs.inner.Side.{aim, side_state, units_state}
+use Rattle.wire_tap.proofs.PassLaws.{ends_found}
+use Rattle.wire_tap.proofs.side_tap.SideTap.pass_next.Goals as goal
+
+pub returns-in-Some-clause-own : goal.returns-in-Some-clause-own
+returns-in-Some-clause-own c =
+    ends_found _ _ _ c.in-Unit.kind c.in-Unit.strays c.in-Unit.unit.now (side_state c.args.self.now) _ (units_state c.skip.new.self) c.in-Some.ending
+    c.in_ok-ending-in-Unit.field-0 c.in-Unit.ensures.0 c.in-Unit.ensures.1 c.skip.ensures.placing c.skip.ensures.count
+    c.in_ok-ending-in-Unit.ensures.own c.in_ok-ending-in-Unit.ensures.ends c.in-Some.is
+
+pub returns-in-Some-2-clause-own : goal.returns-in-Some-2-clause-own
+returns-in-Some-2-clause-own c =
+    let found = c.in-Completed.ensures in
+    ends_found _ _ _ c.in-Completed.kind c.in-Completed.strays c.completed.result.now (side_state c.args.self.now) _
+    (units_state c.skip-in-Completed.new.self) c.in-Some-2.ending c.in_ok-ending-in-Completed.field-0 (rw (← c.completed.ensures) at found.0) found.1
+    c.skip-in-Completed.ensures.placing c.skip-in-Completed.ensures.count c.in_ok-ending-in-Completed.ensures.own
+    c.in_ok-ending-in-Completed.ensures.ends c.in-Some-2.is

@@ -1,0 +1,9 @@
+use Rattle.std.proofs.Common.{arith}
+use Rattle.wire_tap.proofs.tapping.pass_pieces.Goals as goal
+
+pub returns-in-Ok-Some-clause-stops : goal.returns-in-Ok-Some-clause-stops
+returns-in-Ok-Some-clause-stops g c text old h =
+    rw c.in-Ok-Some.field-0-is at c.in-Ok-Some.ensures.turns text old (c.loop.invariant.line text old h)
+
+pub unreachable-requires : goal.unreachable-requires
+unreachable-requires g c = let few = c.loop.invariant.few in let more = c.loop-test.false in omega arith

@@ -1,0 +1,164 @@
+-- What a tap reads and writes.
+use Rattle.std.specs.Prelude.{◌≡◌, ℕ, ◌+◌, ◌<◌, ◌^◌, ◌⊎◌, List, ◌++◌, length, take, Option, Some, Result, Ok, Err, IfSome}
+use Rattle.std.specs.Io.KnownBytes.{Appends, IsAtEnd, Keeps}
+use Rattle.wire_base.specs.Side.{other_side}
+use Rattle.wire_base.specs.Tally.{AppendsBeginning, CountedFault}
+use Rattle.wire_base.specs.declared.side.Side.{Side}
+use Rattle.wire_base.specs.declared.side.Side.TheVariants.{A, B}
+use Rattle.capture.specs.declared.fault.Departure.{Departure}
+use Rattle.capture.specs.declared.format.Format.TheVariants.{One}
+use Rattle.capture.specs.declared.record.Record.{Record}
+use Rattle.capture.specs.Text.{capture_text}
+use Rattle.wire_text.specs.SoFar.{IsReadSoFar}
+use Rattle.wire_text.specs.WireText.{PieceDeparts, Wire, WireHeadDeparts}
+use Rattle.placing.specs.Placed.{units_sent}
+use Rattle.wire_tap.specs.Units.{units_of}
+use Rattle.wire_tap.specs.declared.fault.TapFault.{TapFault}
+use Rattle.wire_tap.specs.declared.fault.TapFault.TheVariants as faults
+use Rattle.wire_tap.specs.declared.tapped.Ending.{Ending}
+use Rattle.wire_tap.specs.declared.tapped.Ending.TheVariants.{Whole, Unplaced, TooWide, Asked}
+use Rattle.wire_tap.specs.declared.tapped.Passed.{Passed}
+use Rattle.wire_tap.specs.declared.tapped.Tapped.{Tapped}
+
+-- what the writers of both captures hold, where they tell it
+pub record Held : Type 0 where
+  pub a : Option (List ℕ)
+  pub b : Option (List ℕ)
+
+abbrev pub held : Option (List ℕ) → Option (List ℕ) → Held
+held a b = record { a = a; b = b }
+
+-- What was read of a text, what is to come, and the records of both captures
+pub record Reached : Type 0 where
+  pub wire : Wire
+  pub come : Option (List ℕ)
+  pub a : List Record
+  pub b : List Record
+
+abbrev pub records_at : Side → Reached → List Record
+records_at A r = r.a
+records_at B r = r.b
+
+-- ---- which units a capture has
+
+-- the units that a side's capture says were sent
+abbrev pub sent_at : Side → Reached → List (List ℕ)
+sent_at side r = units_sent (records_at side r)
+
+-- exactly those that passed, in their order
+abbrev pub HasAll : Side → Reached → Type 0
+HasAll side r = sent_at side r ≡ units_of side r.wire
+
+-- the first of them, and these are the others
+abbrev pub HasFirst : Side → Reached → List (List ℕ) → Type 0
+HasFirst side r others = sent_at side r ++ others ≡ units_of side r.wire
+
+-- both captures have all units of what was read
+pub record HaveAll (r : Reached) : Type 0 where
+  pub a : HasAll A r
+  pub b : HasAll B r
+
+-- both have the first of them
+pub record HaveFirst (r : Reached) : Type 0 where
+  pub others_a : List (List ℕ)
+  pub others_b : List (List ℕ)
+  pub a : HasFirst A r others_a
+  pub b : HasFirst B r others_b
+
+-- One side's capture has its units up to this one, which is its last; the other's has all that passed before.
+pub record EndWith (passed : Passed) (r : Reached) : Type 0 where
+  pub others : List (List ℕ)
+  pub own : HasFirst passed.side r others
+  pub other : HasAll (other_side passed.side) r
+  pub number : length (sent_at passed.side r) < 2 ^ 64 → passed.unit + 1 ≡ length (sent_at passed.side r)
+
+-- ---- what is written
+
+-- the texts of both captures, in format 1
+abbrev pub text_a : Reached → List ℕ
+text_a r = capture_text One r.wire.node_a r.wire.node_b r.a
+
+abbrev pub text_b : Reached → List ℕ
+text_b r = capture_text One r.wire.node_b r.wire.node_a r.b
+
+-- known bytes grew by a beginning of the text, which may be all of it
+abbrev pub AppendsSome : Option (List ℕ) → Option (List ℕ) → List ℕ → Type 0
+AppendsSome old new text = (taken : ℕ) × Appends old new (take taken text)
+
+-- neither writer took anything
+pub record TakesNothing (old new : Held) : Type 0 where
+  pub a : Keeps old.a new.a
+  pub b : Keeps old.b new.b
+
+-- each writer took the text of its capture
+pub record HasWritten (old new : Held) (r : Reached) : Type 0 where
+  pub a : Appends old.a new.a (text_a r)
+  pub b : Appends old.b new.b (text_b r)
+
+-- each took a beginning of it
+pub record HasBegun (old new : Held) (r : Reached) : Type 0 where
+  pub a : AppendsSome old.a new.a (text_a r)
+  pub b : AppendsSome old.b new.b (text_b r)
+
+-- the writer of one side took a beginning of its text that is not all of it, and the other a beginning
+abbrev pub HasCut : Side → Held → Held → Reached → Type 0
+HasCut A old new r = AppendsBeginning old.a new.a (text_a r) × AppendsSome old.b new.b (text_b r)
+HasCut B old new r = AppendsSome old.a new.a (text_a r) × AppendsBeginning old.b new.b (text_b r)
+
+-- ---- how it ends
+
+-- all passed, or the captures end with a unit; `last` is the one that was asked for
+abbrev pub EndsAs : Option (Side × ℕ) → Ending → Reached → Type 0
+EndsAs last Whole r = HaveAll r × IsAtEnd r.come
+EndsAs last (Unplaced passed) r = EndWith passed r
+EndsAs last (TooWide passed) r = EndWith passed r
+EndsAs last (Asked passed) r = EndWith passed r × (last ≡ Some (passed.side, passed.unit))
+
+-- the head's line departs in this way
+pub record HeadDepartsAt (text : Option (List ℕ)) (kind : Departure) (line : ℕ) : Type 0 where
+  pub departs : IfSome text (WireHeadDeparts kind)
+  pub line_is : line ≡ 1
+
+-- the next line departs in this way
+pub record DepartsBehind (kind : Departure) (line : ℕ) (r : Reached) : Type 0 where
+  pub departs : IfSome r.come (PieceDeparts (length r.wire.pieces) kind)
+  pub line_is : line ≡ length r.wire.pieces + 2
+
+-- some of the text was read, both captures were written, and this holds of them
+abbrev pub TapsTo : Option (List ℕ) → Held → Held → (Reached → Type 0) → Type 0
+TapsTo text old new Behind = (r : Reached) × IsReadSoFar text r.wire r.come × HasWritten old new r × Behind r
+
+-- One call, where this text was to come, by its answer. At each fault what was written is a beginning of both captures: of all that passed before a
+-- line that departs or that can't be read; or as far as there was memory, or as the writers took it.
+abbrev pub Taps : Option (Side × ℕ) → Option (List ℕ) → Held → Held → Result Tapped TapFault → Type 0
+Taps last text old new (Ok tapped) = TapsTo text old new (EndsAs last tapped.ending)
+Taps last text old new (Err (faults.Departs kind line)) = (HeadDepartsAt text kind line × TakesNothing old new)
+    ⊎ TapsTo text old new (λ r. HaveAll r × DepartsBehind kind line r)
+Taps last text old new (Err faults.Read) = TakesNothing old new ⊎ TapsTo text old new HaveAll
+Taps last text old new (Err (faults.Write side)) = (r : Reached) × IsReadSoFar text r.wire r.come × HaveFirst r × HasCut side old new r
+Taps last text old new (Err faults.OutOfMemory) = TakesNothing old new
+    ⊎ ((r : Reached) × IsReadSoFar text r.wire r.come × HaveFirst r × HasBegun old new r)
+
+-- ---- counts of failed calls
+
+-- the text's reader: where a write failed, or memory was refused, a read may have failed just before
+abbrev pub CountsReadsOf : Result Tapped TapFault → ℕ → ℕ → Type 0
+CountsReadsOf (Ok tapped) old new = new ≡ old
+CountsReadsOf (Err (faults.Departs kind line)) old new = new ≡ old
+CountsReadsOf (Err faults.Read) old new = CountedFault old new
+CountsReadsOf (Err (faults.Write side)) old new = (new ≡ old) ⊎ CountedFault old new
+CountsReadsOf (Err faults.OutOfMemory) old new = (new ≡ old) ⊎ CountedFault old new
+
+-- the writer of a side
+abbrev pub CountsOfSide : Side → Side → ℕ → ℕ → Type 0
+CountsOfSide A A old new = CountedFault old new
+CountsOfSide A B old new = new ≡ old
+CountsOfSide B A old new = new ≡ old
+CountsOfSide B B old new = CountedFault old new
+
+abbrev pub CountsWritesOf : {A : Type 0} → Side → Result A TapFault → ℕ → ℕ → Type 0
+CountsWritesOf side (Ok x) old new = new ≡ old
+CountsWritesOf side (Err (faults.Departs kind line)) old new = new ≡ old
+CountsWritesOf side (Err faults.Read) old new = new ≡ old
+CountsWritesOf side (Err (faults.Write failed)) old new = CountsOfSide side failed old new
+CountsWritesOf side (Err faults.OutOfMemory) old new = new ≡ old

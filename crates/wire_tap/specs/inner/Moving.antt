@@ -1,0 +1,216 @@
+-- Both sides of a line under way, and their captures on the way to the writers.
+use Rattle.std.specs.Prelude.{◌≡◌, ℕ, ◌+◌, ◌<◌, ◌^◌, Bool, true, false, List, [], ◌++◌, length, Option, Result, Ok, Err, Some, None}
+use Rattle.std.specs.Io.KnownBytes.{Appends, IsAtEnd}
+use Rattle.wire_base.specs.Side.{other_side}
+use Rattle.wire_base.specs.Tally.{AppendsBeginning, CountedFault}
+use Rattle.wire_base.specs.declared.side.Side.{Side}
+use Rattle.wire_base.specs.declared.side.Side.TheVariants.{A, B}
+use Rattle.capture.specs.declared.fault.CaptureFault.{CaptureFault}
+use Rattle.capture.specs.declared.fault.CaptureFault.TheVariants as of_text
+use Rattle.capture.specs.declared.format.Format.TheVariants.{One}
+use Rattle.capture.specs.declared.hint.HintForm.TheVariants.{Number}
+use Rattle.capture.specs.declared.record.Record.{Record}
+use Rattle.capture.specs.Faulty.{is_read_fault}
+use Rattle.capture.specs.Paged.{HandsOver}
+use Rattle.capture.specs.Reader.{FaultShows}
+use Rattle.capture.specs.Text.{head_line, record_lines}
+use Rattle.framer.specs.Framing.{Framing, framing, only_left}
+use Rattle.framer.specs.SoFar.{IsFramedSoFar}
+use Rattle.placing.specs.Placed.{Waiting, units_sent}
+use Rattle.wire_text.specs.SoFar.{IsReadSoFar}
+use Rattle.wire_text.specs.WireText.{PieceDeparts, Wire}
+use Rattle.wire_tap.specs.Tapping.{AppendsSome, Held, Taps}
+use Rattle.wire_tap.specs.Units.{bytes_of, messages}
+use Rattle.wire_tap.specs.inner.Side.{Aim, EndsAt, MovesOn, PassesBytes, SideState, UnitsState, aim, counted, side_state}
+use Rattle.wire_tap.specs.declared.fault.TapFault.{TapFault}
+use Rattle.wire_tap.specs.declared.fault.TapFault.TheVariants as faults
+use Rattle.wire_tap.specs.declared.side_tap.SideTap.{SideTap}
+use Rattle.wire_tap.specs.declared.stop.Stop.{Stop}
+use Rattle.wire_tap.specs.declared.stop.Stop.TheVariants as stops
+use Rattle.wire_tap.specs.declared.tapped.Passed.{Passed}
+use Rattle.wire_tap.specs.declared.tapped.Ending.{Ending}
+use Rattle.wire_tap.specs.declared.tapped.Ending.TheVariants.{Whole, Unplaced, TooWide, Asked}
+
+-- a fault of the text's reader; one that failed before is not read again
+abbrev pub fault_of : CaptureFault → TapFault
+fault_of (of_text.Departs kind line) = faults.Departs kind line
+fault_of of_text.Read = faults.Read
+fault_of of_text.OutOfMemory = faults.OutOfMemory
+fault_of of_text.Failed = faults.Read
+
+-- ---- one side's way to its writer
+
+-- the bytes that wait, what its writer holds, where it tells it, and how many of the writer's calls failed
+pub record Outlet : Type 0 where
+  pub text : List ℕ
+  pub held : Option (List ℕ)
+  pub faults : ℕ
+
+abbrev pub outlet : List ℕ → Option (List ℕ) → ℕ → Outlet
+outlet text held faults = record { text = text; held = held; faults = faults }
+
+-- the writer took the first of the bytes that waited, and no call failed
+pub record Passes (old new : Outlet) : Type 0 where
+  pub over : HandsOver old.text new.text old.held new.held
+  pub faults : new.faults ≡ old.faults
+
+-- some of them, and no call failed
+pub record PassesSome (old new : Outlet) : Type 0 where
+  pub some : AppendsSome old.held new.held old.text
+  pub faults : new.faults ≡ old.faults
+
+-- a call failed, and the writer took a beginning that is not all
+pub record Fails (old new : Outlet) : Type 0 where
+  pub some : AppendsBeginning old.held new.held old.text
+  pub faults : CountedFault old.faults new.faults
+
+-- where the writer of one side failed
+abbrev pub FailsAt : Side → (old new : Outlet × Outlet) → Type 0
+FailsAt A old new = Fails old.0 new.0 × PassesSome old.1 new.1
+FailsAt B old new = PassesSome old.0 new.0 × Fails old.1 new.1
+
+-- both sides', a's first
+abbrev pub PassBoth : (old new : Outlet × Outlet) → Result (Unit {0}) Side → Type 0
+PassBoth old new (Ok x) = Passes old.0 new.0 × Passes old.1 new.1
+PassBoth old new (Err side) = FailsAt side old new
+
+-- the lines of all its units were put
+pub record PutsAll (old new : Waiting) : Type 0 where
+  pub moves : MovesOn [] old new
+  pub all : new.units.own ≡ []
+
+-- ---- one side under way
+
+-- Of the bytes that it sent these units were found; the first of them stand in these records, and the others wait. A part of the text behind the
+-- head was written, and the rest waits.
+pub record IsUnderWay (bytes head : List ℕ) (old now : Option (List ℕ)) (side : SideState) : Type 0 where
+  pub records : List Record
+  pub found : Framing
+  pub framed : IsFramedSoFar bytes found side.held
+  pub left : framing side.held ≡ only_left side.held
+  pub sent : units_sent records ++ side.units.waiting.units.own ≡ messages found.units
+  pub count : side.units.count ≡ counted 0 (length (messages found.units))
+  pub over : HandsOver (head ++ record_lines Number records) side.units.waiting.text old now
+
+-- The same where no more is read: these units have no record, and don't wait.
+pub record IsOver (bytes head : List ℕ) (old now : Option (List ℕ)) (waiting : Waiting) : Type 0 where
+  pub records : List Record
+  pub others : List (List ℕ)
+  pub sent : (units_sent records ++ waiting.units.own) ++ others ≡ messages (framing bytes).units
+  pub over : HandsOver (head ++ record_lines Number records) waiting.text old now
+
+-- ---- both sides
+
+-- so many pieces were read, and this is to come; both sides, and what their writers hold
+pub record LineState : Type 0 where
+  pub pieces : ℕ
+  pub come : Option (List ℕ)
+  pub a : SideState
+  pub b : SideState
+  pub now : Held
+
+abbrev pub line_state : ℕ → Option (List ℕ) → SideTap → SideTap → Held → LineState
+line_state pieces come a b now = record { pieces = pieces; come = come; a = side_state a; b = side_state b; now = now }
+
+abbrev pub head_a : Wire → List ℕ
+head_a wire = head_line One wire.node_a wire.node_b
+
+abbrev pub head_b : Wire → List ℕ
+head_b wire = head_line One wire.node_b wire.node_a
+
+pub record IsLineUnderWay (text : Option (List ℕ)) (old : Held) (line : LineState) : Type 0 where
+  pub wire : Wire
+  pub read : IsReadSoFar text wire line.come
+  pub count : length wire.pieces ≡ line.pieces
+  pub a : IsUnderWay (bytes_of A wire.pieces) (head_a wire) old.a line.now.a line.a
+  pub b : IsUnderWay (bytes_of B wire.pieces) (head_b wire) old.b line.now.b line.b
+
+-- where no more is read, and this is to come
+pub record IsLineOver (text : Option (List ℕ)) (old : Held) (line : LineState) : Type 0 where
+  pub wire : Wire
+  pub come : Option (List ℕ)
+  pub read : IsReadSoFar text wire come
+  pub a : IsOver (bytes_of A wire.pieces) (head_a wire) old.a line.now.a line.a.units.waiting
+  pub b : IsOver (bytes_of B wire.pieces) (head_b wire) old.b line.now.b line.b.units.waiting
+
+-- the units of a side that have no record and don't wait
+abbrev pub others_at : {text : Option (List ℕ)} → {old : Held} → {line : LineState} → Side → IsLineOver text old line → List (List ℕ)
+others_at A over = over.a.others
+others_at B over = over.b.others
+
+-- how many units of a side have a record, or wait
+abbrev pub units_at : {text : Option (List ℕ)} → {old : Held} → {line : LineState} → Side → IsLineOver text old line → ℕ
+units_at {line = line} A over = length (units_sent over.a.records ++ line.a.units.waiting.units.own)
+units_at {line = line} B over = length (units_sent over.b.records ++ line.b.units.waiting.units.own)
+
+module _ {text : Option (List ℕ)} {old : Held} {line : LineState} (over : IsLineOver text old line) where
+  -- all that was read passed
+  pub record IsAllOver : Type 0 where
+    pub a : over.a.others ≡ []
+    pub b : over.b.others ≡ []
+
+  -- the captures end with this unit
+  pub record EndsOver (passed : Passed) : Type 0 where
+    pub other : others_at (other_side passed.side) over ≡ []
+    pub number : units_at passed.side over < 2 ^ 64 → passed.unit + 1 ≡ units_at passed.side over
+
+  abbrev pub StopsAs : Option (Side × ℕ) → Stop → Type 0
+  StopsAs last (stops.Ends Whole) = IsAllOver × IsAtEnd over.come
+  StopsAs last (stops.Ends (Unplaced passed)) = EndsOver passed
+  StopsAs last (stops.Ends (TooWide passed)) = EndsOver passed
+  StopsAs last (stops.Ends (Asked passed)) = EndsOver passed × (last ≡ Some (passed.side, passed.unit))
+  StopsAs last (stops.Text fault) =
+      IsAllOver × FaultShows (PieceDeparts (length over.wire.pieces)) (length over.wire.pieces + 2) over.come fault
+      × (fault ≡ of_text.OutOfMemory → ⊥)
+
+-- ---- one turn
+
+abbrev pub Stopped : Option (Side × ℕ) → Option (List ℕ) → Held → LineState → Stop → Type 0
+Stopped last text old line stop = (over : IsLineOver text old line) × StopsAs over last stop
+
+-- the same wherever the reader is by now
+abbrev pub StoppedBefore : Option (Side × ℕ) → Option (List ℕ) → Held → LineState → Stop → Type 0
+StoppedBefore last text old line stop =
+    (pieces : ℕ) × (come : Option (List ℕ)) × Stopped last text old (record line { pieces = pieces; come = come }) stop
+
+abbrev pub Turns : Option (Side × ℕ) → Option (List ℕ) → Held → LineState → Result (Option Stop) TapFault → Type 0
+Turns last text old line (Ok None) = IsLineUnderWay text old line
+Turns last text old line (Ok (Some stop)) = StoppedBefore last text old line stop
+Turns last text old line (Err fault) = Taps last text old line.now (Err fault)
+
+abbrev pub Stops : Option (Side × ℕ) → Option (List ℕ) → Held → LineState → Result Stop TapFault → Type 0
+Stops last text old line (Ok stop) = StoppedBefore last text old line stop
+Stops last text old line (Err fault) = Taps last text old line.now (Err fault)
+
+-- another unit passed on the other side
+pub record StandsBeside (old new : SideState) : Type 0 where
+  pub moves : MovesOn [] old.units.waiting new.units.waiting
+  pub held : new.held ≡ old.held
+  pub count : new.units.count ≡ old.units.count
+
+-- the piece of a side passed
+abbrev pub PassesPiece : Option (Side × ℕ) → Side → List ℕ → (old new : SideState × SideState) → Option Ending → Type 0
+PassesPiece last A bytes old new ending = PassesBytes (aim last A) (old.0.held ++ bytes) old.0 new.0 ending × StandsBeside old.1 new.1
+PassesPiece last B bytes old new ending = StandsBeside old.0 new.0 × PassesBytes (aim last B) (old.1.held ++ bytes) old.1 new.1 ending
+
+-- ---- counts of failed calls
+
+-- the text's reader: a read failed where that is why no more is read
+abbrev pub is_failed_stop : Stop → Bool
+is_failed_stop (stops.Ends ending) = false
+is_failed_stop (stops.Text fault) = is_read_fault fault
+
+abbrev pub is_failed_fault : TapFault → Bool
+is_failed_fault (faults.Departs kind line) = false
+is_failed_fault faults.Read = true
+is_failed_fault (faults.Write side) = false
+is_failed_fault faults.OutOfMemory = false
+
+abbrev pub is_failed_turn : Result (Option Stop) TapFault → Bool
+is_failed_turn (Ok None) = false
+is_failed_turn (Ok (Some stop)) = is_failed_stop stop
+is_failed_turn (Err fault) = is_failed_fault fault
+
+abbrev pub is_failed_reading : Result Stop TapFault → Bool
+is_failed_reading (Ok stop) = is_failed_stop stop
+is_failed_reading (Err fault) = is_failed_fault fault

@@ -1,0 +1,16 @@
+//! What passed on a line, and the two captures that it stands for.
+//!
+//! The crate reads the text of what passed piece by piece, has the units of each direction found in it (`framer`) and each of them placed
+//! (`placing`), and writes both captures, in format 1. It decides nothing of what it writes: that is judged by `pair_judge`.
+#![tactic(auto)]
+
+mod fault;
+mod outlet;
+mod side_tap;
+mod stop;
+mod tapped;
+mod tapping;
+
+pub use fault::TapFault;
+pub use tapped::{Ending, Passed, Skipped, Tapped};
+pub use tapping::tap;

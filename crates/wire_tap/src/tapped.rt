@@ -1,0 +1,39 @@
+//! What a tap found.
+
+use wire_base::Side;
+
+/// A unit of a side, counted from 0, and the line of the text on which its first byte stands.
+#[derive(Clone, Copy, Debug, PartialEq, Eq)]
+pub struct Passed {
+    pub side: Side,
+    pub unit: u64,
+    pub line: u64,
+}
+
+/// How the captures end.
+#[derive(Clone, Copy, Debug, PartialEq, Eq)]
+pub enum Ending {
+    /// With all units that passed.
+    Whole,
+    /// With this unit, for which no placing was found.
+    Unplaced(Passed),
+    /// With this unit, before which there were too many states to try.
+    TooWide(Passed),
+    /// With this unit, as it was asked for.
+    Asked(Passed),
+}
+
+/// What is in no capture: maintenance messages, and bytes that belong to no unit, SYN and pads not among them.
+#[derive(Clone, Copy, Debug, PartialEq, Eq)]
+pub struct Skipped {
+    pub maintenance: u64,
+    pub bytes: u64,
+}
+
+/// What a tap found, and what was skipped of each side.
+#[derive(Clone, Copy, Debug, PartialEq, Eq)]
+pub struct Tapped {
+    pub ending: Ending,
+    pub skipped_a: Skipped,
+    pub skipped_b: Skipped,
+}
