@@ -1,0 +1,5 @@
+mod Told
+mod Tellings
+mod Ladders
+mod Texts
+mod Writings
