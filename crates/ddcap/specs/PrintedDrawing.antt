@@ -5,6 +5,9 @@ use Rattle.drawing.specs.declared.fault.DrawFault.{DrawFault}
 use Rattle.drawing.specs.declared.fault.DrawFault.TheVariants.{Judge, Write}
 use Rattle.drawing.specs.declared.range.Range.{Range}
 use Rattle.drawing.specs.Drawing.{Draws, Writing}
+use Rattle.pair_judge.specs.Judged.{Answer}
+use Rattle.pair_judge.specs.declared.fault.JudgeFault.{JudgeFault}
+use Rattle.ddcap.specs.declared.picture.Picture.{Picture}
 use Rattle.ddcap.specs.Printed.{Moved, TellsFault, verdict_status}
 
 abbrev pub writing : Moved → Writing
@@ -29,3 +32,8 @@ pub record DrawsRows (range : Range) (texts : Option (List ℕ) × Option (List 
   pub answer : Result Verdict DrawFault
   pub draws : Draws range texts.0 texts.1 (writing out) answer
   pub printed : PrintsDrawing err answer status
+
+-- what is answered, without the picture
+abbrev pub verdict_answered : Result Picture JudgeFault → Answer
+verdict_answered (Ok picture) = Ok picture.verdict
+verdict_answered (Err fault) = Err fault

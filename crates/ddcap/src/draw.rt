@@ -5,7 +5,7 @@ ghost use Rattle.drawing.specs.declared.range.TheConstants.{MAX_ROWS};
 ghost use Rattle.ddcap.specs.Printed.{moved, stream_of};
 ghost use Rattle.ddcap.specs.PrintedDrawing.{DrawsRows, PrintsDrawFault};
 
-use crate::check::{print, print_fault};
+use crate::check::print_fault;
 use crate::text::{FAILED, verdict_status};
 use drawing::{DrawFault, Range, draw_to};
 use std::alloc::Global;

@@ -1,10 +1,14 @@
 //! The files of `draw`.
 
+ghost use Rattle.std.specs.Prelude.{◌≤◌};
+ghost use Rattle.drawing.specs.declared.range.TheConstants.{MAX_ROWS};
+
 use crate::check::{print, print_fault, print_out_of_memory};
 use crate::draw::draw_rows_to;
-use crate::run::{Named, created, opened_plain};
+use crate::files::{Named, created, opened_plain};
+use crate::picture::picture_of;
 use crate::text::verdict_status;
-use drawing::{Range, picture_of};
+use drawing::Range;
 use std::io::Write;
 use std::rt::Files;
 use wire_base::Tally;
@@ -17,6 +21,8 @@ pub struct Asked<'a> {
     pub range: Range,
     /// The file of the picture; the rows are printed where none is named.
     pub svg: Option<&'a str>,
+    ghost low: { 1 ≤ range.rows },
+    ghost high: { range.rows ≤ MAX_ROWS },
 }
 
 /// Opens the two files, a's first, and draws what they hold. `Err`: the status of a file that can't be opened or created, which was told.

@@ -1,5 +1,8 @@
 //! The words behind `draw`.
 
+ghost use Rattle.std.specs.Prelude.{◌≤◌, IfSome};
+ghost use Rattle.drawing.specs.declared.range.TheConstants.{MAX_ROWS};
+
 use crate::draw_files::Asked;
 use crate::words::WordsFault;
 use capture::{MAX_RECORDS, positive_of};
@@ -61,7 +64,9 @@ fn start_spelled(words: &str) -> Option<Start> {
 }
 
 // 1 to 200, in its one spelling.
-fn rows_spelled(words: &str) -> Option<usize> {
+fn rows_spelled(words: &str) -> Option<usize>
+    ensures { IfSome result (λ rows. (1 ≤ rows) × (rows ≤ MAX_ROWS)) }
+{
     let rows = positive_of(words.as_bytes(), MAX_ROWS as u64)?;
     Some(rows as usize)
 }

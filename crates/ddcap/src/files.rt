@@ -16,6 +16,8 @@ pub enum Named {
     Script,
     A,
     B,
+    /// The picture of `draw`.
+    Svg,
 }
 
 /// Opens a file to be read. `Err`: it can't be opened, which was told, with this status.
@@ -67,5 +69,6 @@ fn print_not_opened<W: Write>(err: &mut Tally<W>, named: Named, error: &io::Erro
         Named::Script => print(err, b"script: cannot open\n", FAILED),
         Named::A => print(err, b"a: cannot open\n", FAILED),
         Named::B => print(err, b"b: cannot open\n", FAILED),
+        Named::Svg => print(err, b"svg: cannot open\n", FAILED),
     }
 }

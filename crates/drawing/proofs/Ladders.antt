@@ -1,11 +1,13 @@
--- A ladder that was told of all records, and what is answered of it.
-use Rattle.std.proofs.Common.{◌≡◌, ◌⊎◌, ℕ, true, List, Option, Some, None, Result, Ok, Err, inl, inr, refl, sym, subst}
+-- A ladder that was told of what is kept, and what is answered of it.
+use Rattle.std.proofs.Common.{◌≡◌, ◌⊎◌, ℕ, Bool, true, false, List, [], ◌∷◌, Option, Some, None, Result, Ok, Err, inl, inr, refl, sym, ◌∙◌, ap, subst}
 use Rattle.wire_base.specs.declared.side.Side.{Side}
 use Rattle.capture.specs.Entries.{record_with}
 use Rattle.capture.specs.declared.entry.Entry.{Entry}
 use Rattle.dna_node.specs.Kind.{both_layers}
 use Rattle.ladder.specs.Drawn.{DrawnView, IsDrawn}
 use Rattle.ladder.specs.Ladder.{LadderView, refused}
+use Rattle.ladder.specs.declared.rows.Keep.{Keep}
+use Rattle.ladder.specs.declared.rows.Keep.TheVariants as keep
 use Rattle.pair_judge.specs.Ends.{ShownEnds}
 use Rattle.pair_judge.specs.Finding.{of_side}
 use Rattle.pair_judge.specs.Judged.{IfTold, IsAcceptance, IsAnswer, IsExact, IsFaultyWhere, JudgesOrFails}
@@ -14,37 +16,37 @@ use Rattle.pair_judge.specs.Watched.{WasTold}
 use Rattle.pair_judge.specs.declared.fault.JudgeFault.{JudgeFault}
 use Rattle.pair_judge.specs.declared.fault.JudgeFault.TheVariants.{Capture, OutOfMemory}
 use Rattle.pair_judge.specs.declared.fault.TextFault.TheVariants.{Departs, Read}
-use Rattle.pair_judge.specs.declared.reason.Reason.{Reason}
-use Rattle.pair_judge.specs.declared.summary.Summary.{Summary}
 use Rattle.pair_judge.specs.declared.verdict.Verdict.{Verdict}
 use Rattle.pair_judge.specs.declared.verdict.Verdict.TheVariants.{Accepted, Refused}
+use Rattle.drawing.specs.declared.begun.Begun.{Begun}
 use Rattle.drawing.specs.declared.drawing.DrawnPair.{DrawnPair}
 use Rattle.drawing.specs.declared.range.Range.{Range}
-use Rattle.drawing.specs.declared.telling.Telling.{Telling}
-use Rattle.drawing.specs.Drawing.{IsDrawing, IsLadder, IsPicture, TellsAhead, keep_of}
-use Rattle.drawing.specs.Telling.{IsTold, WereTold, keep_of_accepted}
-use Rattle.drawing.specs.inner.Ending.{EndsDrawing, EndsTelling, Followed}
+use Rattle.drawing.specs.declared.range.Start.{Start}
+use Rattle.drawing.specs.declared.telling.BothEnds.{BothEnds}
+use Rattle.drawing.specs.declared.telling.Onward.{Onward}
+use Rattle.drawing.specs.Drawing.{IsDrawing, IsLadder, IsLadderBy, IsPicture, TellsAhead}
+use Rattle.drawing.specs.Telling.{WereTold, keep_by, keep_for, keep_of}
+use Rattle.drawing.specs.inner.Ending.{EndsDrawing, IsBegun}
+use Rattle.drawing.specs.inner.Kept.{IsEnds, IsOnward, Rest}
 
--- ---- the ladder
+-- ---- what stands behind the records
 
-pub accepted_ladder : (ends : ShownEnds) (summary : Summary) (telling : Telling) (made after : LadderView) → ends.verdict ≡ Accepted summary
-    → ((order : List MadeRecord) → IsTold telling order → WereTold (keep_of_accepted telling.range) telling.range.rows made order)
-    → after ≡ record made { ended = true } → EndsTelling ends telling (Ok after)
-accepted_ladder ends summary telling made after is told ended order t = (
-  made,
-  subst (λ (verdict : Verdict). WereTold (keep_of telling.range verdict) telling.range.rows made order) (sym is) (told order t),
-  subst (λ (verdict : Verdict). IsLadder verdict ends made after) (sym is) ended,
-)
+left_by : (rest : List MadeRecord) (ends : ShownEnds) (before after : LadderView) → Rest false rest → after ≡ before
+    → IsLadderBy rest ends.verdict ends before after
+left_by rest ends before after (next, more, is) same =
+    subst (λ (r : List MadeRecord). IsLadderBy r ends.verdict ends before after) (sym is) same
 
-pub refused_ladder : (ends : ShownEnds) (side : Side) (place : ℕ) (reason : Reason) (telling : Telling) (here after : LadderView)
-    → ends.verdict ≡ Refused side place reason → TellsAhead side ends telling.ladder here → Followed here after
-    → EndsTelling ends telling (Ok after)
-refused_ladder ends side place reason telling here after is ahead followed order t =
-    let ends_so : IsLadder (Refused side place reason) ends telling.ladder after = (here, followed.0, ahead, followed.1, followed.2) in (
-      telling.ladder,
-      subst (λ (verdict : Verdict). WereTold (keep_of telling.range verdict) telling.range.rows telling.ladder order) (sym is) t.0,
-      subst (λ (verdict : Verdict). IsLadder verdict ends telling.ladder after) (sym is) ends_so,
-    )
+pub left_so : (ends : ShownEnds) (is_all : Bool) (before after : LadderView) → is_all ≡ false → after ≡ before
+    → (rest : List MadeRecord) → Rest is_all rest → IsLadderBy rest ends.verdict ends before after
+left_so ends is_all before after none same rest told = left_by rest ends before after (subst (λ (b : Bool). Rest b rest) none told) same
+
+all_by : (rest : List MadeRecord) (ends : ShownEnds) (before after : LadderView) → rest ≡ [] → IsLadder ends.verdict ends before after
+    → IsLadderBy rest ends.verdict ends before after
+all_by rest ends before after none so = subst (λ (r : List MadeRecord). IsLadderBy r ends.verdict ends before after) (sym none) so
+
+pub all_so : (ends : ShownEnds) (is_all : Bool) (before after : LadderView) → is_all ≡ true → IsLadder ends.verdict ends before after
+    → (rest : List MadeRecord) → Rest is_all rest → IsLadderBy rest ends.verdict ends before after
+all_so ends is_all before after all so rest told = all_by rest ends before after (subst (λ (b : Bool). Rest b rest) all told) so
 
 -- ---- the answer
 
@@ -78,20 +80,22 @@ failed_answer text_a text_b fault fails = record {
   faulty = faulty_by text_a text_b fault fails;
 }
 
--- the rows of a ladder that was told of all
-pub picture_so : (range : Range) (text_a text_b : Option (List ℕ)) (ends : ShownEnds) (telling : Telling) (after : LadderView) (drawn : DrawnView)
-    → telling.range ≡ range → IsAnswer both_layers text_a text_b (Ok ends.verdict) → WasTold text_a text_b ends (IsTold telling)
-    → EndsTelling ends telling (Ok after) → IsDrawn after.kept after.ended drawn → IsPicture range text_a text_b ends.verdict drawn
-picture_so range text_a text_b ends telling after drawn same judged told ending drawn_so =
-    let all = ending told.order told.is_told in
+-- the rows of a ladder that was told of what is kept
+picture_so : (range : Range) (text_a text_b : Option (List ℕ)) (ends : ShownEnds) (drawn : DrawnView) (begun : Begun) (after : LadderView)
+    → (order : WasTold text_a text_b ends (IsBegun (keep_of range ends.verdict) range.rows begun)) → IsAnswer both_layers text_a text_b (Ok ends.verdict)
+    → ((rest : List MadeRecord) → Rest begun.is_all rest → IsLadderBy rest ends.verdict ends begun.ladder after)
+    → IsDrawn after.kept after.ended drawn → IsPicture range text_a text_b ends.verdict drawn
+picture_so range text_a text_b ends drawn begun after told judged ending drawn_so =
+    let all = told.is_told in
     record {
       judged = judged;
       ends = ends;
       gives = refl;
-      made = all.0;
+      made = begun.ladder;
+      rest = all.0;
       told = record {
         order = told.order;
-        is_told = subst (λ (range : Range). WereTold (keep_of range ends.verdict) range.rows all.0 told.order) same all.1;
+        is_told = all.1;
         read_a = told.read_a;
         read_b = told.read_b;
         from_a = told.from_a;
@@ -103,21 +107,65 @@ picture_so range text_a text_b ends telling after drawn same judged told ending 
         is_run = told.is_run;
       };
       after = after;
-      ladder = all.2;
+      ladder = ending all.0 all.2;
       drawn_so = drawn_so;
     }
 
-pub drawing_so : (range : Range) (text_a text_b : Option (List ℕ)) (ends : ShownEnds) (telling : Telling) (result : Result DrawnPair JudgeFault)
-    → IsAnswer both_layers text_a text_b (Ok ends.verdict) → WasTold text_a text_b ends (IsTold telling)
-    → EndsDrawing range ends telling result → IsDrawing range text_a text_b result
-drawing_so range text_a text_b ends telling (Ok pair) judged told ending =
-    subst (λ (shown : ShownEnds). IsPicture range text_a text_b shown.verdict pair.drawn) (sym ending.2)
-    (picture_so range text_a text_b ends telling ending.0 pair.drawn ending.1 judged told ending.3 ending.4)
-drawing_so range text_a text_b ends telling (Err fault) judged told fails = failed_answer text_a text_b fault fails
+-- what is told of one thing is told of another, where that follows
+told_of : (text_a text_b : Option (List ℕ)) (ends : ShownEnds) (one other : List MadeRecord → Type 0)
+    → ((order : List MadeRecord) → one order → other order) → WasTold text_a text_b ends one → WasTold text_a text_b ends other
+told_of text_a text_b ends one other follows told = record {
+  order = told.order;
+  is_told = follows told.order told.is_told;
+  read_a = told.read_a;
+  read_b = told.read_b;
+  from_a = told.from_a;
+  from_b = told.from_b;
+  all_a = told.all_a;
+  all_b = told.all_b;
+  records_a = told.records_a;
+  records_b = told.records_b;
+  is_run = told.is_run;
+}
 
-pub judged_so : (range : Range) (text_a text_b : Option (List ℕ)) (verdict : Verdict) (drawn : DrawnView)
-    → IsPicture range text_a text_b verdict drawn → IsAnswer both_layers text_a text_b (Ok verdict)
-judged_so range text_a text_b verdict drawn picture = picture.judged
+drawing_so : (range : Range) (text_a text_b : Option (List ℕ)) (ends : ShownEnds) (begun : Begun) (result : Result DrawnPair JudgeFault)
+    → IsAnswer both_layers text_a text_b (Ok ends.verdict) → WasTold text_a text_b ends (IsBegun (keep_of range ends.verdict) range.rows begun)
+    → EndsDrawing ends begun result → IsDrawing range text_a text_b result
+drawing_so range text_a text_b ends begun (Ok pair) judged told ending =
+    subst (λ (shown : ShownEnds). IsPicture range text_a text_b shown.verdict pair.drawn) (sym ending.1)
+    (picture_so range text_a text_b ends pair.drawn begun ending.0 told judged ending.2 ending.3)
+drawing_so range text_a text_b ends begun (Err fault) judged told fails = failed_answer text_a text_b fault fails
+
+pub ends_so : (range : Range) (text_a text_b : Option (List ℕ)) (ends : ShownEnds) (telling : BothEnds) (begun : Begun)
+    (result : Result DrawnPair JudgeFault) → range.start ≡ None → IsAnswer both_layers text_a text_b (Ok ends.verdict)
+    → WasTold text_a text_b ends (IsEnds telling)
+    → ((order : List MadeRecord) → IsEnds telling order → IsBegun (keep_for keep.First keep.Last ends.verdict) range.rows begun order)
+    → EndsDrawing ends begun result → IsDrawing range text_a text_b result
+ends_so range text_a text_b ends telling begun result none judged told begins ending =
+    let keeps : keep_of range ends.verdict ≡ keep_for keep.First keep.Last ends.verdict =
+    ap (λ (start : Option Start). keep_for (keep_by keep.First start) (keep_by keep.Last start) ends.verdict) none in
+    drawing_so range text_a text_b ends begun result judged
+    (told_of text_a text_b ends (IsEnds telling) (IsBegun (keep_of range ends.verdict) range.rows begun)
+    (λ order was. subst (λ (k : Keep). IsBegun k range.rows begun order) (sym keeps) (begins order was)) told)
+    ending
+
+same_keep : (side : Side) (line : ℕ) (verdict : Verdict) → keep_for (keep.From side line) (keep.From side line) verdict ≡ keep.From side line
+same_keep side line (Accepted summary) = refl
+same_keep side line (Refused at place reason) = refl
+
+pub onward_so : (range : Range) (text_a text_b : Option (List ℕ)) (ends : ShownEnds) (telling : Onward) (start : Start) (begun : Begun)
+    (result : Result DrawnPair JudgeFault) → range.start ≡ Some start → IsAnswer both_layers text_a text_b (Ok ends.verdict)
+    → WasTold text_a text_b ends (IsOnward telling)
+    → ((order : List MadeRecord) → IsOnward telling order → IsBegun (keep.From start.side start.line) range.rows begun order)
+    → EndsDrawing ends begun result → IsDrawing range text_a text_b result
+onward_so range text_a text_b ends telling start begun result some judged told begins ending =
+    let keeps : keep_of range ends.verdict ≡ keep.From start.side start.line =
+    ap (λ (s : Option Start). keep_for (keep_by keep.First s) (keep_by keep.Last s) ends.verdict) some
+    ∙ same_keep start.side start.line ends.verdict in
+    drawing_so range text_a text_b ends begun result judged
+    (told_of text_a text_b ends (IsOnward telling) (IsBegun (keep_of range ends.verdict) range.rows begun)
+    (λ order was. subst (λ (k : Keep). IsBegun k range.rows begun order) (sym keeps) (begins order was)) told)
+    ending
 
 -- ---- the refused record
 

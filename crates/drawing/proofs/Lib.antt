@@ -1,5 +1,7 @@
 mod Told
-mod Tellings
+mod Recents
+mod Firsts
+mod Onwards
 mod Ladders
 mod Texts
 mod Writings

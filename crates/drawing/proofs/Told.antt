@@ -1,61 +1,77 @@
 -- A ladder that is told one more record.
-use Rattle.std.proofs.Common.{◌≡◌, ℕ, true, false, inl, inr, List, [], ◌∷◌, ◌++◌, Some, None, map, refl, sym, ◌∙◌, ap}
-use Rattle.std.proofs.lemmas.List.{map-append}
-use Rattle.wire_base.specs.declared.side.Side.{Side}
-use Rattle.capture.specs.Entries.{record_with}
+use Rattle.std.proofs.Common.{◌≡◌, ◌<◌, ℕ, ◌+◌, inl, inr, List, [], ◌∷◌, ◌++◌, get_or, length, map, refl, sym, ◌∙◌, ap, take}
+use Rattle.std.proofs.lemmas.List.{append_assoc, map-append, take_more}
+use Rattle.ladder.specs.Ladder.{LadderView, follows, learned, made}
+use Rattle.pair_judge.specs.Order.{MadeRecord}
 use Rattle.capture.specs.declared.entry.Entry.{Entry}
-use Rattle.ladder.specs.Ladder.{LadderView, follows, made}
-use Rattle.ladder.specs.Rows.{no_rows}
-use Rattle.ladder.specs.declared.rows.Keep.{Keep}
-use Rattle.pair_judge.specs.Order.{MadeRecord, made_by}
-use Rattle.drawing.specs.inner.Ending.{Followed}
-use Rattle.drawing.specs.Telling.{Behind, Call, WereFollowed, WereTold, ladder_after, ladder_behind, record_told}
+use Rattle.wire_base.specs.declared.side.Side.{Side}
+use Rattle.drawing.specs.declared.told_record.Later.{Later}
+use Rattle.drawing.specs.declared.told_record.ToldRecord.{ToldRecord}
+use Rattle.drawing.specs.Drawing.{Followed}
+use Rattle.drawing.specs.Telling.{WereFollowed, ladder_behind, ladder_knowing, ladder_told, record_told}
 
-pub told_nothing : (keep : Keep) (rows : ℕ) (ladder : LadderView) → ladder.kept ≡ no_rows keep rows → ladder.ended ≡ false
-    → ladder.a.line ≡ 2 → ladder.b.line ≡ 2 → WereTold keep rows ladder []
-told_nothing keep rows ladder begins ended line_a line_b = record {
-  start = ladder;
-  begins = begins;
-  ended = ended;
-  line_a = line_a;
-  line_b = line_b;
-  calls = [];
-  of_order = refl;
-  reached = refl;
-}
+-- ---- one more
 
-after_more : (ladder : LadderView) (calls : List Call) (call : Call)
-    → ladder_after ladder (calls ++ call ∷ []) ≡ made (ladder_after ladder calls) call.side call.entry call.bytes
-after_more ladder [] call = refl
-after_more ladder (first ∷ calls) call = after_more (made ladder first.side first.entry first.bytes) calls call
+knows : LadderView → ToldRecord → LadderView
+knows ladder next = learned ladder next.side next.entry next.bytes
 
-pub told_next : (keep : Keep) (rows : ℕ) (ladder : LadderView) (order : List MadeRecord) (side : Side) (entry : Entry) (bytes : List ℕ)
-    → WereTold keep rows ladder order
-    → WereTold keep rows (made ladder side entry bytes) (order ++ made_by side (record_with entry bytes) ∷ [])
-told_next keep rows ladder order side entry bytes before =
-    let call : Call = record { side = side; entry = entry; bytes = bytes } in
-    record {
-      start = before.start;
-      begins = before.begins;
-      ended = before.ended;
-      line_a = before.line_a;
-      line_b = before.line_b;
-      calls = before.calls ++ call ∷ [];
-      of_order = map-append record_told before.calls (call ∷ []) ∙ ap (λ o. o ++ record_told call ∷ []) before.of_order;
-      reached = ap (λ l. made l side entry bytes) before.reached ∙ sym (after_more before.start before.calls call);
-    }
+takes : LadderView → ToldRecord → LadderView
+takes ladder next = made ladder next.side next.entry next.bytes
+
+passes : LadderView → Later → LadderView
+passes ladder next = follows ladder next.side next.entry
+
+pub knowing_more : (ladder : LadderView) (records : List ToldRecord) (next : ToldRecord)
+    → ladder_knowing ladder (records ++ next ∷ []) ≡ learned (ladder_knowing ladder records) next.side next.entry next.bytes
+knowing_more ladder [] next = refl
+knowing_more ladder (first ∷ records) next = knowing_more (knows ladder first) records next
+
+told_more : (ladder : LadderView) (records : List ToldRecord) (next : ToldRecord)
+    → ladder_told ladder (records ++ next ∷ []) ≡ made (ladder_told ladder records) next.side next.entry next.bytes
+told_more ladder [] next = refl
+told_more ladder (first ∷ records) next = told_more (takes ladder first) records next
+
+behind_more : (ladder : LadderView) (records : List Later) (next : Later)
+    → ladder_behind ladder (records ++ next ∷ []) ≡ follows (ladder_behind ladder records) next.side next.entry
+behind_more ladder [] next = refl
+behind_more ladder (first ∷ records) next = behind_more (passes ladder first) records next
+
+taken : {X : Type 0} → (records : List X) (i : ℕ) (next : X) → i < length records → next ≡ get_or records i next
+    → take (i + 1) records ≡ take i records ++ next ∷ []
+taken {X} records i next within at = take_more records i next within ∙ ap (λ (x : X). take i records ++ x ∷ []) (sym at)
+
+pub told_one_more : (ladder : LadderView) (records : List ToldRecord) (i : ℕ) (next : ToldRecord) → i < length records
+    → next ≡ get_or records i next
+    → ladder_told ladder (take (i + 1) records) ≡ made (ladder_told ladder (take i records)) next.side next.entry next.bytes
+told_one_more ladder records i next within at =
+    ap (λ (l : List ToldRecord). ladder_told ladder l) (taken records i next within at) ∙ told_more ladder (take i records) next
+
+pub followed_one_more : (ladder : LadderView) (records : List Later) (i : ℕ) (next : Later) → i < length records
+    → next ≡ get_or records i next
+    → ladder_behind ladder (take (i + 1) records) ≡ follows (ladder_behind ladder (take i records)) next.side next.entry
+followed_one_more ladder records i next within at =
+    ap (λ (l : List Later). ladder_behind ladder l) (taken records i next within at) ∙ behind_more ladder (take i records) next
+
+pub order_more : (gone items : List ToldRecord) (next : ToldRecord) (order : List MadeRecord) → map record_told (gone ++ items) ≡ order
+    → map record_told (gone ++ (items ++ next ∷ [])) ≡ order ++ record_told next ∷ []
+order_more gone items next order is =
+    ap (λ (l : List ToldRecord). map record_told l) (sym (append_assoc gone items (next ∷ [])))
+    ∙ map-append record_told (gone ++ items) (next ∷ [])
+    ∙ ap (λ (o : List MadeRecord). o ++ record_told next ∷ []) is
+
+-- ---- those behind a refused record
 
 pub followed_none : (ladder : LadderView) → WereFollowed ladder ladder
 followed_none ladder = ([], refl)
 
 pub followed_one : (before after : LadderView) (side : Side) (entry : Entry) → after ≡ follows before side entry → WereFollowed before after
 followed_one before after side entry is =
-    let next : Behind = record { side = side; entry = entry } in
+    let next : Later = record { side = side; entry = entry } in
     (next ∷ [], is)
 
-joined : (ladder : LadderView) (behind more : List Behind) → ladder_behind ladder (behind ++ more) ≡ ladder_behind (ladder_behind ladder behind) more
+joined : (ladder : LadderView) (behind more : List Later) → ladder_behind ladder (behind ++ more) ≡ ladder_behind (ladder_behind ladder behind) more
 joined ladder [] more = refl
-joined ladder (first ∷ behind) more = joined (follows ladder first.side first.entry) behind more
+joined ladder (first ∷ behind) more = joined (passes ladder first) behind more
 
 pub followed_on : (before between after : LadderView) → WereFollowed before between → WereFollowed between after → WereFollowed before after
 followed_on before between after (first, reached) (second, ended) =

@@ -1,5 +1,5 @@
 -- What is drawn of two captures, and what is written of it.
-use Rattle.std.specs.Prelude.{◌≡◌, ◌⊎◌, ℕ, Bool, true, List, ◌++◌, Option, Some, None, Result, Ok, Err, codes}
+use Rattle.std.specs.Prelude.{◌≡◌, ◌⊎◌, ℕ, Bool, true, List, [], ◌∷◌, ◌++◌, Option, Some, None, Result, Ok, Err, codes}
 use Rattle.std.specs.List.{flat_map}
 use Rattle.std.specs.Io.KnownBytes.{Appends}
 use Rattle.wire_base.specs.Tally.{AppendsBeginning, CountedFault}
@@ -11,26 +11,21 @@ use Rattle.ladder.specs.Drawn.{DrawnView, IsDrawn}
 use Rattle.ladder.specs.Ladder.{LadderView, refused}
 use Rattle.ladder.specs.Text.{row_text}
 use Rattle.ladder.specs.declared.row.Row.{Row}
-use Rattle.ladder.specs.declared.rows.Keep.{Keep}
 use Rattle.pair_judge.specs.Ends.{ShownEnds}
 use Rattle.pair_judge.specs.Finding.{of_side}
-use Rattle.pair_judge.specs.Judged.{Answer, IsAnswer}
+use Rattle.pair_judge.specs.Judged.{IsAnswer}
+use Rattle.pair_judge.specs.Order.{MadeRecord}
 use Rattle.pair_judge.specs.Watched.{WasTold}
 use Rattle.pair_judge.specs.declared.verdict.Verdict.{Verdict}
 use Rattle.pair_judge.specs.declared.verdict.Verdict.TheVariants.{Accepted, Refused}
 use Rattle.pair_judge.specs.declared.fault.JudgeFault.{JudgeFault}
 use Rattle.drawing.specs.declared.drawing.DrawnPair.{DrawnPair}
-use Rattle.drawing.specs.declared.picture.Picture.{Picture}
 use Rattle.drawing.specs.declared.fault.DrawFault.{DrawFault}
 use Rattle.drawing.specs.declared.fault.DrawFault.TheVariants.{Judge, Write}
 use Rattle.drawing.specs.declared.range.Range.{Range}
-use Rattle.drawing.specs.Telling.{WereFollowed, WereTold, keep_of_accepted, keep_of_refused}
+use Rattle.drawing.specs.Telling.{WereFollowed, WereTold, keep_of}
 
 -- ---- the ladder
-
-abbrev pub keep_of : Range → Verdict → Keep
-keep_of range (Accepted summary) = keep_of_accepted range
-keep_of range (Refused side place reason) = keep_of_refused range
 
 -- the record ahead of this side is told as refused; where none is shown, none is
 abbrev pub TellsAhead : Side → ShownEnds → LadderView → LadderView → Type 0
@@ -39,12 +34,22 @@ TellsAhead side ends before after =
     × (after ≡ refused before side entry bytes))
     ⊎ (((of_side side ends.a ends.b).ahead ≡ None) × (after ≡ before))
 
--- behind the records that were made: none is left, or one is refused, and perhaps records of both captures stand behind it
-abbrev pub IsLadder : Verdict → ShownEnds → LadderView → LadderView → Type 0
+-- records behind the refused one, and perhaps that none is left
+abbrev pub Followed : LadderView → LadderView → Type 0
+Followed before after = (behind : LadderView) × WereFollowed before behind × ((after ≡ behind) ⊎ (after ≡ record behind { ended = true }))
+
+abbrev pub IsRefusedThere : Side → ShownEnds → (made after : LadderView) → Type 0
+IsRefusedThere side ends made after = (here : LadderView) × TellsAhead side ends made here × Followed here after
+
+-- behind the records that were made none is left, or one is refused, and perhaps records of both captures stand behind it
+abbrev pub IsLadder : Verdict → ShownEnds → (made after : LadderView) → Type 0
 IsLadder (Accepted summary) ends made after = after ≡ record made { ended = true }
-IsLadder (Refused side place reason) ends made after =
-    (here : LadderView) × (behind : LadderView) × TellsAhead side ends made here × WereFollowed here behind
-    × ((after ≡ behind) ⊎ (after ≡ record behind { ended = true }))
+IsLadder (Refused side place reason) ends made after = IsRefusedThere side ends made after
+
+-- where the ladder was not told of the rest, it was told of nothing behind that
+abbrev pub IsLadderBy : (rest : List MadeRecord) → Verdict → ShownEnds → (made after : LadderView) → Type 0
+IsLadderBy [] verdict ends made after = IsLadder verdict ends made after
+IsLadderBy (next ∷ more) verdict ends made after = after ≡ made
 
 -- This is drawn of two texts in this range: the judge answers the verdict of them, and the ladder was told of the records in an order in which
 -- two nodes can make them, and then of the refused one.
@@ -53,9 +58,10 @@ pub record IsPicture (range : Range) (text_a text_b : Option (List ℕ)) (verdic
   pub ends : ShownEnds
   pub gives : ends.verdict ≡ verdict
   pub made : LadderView
-  pub told : WasTold text_a text_b ends (WereTold (keep_of range verdict) range.rows made)
+  pub rest : List MadeRecord
+  pub told : WasTold text_a text_b ends (WereTold (keep_of range verdict) range.rows made rest)
   pub after : LadderView
-  pub ladder : IsLadder verdict ends made after
+  pub ladder : IsLadderBy rest verdict ends made after
   pub drawn_so : IsDrawn after.kept after.ended drawn
 
 -- ---- what is answered of two texts
@@ -63,10 +69,6 @@ pub record IsPicture (range : Range) (text_a text_b : Option (List ℕ)) (verdic
 abbrev pub IsDrawing : Range → (text_a text_b : Option (List ℕ)) → Result DrawnPair JudgeFault → Type 0
 IsDrawing range text_a text_b (Ok pair) = IsPicture range text_a text_b pair.ends.verdict pair.drawn
 IsDrawing range text_a text_b (Err fault) = IsAnswer both_layers text_a text_b (Err fault)
-
-abbrev pub verdict_answered : Result Picture JudgeFault → Answer
-verdict_answered (Ok picture) = Ok picture.verdict
-verdict_answered (Err fault) = Err fault
 
 -- ---- what is written
 

@@ -1,75 +1,82 @@
--- What a ladder is told while both captures are judged.
-use Rattle.std.specs.Prelude.{◌≡◌, ℕ, false, List, [], ◌∷◌, Option, Some, None, map}
-use Rattle.wire_base.specs.declared.side.Side.{Side}
+-- What a ladder is told of the records of a pair that is drawn.
+use Rattle.std.specs.Prelude.{◌≡◌, ◌⊎◌, ◌≤◌, ℕ, false, List, [], ◌∷◌, ◌++◌, Option, Some, None, length, map}
 use Rattle.capture.specs.Entries.{record_with}
-use Rattle.capture.specs.declared.entry.Entry.{Entry}
-use Rattle.ladder.specs.Ladder.{LadderView, follows, made}
+use Rattle.ladder.specs.Ladder.{LadderView, follows, learned, made}
 use Rattle.ladder.specs.Rows.{no_rows}
 use Rattle.ladder.specs.declared.rows.Keep.{Keep}
 use Rattle.ladder.specs.declared.rows.Keep.TheVariants.{Last, First, From}
 use Rattle.pair_judge.specs.Order.{MadeRecord, made_by}
+use Rattle.pair_judge.specs.declared.verdict.Verdict.{Verdict}
+use Rattle.pair_judge.specs.declared.verdict.Verdict.TheVariants.{Accepted, Refused}
 use Rattle.drawing.specs.declared.range.Range.{Range}
 use Rattle.drawing.specs.declared.range.Start.{Start}
-use Rattle.drawing.specs.declared.telling.Telling.{Telling}
+use Rattle.drawing.specs.declared.recent.TheConstants.{RECORDS}
+use Rattle.drawing.specs.declared.told_record.Later.{Later}
+use Rattle.drawing.specs.declared.told_record.ToldRecord.{ToldRecord}
 
--- ---- which rows are kept
+-- ---- which rows are drawn
 
--- of a refused pair, and of an accepted one
+-- from a named record on, or else these
 abbrev pub keep_by : Keep → Option Start → Keep
 keep_by otherwise (Some start) = From start.side start.line
 keep_by otherwise None = otherwise
 
-abbrev pub keep_of_refused : Range → Keep
-keep_of_refused range = keep_by Last range.start
+-- of an accepted pair the one, of a refused pair the other
+abbrev pub keep_for : (first last : Keep) → Verdict → Keep
+keep_for first last (Accepted summary) = first
+keep_for first last (Refused side place reason) = last
 
-abbrev pub keep_of_accepted : Range → Keep
-keep_of_accepted range = keep_by First range.start
+abbrev pub keep_of : Range → Verdict → Keep
+keep_of range verdict = keep_for (keep_by First range.start) (keep_by Last range.start) verdict
 
--- ---- the records that are made
+-- ---- what is told
 
--- a record as a ladder is told it
-pub record Call : Type 0 where
-  pub side : Side
-  pub entry : Entry
-  pub bytes : List ℕ
+abbrev pub record_told : ToldRecord → MadeRecord
+record_told told = made_by told.side (record_with told.entry told.bytes)
 
-abbrev pub record_told : Call → MadeRecord
-record_told call = made_by call.side (record_with call.entry call.bytes)
+-- records that have no row
+abbrev pub ladder_knowing : LadderView → List ToldRecord → LadderView
+ladder_knowing ladder [] = ladder
+ladder_knowing ladder (next ∷ more) = ladder_knowing (learned ladder next.side next.entry next.bytes) more
 
-abbrev pub ladder_after : LadderView → List Call → LadderView
-ladder_after ladder [] = ladder
-ladder_after ladder (call ∷ calls) = ladder_after (made ladder call.side call.entry call.bytes) calls
+-- records that may have one
+abbrev pub ladder_told : LadderView → List ToldRecord → LadderView
+ladder_told ladder [] = ladder
+ladder_told ladder (next ∷ more) = ladder_told (made ladder next.side next.entry next.bytes) more
 
--- the ladder had no rows, of which it keeps these, and was told these records one after another
-pub record WereTold (keep : Keep) (rows : ℕ) (ladder : LadderView) (order : List MadeRecord) : Type 0 where
-  pub start : LadderView
-  pub begins : start.kept ≡ no_rows keep rows
-  pub ended : start.ended ≡ false
-  pub line_a : start.a.line ≡ 2
-  pub line_b : start.b.line ≡ 2
-  pub calls : List Call
-  pub of_order : map record_told calls ≡ order
-  pub reached : ladder ≡ ladder_after start calls
-
--- ---- those behind a refused record
-
-pub record Behind : Type 0 where
-  pub side : Side
-  pub entry : Entry
-
-abbrev pub ladder_behind : LadderView → List Behind → LadderView
+-- records behind those, which tell what becomes of units
+abbrev pub ladder_behind : LadderView → List Later → LadderView
 ladder_behind ladder [] = ladder
 ladder_behind ladder (next ∷ more) = ladder_behind (follows ladder next.side next.entry) more
 
+abbrev pub later_entry : ToldRecord → Later
+later_entry told = record { side = told.side; entry = told.entry }
+
+-- from here on rows are kept
+abbrev pub with_no_rows : Keep → ℕ → LadderView → LadderView
+with_no_rows keep rows ladder = record ladder { kept = no_rows keep rows }
+
+-- which records may have no row: of the first rows none, of the last ones those before the last 800
+abbrev pub KeepsEnough : Keep → (gone calls : List ToldRecord) → Type 0
+KeepsEnough First gone calls = gone ≡ []
+KeepsEnough Last gone calls = (gone ≡ []) ⊎ (RECORDS ≤ length calls)
+KeepsEnough (From side line) gone calls = Unit {0}
+
+-- A ladder knew nothing, and was told of this order: of the first records what they are, then records that may have rows, then of some what becomes
+-- of units. Of the rest it was not told.
+pub record WereTold (keep : Keep) (rows : ℕ) (ladder : LadderView) (rest order : List MadeRecord) : Type 0 where
+  pub start : LadderView
+  pub ended : start.ended ≡ false
+  pub line_a : start.a.line ≡ 2
+  pub line_b : start.b.line ≡ 2
+  pub gone : List ToldRecord
+  pub calls : List ToldRecord
+  pub later : List ToldRecord
+  pub of_order : map record_told (gone ++ (calls ++ later)) ++ rest ≡ order
+  pub enough : KeepsEnough keep gone calls
+  pub reached : ladder ≡ ladder_behind (ladder_told (with_no_rows keep rows (ladder_knowing start gone)) calls) (map later_entry later)
+
+-- ---- those behind a refused record
+
 abbrev pub WereFollowed : LadderView → LadderView → Type 0
-WereFollowed before after = (behind : List Behind) × (after ≡ ladder_behind before behind)
-
--- ---- both ladders
-
-abbrev pub FirstTold : Range → Option LadderView → List MadeRecord → Type 0
-FirstTold range (Some first) order = WereTold First range.rows first order × (range.start ≡ None)
-FirstTold range None order = keep_of_accepted range ≡ keep_of_refused range
-
-abbrev pub IsTold : Telling → List MadeRecord → Type 0
-IsTold telling order = WereTold (keep_of_refused telling.range) telling.range.rows telling.ladder order
-    × FirstTold telling.range telling.first order
+WereFollowed before after = (behind : List Later) × (after ≡ ladder_behind before behind)

@@ -2,8 +2,8 @@
 
 ghost use Rattle.std.specs.Prelude.{Err, IfErr, OnOk};
 ghost use Rattle.pair_judge.specs.Judged.{JudgesOrFails};
+ghost use Rattle.drawing.specs.Drawing.{Followed};
 ghost use Rattle.drawing.specs.Telling.{WereFollowed};
-ghost use Rattle.drawing.specs.inner.Ending.{Followed};
 
 use capture::{CaptureFault, CaptureReader, Entry};
 use ladder::Ladder;

@@ -1,22 +1,26 @@
 //! `draw`: two captures, and the rows of their ladder.
 
-ghost use Rattle.std.specs.Prelude.{◌≡◌, ◌≤◌, [], ◌++◌, IfOk, OnOk, Ok, Err, string_bytes};
-ghost use Rattle.drawing.specs.declared.range.TheConstants.{MAX_ROWS};
-ghost use Rattle.drawing.specs.Drawing as spec;
-ghost use Rattle.drawing.specs.Telling.{IsTold};
-ghost use Rattle.drawing.specs.inner.Ending.{EndsDrawing, EndsTelling};
+ghost use Rattle.std.specs.Prelude.{◌≡◌, ◌≤◌, [], ◌++◌, IfErr, IfOk, List, None, OnOk, Some, Ok, Err, string_bytes};
 ghost use Rattle.dna_node.specs.Kind.{both_layers};
+ghost use Rattle.ladder.specs.declared.rows.Keep.TheVariants.{First, Last};
 ghost use Rattle.pair_judge.specs.Ends.{verdict_in};
-ghost use Rattle.pair_judge.specs.Judged.{IsAnswer};
+ghost use Rattle.pair_judge.specs.Judged.{IsAnswer, JudgesOrFails};
+ghost use Rattle.pair_judge.specs.Order.{MadeRecord};
 ghost use Rattle.pair_judge.specs.Watched.{WasTold, only};
 ghost use Rattle.wire_base.specs.Tally.{tally_faults, tally_lent};
+ghost use Rattle.drawing.specs.declared.range.TheConstants.{MAX_ROWS};
+ghost use Rattle.drawing.specs.Drawing as spec;
+ghost use Rattle.drawing.specs.Telling.{keep_for};
+ghost use Rattle.drawing.specs.inner.Ending.{EndsDrawing, IsBegun};
+ghost use Rattle.drawing.specs.inner.Kept.{IsEnds, Rest};
 
+use crate::begun::Begun;
 use crate::behind::tell_behind;
 use crate::fault::DrawFault;
-use crate::range::{MAX_ROWS, Range};
-use crate::telling::Telling;
+use crate::range::{MAX_ROWS, Range, Start};
+use crate::telling::{BothEnds, Onward};
 use ladder::{Drawn, Ladder, Row};
-use pair_judge::{JudgeFault, JudgedEnds, Verdict, Watched, judge_watched};
+use pair_judge::{JudgeFault, JudgedEnds, Observer, Verdict, Watched, judge_watched};
 use std::alloc::{AllocError, Global};
 use std::io::{Read, Seek, Write};
 use wire_base::{Side, Tally, write_whole};
@@ -65,7 +69,6 @@ pub fn draw_to<A: Read + Seek, B: Read + Seek, O: Write>(
 }
 
 /// The rows of this range, with both ends where the verdict is given. `Err`: as for `draw_to`.
-#[tactic(auto, using(crate::proofs::Ladders::drawing_so, crate::proofs::Ladders::failed_answer))]
 pub fn drawing_of<A: Read + Seek, B: Read + Seek>(
     alloc: Global,
     a: &mut A,
@@ -76,50 +79,115 @@ pub fn drawing_of<A: Read + Seek, B: Read + Seek>(
     requires high { range.rows ≤ MAX_ROWS }
     ensures { spec.IsDrawing range (A.remaining a.old) (B.remaining b.old) result }
 {
-    let Ok(telling) = Telling::new(alloc, range) else {
+    match range.start {
+        None => ends_drawn(alloc, a, b, range),
+        Some(start) => onward_drawn(alloc, a, b, range, start),
+    }
+}
+
+// The first rows, or those up to a refused record.
+#[tactic(auto, using(crate::proofs::Ladders::ends_so, crate::proofs::Ladders::failed_answer))]
+fn ends_drawn<A: Read + Seek, B: Read + Seek>(
+    alloc: Global,
+    a: &mut A,
+    b: &mut B,
+    range: Range,
+) -> Result<DrawnPair, JudgeFault>
+    requires start { range.start ≡ None }
+    requires low { 1 ≤ range.rows }
+    requires high { range.rows ≤ MAX_ROWS }
+    ensures { spec.IsDrawing range (A.remaining a.old) (B.remaining b.old) result }
+{
+    let Ok(telling) = BothEnds::new(alloc) else {
         return Err(JudgeFault::OutOfMemory);
     };
-    match judged(alloc, a, b, telling) {
-        Ok(watched) => drawn_pair(alloc, watched, range, a, b),
-        Err(fault) => Err(fault),
+    let Watched { ends, observer } = match judged(alloc, a, b, telling) {
+        Ok(watched) => watched,
+        Err(fault) => return Err(fault),
+    };
+    match ends_begun(alloc, &ends, observer, range.rows) {
+        Ok(begun) => finished(alloc, begun, ends, a, b),
+        Err(_) => Err(JudgeFault::OutOfMemory),
+    }
+}
+
+// The rows from this record on.
+#[tactic(auto, using(crate::proofs::Ladders::onward_so, crate::proofs::Ladders::failed_answer))]
+fn onward_drawn<A: Read + Seek, B: Read + Seek>(
+    alloc: Global,
+    a: &mut A,
+    b: &mut B,
+    range: Range,
+    start: Start,
+) -> Result<DrawnPair, JudgeFault>
+    requires start { range.start ≡ Some start }
+    requires low { 1 ≤ range.rows }
+    requires high { range.rows ≤ MAX_ROWS }
+    ensures { spec.IsDrawing range (A.remaining a.old) (B.remaining b.old) result }
+{
+    let Ok(telling) = Onward::new(alloc, start) else {
+        return Err(JudgeFault::OutOfMemory);
+    };
+    let Watched { ends, observer } = match judged(alloc, a, b, telling) {
+        Ok(watched) => watched,
+        Err(fault) => return Err(fault),
+    };
+    match observer.begun(alloc, start, range.rows) {
+        Ok(begun) => finished(alloc, begun, ends, a, b),
+        Err(_) => Err(JudgeFault::OutOfMemory),
     }
 }
 
 // Judges both captures, while it is told of their records.
-fn judged<A: Read, B: Read>(
+fn judged<O: Observer, A: Read, B: Read>(
     alloc: Global,
     a: &mut A,
     b: &mut B,
-    telling: Telling,
-) -> Result<Watched<Telling>, JudgeFault>
-    requires { IsTold telling [] }
+    observer: O,
+) -> Result<Watched<O>, JudgeFault>
+    requires { O.told observer [] }
     ensures answer { IsAnswer both_layers (A.remaining a.old) (B.remaining b.old)
         (verdict_in (only result (λ watched. watched.ends))) }
     ensures told { IfOk result (λ watched.
-        WasTold (A.remaining a.old) (B.remaining b.old) watched.ends (IsTold watched.observer)) }
+        WasTold (A.remaining a.old) (B.remaining b.old) watched.ends (O.told watched.observer)) }
 {
     let mut reader_a = Tally::new(&mut *a);
     let mut reader_b = Tally::new(&mut *b);
-    judge_watched(alloc, &mut reader_a, &mut reader_b, telling)
+    judge_watched(alloc, &mut reader_a, &mut reader_b, observer)
 }
 
-// The rows of what was told, in this range. No call changes the range of what is told; but the judge promises nothing of one who looks on but
-// what it was told, so that is asked.
-fn drawn_pair<A: Read + Seek, B: Read + Seek>(
+// A ladder that was told of the first records of an accepted pair, or of the last ones of a refused pair.
+fn ends_begun(
     alloc: Global,
-    watched: Watched<Telling>,
-    range: Range,
+    ends: &JudgedEnds,
+    telling: BothEnds,
+    rows: usize,
+) -> Result<Begun, AllocError>
+    requires low { 1 ≤ rows }
+    requires high { rows ≤ MAX_ROWS }
+    ensures { IfOk result (λ begun. (order : List MadeRecord) → IsEnds telling order
+        → IsBegun (keep_for First Last ends.now.verdict) rows begun order) }
+{
+    let BothEnds { first, recent } = telling;
+    match ends.verdict() {
+        Verdict::Accepted(_) => first.begun(alloc, rows),
+        Verdict::Refused { .. } => recent.begun(alloc, rows),
+    }
+}
+
+// What is drawn of a ladder, which is told what stands behind.
+fn finished<A: Read + Seek, B: Read + Seek>(
+    alloc: Global,
+    begun: Begun,
+    ends: JudgedEnds,
     a: &mut A,
     b: &mut B,
 ) -> Result<DrawnPair, JudgeFault>
-    ensures { EndsDrawing range watched.ends watched.observer result }
+    ensures { EndsDrawing ends begun result }
 {
-    let Watched { ends, observer } = watched;
-    if observer.range != range {
-        return Err(JudgeFault::OutOfMemory);
-    }
-    match ladder_of(alloc, &ends, observer, a, b) {
-        Ok(ladder) => match ladder.drawn(alloc) {
+    let Begun { mut ladder, is_all } = begun;
+    match tell_end(alloc, &mut ladder, is_all, &ends, a, b) {
+        Ok(()) => match ladder.drawn(alloc) {
             Ok(drawn) => Ok(DrawnPair { ends, drawn }),
             Err(_) => Err(JudgeFault::OutOfMemory),
         },
@@ -127,30 +195,45 @@ fn drawn_pair<A: Read + Seek, B: Read + Seek>(
     }
 }
 
-// The ladder, told of all records.
-#[tactic(auto, using(crate::proofs::Ladders::accepted_ladder, crate::proofs::Ladders::refused_ladder))]
-fn ladder_of<A: Read + Seek, B: Read + Seek>(
+// Tells what stands behind the records that were made, if the ladder was told of them all.
+#[tactic(auto, using(crate::proofs::Ladders::left_so, crate::proofs::Ladders::all_so))]
+fn tell_end<A: Read + Seek, B: Read + Seek>(
     alloc: Global,
+    ladder: &mut Ladder,
+    is_all: bool,
     ends: &JudgedEnds,
-    telling: Telling,
     a: &mut A,
     b: &mut B,
-) -> Result<Ladder, JudgeFault>
-    ensures { EndsTelling ends.now telling result }
+) -> Result<(), JudgeFault>
+    ensures ok { OnOk result ((rest : List MadeRecord) → Rest is_all rest
+        → spec.IsLadderBy rest ends.now.verdict ends.now ladder.old ladder.new) }
+    ensures err { IfErr result (λ fault. JudgesOrFails (Err fault)) }
+{
+    if !is_all {
+        return Ok(());
+    }
+    tell_all_ended(alloc, ladder, ends, a, b)
+}
+
+// Tells that none is left, or which one is refused and what stands behind it.
+fn tell_all_ended<A: Read + Seek, B: Read + Seek>(
+    alloc: Global,
+    ladder: &mut Ladder,
+    ends: &JudgedEnds,
+    a: &mut A,
+    b: &mut B,
+) -> Result<(), JudgeFault>
+    ensures ok { OnOk result (spec.IsLadder ends.now.verdict ends.now ladder.old ladder.new) }
+    ensures err { IfErr result (λ fault. JudgesOrFails (Err fault)) }
 {
     match ends.verdict() {
         Verdict::Accepted(_) => {
-            let mut ladder = telling.of_accepted();
             ladder.end();
-            Ok(ladder)
+            Ok(())
         }
         Verdict::Refused { side, .. } => {
-            let mut ladder = telling.ladder;
-            tell_ahead(&mut ladder, ends, side);
-            match tell_behind(alloc, &mut ladder, ends, a, b) {
-                Ok(()) => Ok(ladder),
-                Err(fault) => Err(fault),
-            }
+            tell_ahead(ladder, ends, side);
+            tell_behind(alloc, ladder, ends, a, b)
         }
     }
 }

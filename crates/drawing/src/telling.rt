@@ -1,105 +1,118 @@
-//! What a ladder is told while both captures are judged.
+//! Who is told of the records of a pair that is drawn.
 
-ghost use Rattle.std.specs.Prelude.{◌≡◌, ◌≤◌, List, [], IfOk};
+ghost use Rattle.std.specs.Prelude.{◌≡◌, ◌≤◌, List, [], IfOk, IsTrue};
+ghost use Rattle.ladder.specs.declared.rows.Keep.TheVariants as keep;
 ghost use Rattle.pair_judge.specs.Order.{MadeRecord};
-ghost use Rattle.drawing.specs.declared.range.TheConstants.{MAX_ROWS};
-ghost use Rattle.drawing.specs.Telling as spec;
+ghost use Rattle.drawing.specs.inner.Ending.{IsBegun};
+ghost use Rattle.drawing.specs.inner.Kept.{IsEnds, IsOnward};
 
-use crate::range::{MAX_ROWS, Range, Start};
+use crate::begun::Begun;
+use crate::first::First;
+use crate::range::Start;
+use crate::recent::Recent;
 use capture::Entry;
 use ladder::{Keep, Ladder};
 use pair_judge::Observer;
 use std::alloc::{AllocError, Global};
 use wire_base::Side;
 
-/// The ladder of a refused pair, or from a named record on; and that of an accepted one, where no record is named.
+/// The first records, and the last ones.
 #[derive(Drop)]
-pub struct Telling {
-    pub range: Range,
-    pub ladder: Ladder,
-    pub first: Option<Ladder>,
+pub struct BothEnds {
+    pub first: First,
+    pub recent: Recent,
 }
 
-impl Telling {
-    /// Nothing was told yet. `AllocError` where there is no memory for the rows.
-    #[tactic(auto, using(crate::proofs::Tellings::begins_from, crate::proofs::Tellings::begins_both))]
-    pub fn new(alloc: Global, range: Range) -> Result<Telling, AllocError>
-        requires low { 1 ≤ range.rows }
-        requires high { range.rows ≤ MAX_ROWS }
-        ensures range { IfOk result (λ telling. telling.range ≡ range) }
-        ensures told { IfOk result (λ telling. spec.IsTold telling []) }
+impl BothEnds {
+    /// Nothing was told yet. `AllocError` where there is no memory for that.
+    pub fn new(alloc: Global) -> Result<BothEnds, AllocError>
+        ensures { IfOk result (λ ends. IsEnds ends []) }
     {
-        let ladder = no_ladder(alloc, keep_by(Keep::Last, range.start), range.rows)?;
-        match range.start {
-            Some(_) => Ok(Telling {
-                range,
-                ladder,
-                first: None,
-            }),
-            None => {
-                let first = no_ladder(alloc, Keep::First, range.rows)?;
-                Ok(Telling {
-                    range,
-                    ladder,
-                    first: Some(first),
-                })
-            }
-        }
-    }
-
-    /// The ladder of an accepted pair.
-    #[tactic(auto, using(crate::proofs::Tellings::first_accepted, crate::proofs::Tellings::only_accepted))]
-    pub fn of_accepted(self) -> Ladder
-        ensures { (order : List MadeRecord) → spec.IsTold self order
-            → spec.WereTold (spec.keep_of_accepted self.range) self.range.rows result order }
-    {
-        let Telling {
-            range: _,
-            ladder,
-            first,
-        } = self;
-        match first {
-            Some(first) => first,
-            None => ladder,
-        }
+        Ok(BothEnds {
+            first: First::new(alloc),
+            recent: Recent::new(alloc)?,
+        })
     }
 }
 
-impl Observer for Telling {
-    ghost told = { λ telling order. spec.IsTold telling order };
+impl Observer for BothEnds {
+    ghost told = { λ ends order. IsEnds ends order };
 
-    #[tactic(auto, using(crate::proofs::Tellings::told_alone, crate::proofs::Tellings::told_both))]
+    #[tactic(auto, using(crate::proofs::Onwards::ends_more))]
     fn made(&mut self, side: Side, entry: Entry, bytes: &[u8]) -> Result<(), AllocError> {
-        self.ladder.made(side, entry, bytes)?;
-        match &mut self.first {
-            Some(first) => {
-                first.made(side, entry, bytes)?;
-                Ok(())
-            }
-            None => Ok(()),
-        }
+        self.first.made(side, entry, bytes)?;
+        self.recent.made(side, entry, bytes)?;
+        Ok(())
     }
 }
 
-// Which rows are kept: from a record on where one is named, or else these.
-fn keep_by(otherwise: Keep, start: Option<Start>) -> Keep
-    ensures { result ≡ spec.keep_by otherwise start }
-{
-    match start {
-        Some(start) => Keep::From {
+/// The records from one on, and what a ladder knows of those before it.
+#[derive(Drop)]
+pub struct Onward {
+    start: Start,
+    pub before: Ladder,
+    pub first: First,
+}
+
+impl Onward {
+    /// Nothing was told yet. `AllocError` where there is no memory for that.
+    #[tactic(auto, using(crate::proofs::Onwards::onward_none))]
+    pub fn new(alloc: Global, start: Start) -> Result<Onward, AllocError>
+        ensures { IfOk result (λ onward. IsOnward onward []) }
+    {
+        Ok(Onward {
+            start,
+            before: Ladder::new(alloc, Keep::Last, 1)?,
+            first: First::new(alloc),
+        })
+    }
+
+    /// A ladder of at most so many rows from this record on, told of what is kept. `AllocError` where there is no memory for it.
+    #[tactic(auto, using(crate::proofs::Onwards::onward_begun))]
+    pub fn begun(self, alloc: Global, start: Start, rows: usize) -> Result<Begun, AllocError>
+        requires low { 1 ≤ rows }
+        requires high { rows ≤ 200 }
+        ensures { IfOk result (λ begun. (order : List MadeRecord) → IsOnward self order
+            → IsBegun (keep.From start.side start.line) rows begun order) }
+    {
+        let Onward {
+            before: mut ladder,
+            first,
+            ..
+        } = self;
+        let keep = Keep::From {
             side: start.side,
             line: start.line,
-        },
-        None => otherwise,
+        };
+        ladder.begin(alloc, keep, rows)?;
+        first.tell(&mut ladder)?;
+        Ok(Begun {
+            ladder,
+            is_all: first.is_all,
+        })
+    }
+
+    // Whether this side's next record stands before the one with which the rows begin.
+    fn is_before(&self, side: Side) -> bool
+        ensures { IsTrue result → self.now.first.records.items ≡ [] }
+    {
+        if self.first.records.len() != 0 {
+            return false;
+        }
+        side != self.start.side || self.before.line(side) != self.start.line
     }
 }
 
-// A ladder that was told nothing.
-#[tactic(auto, using(crate::proofs::Told::told_nothing))]
-fn no_ladder(alloc: Global, keep: Keep, rows: usize) -> Result<Ladder, AllocError>
-    requires low { 1 ≤ rows }
-    requires high { rows ≤ MAX_ROWS }
-    ensures { IfOk result (λ ladder. spec.WereTold keep rows ladder []) }
-{
-    Ladder::new(alloc, keep, rows)
+impl Observer for Onward {
+    ghost told = { λ onward order. IsOnward onward order };
+
+    #[tactic(auto, using(crate::proofs::Onwards::onward_before, crate::proofs::Onwards::onward_more))]
+    fn made(&mut self, side: Side, entry: Entry, bytes: &[u8]) -> Result<(), AllocError> {
+        if self.is_before(side) {
+            self.before.learn(side, entry, bytes)?;
+            return Ok(());
+        }
+        self.first.made(side, entry, bytes)?;
+        Ok(())
+    }
 }

@@ -88,6 +88,19 @@ made_by ladder B told entry =
 abbrev pub made : LadderView → Side → Entry → List ℕ → LadderView
 made ladder side entry bytes = made_by ladder side (told_in ladder side entry bytes) entry
 
+-- a record was made, and has no row
+abbrev pub learned_by : LadderView → Side → Told → Entry → LadderView
+learned_by ladder A told entry = record ladder { a = own_after ladder.a told entry; b = other_after ladder.b entry }
+learned_by ladder B told entry = record ladder { b = own_after ladder.b told entry; a = other_after ladder.a entry }
+
+abbrev pub learned : LadderView → Side → Entry → List ℕ → LadderView
+learned ladder side entry bytes = learned_by ladder side (told_in ladder side entry bytes) entry
+
+-- in which line the side's next record stands
+abbrev pub line_of : LadderView → Side → ℕ
+line_of ladder A = ladder.a.line
+line_of ladder B = ladder.b.line
+
 -- a record was refused: it changes the rows alone
 abbrev pub refused : LadderView → Side → Entry → List ℕ → LadderView
 refused ladder side entry bytes = record ladder { kept = refused_rows ladder.kept (told_in ladder side entry bytes) entry }

@@ -1,14 +1,13 @@
-//! The same as a picture.
+//! `draw --svg`: the ladder of two captures as a picture.
 
 ghost use Rattle.std.specs.Prelude.{◌≤◌};
 ghost use Rattle.dna_node.specs.Kind.{both_layers};
 ghost use Rattle.pair_judge.specs.Judged.{IsAnswer};
 ghost use Rattle.drawing.specs.declared.range.TheConstants.{MAX_ROWS};
-ghost use Rattle.drawing.specs.Drawing.{verdict_answered};
+ghost use Rattle.ddcap.specs.PrintedDrawing.{verdict_answered};
 
-use crate::drawing::{DrawnPair, drawing_of};
-use crate::range::{MAX_ROWS, Range};
 use ddcmp_msg::read_unit;
+use drawing::{DrawnPair, MAX_ROWS, Range, drawing_of};
 use ladder::Caption;
 use pair_judge::{JudgeFault, JudgedEnds, Verdict};
 use std::alloc::{AllocError, Global};
@@ -24,7 +23,7 @@ pub struct Picture {
 }
 
 /// The same rows as `draw_to` writes, as a picture with this title. `Err`: as for `draw_to`; nothing is written by this.
-#[tactic(auto, using(crate::proofs::Ladders::judged_so, crate::proofs::Ladders::failed_answer))]
+#[tactic(auto, using(crate::proofs::Pictures::judged_so, crate::proofs::Pictures::wanting_memory))]
 pub fn picture_of<A: Read + Seek, B: Read + Seek>(
     alloc: Global,
     a: &mut A,

@@ -1,0 +1,63 @@
+-- What is kept of the records that were told, for the contracts of private functions.
+use Rattle.std.specs.Prelude.{◌≡◌, ◌⊎◌, ◌≤◌, ◌<◌, ℕ, Bool, true, false, List, [], ◌∷◌, ◌++◌, length, map}
+use Rattle.capture.specs.declared.entry.Entry.{Entry}
+use Rattle.ladder.specs.Ladder.{LadderView}
+use Rattle.pair_judge.specs.Order.{MadeRecord}
+use Rattle.wire_base.specs.declared.side.Side.{Side}
+use Rattle.drawing.specs.declared.first.First.{First}
+use Rattle.drawing.specs.declared.first.TheConstants.{LATER}
+use Rattle.drawing.specs.declared.recent.Recent.{Recent}
+use Rattle.drawing.specs.declared.recent.TheConstants.{RECORDS}
+use Rattle.drawing.specs.declared.telling.BothEnds.{BothEnds}
+use Rattle.drawing.specs.declared.telling.Onward.{Onward}
+use Rattle.drawing.specs.declared.told_record.ToldRecord.{ToldRecord}
+use Rattle.drawing.specs.Telling.{ladder_knowing, later_entry, record_told}
+
+abbrev pub told : Side → Entry → List ℕ → ToldRecord
+told side entry bytes = record { side = side; entry = entry; bytes = bytes }
+
+-- before and after one record more
+abbrev pub Tells : {X : Type 0} → (X → List MadeRecord → Type 0) → (before after : X) → ToldRecord → Type 0
+Tells is before after next = (order : List MadeRecord) → is before order → is after (order ++ record_told next ∷ [])
+
+pub record IsNew (ladder : LadderView) : Type 0 where
+  pub ended : ladder.ended ≡ false
+  pub line_a : ladder.a.line ≡ 2
+  pub line_b : ladder.b.line ≡ 2
+
+-- the last records, and a ladder that knows those before them
+pub record IsRecent (recent : Recent) (order : List MadeRecord) : Type 0 where
+  pub start : LadderView
+  pub is_new : IsNew start
+  pub gone : List ToldRecord
+  pub of_order : map record_told (gone ++ recent.records.items) ≡ order
+  pub before : recent.before ≡ ladder_knowing start gone
+  pub enough : (gone ≡ []) ⊎ (RECORDS ≤ length recent.records.items)
+
+-- whether these are none
+abbrev pub Rest : Bool → List MadeRecord → Type 0
+Rest true rest = rest ≡ []
+Rest false rest = (next : MadeRecord) × (more : List MadeRecord) × (rest ≡ next ∷ more)
+
+-- the first records, those behind them, and the rest
+pub record IsFirst (first : First) (order : List MadeRecord) : Type 0 where
+  pub later : List ToldRecord
+  pub rest : List MadeRecord
+  pub of_order : map record_told (first.records.items ++ later) ++ rest ≡ order
+  pub is_later : first.later.items ≡ map later_entry later
+  pub no_later : length first.records.items < RECORDS → later ≡ []
+  pub no_rest : length first.later.items < LATER → first.is_all ≡ true
+  pub whole : Rest first.is_all rest
+
+abbrev pub IsEnds : BothEnds → List MadeRecord → Type 0
+IsEnds ends order = IsFirst ends.first order × IsRecent ends.recent order
+
+-- those from one on, and a ladder that knows those before them
+pub record IsOnward (onward : Onward) (order : List MadeRecord) : Type 0 where
+  pub start : LadderView
+  pub is_new : IsNew start
+  pub gone : List ToldRecord
+  pub tail : List MadeRecord
+  pub of_order : map record_told gone ++ tail ≡ order
+  pub before : onward.before ≡ ladder_knowing start gone
+  pub first : IsFirst onward.first tail
