@@ -4,4 +4,4 @@ use Rattle.drawing.specs.Telling.{ladder_told}
 use Rattle.drawing.proofs.tell.tell_all.Given as goal
 
 abbrev pub invariant-loop-index : goal.invariant-loop-index
-invariant-loop-index g l = l.ladder ≡ ladder_told l.fn.ladder (take l.index l.records.items)
+invariant-loop-index l = l.ladder ≡ ladder_told l.fn.ladder (take l.index l.records.items)
