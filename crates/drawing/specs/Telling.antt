@@ -22,9 +22,9 @@ keep_by otherwise (Some start) = From start.side start.line
 keep_by otherwise None = otherwise
 
 -- of an accepted pair the one, of a refused pair the other
-abbrev pub keep_for : (first last : Keep) → Verdict → Keep
-keep_for first last (Accepted summary) = first
-keep_for first last (Refused side place reason) = last
+abbrev pub keep_for : (accepted refused : Keep) → Verdict → Keep
+keep_for accepted refused (Accepted summary) = accepted
+keep_for accepted refused (Refused side place reason) = refused
 
 abbrev pub keep_of : Range → Verdict → Keep
 keep_of range verdict = keep_for (keep_by First range.start) (keep_by Last range.start) verdict

@@ -2,7 +2,7 @@
 
 ghost use Rattle.std.specs.Prelude.{◌≡◌, ◌≤◌, List, [], IfOk, OnOk};
 ghost use Rattle.pair_judge.specs.Order.{MadeRecord};
-ghost use Rattle.drawing.specs.Telling.{ladder_behind, ladder_told, later_entries};
+ghost use Rattle.drawing.specs.Telling.{ladder_behind, ladder_told};
 ghost use Rattle.ladder.specs.declared.rows.Keep.TheVariants as Keep;
 ghost use Rattle.drawing.specs.inner.Ending.{IsBegun};
 ghost use Rattle.drawing.specs.inner.Kept.{IsFirst, Tells, told};
