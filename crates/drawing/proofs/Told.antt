@@ -1,5 +1,5 @@
 -- A ladder that is told one more record.
-use Rattle.std.proofs.Common.{◌≡◌, ◌<◌, ℕ, ◌+◌, inl, inr, List, [], ◌∷◌, ◌++◌, get_or, length, map, refl, sym, ◌∙◌, ap, take}
+use Rattle.std.proofs.Common.{◌≡◌, ◌<◌, ℕ, ◌+◌, true, inl, inr, List, [], ◌∷◌, ◌++◌, get_or, length, map, refl, sym, ◌∙◌, ap, take}
 use Rattle.std.proofs.lemmas.List.{append_assoc, map-append, take_more}
 use Rattle.ladder.specs.Ladder.{LadderView, follows, learned, made}
 use Rattle.pair_judge.specs.Order.{MadeRecord}
@@ -12,13 +12,13 @@ use Rattle.drawing.specs.Telling.{WereFollowed, ladder_behind, ladder_knowing, l
 
 -- ---- one more
 
-knows : LadderView → ToldRecord → LadderView
+abbrev knows : LadderView → ToldRecord → LadderView
 knows ladder next = learned ladder next.side next.entry next.bytes
 
-takes : LadderView → ToldRecord → LadderView
+abbrev takes : LadderView → ToldRecord → LadderView
 takes ladder next = made ladder next.side next.entry next.bytes
 
-passes : LadderView → Later → LadderView
+abbrev passes : LadderView → Later → LadderView
 passes ladder next = follows ladder next.side next.entry
 
 pub knowing_more : (ladder : LadderView) (records : List ToldRecord) (next : ToldRecord)
