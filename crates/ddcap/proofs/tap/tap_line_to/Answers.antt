@@ -24,6 +24,7 @@ returns-in-Err-clause-checks g c =
     let s = streams (moved g.A.Read.remaining c.args.a.now c.judge_line.new.a) (moved g.B.Read.remaining c.args.b.now c.judge_line.new.b)
     (moved g.O.Write.contents c.args.out.now c.args.out.now) (moved g.E.Write.contents c.args.err.now c.print_fault.new.err) in
     let known = c.in-Err.ensures in
-    let answered = answered_fault stations_alone _ _ c.in-Err.fault known.exact known.faulty in
-    let counts = (known.reads_a, known.reads_b) in
-    tells_fault stations_alone line_verdict_text c.args.tapped s c.in-Err.fault c.print_fault.result answered counts c.print_fault.ensures refl
+    let fault = c.in-Err.fault in
+    let answered = answered_fault stations_alone _ _ fault known.exact known.faulty in
+    let told = c.print_fault.ensures in
+    tells_fault stations_alone line_verdict_text c.args.tapped s fault c.print_fault.result answered (known.reads_a, known.reads_b) told refl
