@@ -46,7 +46,8 @@ impl Cover {
 impl Observer for Cover {
     ghost told = { Told };
 
-    #[inline(always)]
+    // Out of line, so that the judge's way is as short as where nobody looks on.
+    #[inline(never)]
     fn made(
         &mut self,
         side: Side,

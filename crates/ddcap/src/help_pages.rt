@@ -172,8 +172,9 @@ Where no placing is found for a unit it prints, as for unit 7 of a (counted
 from 0) whose first byte is on line 16 of WIRE:
 
   unexplained a unit 7 line 16: 7 WrongNumber
+  no placing was found, which accuses nobody
 
-The captures end with it. Then: ddcap check A B
+The captures end with it. Then: ddcap why A B
 
 With --line stations and line are judged alone: a packet is any bytes.
 

@@ -15,9 +15,10 @@ abbrev pub unit_words : Passed → List ℕ
 unit_words passed =
     side_letter passed.side ++ (codes " unit " ++ (decimal passed.unit ++ (codes " line " ++ decimal passed.line)))
 
--- `7 WrongNumber`, or that no placing was found
+-- `7 WrongNumber` and, on a line of its own, that no placing was found; or that alone
 abbrev pub reason_words : Option Reason → List ℕ
-reason_words (Some reason) = decimal (reason_number reason) ++ (codes " " ++ reason_name reason)
+reason_words (Some reason) =
+    decimal (reason_number reason) ++ (codes " " ++ (reason_name reason ++ codes "\nno placing was found, which accuses nobody"))
 reason_words None = codes "no placing was found"
 
 -- `unexplained a unit 7 line 16: 7 WrongNumber`

@@ -27,7 +27,7 @@ impl fmt::Display for UnitWords {
     }
 }
 
-// A reason with its number, or that no placing was found.
+// A reason with its number and, behind it, that no placing was found; or that alone.
 #[derive(Clone, Copy)]
 struct ReasonWords {
     reason: Option<Reason>,
@@ -43,7 +43,10 @@ impl fmt::Display for ReasonWords {
         match self.reason {
             Some(reason) => {
                 let number = reason.number();
-                write!(f, "{number} {reason}")
+                write!(
+                    f,
+                    "{number} {reason}\nno placing was found, which accuses nobody"
+                )
             }
             None => f.write_str("no placing was found"),
         }
@@ -73,8 +76,8 @@ impl fmt::Display for SkippedWords {
     }
 }
 
-/// `unexplained a unit 7 line 16: 7 WrongNumber`, with its LF: the unit with which the captures end, and why they are refused; without a reason they
-/// are accepted, and no placing was found. Fails for want of memory alone.
+/// `unexplained a unit 7 line 16: 7 WrongNumber`, and a line that no placing was found, each with its LF: the unit with which the captures end, and
+/// why they are refused; without a reason they are accepted. Fails for want of memory alone.
 pub fn unexplained_text(
     alloc: Global,
     passed: Passed,
@@ -87,7 +90,8 @@ pub fn unexplained_text(
     format!(in alloc; "unexplained {unit}: {why}\n")
 }
 
-/// `unexplained behind the last unit: 14 WrongUserEvent`, with its LF: captures of all that passed are refused there. Fails for want of memory alone.
+/// `unexplained behind the last unit: 14 WrongUserEvent`, and a line that no placing was found, each with its LF: captures of all that passed are
+/// refused there. Fails for want of memory alone.
 pub fn unexplained_end_text(alloc: Global, reason: Reason) -> Result<String, AllocError>
     ensures { IfOk result (λ text. string_bytes text ≡ unexplained_end_words reason) }
 {

@@ -36,7 +36,7 @@ fn an_unplaced_unit_is_named_with_the_reason(rt: HostRuntime) -> Result<(), Allo
     let text = unexplained_text(rt.alloc(), passed, reason)?;
     assert_eq!(rt;
         text.as_str(),
-        "unexplained a unit 7 line 16: 7 WrongNumber\n"
+        "unexplained a unit 7 line 16: 7 WrongNumber\nno placing was found, which accuses nobody\n"
     );
     let text = unexplained_text(rt.alloc(), passed, None)?;
     assert_eq!(rt;
@@ -74,7 +74,7 @@ b skipped maintenance messages 0 bytes between units 0
     let text = unexplained_end_text(rt.alloc(), Reason::WrongUserEvent)?;
     assert_eq!(rt;
         text.as_str(),
-        "unexplained behind the last unit: 14 WrongUserEvent\n"
+        "unexplained behind the last unit: 14 WrongUserEvent\nno placing was found, which accuses nobody\n"
     );
     Ok(())
 }
