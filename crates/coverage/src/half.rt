@@ -3,7 +3,8 @@
 ghost use Rattle.std.specs.Prelude.{◌≡◌, true};
 ghost use Rattle.capture.specs.declared.event.Event.TheVariants as Event;
 ghost use Rattle.capture.specs.Entries.{record_with};
-ghost use Rattle.ddcmp_msg.specs.Reading.{IsSound, reading, reading_view};
+ghost use Rattle.ddcmp_msg.specs.Message.{view};
+ghost use Rattle.ddcmp_msg.specs.Reading.{IsSound, Sound, reading, reading_view};
 ghost use Rattle.coverage.specs.inner.Met as spec;
 
 use crate::counts::Counts;
@@ -11,7 +12,7 @@ use crate::link_rows::{link_gets, link_sends};
 use crate::row::{LinkAct, Row};
 use crate::tracker::Tracker;
 use capture::Entry;
-use ddcmp_msg::{Reading, read_sound, read_unit};
+use ddcmp_msg::{Message, Reading, read_sound, read_unit};
 use dna_station::{State, StationEvent};
 
 /// One side.
@@ -29,8 +30,20 @@ impl Half {
         ensures { self.new ≡ spec.met self.old (record_with entry bytes.now) }
     {
         match entry {
-            Entry::Sent => self.sent(read(bytes, sound)),
-            Entry::Received { kept, .. } => self.received(kept, read(bytes, sound)),
+            Entry::Sent => {
+                if sound {
+                    self.sent(&read_sound(bytes));
+                } else {
+                    self.sent_unread(bytes);
+                }
+            }
+            Entry::Received { kept, .. } => {
+                if sound {
+                    self.received(kept, &read_sound(bytes));
+                } else {
+                    self.received_unread(kept, bytes);
+                }
+            }
             Entry::Noise => self.damaged(read_unit(bytes)),
             Entry::Start => self.started(),
             Entry::Halt => self.halted(),
@@ -43,32 +56,47 @@ impl Half {
         }
     }
 
-    // A unit was sent.
+    // A sound unit was sent.
     #[inline(always)]
-    fn sent(&mut self, read: Reading<'_>)
-        ensures { self.new ≡ spec.met_sent self.old (reading_view read.entry) }
+    fn sent(&mut self, message: &Message<'_>)
+        ensures { self.new ≡ spec.met_sent self.old (Sound (view message.now)) }
     {
-        if let Reading::Sound(message) = read {
-            let is_new = self.tracker.is_new();
-            self.counts.count(self.tracker.sent_row(&message));
-            self.counts.count(link_sends(is_new, &message));
-            self.tracker.sent(&message);
+        let is_new = self.tracker.is_new();
+        self.counts.count(self.tracker.sent_row(message));
+        self.counts.count(link_sends(is_new, message));
+        self.tracker.sent(message);
+    }
+
+    // A unit was sent that nobody read yet.
+    #[inline(never)]
+    fn sent_unread(&mut self, bytes: &[u8])
+        ensures { self.new ≡ spec.met_sent self.old (reading bytes.now) }
+    {
+        if let Reading::Sound(message) = read_unit(bytes) {
+            self.sent(&message);
         }
     }
 
-    // A unit came.
+    // A sound unit came.
     #[inline(always)]
-    fn received(&mut self, kept: bool, read: Reading<'_>)
-        ensures { self.new ≡ spec.met_receipt self.old kept (reading_view read.entry) }
+    fn received(&mut self, kept: bool, message: &Message<'_>)
+        ensures { self.new ≡ spec.met_receipt self.old kept (Sound (view message.now)) }
     {
-        match read {
-            Reading::Sound(message) => {
-                self.counts
-                    .count(Some(self.tracker.arrival_row(&message, kept)));
-                self.counts.count(link_gets(kept, &message));
-                self.tracker.arrived(&message, kept);
-            }
-            Reading::HeaderBad | Reading::DataBad => self.damaged(read),
+        self.counts
+            .count(Some(self.tracker.arrival_row(message, kept)));
+        self.counts.count(link_gets(kept, message));
+        self.tracker.arrived(message, kept);
+    }
+
+    // A unit came that nobody read yet.
+    #[inline(never)]
+    fn received_unread(&mut self, kept: bool, bytes: &[u8])
+        ensures { self.new ≡ spec.met_receipt self.old kept (reading bytes.now) }
+    {
+        match read_unit(bytes) {
+            Reading::Sound(message) => self.received(kept, &message),
+            Reading::HeaderBad => self.damaged(Reading::HeaderBad),
+            Reading::DataBad => self.damaged(Reading::DataBad),
             Reading::Malformed(_) => {}
         }
     }
@@ -102,16 +130,4 @@ impl Half {
     {
         self.counts.count(Some(Row::LinkUser(act)));
     }
-}
-
-// What the unit says.
-#[inline(always)]
-fn read(bytes: &[u8], sound: bool) -> Reading<'_>
-    requires { sound ≡ true → IsSound (reading bytes.now) }
-    ensures { reading_view result ≡ reading bytes.now }
-{
-    if sound {
-        return Reading::Sound(read_sound(bytes));
-    }
-    read_unit(bytes)
 }
