@@ -2,9 +2,10 @@
 
 ghost use Rattle.std.specs.Prelude.{◌≡◌, true, is_ok, IfOk};
 
-use crate::check::print_failed_read;
+use crate::check::{print_failed_read, print_out_of_memory};
 use crate::files::{Named, created, opened};
 use crate::tap::{RefusedAt, print_tap_fault, tap_line_to, tap_to};
+use capture::CaptureFault;
 use std::io::Write;
 use std::rt::Files;
 use tap_answer::units_before;
@@ -98,7 +99,8 @@ fn refused_unit<R: Files + AllocGlobal, E: Write>(
     };
     let mut capture = opened(rt, path, named, err)?;
     match units_before(rt.alloc(), &mut capture, refused.place) {
-        Some(unit) => Ok(unit),
-        None => Err(print_failed_read(err, refused.side)),
+        Ok(unit) => Ok(unit),
+        Err(CaptureFault::OutOfMemory) => Err(print_out_of_memory(err)),
+        Err(_) => Err(print_failed_read(err, refused.side)),
     }
 }

@@ -1,5 +1,6 @@
 //! What is said of the captures of what passed on a line.
 
+use capture::CaptureFault;
 use pair_judge::{Reason, Verdict};
 use std::alloc::AllocError;
 use tap_answer::{
@@ -82,7 +83,10 @@ b skipped maintenance messages 0 bytes between units 0
 #[test]
 fn the_units_before_a_record_are_counted(rt: HostRuntime) {
     let mut capture = Tally::new(CAPTURE.as_bytes());
-    assert_eq!(rt; units_before(rt.alloc(), &mut capture, 3), Some(1));
+    assert_eq!(rt; units_before(rt.alloc(), &mut capture, 3), Ok(1));
     let mut capture = Tally::new(CAPTURE.as_bytes());
-    assert_eq!(rt; units_before(rt.alloc(), &mut capture, 9), None);
+    assert_eq!(rt;
+        units_before(rt.alloc(), &mut capture, 9),
+        Err(CaptureFault::Read)
+    );
 }

@@ -7,7 +7,7 @@ use Rattle.tap_answer.proofs.counting.units_before.Goals as goal
 
 pub loop-init : goal.loop-init
 loop-init g c = record {
-  counting = counting_begins _ (g.R.Read.remaining (tally_lent c.open.new.reader)) c.in-Ok.reader c.in-Ok.ensures.opens;
+  counting = counting_begins _ (g.R.Read.remaining (tally_lent c.open.new.reader)) c.in_ok-reader.reader c.in_ok-reader.ensures.opens;
   few = omega arith;
 }
 
