@@ -3,6 +3,7 @@
 use ddcmp_msg::{Message, Reading, read_unit};
 use dna_packet::{Nsp, Packet, read_nsp, read_packet};
 use std::alloc::{AllocError, Global};
+use std::collections::{BTreeMap, BTreeSet};
 
 /// What a user does with a link (NSP 4.0, session control interface), before a packet that tells of it is sent.
 #[derive(Clone, Copy, Debug, PartialEq, Eq)]
@@ -15,38 +16,41 @@ pub(crate) enum UserAct {
     HandIn { link: u16, far: u16, number: u16 },
 }
 
-// The phases of a link that lives (NSP 4.0, port states).
+// The phases of a link that has an own address (NSP 4.0, port states).
 #[derive(Clone, Copy, Debug, PartialEq, Eq)]
 enum Phase {
     Calling,
-    Called,
     Confirming,
     Running,
     Disconnecting,
 }
 
-// A link that lives: an address that is not known yet is 0. Of the segments it has the last number that was given, and whether a message is
-// handed in whose last segment is not sent yet.
+// A link that lives, and has an own address: its far address, 0 while it calls; of the segments the last number that was given, and whether a
+// message is handed in whose last segment is not sent yet.
 #[derive(Clone, Copy, Debug, PartialEq, Eq)]
 struct UserLink {
-    own: u16,
     far: u16,
     phase: Phase,
     given: u16,
     in_message: bool,
 }
 
-/// The links of a side that live.
+/// The links of a side that live: by their own addresses; by the far address, where they are called and not answered yet; and the own address
+/// by the far one, where both are known.
 #[derive(Drop)]
 pub(crate) struct UserLinks {
-    links: Vec<UserLink>,
+    links: BTreeMap<u16, UserLink>,
+    called: BTreeSet<u16>,
+    reached: BTreeMap<u16, u16>,
 }
 
 impl UserLinks {
-    /// None.
+    /// None. Takes no memory.
     pub(crate) fn new(alloc: Global) -> UserLinks {
         UserLinks {
-            links: Vec::new(alloc),
+            links: BTreeMap::new(alloc),
+            called: BTreeSet::new(alloc),
+            reached: BTreeMap::new(alloc),
         }
     }
 
@@ -55,14 +59,14 @@ impl UserLinks {
         match message_of(unit) {
             Some(Nsp::ConnectInitiate(message)) => self.calls(message.srcaddr),
             Some(Nsp::ConnectConfirm(message)) => {
-                Ok(self.answers(message.srcaddr, message.dstaddr, Phase::Confirming))
+                self.answers(message.srcaddr, message.dstaddr, Phase::Confirming)
             }
             Some(Nsp::DisconnectInitiate(message)) => {
-                Ok(self.disconnects(message.srcaddr, message.dstaddr))
+                self.disconnects(message.srcaddr, message.dstaddr)
             }
             Some(Nsp::DisconnectConfirm(message)) => {
                 if message.srcaddr == 0 {
-                    self.end(0, message.dstaddr);
+                    self.called.remove(&message.dstaddr);
                 }
                 Ok(None)
             }
@@ -80,10 +84,7 @@ impl UserLinks {
     pub(crate) fn keep(&mut self, unit: &[u8]) -> Result<(), AllocError> {
         match message_of(unit) {
             Some(Nsp::ConnectInitiate(message)) => self.is_called(message.srcaddr),
-            Some(Nsp::ConnectConfirm(message)) => {
-                self.confirm(message.dstaddr, message.srcaddr);
-                Ok(())
-            }
+            Some(Nsp::ConnectConfirm(message)) => self.confirm(message.dstaddr, message.srcaddr),
             Some(Nsp::DisconnectInitiate(message)) => {
                 self.end(message.dstaddr, message.srcaddr);
                 Ok(())
@@ -115,47 +116,41 @@ impl UserLinks {
     // ---- what is sent
 
     fn calls(&mut self, own: u16) -> Result<Option<UserAct>, AllocError> {
-        for link in self.links.iter() {
-            if link.own == own {
-                return Ok(None);
-            }
+        if self.link(own).is_some() {
+            return Ok(None);
         }
-        self.begin(own, 0, Phase::Calling)?;
+        self.put(own, 0, Phase::Calling)?;
         Ok(Some(UserAct::Open { link: own }))
     }
 
     // The link that a CI from this far address began is answered.
-    fn answers(&mut self, own: u16, far: u16, phase: Phase) -> Option<UserAct> {
-        for link in self.links.iter_mut() {
-            if link.far == far {
-                if let Phase::Called = link.phase {
-                    link.own = own;
-                    link.phase = phase;
-                    if let Phase::Confirming = phase {
-                        return Some(UserAct::Accept {
-                            partner: far,
-                            link: own,
-                        });
-                    }
-                    return Some(UserAct::Reject {
-                        partner: far,
-                        link: own,
-                    });
-                }
-            }
+    fn answers(&mut self, own: u16, far: u16, phase: Phase) -> Result<Option<UserAct>, AllocError> {
+        if !self.called.remove(&far) {
+            return Ok(None);
         }
-        None
+        self.put(own, far, phase)?;
+        self.reach(far, own)?;
+        match phase {
+            Phase::Confirming => Ok(Some(UserAct::Accept {
+                partner: far,
+                link: own,
+            })),
+            _ => Ok(Some(UserAct::Reject {
+                partner: far,
+                link: own,
+            })),
+        }
     }
 
-    fn disconnects(&mut self, own: u16, far: u16) -> Option<UserAct> {
-        for link in self.links.iter_mut() {
-            if link.own == own && link.far == far {
+    fn disconnects(&mut self, own: u16, far: u16) -> Result<Option<UserAct>, AllocError> {
+        if let Some(link) = self.links.get_mut(&own) {
+            if link.far == far {
                 match link.phase {
                     Phase::Confirming | Phase::Running => {
                         link.phase = Phase::Disconnecting;
-                        return Some(UserAct::Close { link: own });
+                        return Ok(Some(UserAct::Close { link: own }));
                     }
-                    _ => return None,
+                    _ => return Ok(None),
                 }
             }
         }
@@ -163,8 +158,8 @@ impl UserLinks {
     }
 
     fn gives(&mut self, own: u16, far: u16, number: u16, ends: bool) -> Option<UserAct> {
-        for link in self.links.iter_mut() {
-            if link.own == own && link.far == far && number == next_number(link.given) {
+        if let Some(link) = self.links.get_mut(&own) {
+            if link.far == far && number == next_number(link.given) {
                 let begins = !link.in_message;
                 link.given = number;
                 link.in_message = !ends;
@@ -175,7 +170,6 @@ impl UserLinks {
                         number,
                     });
                 }
-                return None;
             }
         }
         None
@@ -184,28 +178,28 @@ impl UserLinks {
     // ---- what came
 
     fn is_called(&mut self, far: u16) -> Result<(), AllocError> {
-        for link in self.links.iter() {
-            if link.far == far {
-                return Ok(());
-            }
+        if self.reached.get(&far).is_some() {
+            return Ok(());
         }
-        self.begin(0, far, Phase::Called)
+        match self.called.insert(far) {
+            Ok(_) => Ok(()),
+            Err(_) => Err(AllocError),
+        }
     }
 
-    fn confirm(&mut self, own: u16, far: u16) {
-        for link in self.links.iter_mut() {
-            if link.own == own {
-                if let Phase::Calling = link.phase {
-                    link.far = far;
-                    link.phase = Phase::Running;
-                }
+    fn confirm(&mut self, own: u16, far: u16) -> Result<(), AllocError> {
+        match self.link(own) {
+            Some(link) if link.phase == Phase::Calling => {
+                self.put(own, far, Phase::Running)?;
+                self.reach(far, own)
             }
+            _ => Ok(()),
         }
     }
 
     fn run(&mut self, own: u16, far: u16) {
-        for link in self.links.iter_mut() {
-            if link.own == own && link.far == far {
+        if let Some(link) = self.links.get_mut(&own) {
+            if link.far == far {
                 if let Phase::Confirming = link.phase {
                     link.phase = Phase::Running;
                 }
@@ -213,31 +207,50 @@ impl UserLinks {
         }
     }
 
-    fn begin(&mut self, own: u16, far: u16, phase: Phase) -> Result<(), AllocError> {
-        self.links.push(UserLink {
-            own,
+    // The link with both addresses is over, or the one with the own address that calls, or the one that is called and has no own address yet.
+    fn end(&mut self, own: u16, far: u16) {
+        if own == 0 {
+            self.called.remove(&far);
+            return;
+        }
+        let Some(link) = self.link(own) else {
+            return;
+        };
+        if link.phase != Phase::Calling && link.far != far {
+            return;
+        }
+        self.links.remove(&own);
+        if self.reached.get(&link.far).copied() == Some(own) {
+            self.reached.remove(&link.far);
+        }
+    }
+
+    // ---- by addresses
+
+    fn link(&self, own: u16) -> Option<UserLink> {
+        self.links.get(&own).copied()
+    }
+
+    // A link of which no segment was given has this own address.
+    fn put(&mut self, own: u16, far: u16, phase: Phase) -> Result<(), AllocError> {
+        let link = UserLink {
             far,
             phase,
             given: 0,
             in_message: false,
-        })?;
-        Ok(())
+        };
+        match self.links.insert(own, link) {
+            Ok(_) => Ok(()),
+            Err(_) => Err(AllocError),
+        }
     }
 
-    // The link with both addresses is over, or the one with the own address that calls.
-    fn end(&mut self, own: u16, far: u16) {
-        self.links.retain(|link| !is_ended_by(link, own, far));
+    fn reach(&mut self, far: u16, own: u16) -> Result<(), AllocError> {
+        match self.reached.insert(far, own) {
+            Ok(_) => Ok(()),
+            Err(_) => Err(AllocError),
+        }
     }
-}
-
-fn is_ended_by(link: &UserLink, own: u16, far: u16) -> bool {
-    if link.own != own {
-        return false;
-    }
-    if let Phase::Calling = link.phase {
-        return own != 0;
-    }
-    link.far == far
 }
 
 /// The number of the segment behind the one with this number.
