@@ -7,7 +7,7 @@ use Rattle.capture.specs.declared.record.Record.{Record}
 use Rattle.dna_station.specs.declared.head.Head.{Head}
 use Rattle.dna_station.specs.Pair.{pair, start}
 use Rattle.dna_node.specs.Alone.{StationPasses}
-use Rattle.dna_node.specs.Kind.{IsRunOf, stations_alone}
+use Rattle.dna_node.specs.Kind.{IsRunOf, both_layers, stations_alone}
 use Rattle.dna_node.specs.Layers.{LayersNode, LayersUnit, stations}
 use Rattle.dna_node.specs.LayersPair.{layers_pair, layers_start}
 use Rattle.pair_judge.specs.Ends.{ShownEnds}
@@ -25,7 +25,8 @@ pub record AloneLaws : Type 0 where
   pub a_passes : (head_a head_b : Head) (of_a of_b : List Record) → IsRunOf stations_alone head_a head_b of_a of_b → StationPasses head_a of_a
   pub b_passes : (head_a head_b : Head) (of_a of_b : List Record) → IsRunOf stations_alone head_a head_b of_a of_b → StationPasses head_b of_b
 
-module _ (laws : AloneLaws) (text_a text_b : Option (List ℕ)) (ends : ShownEnds) (cover : Cover) (w : WasTold text_a text_b ends (Told cover)) where
+module _ (laws : AloneLaws) (text_a text_b : Option (List ℕ)) (ends : ShownEnds) (cover : Cover)
+    (w : WasTold both_layers text_a text_b ends (Told cover)) where
   abbrev of_a : List Record
   of_a = records_of A w.order
 

@@ -1,5 +1,6 @@
 mod Listing
 mod NotOpened
+pub mod Pictures
 pub mod Answering
 pub mod AnsweringAlone
 pub mod AcceptLaws

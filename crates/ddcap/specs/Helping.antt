@@ -4,7 +4,7 @@ use Rattle.ddcap.specs.declared.help.Topic.{Topic}
 use Rattle.ddcap.specs.declared.help.Topic.TheVariants as on
 use Rattle.ddcap.specs.declared.help.TheConstants.{VERSION}
 use Rattle.ddcap.specs.declared.help_pages.TheConstants.{CONVERT, EXPLAIN, HELP, PLAY, PROGRAM, SHOW, TAP}
-use Rattle.ddcap.specs.declared.judging_pages.TheConstants.{ALONE, CHECK, COVER, WHY}
+use Rattle.ddcap.specs.declared.judging_pages.TheConstants.{ALONE, CHECK, COVER, DRAW, WHY}
 
 -- the page of each topic as it stands in the program; the name and the version come before that of the whole
 abbrev pub help_text : Topic → List ℕ
@@ -13,6 +13,7 @@ help_text on.Check = CHECK.now
 help_text on.Alone = ALONE.now
 help_text on.Why = WHY.now
 help_text on.Cover = COVER.now
+help_text on.Draw = DRAW.now
 help_text on.Show = SHOW.now
 help_text on.Play = PLAY.now
 help_text on.Convert = CONVERT.now

@@ -8,6 +8,7 @@ pub mod Playing
 pub mod Accepting
 pub mod Explaining
 pub mod Helping
+pub mod PrintedDrawing
 pub mod PrintedWhy
 pub mod PrintedWhyEnd
 pub mod PrintedTap

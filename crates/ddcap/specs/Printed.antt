@@ -99,6 +99,7 @@ not_opened_text named.Script = codes "script: cannot open\n"
 not_opened_text named.Wire = codes "wire: cannot open\n"
 not_opened_text named.A = codes "a: cannot open\n"
 not_opened_text named.B = codes "b: cannot open\n"
+not_opened_text named.Svg = codes "svg: cannot open\n"
 
 -- where opening it failed with an error of this kind
 abbrev pub not_opened_says : Named → ErrorKind → List ℕ

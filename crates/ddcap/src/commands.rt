@@ -1,5 +1,6 @@
 //! The words that the program knows, and what may stand behind each.
 
+use crate::draw_words::draw;
 use clap::{Arg, ArgAction, Command};
 use std::alloc::{AllocError, Global};
 
@@ -12,6 +13,7 @@ pub fn program<'a>(alloc: Global) -> Result<Command<'a>, AllocError> {
         .subcommand(alone(alloc)?)?
         .subcommand(why(alloc)?)?
         .subcommand(cover(alloc)?)?
+        .subcommand(draw(alloc)?)?
         .subcommand(show(alloc)?)?
         .subcommand(play(alloc)?)?
         .subcommand(convert(alloc)?)?
@@ -47,8 +49,8 @@ fn why<'a>(alloc: Global) -> Result<Command<'a>, AllocError> {
         )
 }
 
-// `--line`, before or behind the files
-fn line_alone<'a>(alloc: Global) -> Arg<'a> {
+/// `--line`, before or behind the files
+pub fn line_alone<'a>(alloc: Global) -> Arg<'a> {
     Arg::new(alloc, "line")
         .long("line")
         .action(ArgAction::SetTrue)

@@ -17,6 +17,8 @@ pub enum Named {
     Wire,
     A,
     B,
+    /// The picture of `draw`.
+    Svg,
 }
 
 /// Opens a file to be read. `Err`: it can't be opened, which was told, with this status.
@@ -69,5 +71,6 @@ fn print_not_opened<W: Write>(err: &mut Tally<W>, named: Named, error: &io::Erro
         Named::Wire => print(err, b"wire: cannot open\n", FAILED),
         Named::A => print(err, b"a: cannot open\n", FAILED),
         Named::B => print(err, b"b: cannot open\n", FAILED),
+        Named::Svg => print(err, b"svg: cannot open\n", FAILED),
     }
 }

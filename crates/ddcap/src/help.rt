@@ -6,7 +6,7 @@ ghost use Rattle.ddcap.specs.Printed.{Writes, stream_of};
 
 use crate::check::print;
 use crate::help_pages::{CONVERT, EXPLAIN, HELP, PLAY, PROGRAM, SHOW, TAP};
-use crate::judging_pages::{ALONE, CHECK, COVER, WHY};
+use crate::judging_pages::{ALONE, CHECK, COVER, DRAW, WHY};
 use crate::text::FAILED;
 use std::io::Write;
 use wire_base::{Tally, write_whole};
@@ -26,6 +26,7 @@ pub enum Topic {
     Alone,
     Why,
     Cover,
+    Draw,
     Show,
     Play,
     Convert,
@@ -44,6 +45,7 @@ pub fn help_to<W: Write>(stream: &mut Tally<W>, topic: Topic) -> u8
         Topic::Alone => print(stream, ALONE.as_bytes(), HELPED),
         Topic::Why => print(stream, WHY.as_bytes(), HELPED),
         Topic::Cover => print(stream, COVER.as_bytes(), HELPED),
+        Topic::Draw => print(stream, DRAW.as_bytes(), HELPED),
         Topic::Show => print(stream, SHOW.as_bytes(), HELPED),
         Topic::Play => print(stream, PLAY.as_bytes(), HELPED),
         Topic::Convert => print(stream, CONVERT.as_bytes(), HELPED),

@@ -8,6 +8,7 @@ pub const PROGRAM: &str = "\
   ddcap alone A           judge the capture of one end, without the other
   ddcap why A [B]         tell what was seen and allowed at a refusal
   ddcap cover A B         count which rows of the rules a pair went through
+  ddcap draw A B          draw what passed between both ends
   ddcap show A            print what a capture says, a line a record
   ddcap play SCRIPT A B   write both captures of a script
   ddcap convert N IN OUT  write a capture in format N: 1 or 2
@@ -16,8 +17,8 @@ pub const PROGRAM: &str = "\
   ddcap explain N         tell what reason N of a refusal means: 1 to 27
 
 Status:
-  0  it was done; of check, alone, why, cover: accepted, passed
-  1  of check, alone, why, cover: refused
+  0  it was done; of check, alone, why, cover, draw: accepted, passed
+  1  of check, alone, why, cover, draw: refused
   2  the words, or a line of a file, are faulty
   3  a file, the memory or a stream failed
 
@@ -108,8 +109,8 @@ pub const HELP: &str = "\
 ddcap help [WORD]
 
 Prints what the program is and all its words; or, with a word, what that one
-does, an example and the statuses. WORD is check, alone, why, cover, show,
-play, convert, help or explain.
+does, an example and the statuses. WORD is check, alone, why, cover, draw,
+show, play, convert, help or explain.
 
 Example, in the top folder of the sources:
 

@@ -126,3 +126,37 @@ Status:
   2  a faulty line, as a: line 3: syntax (or too long, too many)
   3  a: cannot open, a: read failed, out of memory, or a failed write
 ";
+
+/// The page of `draw`.
+pub const DRAW: &str = "\
+ddcap draw A B
+
+Draws two captures of one line, a on the left and b on the right: a row for a
+record, or for a unit and its receipt. Of a pair that is refused there are the
+40 rows up to the refused record, of another the first 40.
+
+Example, in the top folder of the sources:
+
+  ./ddcap draw examples/wrong_response.a examples/wrong_response.b
+
+It ends with status 1 and prints rows, among them:
+
+     3                |------------- STRT -------------->|                3
+     4                |<------------- STACK -------------|                4
+
+The arrow ends with > or < where the unit comes in this row, with . where in
+another one, and with x where it never comes. ~ stands before what came damaged.
+
+With --from a:9 the rows begin with the record in line 9 of A (b:9: of B).
+With --rows 80 there are up to 80 of them; 200 is the most. With --svg FILE
+they are drawn into FILE, which is created, or emptied first: a picture for any
+browser. With --line stations and line are judged alone, as by check. These
+words stand before or behind A and B.
+
+Status:
+  0  accepted, and drawn
+  1  refused, and drawn
+  2  a faulty line, as a: line 3: syntax (or too long, too many)
+  3  a: cannot open (b: or svg:), a: read failed, out of memory, or a failed
+     write
+";

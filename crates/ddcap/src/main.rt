@@ -1,5 +1,5 @@
 //! `ddcap` judges whether two text captures of one DDCMP line, between two DECnet Phase IV end nodes, are together a run of the protocols, or
-//! whether one of them can be a side of such a run, and prints the verdict; it tells why they are refused, or counts which rows of the rule
+//! whether one of them can be a side of such a run, and prints the verdict; it tells why they are refused, draws what passed between them, or counts which rows of the rule
 //! tables they went through; it shows what one capture says, or writes it in another format; it writes both captures that a script stands for; or
 //! it tells what its words do, and what a reason means. It reads the files that it is given, and writes those that it is told to and its two
 //! streams; it never touches a line, a clock or another file.
@@ -13,6 +13,9 @@ mod check;
 mod commands;
 mod convert;
 mod cover;
+mod draw;
+mod draw_files;
+mod draw_words;
 mod due;
 mod end_telling;
 mod end_text;
@@ -25,6 +28,7 @@ mod judging_pages;
 mod last_rows;
 mod laws;
 mod near;
+mod picture;
 mod play;
 mod recorder;
 mod run;

@@ -6,6 +6,7 @@ use crate::alone::{alone_line_to, alone_to};
 use crate::check::{check_line_to, check_to, print, print_out_of_memory};
 use crate::convert::convert_to;
 use crate::cover::{Covered, cover_pair, print_covered};
+use crate::draw_files::draw_files;
 use crate::end_telling::{EndPrintout, why_end_to};
 use crate::explain::explain_to;
 use crate::explanations::explanation_of;
@@ -71,6 +72,7 @@ fn do_task<R: Files + AllocGlobal, O: Write, E: Write>(
             Ok(why_end_to(rt.alloc(), printout, &mut a, out, err))
         }
         Task::Cover { files } => cover_files(rt, files.as_slice(), out, err),
+        Task::Draw(asked) => draw_files(rt, asked, out, err),
         Task::Show { a } => show_file(rt, a, out, err),
         Task::Play { script, a, b } => play_file(rt, script, a, b, out, err),
         Task::Convert { to, a, b } => convert_file(rt, to, a, b, out, err),

@@ -1,6 +1,8 @@
 //! The words that the program is given.
 
 use crate::commands::program;
+use crate::draw_files::Asked;
+use crate::draw_words::drawing_asked;
 use crate::explanations::reason_spelled;
 use crate::help::Topic;
 use crate::tap_files::TapPaths;
@@ -48,6 +50,8 @@ pub enum Task<'a> {
     Cover {
         files: Vec<&'a str>,
     },
+    /// To draw the captures in two files.
+    Draw(Asked<'a>),
     /// To show the records of the capture in a file.
     Show {
         a: &'a str,
@@ -98,6 +102,7 @@ pub fn task_of<'a, S: AsStr>(alloc: Global, words: &'a [S]) -> Result<Task<'a>, 
             Some(("alone", found)) => judged_alone_of(found),
             Some(("why", found)) => explained_of(found),
             Some(("cover", found)) => covered_of(alloc, found),
+            Some(("draw", found)) => drawn_of(found),
             Some(("show", found)) => match found.get_str("A") {
                 Some(a) => Ok(Task::Show { a }),
                 None => Err(WordsFault::BadWords),
@@ -167,6 +172,14 @@ fn covered_of<'a>(alloc: Global, found: &ArgMatches<'a>) -> Result<Task<'a>, Wor
     }
 }
 
+// What the words behind `draw` ask for.
+fn drawn_of<'a>(found: &ArgMatches<'a>) -> Result<Task<'a>, WordsFault> {
+    match drawing_asked(found) {
+        Ok(asked) => Ok(Task::Draw(asked)),
+        Err(fault) => Err(fault),
+    }
+}
+
 // The conversion that the words behind `convert` ask for: the format's number has one spelling.
 fn conversion_of<'a>(found: &ArgMatches<'a>) -> Result<Task<'a>, WordsFault> {
     let (Some(number), Some(a), Some(b)) = (
@@ -232,6 +245,7 @@ fn help_of<'a>(found: &ArgMatches<'a>) -> Result<Task<'a>, WordsFault> {
         Some("alone") => Topic::Alone,
         Some("why") => Topic::Why,
         Some("cover") => Topic::Cover,
+        Some("draw") => Topic::Draw,
         Some("show") => Topic::Show,
         Some("play") => Topic::Play,
         Some("convert") => Topic::Convert,

@@ -81,8 +81,8 @@ impl fmt::Display for MistakeOf {
                 write!(f, "line {line} of {side} is `{right}`, not `{wrong}`")
             }
             Mistake::SentMissing { before, unit, like } => {
-                write!(f, "an `s` line is missing before line {before} of {side}: ")?;
-                write!(f, "unit {unit}, with the bytes of line {like} of {other}")
+                write_missing("an `s` line", before, side, f)?;
+                write!(f, ": unit {unit}, with the bytes of line {like} of {other}")
             }
             Mistake::ReceiptMissing {
                 before,
@@ -90,23 +90,17 @@ impl fmt::Display for MistakeOf {
                 unit,
                 like,
             } => {
-                let kind = letter(kept);
-                write!(
-                    f,
-                    "a `{kind}` line is missing before line {before} of {side}: "
-                )?;
+                write_missing(receipt_line(kept), before, side, f)?;
                 write_like(other, unit, like, f)
             }
             Mistake::DamagedMissing { before, unit, like } => {
-                write!(f, "the `r` line of a damaged unit is missing before ")?;
+                write_missing("the `r` line of a damaged unit", before, side, f)?;
                 write!(
                     f,
-                    "line {before} of {side}: unit {unit} of {other}, sent in line {like} of {other}"
+                    ": unit {unit} of {other}, sent in line {like} of {other}"
                 )
             }
-            Mistake::NoiseMissing { before } => {
-                write!(f, "an `n` line is missing before line {before} of {side}")
-            }
+            Mistake::NoiseMissing { before } => write_missing("an `n` line", before, side, f),
             Mistake::UserMissing { before, entry } => {
                 write_user(entry, f)?;
                 write!(f, " is missing before line {before} of {side}")
@@ -140,8 +134,22 @@ fn write_like<W: fmt::Write>(
 ) -> fmt::Result {
     write!(
         f,
-        "unit {unit} of {other}, with the bytes of line {like} of {other}"
+        ": unit {unit} of {other}, with the bytes of line {like} of {other}"
     )
+}
+
+// That this is missing before a line of this side.
+fn write_missing<W: fmt::Write>(
+    what: &str,
+    before: u64,
+    side: Side,
+    f: &mut fmt::Formatter<W>,
+) -> fmt::Result {
+    write!(f, "{what} is missing before line {before} of {side}")
+}
+
+fn receipt_line(kept: bool) -> &'static str {
+    if kept { "a `k` line" } else { "a `r` line" }
 }
 
 fn letter(kept: bool) -> &'static str {

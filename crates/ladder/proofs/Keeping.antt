@@ -9,8 +9,8 @@ use Rattle.ladder.specs.Rows.{Kept, filling, records, with_rows}
 filled : (kept : Kept) (next : List Row) → length next ≤ records kept → filling kept next ≡ with_rows kept next
 filled kept next fits = ap (λ b. if b then with_rows kept next else record kept { phase = Closed }) (le-leb (length next) (records kept) fits)
 
-pub fills : (kept : Kept) (row : Row) → length kept.rows < records kept →
-    filling kept (kept.rows ++ row ∷ []) ≡ with_rows kept (kept.rows ++ row ∷ [])
+pub fills : (kept : Kept) (row : Row) → length kept.rows < records kept
+    → filling kept (kept.rows ++ row ∷ []) ≡ with_rows kept (kept.rows ++ row ∷ [])
 fills kept row room =
     let next : List Row = kept.rows ++ row ∷ [] in
     let one_more : length next ≡ length kept.rows + 1 = length_push kept.rows row in

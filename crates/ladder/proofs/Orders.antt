@@ -41,8 +41,8 @@ same_side A B e = cc
 same_side B A e = cc
 same_side B B e = refl
 
-other_side_of : (row before : Row) (side : Side) → is_side row.told.side side ≡ true → may_pass row before ≡ true →
-    is_side before.told.side side ≡ false
+other_side_of : (row before : Row) (side : Side) → is_side row.told.side side ≡ true → may_pass row before ≡ true
+    → is_side before.told.side side ≡ false
 other_side_of row before side is pass =
     sym (ap (λ s. is_side before.told.side s) (same_side row.told.side side is))
     ∙ other_by (is_side before.told.side row.told.side) (rests_on row.told.what before.told.what) pass

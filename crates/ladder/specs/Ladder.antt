@@ -13,8 +13,9 @@ use Rattle.ladder.specs.declared.told.What.TheVariants as what
 use Rattle.ladder.specs.Given.{after_other, after_sending, is_again}
 use Rattle.ladder.specs.Reading.{said_of}
 use Rattle.ladder.specs.Rows.{Kept, passed_in, with_made, with_refused}
-use Rattle.ladder.specs.State.{behind}
-use Rattle.ladder.specs.UnderWay.{passed, sending_of, sent_units, with_unit}
+use Rattle.ladder.specs.Said.{brief}
+use Rattle.ladder.specs.State.{behind, behind_arrival, behind_user}
+use Rattle.ladder.specs.UnderWay.{passed, sending_of, sent_units, skipped, with_unit}
 
 -- both sides, the rows, and whether no record is left
 pub record LadderView : Type 0 where
@@ -56,6 +57,21 @@ own_by own line _ entry = record own { line = next_line own; given = after_other
 abbrev pub own_after : Half → Told → Entry → Half
 own_after own told entry = record (own_by own told.line told.what entry) { state = told.state }
 
+-- behind a record that is not drawn, nor its unit where that comes: in which line the next one stands, the state, which data were sent before, and
+-- the number of the next unit
+abbrev pub knowing : Half → Entry → List ℕ → Half
+knowing own Sent bytes = record own {
+  line = next_line own;
+  given = after_sending own.given (brief (said_of (reading bytes)));
+  units = skipped own.units;
+}
+knowing own (Received kept hint) bytes = record own {
+  line = next_line own;
+  given = after_other own.given (Received kept hint);
+  state = behind_arrival own.state (brief (said_of (reading bytes)));
+}
+knowing own entry bytes = record own { line = next_line own; given = after_other own.given entry; state = behind_user own.state entry }
+
 -- the units that the other side sent are passed by a receipt
 abbrev pub other_after : Half → Entry → Half
 other_after other (Received kept hint) = record other { units = passed other.units hint }
@@ -87,6 +103,16 @@ made_by ladder B told entry =
 
 abbrev pub made : LadderView → Side → Entry → List ℕ → LadderView
 made ladder side entry bytes = made_by ladder side (told_in ladder side entry bytes) entry
+
+-- a record was made, and neither it nor its unit is drawn
+abbrev pub learned : LadderView → Side → Entry → List ℕ → LadderView
+learned ladder A entry bytes = record ladder { a = knowing ladder.a entry bytes }
+learned ladder B entry bytes = record ladder { b = knowing ladder.b entry bytes }
+
+-- in which line the side's next record stands
+abbrev pub line_of : LadderView → Side → ℕ
+line_of ladder A = ladder.a.line
+line_of ladder B = ladder.b.line
 
 -- a record was refused: it changes the rows alone
 abbrev pub refused : LadderView → Side → Entry → List ℕ → LadderView

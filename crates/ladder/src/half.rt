@@ -1,10 +1,11 @@
 //! What a ladder knows of one side.
 
-ghost use Rattle.std.specs.Prelude.{◌≡◌, OnErr, OnOk};
+ghost use Rattle.std.specs.Prelude.{◌≡◌, true, OnErr, OnOk};
+ghost use Rattle.ddcmp_msg.specs.Reading.{IsSound, reading};
 ghost use Rattle.ladder.specs.Ladder as spec;
 
 use crate::given::Given;
-use crate::reading::said_by;
+use crate::reading::{said_briefly, said_by};
 use crate::said::Said;
 use crate::state::State;
 use crate::told::{Sending, Told, What};
@@ -113,6 +114,30 @@ impl Half {
                 Ok(())
             }
         }
+    }
+
+    /// The side's next record was made, and neither it nor its unit is ever drawn: what is drawn behind it goes by the line, the numbers and the state
+    /// that it leaves. What is said to be sound is read without its checks. Takes no memory.
+    #[inline(always)]
+    pub fn learn(&mut self, entry: Entry, bytes: &[u8], sound: bool)
+        requires { sound ≡ true → IsSound (reading bytes.now) }
+        ensures { self.new ≡ spec.knowing self.old entry bytes.now }
+    {
+        match entry {
+            Entry::Sent => {
+                self.given = self.given.after_sending(said_briefly(bytes, sound));
+                self.units.skip();
+            }
+            Entry::Received { .. } => {
+                self.given = self.given.after_other(entry);
+                self.state = self.state.behind_arrival(said_briefly(bytes, sound));
+            }
+            _ => {
+                self.given = self.given.after_other(entry);
+                self.state = self.state.behind_user(entry);
+            }
+        }
+        self.line = self.line.saturating_add(1);
     }
 
     /// What the other side's record does to the units of this one: a receipt passes them. Takes no memory.

@@ -1,6 +1,7 @@
 //! The ladder itself.
 
 ghost use Rattle.std.specs.Prelude.{◌≡◌, ◌≤◌, OnErr, OnOk};
+ghost use Rattle.ddcmp_msg.specs.Reading.{IsSound, reading};
 ghost use Rattle.ladder.specs.Ladder as spec;
 
 use crate::drawn::Drawn;
@@ -14,10 +15,10 @@ use wire_base::Side;
 
 /// What was told of the records of two captures.
 ///
-/// It is told each record that was made ([`Ladder::made`]), then perhaps the one that was refused ([`Ladder::refused`]), and those
-/// behind it ([`Ladder::follows`]), and at last that there is no more ([`Ladder::end`]); then [`Ladder::drawn`] has the rows. Memory is taken
-/// for four records a row that may be drawn, and for the units that were sent and neither came nor were passed over. A record touches
-/// those that are kept and the units that it passes over.
+/// It is told each record that was made ([`Ladder::made`], or [`Ladder::learn`] of one that has no row), then perhaps the one that was refused
+/// ([`Ladder::refused`]), and those behind it ([`Ladder::follows`]), and at last that there is no more ([`Ladder::end`]); then
+/// [`Ladder::drawn`] has the rows. Memory is taken for four records a row that may be drawn, and for the units that were sent and neither came nor
+/// were passed over. A record touches those that are kept and the units that it passes over.
 #[derive(Drop)]
 pub struct Ladder {
     a: Half,
@@ -78,6 +79,41 @@ impl Ladder {
                 self.receive(side, entry);
                 Ok(())
             }
+        }
+    }
+
+    /// This side's next record was made, and neither it nor its unit is ever drawn; what is drawn behind it goes by it, but for how units that
+    /// come later were sent. What is said to be sound is read without its checks. Takes no memory.
+    #[inline(always)]
+    pub fn learn(&mut self, side: Side, entry: Entry, bytes: &[u8], sound: bool)
+        requires { sound ≡ true → IsSound (reading bytes.now) }
+        ensures { self.new ≡ spec.learned self.old side entry bytes.now }
+    {
+        match side {
+            Side::A => self.a.learn(entry, bytes, sound),
+            Side::B => self.b.learn(entry, bytes, sound),
+        }
+    }
+
+    /// No record has a row yet; from now on they are kept so, and at most `room` rows are drawn, 1 to 200. `AllocError` where there is no memory
+    /// for their records; then nothing changed.
+    pub fn begin(&mut self, alloc: Global, keep: Keep, room: usize) -> Result<(), AllocError>
+        requires low { 1 ≤ room }
+        requires high { room ≤ 200 }
+        ensures ok { OnOk result (self.new ≡ record self.old { kept = no_rows keep room }) }
+        ensures err { OnErr result (self.new ≡ self.old) }
+    {
+        self.kept = Rows::new(alloc, keep, room)?;
+        Ok(())
+    }
+
+    /// In which line of its capture this side's next record stands.
+    pub fn line(&self, side: Side) -> u64
+        ensures { result ≡ spec.line_of self.now side }
+    {
+        match side {
+            Side::A => self.a.line,
+            Side::B => self.b.line,
         }
     }
 

@@ -16,6 +16,7 @@ mod said;
 mod sides;
 mod state;
 mod svg;
+mod svg_arrow_words;
 mod svg_arrows;
 mod svg_cells;
 mod svg_parts;

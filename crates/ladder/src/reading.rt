@@ -1,15 +1,16 @@
 //! What the bytes of a unit say.
 
-ghost use Rattle.std.specs.Prelude.{◌≡◌, ◌/◌, ◌%◌, ◌==◌, if◌then◌else◌};
+ghost use Rattle.std.specs.Prelude.{◌≡◌, true, ◌/◌, ◌%◌, ◌==◌, if◌then◌else◌};
 ghost use Rattle.ddcmp_msg.specs.Message as unit;
-ghost use Rattle.ddcmp_msg.specs.Reading.{reading};
+ghost use Rattle.ddcmp_msg.specs.Reading.{IsSound, reading};
 ghost use Rattle.dna_packet.specs.Nsp as nsp;
 ghost use Rattle.dna_packet.specs.ReadingNsp.{nsp_at};
 ghost use Rattle.dna_packet.specs.ReadingPacket.{packet_at};
 ghost use Rattle.ladder.specs.Reading as spec;
+ghost use Rattle.ladder.specs.Said.{brief};
 
 use crate::said::{Content, Link, Said};
-use ddcmp_msg::{Message, Reading, read_unit};
+use ddcmp_msg::{Message, Reading, read_sound, read_unit};
 use dna_packet::{AckWord, Nsp, Packet, read_nsp, read_packet};
 
 /// What a unit with these bytes says: its message, and of a data message what is in its packet; or how the bytes read as damaged.
@@ -22,6 +23,50 @@ pub fn said_by(bytes: &[u8]) -> Said
         Reading::HeaderBad => Said::HeaderBad,
         Reading::DataBad => Said::DataBad,
         Reading::Malformed(_) => Said::NoMessage,
+    }
+}
+
+/// The same with nothing of the packet in a data message. What is said to be sound is read without its checks. Takes no memory.
+#[inline(always)]
+pub fn said_briefly(bytes: &[u8], sound: bool) -> Said
+    requires { sound ≡ true → IsSound (reading bytes.now) }
+    ensures { result ≡ brief (spec.said_of (reading bytes.now)) }
+{
+    if sound {
+        return brief_message(read_sound(bytes));
+    }
+    said_unread(bytes)
+}
+
+// What a unit says briefly that nobody read yet.
+#[inline(never)]
+fn said_unread(bytes: &[u8]) -> Said
+    ensures { result ≡ brief (spec.said_of (reading bytes.now)) }
+{
+    match read_unit(bytes) {
+        Reading::Sound(message) => brief_message(message),
+        Reading::HeaderBad => Said::HeaderBad,
+        Reading::DataBad => Said::DataBad,
+        Reading::Malformed(_) => Said::NoMessage,
+    }
+}
+
+// A message, with nothing of its packet.
+#[inline(always)]
+fn brief_message(message: Message<'_>) -> Said
+    ensures { result ≡ brief (spec.said_message (unit.view message.entry)) }
+{
+    match message {
+        Message::Data { num, resp, .. } => Said::Data {
+            num,
+            resp,
+            content: Content::Untold,
+        },
+        Message::Ack { resp, .. } => Said::Ack { resp },
+        Message::Nak { reason, resp, .. } => Said::Nak { reason, resp },
+        Message::Rep { num, .. } => Said::Rep { num },
+        Message::Strt { .. } => Said::Strt,
+        Message::Stack { .. } => Said::Stack,
     }
 }
 

@@ -29,7 +29,8 @@ impl State {
         }
     }
 
-    fn behind_user(self, entry: Entry) -> State
+    /// The state behind what a user did, or got.
+    pub fn behind_user(self, entry: Entry) -> State
         ensures { result ≡ spec.behind_user self entry }
     {
         match entry {
@@ -39,7 +40,8 @@ impl State {
         }
     }
 
-    fn behind_arrival(self, said: Said) -> State
+    /// The state behind what came.
+    pub fn behind_arrival(self, said: Said) -> State
         ensures { result ≡ spec.behind_arrival self said }
     {
         match (self, said) {

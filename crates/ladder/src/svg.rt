@@ -26,9 +26,9 @@ pub struct Caption<'t> {
 impl Drawn {
     /// The rows as a picture: an SVG file that needs no other file, in light and dark, with this caption.
     ///
-    /// A record stands below the one before it on its side, and below the sending of what came by it. Each arrow has a `<title>`, whose first line
-    /// tells both ends as `a line 5 to b line 6`, where both are known. Besides the caption there are numbers and fixed words alone; of the caption
-    /// `<`, `>` and `&` are written as entities, and what is not printable ASCII as `?`. `AllocError` where there is no memory for it.
+    /// A record stands below the one before it on its side, and below the sending of what came by it. Each arrow has a `<title>`, whose first
+    /// line tells both ends as `a line 5 to b line 6`, where both are known. Besides the caption there are numbers and fixed words alone; of the
+    /// caption `<`, `>` and `&` are written as entities, and what is not printable ASCII as `?`. `AllocError` where there is no memory for it.
     pub fn svg(&self, alloc: Global, caption: Caption<'_>) -> Result<String, AllocError> {
         let places = places_of(alloc, self)?;
         let mut svg = String::new(alloc);
@@ -81,7 +81,7 @@ fn put_head(svg: &mut String, places: &Places, caption: Caption<'_>) -> Result<(
     let height = places.height();
     write!(
         svg,
-        "<svg xmlns='http://www.w3.org/2000/svg' width='{WIDTH}' height='{height}' viewBox='0 0 {WIDTH} {height}'>\n"
+        "<svg xmlns='http://www.w3.org/2000/svg' width='{WIDTH}' height='{height}' viewBox='0 0 {WIDTH} {height}' xml:space='preserve'>\n"
     )?;
     svg.push_str(STYLE)?;
     write!(

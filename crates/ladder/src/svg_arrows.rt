@@ -4,9 +4,10 @@ use crate::drawn::Drawn;
 use crate::row::{Fate, Row};
 use crate::said::Said;
 use crate::sides::faces;
+use crate::svg_arrow_words::{outside_title, outside_words, sent_words};
 use crate::svg_parts::{anchor_of, put_text, x_inside, y_of};
 use crate::svg_places::{Places, row_of_unit};
-use crate::told::{Sending, What};
+use crate::told::What;
 use std::alloc::{AllocError, Global};
 use std::fmt::Write;
 use wire_base::Side;
@@ -109,18 +110,6 @@ fn arrival_below(drawn: &Drawn, places: &Places, sender: Side, unit: u64) -> Opt
     None
 }
 
-// The words of a sending: `again DATA 2/1`, with `~` before what came in its place.
-fn sent_words(alloc: Global, row: &Row, came: Option<Said>) -> Result<String, AllocError> {
-    let What::Sent { said, again, .. } = row.told.what else {
-        return Ok(String::new(alloc));
-    };
-    let front = if again { "again " } else { "" };
-    match came {
-        Some(came) if came != said => format!(in alloc; "{front}{said} ~ {came}"),
-        _ => format!(in alloc; "{front}{said}"),
-    }
-}
-
 // From a sending to its receipt.
 fn whole(alloc: Global, row: &Row, y: usize, arrival: Arrival) -> Result<Arrow, AllocError> {
     let side = row.told.side;
@@ -203,57 +192,6 @@ fn from_outside(alloc: Global, row: &Row, y: usize) -> Result<Arrow, AllocError>
             above.saturating_add(3),
         ),
     })
-}
-
-fn outside_title(alloc: Global, row: &Row) -> Result<String, AllocError> {
-    let side = row.told.side;
-    let from = side.other();
-    let line = row.told.line;
-    match row.told.what {
-        What::Came {
-            sent: Some(Sending { line: there, said }),
-            said: came,
-            ..
-        } => {
-            if came == said {
-                return format!(in alloc; "{from} line {there} to {side} line {line}\n{said}");
-            }
-            format!(in alloc; "{from} line {there} to {side} line {line}\n{said} ~ {came}")
-        }
-        What::Came {
-            hint,
-            said,
-            sent: None,
-            ..
-        } => format!(in alloc; "{from} unit {hint} to {side} line {line}\n{said}"),
-        What::Noise { said } => format!(in alloc; "{side} line {line}\nnoise ~ {said}"),
-        What::Sent { .. } | What::User { .. } => Ok(String::new(alloc)),
-    }
-}
-
-fn outside_words(alloc: Global, row: &Row) -> Result<String, AllocError> {
-    let from = row.told.side.other();
-    match row.told.what {
-        What::Came {
-            sent: Some(Sending { line, said }),
-            said: came,
-            ..
-        } => {
-            let said = said.brief();
-            if came.brief() == said {
-                return format!(in alloc; "{said} of {from} line {line}");
-            }
-            format!(in alloc; "{said} of {from} line {line} ~ {came}")
-        }
-        What::Came {
-            hint,
-            said,
-            sent: None,
-            ..
-        } => format!(in alloc; "{said} of {from} unit {hint}"),
-        What::Noise { said } => format!(in alloc; "noise ~ {said}"),
-        What::Sent { .. } | What::User { .. } => Ok(String::new(alloc)),
-    }
 }
 
 fn is_as_sent(row: &Row, came: Said) -> bool {

@@ -1,6 +1,7 @@
 //! What stands beside the time lines of a picture, and on them.
 
 use crate::drawn::Drawn;
+use crate::note::Note;
 use crate::row::{Fate, Row};
 use crate::sides::is_side;
 use crate::state::State;
@@ -102,16 +103,15 @@ pub fn put_cells(
         if let Some(cell) = row.cell(side) {
             let y = y_of(level_of(places, index, row, side)).saturating_add(4);
             let line = cell.line;
-            let note = cell.note;
             let (line_class, line_x, note_class, note_x) = match side {
                 Side::A => ("line", 20, "end", 218),
-                Side::B => ("line end", 840, "", 642),
+                Side::B => ("line end", 840, "note", 642),
             };
             write!(
                 svg,
-                "<text class='{line_class}' x='{line_x}' y='{y}'>{line}</text><text class='{note_class}' x='{note_x}' y='{y}'>{note}"
+                "<text class='{line_class}' x='{line_x}' y='{y}'>{line}</text><text class='{note_class}' x='{note_x}' y='{y}'>"
             )?;
-            put_state(svg, drawn, places, index, side)?;
+            put_note(svg, cell.note, new_state(drawn, places, index, side))?;
             svg.push_str("</text>\n")?;
         }
     }
@@ -131,21 +131,22 @@ fn level_of(places: &Places, index: usize, row: &Row, side: Side) -> usize {
     place.receipt
 }
 
-// The state, where the record changes it.
-fn put_state(
-    svg: &mut String,
-    drawn: &Drawn,
-    places: &Places,
-    index: usize,
-    side: Side,
-) -> Result<(), AllocError> {
-    let Some(mark) = mark_of(drawn, places, index, side) else {
-        return Ok(());
-    };
-    let state = mark.state;
+// The state of this side's station, where the record changes it.
+fn new_state(drawn: &Drawn, places: &Places, index: usize, side: Side) -> Option<State> {
+    let mark = mark_of(drawn, places, index, side)?;
     match state_above(drawn, places, index, side) {
-        Some(above) if above == state => Ok(()),
-        _ => write!(svg, " [{state}]"),
+        Some(above) if above == mark.state => None,
+        _ => Some(mark.state),
+    }
+}
+
+// What is noted of a record, and the state that its station has then.
+fn put_note(svg: &mut String, note: Note, state: Option<State>) -> Result<(), AllocError> {
+    write!(svg, "{note}")?;
+    match (note, state) {
+        (_, None) => Ok(()),
+        (Note::Nothing, Some(state)) => write!(svg, "[{state}]"),
+        (_, Some(state)) => write!(svg, " [{state}]"),
     }
 }
 
@@ -164,18 +165,18 @@ pub fn put_check(
         return Ok(());
     }
     let y = y_of(places.of(index).told);
-    let top = y.saturating_sub(13);
+    let top = y.saturating_sub(12);
     let seen = y.saturating_add(20);
     let allowed = y.saturating_add(34);
     write!(
         svg,
-        "<rect class='refused' x='8' y='{top}' width='844' height='54' rx='3'/>\n"
+        "<rect class='refused' x='8' y='{top}' width='844' height='53' rx='3'/>\n"
     )?;
-    put_text(svg, "verdict", 20, seen)?;
+    put_text(svg, "word verdict", 20, seen)?;
     svg.push_str("seen    ")?;
     put_escaped(svg, caption.seen)?;
     svg.push_str("</text>\n")?;
-    put_text(svg, "verdict", 20, allowed)?;
+    put_text(svg, "word verdict", 20, allowed)?;
     svg.push_str("allowed ")?;
     put_escaped(svg, caption.allowed)?;
     svg.push_str("</text>\n")

@@ -1,7 +1,7 @@
 //! How the picture of a ladder looks.
 
-/// Light, and dark where the reader's screen asks for that. What the colours tell stands in words and strokes too: what came damaged is dashed, as is
-/// what has not come, and what was not kept has a hollow head.
+/// Light, and dark where the reader's screen asks for that. What the colours tell stands in words and strokes too: what came damaged is dashed,
+/// as is what has not come, and what was not kept has a hollow head.
 pub const STYLE: &str = "<style>
 text { fill: #24292f; font: 11px 'DejaVu Sans Mono', monospace; white-space: pre; }
 text.title { font-size: 13px; font-weight: bold; }

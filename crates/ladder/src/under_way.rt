@@ -72,6 +72,15 @@ impl UnderWay {
         Ok(())
     }
 
+    /// One more unit was sent, and neither it nor one before it is drawn where it comes. Takes no memory.
+    pub fn skip(&mut self)
+        ensures { self.new ≡ spec.skipped self.old }
+    {
+        let next = self.sent().saturating_add(1).min(END);
+        self.units.clear();
+        self.gone = next;
+    }
+
     /// The unit with this number came: it can't come any more, nor can those before it. Takes no memory.
     pub fn pass(&mut self, number: u64)
         ensures { self.new ≡ spec.passed self.old number }

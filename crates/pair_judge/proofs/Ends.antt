@@ -6,7 +6,7 @@ use Rattle.std.specs.Option.{option_to_list}
 use Rattle.wire_base.specs.Side.{other_side}
 use Rattle.wire_base.specs.declared.side.Side.{Side}
 use Rattle.wire_base.specs.declared.side.Side.TheVariants.{A, B}
-use Rattle.two_nodes.specs.Nodes.{Run}
+use Rattle.two_nodes.specs.Nodes.{Run, World}
 use Rattle.capture.specs.declared.record.Record.{Record}
 use Rattle.dna_station.specs.declared.head.Head.{Head}
 use Rattle.dna_station.specs.Bounds.{IsOrdered}
@@ -21,7 +21,7 @@ use Rattle.dna_node.specs.declared.finding.Cause.TheVariants.{Step, NoSuchUnit, 
 use Rattle.dna_node.specs.declared.finding.Finding.{Finding}
 use Rattle.dna_node.specs.declared.finding.Finding.TheVariants.{Accepted, Refused}
 use Rattle.dna_node.specs.CutLayers.{tagged_packets, with_tags}
-use Rattle.dna_node.specs.Kind.{both_layers, kind_pair, kind_start}
+use Rattle.dna_node.specs.Kind.{KindNode, KindUnit, both_layers, kind_pair, kind_start}
 use Rattle.dna_node.specs.WireLayers.{WireLayers, wire_layers_start}
 use Rattle.ddcmp_station.specs.View.{true_view, view_of}
 use Rattle.pair_judge.specs.declared.course.Ahead.{Ahead}
@@ -47,7 +47,7 @@ use Rattle.pair_judge.specs.Watched.{WasTold}
 use Rattle.pair_judge.specs.inner.Runs.{tag_of}
 use Rattle.pair_judge.specs.inner.Stopped.{IsStoppedIn, ends_of, found_of}
 use Rattle.pair_judge.specs.inner.Tops.{links_on_top_left}
-use Rattle.pair_judge.specs.inner.Wire.{JudgeHalf, JudgeWorld, judge_pair}
+use Rattle.pair_judge.specs.inner.Wire.{JudgeHalf, JudgeTop, JudgeWorld, judge_pair}
 use Rattle.pair_judge.proofs.Runs.{length-units_from}
 
 -- ---- lists
@@ -116,6 +116,44 @@ module _ (laws : EndLaws) (own : End) (incoming : Line) (w : JudgeHalf) (half : 
   front_true : incoming.gone ≡ half.state.front
   front_true = sym stands.front ∙ shows.front
 
+-- ---- what the observer was told, of either kind of node
+
+module _ (top : JudgeTop)
+    (shown : (head_a head_b : Head) (w : JudgeWorld) (of_a of_b : List Record) →
+      Run (judge_pair top) (wire_layers_start head_a head_b) of_a of_b w → IsShown top head_a head_b w of_a of_b)
+    (text_a text_b : Option (List ℕ)) (tells : List MadeRecord → Type 0) (s : Stopped) (i : IsStoppedIn top text_a text_b tells s) where
+  abbrev heard_a : Track
+  heard_a = along text_a s.a i.come_a i.made_a
+
+  abbrev heard_b : Track
+  heard_b = along text_b s.b i.come_b i.made_b
+
+  -- with the heads that were read
+  run_there : (of_a of_b : List Record) (world : World (KindNode top.kind) (KindUnit top.kind)) →
+      Run (kind_pair top.kind) (kind_start top.kind s.a.end.head s.b.end.head) of_a of_b world →
+      Run (kind_pair top.kind) (kind_start top.kind (head_of (read_of heard_a)) (head_of (read_of heard_b))) of_a of_b world
+  run_there of_a of_b world run =
+      subst (λ (h : Head). Run (kind_pair top.kind) (kind_start top.kind (head_of (read_of heard_a)) h) of_a of_b world) i.read_b.head
+      (subst (λ (h : Head). Run (kind_pair top.kind) (kind_start top.kind h s.b.end.head) of_a of_b world) i.read_a.head run)
+
+  pub told_there : WasTold top.kind text_a text_b (ends_of top s) tells
+  told_there = record {
+    order = i.order;
+    is_told = i.told;
+    read_a = read_of heard_a;
+    read_b = read_of heard_b;
+    from_a = i.read_a.so_far;
+    from_b = i.read_b.so_far;
+    all_a = ap₂ (λ (made ahead : List Record). made ++ ahead) (sym i.in_order.of_a) (ahead_listed s.a.capture.bytes s.a.ahead);
+    all_b = ap₂ (λ (made ahead : List Record). made ++ ahead) (sym i.in_order.of_b) (ahead_listed s.b.capture.bytes s.b.ahead);
+    records_a = i.in_order.count_a ∙ ap length (sym i.in_order.of_a);
+    records_b = i.in_order.count_b ∙ ap length (sym i.in_order.of_b);
+    is_run = λ done rest is.
+        let ran = i.in_order.in_order done rest is in
+        let x = shown s.a.end.head s.b.end.head ran.0 (records_of A done) (records_of B done) ran.1 in
+        (x.world, run_there (records_of A done) (records_of B done) x.world x.run);
+  }
+
 -- ---- where the judge stops
 
 module _ (laws : EndLaws) (text_a text_b : Option (List ℕ)) (tells : List MadeRecord → Type 0) (s : Stopped)
@@ -153,33 +191,6 @@ module _ (laws : EndLaws) (text_a text_b : Option (List ℕ)) (tells : List Made
   becomes_at B NoSuchUnit next w x is = x.waits_b next is
   becomes_at B NoOrder next w x is = x.waits_b next is
 
-  -- with the heads that were read
-  run_there : (of_a of_b : List Record) (world : NodeWorld) →
-      Run (kind_pair both_layers) (kind_start both_layers s.a.end.head s.b.end.head) of_a of_b world →
-      Run (kind_pair both_layers) (kind_start both_layers (head_of (read_of track_a)) (head_of (read_of track_b))) of_a of_b world
-  run_there of_a of_b world run =
-      subst (λ (h : Head). Run (kind_pair both_layers) (kind_start both_layers (head_of (read_of track_a)) h) of_a of_b world) i.read_b.head
-      (subst (λ (h : Head). Run (kind_pair both_layers) (kind_start both_layers h s.b.end.head) of_a of_b world) i.read_a.head run)
-
-  -- what the observer was told
-  pub told_there : WasTold text_a text_b (ends_of links_on_top_left s) tells
-  told_there = record {
-    order = i.order;
-    is_told = i.told;
-    read_a = read_of track_a;
-    read_b = read_of track_b;
-    from_a = i.read_a.so_far;
-    from_b = i.read_b.so_far;
-    all_a = ap₂ (λ (made ahead : List Record). made ++ ahead) (sym i.in_order.of_a) (ahead_listed s.a.capture.bytes s.a.ahead);
-    all_b = ap₂ (λ (made ahead : List Record). made ++ ahead) (sym i.in_order.of_b) (ahead_listed s.b.capture.bytes s.b.ahead);
-    records_a = i.in_order.count_a ∙ ap length (sym i.in_order.of_a);
-    records_b = i.in_order.count_b ∙ ap length (sym i.in_order.of_b);
-    is_run = λ done rest is.
-        let ran = i.in_order.in_order done rest is in
-        let x = laws.shown s.a.end.head s.b.end.head ran.0 (records_of A done) (records_of B done) ran.1 in
-        (x.world, run_there (records_of A done) (records_of B done) x.world x.run);
-  }
-
   stands_at : (side : Side) (place : ℕ) (cause : Cause) → StopsAt links_on_top_left track_a track_b side place cause →
       StandsThere text_a text_b (ends_of links_on_top_left s) side place (reason_of cause)
   stands_at side place cause q =
@@ -196,7 +207,7 @@ module _ (laws : EndLaws) (text_a text_b : Option (List ℕ)) (tells : List Made
         begins_b = (waiting s.b.capture.bytes s.b.ahead, refl);
         place_is = place_at side place q.place_is;
         world = x.world;
-        run = run_there i.made_a i.made_b x.world x.run;
+        run = run_there links_on_top_left laws.shown text_a text_b tells s i i.made_a i.made_b x.world x.run;
         next = q.next;
         is_next = next_at side place q.next q.ahead q.place_is;
         is_ahead = ahead_is side q.next q.ahead;

@@ -34,7 +34,7 @@ use dna_station::{Head, captures_deliver_in_order};
 use std::alloc::Global;
 use std::io::Read;
 use wire_base::{Side, Tally};
-pub use with_ends::{Watched, judge_watched, judge_with_ends};
+pub use with_ends::{Watched, judge_line_watched, judge_watched, judge_with_ends};
 
 // Each turn makes one record of a side or ends.
 const MOST_TURNS: u64 = 2 * MAX_RECORDS + 1;

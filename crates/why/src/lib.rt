@@ -46,6 +46,7 @@ pub use digits::Fronts;
 pub use edits::{EditLine, EditRow, EditsTried, FEW_RECORDS, RecorderRow, SoRow};
 pub use end_text::{EndRefusal, why_end_json, why_end_rows};
 pub use ends::{is_of_user, live_links, live_links_at, state_at, state_of};
+pub use front_texts::FrontTexts;
 pub use link_line::{LinkLine, LinkRow};
 pub use pages::Page;
 pub use record::{record_json, record_text};

@@ -1,16 +1,15 @@
-//! The judge of both layers, with both ends as they are where it gives its verdict, and with one who is told of each record on the way there.
+//! The judge with both ends as they are where it gives its verdict, and with one who is told of each record on the way there.
 
 ghost use Rattle.std.specs.Prelude.{◌≡◌, IfOk, []};
 ghost use Rattle.wire_base.specs.Tally.{tally_faults, tally_lent};
 ghost use Rattle.wire_base.specs.declared.side.Side.{Side};
 ghost use Rattle.capture.specs.Faulty.{CountsReads};
-ghost use Rattle.dna_node.specs.Kind.{both_layers};
+ghost use Rattle.dna_node.specs.Kind.{both_layers, stations_alone};
 ghost use Rattle.pair_judge.specs.Ends.{StandsFor, verdict_in};
 ghost use Rattle.pair_judge.specs.Faulty.{is_failed_read_of};
 ghost use Rattle.pair_judge.specs.Judged.{IfTold, IsAcceptance, IsExact, IsFaultyWhere, IsRefusalWhere};
 ghost use Rattle.pair_judge.specs.Watched.{WasTold, only};
 ghost use Rattle.pair_judge.specs.inner.Stopped.{ends_of};
-ghost use Rattle.pair_judge.specs.inner.Tops.{links_on_top_left};
 
 use super::{Found, stop, verdict};
 use crate::fault::JudgeFault;
@@ -18,7 +17,7 @@ use crate::judged_ends::{JudgedEnds, ends_with};
 use crate::observer::{Nobody, Observer};
 use crate::stopped::Stopped;
 use crate::summary::Summary;
-use crate::top::{LinksOnTopLeft, Top};
+use crate::top::{LinksOnTopLeft, NothingOnTop, Top};
 use capture::whole_text;
 use ddcmp_station::view_shows_truth;
 use dna_links::LinkTag;
@@ -87,7 +86,7 @@ pub fn judge_watched<O: Observer, R: Read, S: Read>(
     ensures stands { IfOk result (λ watched.
         StandsFor (R.remaining (tally_lent a.old)) (S.remaining (tally_lent b.old)) watched.ends watched.ends.verdict) }
     ensures told { IfOk result (λ watched.
-        WasTold (R.remaining (tally_lent a.old)) (S.remaining (tally_lent b.old)) watched.ends (O.told watched.observer)) }
+        WasTold both_layers (R.remaining (tally_lent a.old)) (S.remaining (tally_lent b.old)) watched.ends (O.told watched.observer)) }
     ensures reads_a { CountsReads (is_failed_read_of Side.A result) (tally_faults a.old) (tally_faults a.new) }
     ensures reads_b { CountsReads (is_failed_read_of Side.B result) (tally_faults b.old) (tally_faults b.new) }
 {
@@ -100,7 +99,44 @@ pub fn judge_watched<O: Observer, R: Read, S: Read>(
     LinksOnTopLeft::shows();
     match stop::<LinksOnTopLeft, O, R, S>(alloc, a, b, observer) {
         Ok((stopped, observer)) => Ok(Watched {
-            ends: with_verdict(stopped),
+            ends: with_verdict::<LinksOnTopLeft>(stopped),
+            observer,
+        }),
+        Err(fault) => Err(fault),
+    }
+}
+
+/// Decides the same as `judge_line`, of whose answer all that is said there holds of this verdict, while an observer is told of each record that is
+/// made, as by `judge_watched`; and gives both ends as they are then. Of those the contract says which record is ahead and how many were made, no
+/// more. They show no link.
+///
+/// The faults are those of `judge_line`; `OutOfMemory` is answered also where the observer wants memory. The observer was told of nothing before.
+pub fn judge_line_watched<O: Observer, R: Read, S: Read>(
+    alloc: Global,
+    a: &mut Tally<R>,
+    b: &mut Tally<S>,
+    observer: O,
+) -> Result<Watched<O>, JudgeFault>
+    requires { O.told observer [] }
+    ensures exact { IfTold (R.remaining (tally_lent a.old)) (S.remaining (tally_lent b.old))
+        (λ bytes_a bytes_b. IsExact stations_alone bytes_a bytes_b (verdict_in (only result (λ watched. watched.ends)))) }
+    ensures accepted { IfTold (R.remaining (tally_lent a.old)) (S.remaining (tally_lent b.old))
+        (λ bytes_a bytes_b. IsAcceptance stations_alone bytes_a bytes_b (verdict_in (only result (λ watched. watched.ends)))) }
+    ensures refused { IsRefusalWhere stations_alone (R.remaining (tally_lent a.old)) (S.remaining (tally_lent b.old))
+        (verdict_in (only result (λ watched. watched.ends))) }
+    ensures faulty { IsFaultyWhere stations_alone (R.remaining (tally_lent a.old)) (S.remaining (tally_lent b.old))
+        (verdict_in (only result (λ watched. watched.ends))) }
+    ensures told { IfOk result (λ watched.
+        WasTold stations_alone (R.remaining (tally_lent a.old)) (S.remaining (tally_lent b.old)) watched.ends (O.told watched.observer)) }
+    ensures reads_a { CountsReads (is_failed_read_of Side.A result) (tally_faults a.old) (tally_faults a.new) }
+    ensures reads_b { CountsReads (is_failed_read_of Side.B result) (tally_faults b.old) (tally_faults b.new) }
+{
+    whole_text();
+    captures_deliver_in_order();
+    NothingOnTop::shows();
+    match stop::<NothingOnTop, O, R, S>(alloc, a, b, observer) {
+        Ok((stopped, observer)) => Ok(Watched {
+            ends: with_verdict::<NothingOnTop>(stopped),
             observer,
         }),
         Err(fault) => Err(fault),
@@ -108,12 +144,12 @@ pub fn judge_watched<O: Observer, R: Read, S: Read>(
 }
 
 // Both sides with what is answered of their finding.
-fn with_verdict(stopped: Stopped) -> JudgedEnds
-    ensures { result ≡ ends_of links_on_top_left stopped }
+fn with_verdict<T: Top>(stopped: Stopped) -> JudgedEnds
+    ensures { result ≡ ends_of T.top stopped }
 {
     let summary = Summary {
-        a: stopped.a.end.summary::<LinksOnTopLeft>(),
-        b: stopped.b.end.summary::<LinksOnTopLeft>(),
+        a: stopped.a.end.summary::<T>(),
+        b: stopped.b.end.summary::<T>(),
     };
     let found = Found {
         finding: stopped.finding,

@@ -23,3 +23,8 @@ pub returns-in-Wire : goal.returns-in-Wire
 returns-in-Wire g c =
     let other = same_false the_type _ _ (sym c.if-eq.ensures) in
     rw (says_file c.args.named _ (λ e. other (c.kind.ensures ∙ e))) (rw c.in-Wire.is c.print-in-Wire.ensures)
+
+pub returns-in-Svg : goal.returns-in-Svg
+returns-in-Svg g c =
+    let other = same_false the_type _ _ (sym c.if-eq.ensures) in
+    rw (says_file c.args.named _ (λ e. other (c.kind.ensures ∙ e))) (rw c.in-Svg.is c.print-in-Svg.ensures)

@@ -75,16 +75,8 @@ pub returns-in-Ok-clause-told : goal.returns-in-Ok-clause-told
 returns-in-Ok-clause-told g c =
     let text_a = g.R.Read.remaining (tally_lent c.args.a.now) in
     let text_b = g.S.Read.remaining (tally_lent c.args.b.now) in
-    let stations = c.layers_run_as_stations.ensures.run in
-    subst (λ (ends : ShownEnds). WasTold text_a text_b ends (g.O.Observer.told c.in-Ok.observer)) (sym c.with_verdict.ensures)
-    (told_there (record {
-      shown = c.shows.ensures;
-      ordered_a = λ head_a head_b w of_a of_b run.
-          (c.numbers_within_bounds.ensures.of_a head_a head_b _ of_a of_b (stations head_a head_b w of_a of_b run)).ordered;
-      ordered_b = λ head_a head_b w of_a of_b run.
-          (c.numbers_within_bounds.ensures.of_b head_a head_b _ of_a of_b (stations head_a head_b w of_a of_b run)).ordered;
-      true_views = c.view_shows_truth.ensures;
-    }) text_a text_b _ c.in-Ok.stopped c.in-Ok.ensures.stopped)
+    subst (λ (ends : ShownEnds). WasTold both_layers text_a text_b ends (g.O.Observer.told c.in-Ok.observer)) (sym c.with_verdict.ensures)
+    (told_there links_on_top_left c.shows.ensures text_a text_b _ c.in-Ok.stopped c.in-Ok.ensures.stopped)
 
 pub returns-in-Err-clause-exact : goal.returns-in-Err-clause-exact
 returns-in-Err-clause-exact g c =

@@ -1,0 +1,115 @@
+//! `draw --svg`: the ladder of two captures as a picture.
+
+ghost use Rattle.std.specs.Prelude.{◌≤◌};
+ghost use Rattle.pair_judge.specs.Judged.{IsAnswer};
+ghost use Rattle.drawing.specs.Drawing.{kind_by};
+ghost use Rattle.drawing.specs.declared.range.TheConstants.{MAX_ROWS};
+ghost use Rattle.ddcap.specs.PrintedDrawing.{verdict_answered};
+
+use ddcmp_msg::read_unit;
+use drawing::{DrawnPair, MAX_ROWS, Range, drawing_of};
+use ladder::Caption;
+use pair_judge::{JudgeFault, JudgedEnds, Verdict};
+use std::alloc::{AllocError, Global};
+use std::io::{Read, Seek};
+use why::{CheckRows, FrontTexts};
+
+/// A picture, with the verdict on what it shows.
+#[derive(Drop)]
+pub struct Picture {
+    pub verdict: Verdict,
+    /// An SVG file: see [`ladder::Drawn::svg`].
+    pub svg: String,
+}
+
+/// The same rows as `draw_to` writes, as a picture with this title. `Err`: as for `draw_to`; nothing is written by this.
+#[tactic(auto, using(crate::proofs::Pictures::judged_so, crate::proofs::Pictures::wanting_memory))]
+pub fn picture_of<A: Read + Seek, B: Read + Seek>(
+    alloc: Global,
+    a: &mut A,
+    b: &mut B,
+    range: Range,
+    title: &str,
+) -> Result<Picture, JudgeFault>
+    requires low { 1 ≤ range.rows }
+    requires high { range.rows ≤ MAX_ROWS }
+    ensures { IsAnswer (kind_by range.line_alone) (A.remaining a.old) (B.remaining b.old) (verdict_answered result) }
+{
+    let pair = match drawing_of(alloc, a, b, range) {
+        Ok(pair) => pair,
+        Err(fault) => return Err(fault),
+    };
+    match svg_of(alloc, &pair, title) {
+        Ok(svg) => Ok(Picture {
+            verdict: pair.ends.verdict(),
+            svg,
+        }),
+        Err(_) => Err(JudgeFault::OutOfMemory),
+    }
+}
+
+fn svg_of(alloc: Global, pair: &DrawnPair, title: &str) -> Result<String, AllocError> {
+    let verdict = verdict_words(alloc, pair.ends.verdict())?;
+    let check = check_words(alloc, &pair.ends)?;
+    let (seen, allowed) = seen_and_allowed(check.as_str());
+    let caption = Caption {
+        title,
+        verdict: verdict.as_str(),
+        seen,
+        allowed,
+    };
+    pair.drawn.svg(alloc, caption)
+}
+
+// `accepted`, or the line of the refusal.
+fn verdict_words(alloc: Global, verdict: Verdict) -> Result<String, AllocError> {
+    match verdict {
+        Verdict::Accepted(_) => String::from_str(alloc, "accepted"),
+        Verdict::Refused {
+            side,
+            place,
+            reason,
+        } => {
+            let line = place.saturating_add(2);
+            let number = reason.number();
+            format!(in alloc; "refused {side} {place} line {line}: {number} {reason}")
+        }
+    }
+}
+
+// What is said of the check that the refused record does not pass, in rows; nothing where none is refused.
+fn check_words(alloc: Global, ends: &JudgedEnds) -> Result<String, AllocError> {
+    let Verdict::Refused { side, reason, .. } = ends.verdict() else {
+        return Ok(String::new(alloc));
+    };
+    let (Some((_, failed)), Some((entry, bytes))) = (ends.failed(), ends.ahead(side)) else {
+        return Ok(String::new(alloc));
+    };
+    let fronts = FrontTexts::of(alloc, ends.end(side), entry, bytes, "")?;
+    let rows = CheckRows {
+        side,
+        reason,
+        failed,
+        reading: read_unit(bytes),
+        fronts: fronts.lent(),
+    };
+    format!(in alloc; "{rows}")
+}
+
+// The words of its first two rows, behind their keys.
+fn seen_and_allowed(check: &str) -> (&str, &str) {
+    let Some((first, rest)) = check.split_once('\n') else {
+        return ("", "");
+    };
+    let Some((second, _)) = rest.split_once('\n') else {
+        return ("", "");
+    };
+    (
+        behind_key(first, "  seen     "),
+        behind_key(second, "  allowed  "),
+    )
+}
+
+fn behind_key<'t>(row: &'t str, key: &str) -> &'t str {
+    row.strip_prefix(key).unwrap_or(row)
+}

@@ -1,0 +1,9 @@
+mod Told
+mod Results
+mod Rings
+mod Recents
+mod Firsts
+mod Onwards
+mod Ladders
+mod Texts
+mod Writings

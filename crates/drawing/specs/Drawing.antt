@@ -1,0 +1,103 @@
+-- What is drawn of two captures, and what is written of it.
+use Rattle.std.specs.Prelude.{◌≡◌, ◌⊎◌, ℕ, Bool, true, false, List, [], ◌∷◌, ◌++◌, Option, Some, None, Result, Ok, Err, codes}
+use Rattle.std.specs.List.{flat_map}
+use Rattle.std.specs.Io.KnownBytes.{Appends}
+use Rattle.wire_base.specs.Tally.{AppendsBeginning, CountedFault}
+use Rattle.wire_base.specs.declared.side.Side.{Side}
+use Rattle.capture.specs.Entries.{record_with}
+use Rattle.capture.specs.declared.entry.Entry.{Entry}
+use Rattle.dna_node.specs.Kind.{NodeKind, both_layers, stations_alone}
+use Rattle.ladder.specs.Drawn.{DrawnView, IsDrawn}
+use Rattle.ladder.specs.Ladder.{LadderView, refused}
+use Rattle.ladder.specs.Text.{row_text}
+use Rattle.ladder.specs.declared.row.Row.{Row}
+use Rattle.pair_judge.specs.Ends.{ShownEnds}
+use Rattle.pair_judge.specs.Finding.{of_side}
+use Rattle.pair_judge.specs.Judged.{IsAnswer}
+use Rattle.pair_judge.specs.Order.{MadeRecord}
+use Rattle.pair_judge.specs.Watched.{WasTold}
+use Rattle.pair_judge.specs.declared.verdict.Verdict.{Verdict}
+use Rattle.pair_judge.specs.declared.verdict.Verdict.TheVariants.{Accepted, Refused}
+use Rattle.pair_judge.specs.declared.fault.JudgeFault.{JudgeFault}
+use Rattle.drawing.specs.declared.drawing.DrawnPair.{DrawnPair}
+use Rattle.drawing.specs.declared.fault.DrawFault.{DrawFault}
+use Rattle.drawing.specs.declared.fault.DrawFault.TheVariants.{Judge, Write}
+use Rattle.drawing.specs.declared.range.Range.{Range}
+use Rattle.drawing.specs.Telling.{WereFollowed, WereTold, keep_of}
+
+-- ---- what is judged
+
+abbrev pub kind_by : (line_alone : Bool) → NodeKind
+kind_by true = stations_alone
+kind_by false = both_layers
+
+-- ---- the ladder
+
+-- the record ahead of this side is told as refused; where none is shown, none is
+abbrev pub TellsAhead : Side → ShownEnds → LadderView → LadderView → Type 0
+TellsAhead side ends before after =
+    ((entry : Entry) × (bytes : List ℕ) × ((of_side side ends.a ends.b).ahead ≡ Some (record_with entry bytes))
+    × (after ≡ refused before side entry bytes))
+    ⊎ (((of_side side ends.a ends.b).ahead ≡ None) × (after ≡ before))
+
+-- records behind the refused one, and perhaps that none is left
+abbrev pub Followed : LadderView → LadderView → Type 0
+Followed before after = (behind : LadderView) × WereFollowed before behind × ((after ≡ behind) ⊎ (after ≡ record behind { ended = true }))
+
+abbrev pub IsRefusedThere : Side → ShownEnds → (made after : LadderView) → Type 0
+IsRefusedThere side ends made after = (here : LadderView) × TellsAhead side ends made here × Followed here after
+
+-- behind the records that were made none is left, or one is refused, and perhaps records of both captures stand behind it
+abbrev pub IsLadder : Verdict → ShownEnds → (made after : LadderView) → Type 0
+IsLadder (Accepted summary) ends made after = after ≡ record made { ended = true }
+IsLadder (Refused side place reason) ends made after = IsRefusedThere side ends made after
+
+-- where the ladder was not told of the rest, it was told of nothing behind that
+abbrev pub IsLadderBy : (rest : List MadeRecord) → Verdict → ShownEnds → (made after : LadderView) → Type 0
+IsLadderBy [] verdict ends made after = IsLadder verdict ends made after
+IsLadderBy (next ∷ more) verdict ends made after = after ≡ made
+
+-- This is drawn of two texts in this range: the judge answers the verdict of them, and the ladder was told of the records in an order in which
+-- two nodes can make them, and then of the refused one.
+pub record IsPicture (range : Range) (text_a text_b : Option (List ℕ)) (verdict : Verdict) (drawn : DrawnView) : Type 0 where
+  pub judged : IsAnswer (kind_by range.line_alone) text_a text_b (Ok verdict)
+  pub ends : ShownEnds
+  pub gives : ends.verdict ≡ verdict
+  pub made : LadderView
+  pub rest : List MadeRecord
+  pub told : WasTold (kind_by range.line_alone) text_a text_b ends (WereTold (keep_of range verdict) range.rows made rest)
+  pub after : LadderView
+  pub ladder : IsLadderBy rest verdict ends made after
+  pub drawn_so : IsDrawn after.kept after.ended drawn
+
+-- ---- what is answered of two texts
+
+abbrev pub IsDrawing : Range → (text_a text_b : Option (List ℕ)) → Result DrawnPair JudgeFault → Type 0
+IsDrawing range text_a text_b (Ok pair) = IsPicture range text_a text_b pair.ends.verdict pair.drawn
+IsDrawing range text_a text_b (Err fault) = IsAnswer (kind_by range.line_alone) text_a text_b (Err fault)
+
+-- ---- what is written
+
+-- a row with its LF
+abbrev pub row_line : (ended : Bool) → Row → List ℕ
+row_line ended row = row_text row ended ++ codes "\n"
+
+abbrev pub rows_text : DrawnView → List ℕ
+rows_text drawn = flat_map (row_line drawn.ended) drawn.rows
+
+-- the bytes that a writer has, and its count of failed calls, before and after
+pub record Writing : Type 0 where
+  pub old : Option (List ℕ)
+  pub new : Option (List ℕ)
+  pub old_faults : ℕ
+  pub new_faults : ℕ
+
+-- The rows are written; or a beginning of them that is not all, by a failed write; or there is no verdict or nothing else to draw, and nothing is.
+abbrev pub Draws : Range → (text_a text_b : Option (List ℕ)) → Writing → Result Verdict DrawFault → Type 0
+Draws range text_a text_b out (Ok verdict) =
+    (drawn : DrawnView) × IsPicture range text_a text_b verdict drawn × Appends out.old out.new (rows_text drawn) × (out.new_faults ≡ out.old_faults)
+Draws range text_a text_b out (Err Write) =
+    (verdict : Verdict) × (drawn : DrawnView) × IsPicture range text_a text_b verdict drawn
+    × AppendsBeginning out.old out.new (rows_text drawn) × CountedFault out.old_faults out.new_faults
+Draws range text_a text_b out (Err (Judge fault)) =
+    IsAnswer (kind_by range.line_alone) text_a text_b (Err fault) × (out.new ≡ out.old) × (out.new_faults ≡ out.old_faults)

@@ -1,0 +1,74 @@
+-- What is kept of the records that were told, for the contracts of private functions.
+use Rattle.std.specs.Prelude.{◌≡◌, ◌⊎◌, ◌≤◌, ◌<◌, ℕ, Bool, true, false, List, [], ◌∷◌, ◌++◌, length, map}
+use Rattle.capture.specs.declared.entry.Entry.{Entry}
+use Rattle.ladder.specs.Ladder.{LadderView, learned}
+use Rattle.pair_judge.specs.Order.{MadeRecord}
+use Rattle.wire_base.specs.declared.side.Side.{Side}
+use Rattle.drawing.specs.declared.first.First.{First}
+use Rattle.drawing.specs.declared.first.TheConstants.{LATER}
+use Rattle.drawing.specs.declared.recent.Recent.{Recent}
+use Rattle.drawing.specs.declared.ring.TheConstants.{RECORDS}
+use Rattle.drawing.specs.declared.telling.BothEnds.{BothEnds}
+use Rattle.drawing.specs.declared.telling.Onward.{Onward}
+use Rattle.drawing.specs.Telling.{ToldView, ladder_knowing, ladder_told, later_entry, record_told}
+
+-- before and after one record more
+abbrev pub Tells : {X : Type 0} → (X → List MadeRecord → Type 0) → (before after : X) → ToldView → Type 0
+Tells is before after next = (order : List MadeRecord) → is before order → is after (order ++ record_told next ∷ [])
+
+pub record IsNew (ladder : LadderView) : Type 0 where
+  pub ended : ladder.ended ≡ false
+  pub line_a : ladder.a.line ≡ 2
+  pub line_b : ladder.b.line ≡ 2
+
+-- a ring before and after it takes one record more: the ladder learns the oldest one
+pub record GoesOn (ring_before ring_after : List ToldView) (before after : LadderView) (next : ToldView) : Type 0 where
+  pub oldest : ToldView
+  pub left : List ToldView
+  pub cut : ring_before ≡ oldest ∷ left
+  pub knows : after ≡ learned before oldest.side oldest.entry oldest.bytes
+  pub is : ring_after ≡ left ++ next ∷ []
+
+-- the last records, and a ladder that knows those before them
+pub record IsRecent (recent : Recent) (order : List MadeRecord) : Type 0 where
+  pub start : LadderView
+  pub is_new : IsNew start
+  pub gone : List ToldView
+  pub of_order : map record_told (gone ++ recent.records) ≡ order
+  pub before : recent.before ≡ ladder_knowing start gone
+  pub enough : (gone ≡ []) ⊎ (RECORDS ≤ length recent.records)
+
+-- a ladder that was told of all of them
+pub record WasToldOf (ladder : LadderView) (order : List MadeRecord) : Type 0 where
+  pub start : LadderView
+  pub is_new : IsNew start
+  pub gone : List ToldView
+  pub near : List ToldView
+  pub of_order : map record_told (gone ++ near) ≡ order
+  pub reached : ladder ≡ ladder_told (ladder_knowing start gone) near
+
+-- whether these are none
+abbrev pub Rest : Bool → List MadeRecord → Type 0
+Rest true rest = rest ≡ []
+Rest false rest = (next : MadeRecord) × (more : List MadeRecord) × (rest ≡ next ∷ more)
+
+-- the first records, those behind them, and the rest
+pub record IsFirst (first : First) (order : List MadeRecord) : Type 0 where
+  pub later : List ToldView
+  pub rest : List MadeRecord
+  pub of_order : map record_told (first.records.items ++ later) ++ rest ≡ order
+  pub is_later : first.later.items ≡ map later_entry later
+  pub no_later : length first.records.items < RECORDS → later ≡ []
+  pub no_rest : length first.later.items < LATER → first.is_all ≡ true
+  pub whole : Rest first.is_all rest
+
+abbrev pub IsEnds : BothEnds → List MadeRecord → Type 0
+IsEnds ends order = IsFirst ends.first order × IsRecent ends.recent order
+
+-- those from one on, and the last ones before it
+pub record IsOnward (onward : Onward) (order : List MadeRecord) : Type 0 where
+  pub ahead : List MadeRecord
+  pub tail : List MadeRecord
+  pub of_order : ahead ++ tail ≡ order
+  pub before : IsRecent onward.before ahead
+  pub first : IsFirst onward.first tail

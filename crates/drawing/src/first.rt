@@ -1,0 +1,113 @@
+//! The first records.
+
+ghost use Rattle.std.specs.Prelude.{◌≡◌, ◌≤◌, true, List, [], IfOk, OnOk};
+ghost use Rattle.pair_judge.specs.Order.{MadeRecord};
+ghost use Rattle.ddcmp_msg.specs.Reading.{IsSound, reading};
+ghost use Rattle.drawing.specs.Telling.{ladder_behind, ladder_told, told};
+ghost use Rattle.ladder.specs.declared.rows.Keep.TheVariants as Keep;
+ghost use Rattle.drawing.specs.inner.Ending.{IsBegun};
+ghost use Rattle.drawing.specs.inner.Kept.{IsFirst, Tells};
+
+use crate::begun::Begun;
+use crate::ring::RECORDS;
+use crate::tell::{follow_all, tell_all};
+use crate::told_record::{Later, ToldRecord};
+use capture::Entry;
+use ladder::{Keep, Ladder};
+use std::alloc::{AllocError, Global};
+use wire_base::Side;
+
+// So many records behind them are looked at, to see what becomes of the units that the first ones sent.
+const LATER: usize = 4000;
+
+/// The first records that were told, what those behind them tell, and whether that is all.
+#[derive(Drop)]
+pub struct First {
+    alloc: Global,
+    pub records: Vec<ToldRecord>,
+    pub later: Vec<Later>,
+    pub is_all: bool,
+}
+
+impl First {
+    /// Nothing was told yet. Takes no memory.
+    #[tactic(auto, using(crate::proofs::Firsts::first_none))]
+    pub fn new(alloc: Global) -> First
+        ensures told { IsFirst result [] }
+        ensures records { result.records.items ≡ [] }
+    {
+        First {
+            alloc,
+            records: Vec::new(alloc),
+            later: Vec::new(alloc),
+            is_all: true,
+        }
+    }
+
+    /// One more record was made. `AllocError` where there is no memory for it.
+    #[tactic(auto, using(crate::proofs::Firsts::first_rest))]
+    #[inline(always)]
+    pub fn made(
+        &mut self,
+        side: Side,
+        entry: Entry,
+        bytes: &[u8],
+        sound: bool,
+    ) -> Result<(), AllocError>
+        requires { sound ≡ true → IsSound (reading bytes.now) }
+        ensures { OnOk result (Tells IsFirst self.old self.new (told side entry bytes.now)) }
+    {
+        if self.is_all {
+            self.take(side, entry, bytes, sound)
+        } else {
+            Ok(())
+        }
+    }
+
+    // One more record was made, and all were told so far.
+    #[tactic(auto, using(crate::proofs::Firsts::first_more, crate::proofs::Firsts::first_later, crate::proofs::Firsts::first_left))]
+    fn take(
+        &mut self,
+        side: Side,
+        entry: Entry,
+        bytes: &[u8],
+        sound: bool,
+    ) -> Result<(), AllocError>
+        requires { sound ≡ true → IsSound (reading bytes.now) }
+        ensures { OnOk result (Tells IsFirst self.old self.new (told side entry bytes.now)) }
+    {
+        if self.records.len() < RECORDS {
+            let next = ToldRecord::new(self.alloc, side, entry, bytes, sound)?;
+            self.records.push(next)?;
+        } else if self.later.len() < LATER {
+            self.later.push(Later { side, entry })?;
+        } else {
+            self.is_all = false;
+        }
+        Ok(())
+    }
+
+    /// A ladder of at most so many of the first rows, told of them. `AllocError` where there is no memory for it.
+    #[tactic(auto, using(crate::proofs::Firsts::first_begun))]
+    pub fn begun(&self, alloc: Global, rows: usize) -> Result<Begun, AllocError>
+        requires low { 1 ≤ rows }
+        requires high { rows ≤ 200 }
+        ensures { IfOk result (λ begun. (order : List MadeRecord) → IsFirst self.now order → IsBegun Keep.First rows begun order) }
+    {
+        let mut ladder = Ladder::new(alloc, Keep::First, rows)?;
+        self.tell(&mut ladder)?;
+        Ok(Begun {
+            ladder,
+            is_all: self.is_all,
+        })
+    }
+
+    /// Tells a ladder of them, and of what stands behind them. `AllocError` where there is no memory for a unit.
+    pub fn tell(&self, ladder: &mut Ladder) -> Result<(), AllocError>
+        ensures { OnOk result (ladder.new ≡ ladder_behind (ladder_told ladder.old self.now.records.items) self.now.later.items) }
+    {
+        tell_all(ladder, self.records.as_slice())?;
+        follow_all(ladder, self.later.as_slice());
+        Ok(())
+    }
+}
