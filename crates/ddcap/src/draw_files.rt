@@ -45,7 +45,7 @@ pub fn draw_files<R: Files + AllocGlobal, O: Write, E: Write>(
             let mut svg = created(rt, path, Named::Svg, err)?;
             Ok(print(
                 &mut svg,
-                picture.svg.as_bytes(),
+                picture.svg.as_slice(),
                 verdict_status(picture.verdict),
             ))
         }

@@ -3,8 +3,8 @@
 ghost use Rattle.std.specs.Prelude.{◌≤◌, IfSome};
 ghost use Rattle.drawing.specs.declared.range.TheConstants.{MAX_ROWS};
 
-use crate::draw_files::Asked;
 use crate::commands::line_alone;
+use crate::draw_files::Asked;
 use crate::words::WordsFault;
 use capture::{MAX_RECORDS, positive_of};
 use clap::{Arg, ArgMatches, Command};

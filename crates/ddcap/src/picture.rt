@@ -1,6 +1,7 @@
 //! `draw --svg`: the ladder of two captures as a picture.
 
-ghost use Rattle.std.specs.Prelude.{◌≤◌};
+ghost use Rattle.std.specs.Prelude.{◌≤◌, IfOk};
+ghost use Rattle.ladder.specs.Xml.{IsDocument};
 ghost use Rattle.pair_judge.specs.Judged.{IsAnswer};
 ghost use Rattle.drawing.specs.Drawing.{kind_by};
 ghost use Rattle.drawing.specs.declared.range.TheConstants.{MAX_ROWS};
@@ -19,10 +20,11 @@ use why::{CheckRows, FrontTexts};
 pub struct Picture {
     pub verdict: Verdict,
     /// An SVG file: see [`ladder::Drawn::svg`].
-    pub svg: String,
+    pub svg: Vec<u8>,
 }
 
-/// The same rows as `draw_to` writes, as a picture with this title. `Err`: as for `draw_to`; nothing is written by this.
+/// The same rows as `draw_to` writes, as a picture with this title, which is well-formed XML whatever the rows and the title are. `Err`: as for
+/// `draw_to`; nothing is written by this.
 #[tactic(auto, using(crate::proofs::Pictures::judged_so, crate::proofs::Pictures::wanting_memory))]
 pub fn picture_of<A: Read + Seek, B: Read + Seek>(
     alloc: Global,
@@ -33,7 +35,8 @@ pub fn picture_of<A: Read + Seek, B: Read + Seek>(
 ) -> Result<Picture, JudgeFault>
     requires low { 1 ≤ range.rows }
     requires high { range.rows ≤ MAX_ROWS }
-    ensures { IsAnswer (kind_by range.line_alone) (A.remaining a.old) (B.remaining b.old) (verdict_answered result) }
+    ensures answer { IsAnswer (kind_by range.line_alone) (A.remaining a.old) (B.remaining b.old) (verdict_answered result) }
+    ensures picture { IfOk result (λ picture. IsDocument picture.svg.items) }
 {
     let pair = match drawing_of(alloc, a, b, range) {
         Ok(pair) => pair,
@@ -48,7 +51,9 @@ pub fn picture_of<A: Read + Seek, B: Read + Seek>(
     }
 }
 
-fn svg_of(alloc: Global, pair: &DrawnPair, title: &str) -> Result<String, AllocError> {
+fn svg_of(alloc: Global, pair: &DrawnPair, title: &str) -> Result<Vec<u8>, AllocError>
+    ensures { IfOk result (λ text. IsDocument text.items) }
+{
     let verdict = verdict_words(alloc, pair.ends.verdict())?;
     let check = check_words(alloc, &pair.ends)?;
     let (seen, allowed) = seen_and_allowed(check.as_str());

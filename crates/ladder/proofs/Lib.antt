@@ -4,3 +4,5 @@ mod Keeping
 mod Lists
 mod Orders
 mod Places
+mod XmlTexts
+mod XmlWords

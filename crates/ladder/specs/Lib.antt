@@ -11,3 +11,4 @@ pub mod Order
 pub mod Drawn
 pub mod Places
 pub mod Text
+pub mod Xml

@@ -25,6 +25,8 @@ mod svg_style;
 mod text;
 mod told;
 mod under_way;
+mod xml;
+mod xml_names;
 
 pub use drawn::Drawn;
 pub use ladder::Ladder;

@@ -5,11 +5,12 @@ use crate::row::{Fate, Row};
 use crate::said::Said;
 use crate::sides::faces;
 use crate::svg_arrow_words::{outside_title, outside_words, sent_words};
-use crate::svg_parts::{anchor_of, put_text, x_inside, y_of};
+use crate::svg_parts::{At, anchor_of, with_line, with_text, x_inside, y_of};
 use crate::svg_places::{Places, row_of_unit};
 use crate::told::What;
+use crate::xml::{Attributes, Content};
+use crate::xml_names::Tag;
 use std::alloc::{AllocError, Global};
-use std::fmt::Write;
 use wire_base::Side;
 
 // How far from a time line an arrow begins or ends, its words begin, and it ends where it is cut or lost.
@@ -27,14 +28,14 @@ const SLOPE: usize = 7;
 /// An arrow: where it begins and ends, its title, and its words beside the time line of this side.
 #[derive(Drop)]
 pub struct Arrow {
-    start: (usize, usize),
-    stop: (usize, usize),
+    start: At,
+    stop: At,
     kind: &'static str,
     end: &'static str,
     title: String,
     words: String,
     beside: Side,
-    words_at: (usize, usize),
+    words_at: At,
 }
 
 // Where a unit came: the level of that record, its line, what came, and whether its packet was refused a buffer.
@@ -231,25 +232,27 @@ fn said_kind(said: Said) -> &'static str {
 }
 
 /// The arrow, with its title.
-pub fn put_stroke(svg: &mut String, arrow: &Arrow) -> Result<(), AllocError> {
+pub fn with_stroke(svg: Content, alloc: Global, arrow: &Arrow) -> Result<Content, AllocError> {
     let kind = arrow.kind;
     let end = arrow.end;
-    let (x1, y1) = arrow.start;
-    let (x2, y2) = arrow.stop;
-    svg.push_str("<g><title>")?;
-    svg.push_str(arrow.title.as_str())?;
-    write!(
-        svg,
-        "</title><line class='{kind}{end}' x1='{x1}' y1='{y1}' x2='{x2}' y2='{y2}'/></g>\n"
-    )
+    let class = format!(in alloc; "{kind}{end}")?;
+    let title = Content::new(alloc).with_words(arrow.title.as_str())?;
+    let group = Content::new(alloc).with(Tag::Title, Attributes::new(alloc), title)?;
+    let group = with_line(group, alloc, class.as_str(), arrow.start, arrow.stop)?;
+    svg.with(Tag::Group, Attributes::new(alloc), group)?
+        .with_words("\n")
 }
 
 /// The words of the arrow.
-pub fn put_label(svg: &mut String, arrow: &Arrow) -> Result<(), AllocError> {
+pub fn with_label(svg: Content, alloc: Global, arrow: &Arrow) -> Result<Content, AllocError> {
     let kind = arrow.kind;
     let anchor = anchor_of(arrow.beside);
-    let (x, y) = arrow.words_at;
-    write!(svg, "<text class='word {kind}{anchor}' x='{x}' y='{y}'>")?;
-    svg.push_str(arrow.words.as_str())?;
-    svg.push_str("</text>\n")
+    let class = format!(in alloc; "word {kind}{anchor}")?;
+    with_text(
+        svg,
+        alloc,
+        class.as_str(),
+        arrow.words_at,
+        arrow.words.as_str(),
+    )
 }

@@ -6,11 +6,12 @@ use crate::row::{Fate, Row};
 use crate::sides::is_side;
 use crate::state::State;
 use crate::svg::Caption;
-use crate::svg_parts::{put_escaped, put_text, x_of, y_of};
+use crate::svg_parts::{with_rect, with_text, x_of, y_of};
 use crate::svg_places::Places;
 use crate::told::What;
-use std::alloc::AllocError;
-use std::fmt::Write;
+use crate::xml::{Attributes, Content};
+use crate::xml_names::{Attribute, Tag};
+use std::alloc::{AllocError, Global};
 use wire_base::Side;
 
 // A record of a side that was made: how far below the first one it stands, and the state of its station behind it.
@@ -43,38 +44,43 @@ fn mark_of(drawn: &Drawn, places: &Places, index: usize, side: Side) -> Option<M
 }
 
 /// The time line of this side, in the colour of its station's state.
-pub fn put_bands(
-    svg: &mut String,
+pub fn with_bands(
+    svg: Content,
+    alloc: Global,
     drawn: &Drawn,
     places: &Places,
     side: Side,
-) -> Result<(), AllocError> {
+) -> Result<Content, AllocError> {
     let x = x_of(side).saturating_sub(3);
-    let bottom = places.bottom();
+    let mut svg = svg;
     let mut above: Option<Mark> = None;
     for index in 0..drawn.len() {
         if let Some(mark) = mark_of(drawn, places, index, side) {
-            put_band(svg, x, above, y_of(mark.level))?;
+            svg = with_band(svg, alloc, x, above, y_of(mark.level))?;
             above = Some(mark);
         }
     }
-    put_band(svg, x, above, bottom)
+    with_band(svg, alloc, x, above, places.bottom())
 }
 
-fn put_band(
-    svg: &mut String,
+fn with_band(
+    svg: Content,
+    alloc: Global,
     x: usize,
     above: Option<Mark>,
     bottom: usize,
-) -> Result<(), AllocError> {
+) -> Result<Content, AllocError> {
     let Some(Mark { level, state }) = above else {
-        return Ok(());
+        return Ok(svg);
     };
     let y = y_of(level);
-    let height = bottom.saturating_sub(y);
-    write!(
+    let class = format!(in alloc; "{state}")?;
+    with_rect(
         svg,
-        "<rect class='{state}' x='{x}' y='{y}' width='6' height='{height}'/>\n"
+        alloc,
+        class.as_str(),
+        (x, y),
+        (6, bottom.saturating_sub(y)),
     )
 }
 
@@ -89,38 +95,45 @@ fn state_above(drawn: &Drawn, places: &Places, index: usize, side: Side) -> Opti
     None
 }
 
-/// What stands beside the time lines in the row with this number.
-pub fn put_cells(
-    svg: &mut String,
+/// What stands beside the time lines in the row with this number, and on them.
+pub fn with_cells(
+    svg: Content,
+    alloc: Global,
     drawn: &Drawn,
     places: &Places,
     index: usize,
-) -> Result<(), AllocError> {
+) -> Result<Content, AllocError> {
     let Some(row) = drawn.row(index) else {
-        return Ok(());
+        return Ok(svg);
     };
+    let mut svg = svg;
     for side in [Side::A, Side::B] {
         if let Some(cell) = row.cell(side) {
             let y = y_of(level_of(places, index, row, side)).saturating_add(4);
-            let line = cell.line;
             let (line_class, line_x, note_class, note_x) = match side {
                 Side::A => ("line", 20, "end", 218),
                 Side::B => ("line end", 840, "note", 642),
             };
-            write!(
-                svg,
-                "<text class='{line_class}' x='{line_x}' y='{y}'>{line}</text><text class='{note_class}' x='{note_x}' y='{y}'>"
-            )?;
-            put_note(svg, cell.note, new_state(drawn, places, index, side))?;
-            svg.push_str("</text>\n")?;
+            let line = cell.line;
+            let number = format!(in alloc; "{line}")?;
+            svg = with_text(svg, alloc, line_class, (line_x, y), number.as_str())?;
+            let note = note_words(alloc, cell.note, new_state(drawn, places, index, side))?;
+            svg = with_text(svg, alloc, note_class, (note_x, y), note.as_str())?;
         }
     }
-    if let What::User { .. } = row.told.what {
-        let x = x_of(row.told.side);
-        let y = y_of(places.of(index).told);
-        write!(svg, "<circle cx='{x}' cy='{y}' r='3'/>\n")?;
+    match row.told.what {
+        What::User { .. } => with_dot(svg, alloc, row.told.side, y_of(places.of(index).told)),
+        What::Sent { .. } | What::Came { .. } | What::Noise { .. } => Ok(svg),
     }
-    Ok(())
+}
+
+// On the time line of this side.
+fn with_dot(svg: Content, alloc: Global, side: Side, y: usize) -> Result<Content, AllocError> {
+    let form = Attributes::new(alloc)
+        .with_number(Attribute::CenterX, x_of(side))?
+        .with_number(Attribute::CenterY, y)?
+        .with_number(Attribute::Radius, 3)?;
+    svg.with_empty(Tag::Circle, form)?.with_words("\n")
 }
 
 fn level_of(places: &Places, index: usize, row: &Row, side: Side) -> usize {
@@ -141,43 +154,45 @@ fn new_state(drawn: &Drawn, places: &Places, index: usize, side: Side) -> Option
 }
 
 // What is noted of a record, and the state that its station has then.
-fn put_note(svg: &mut String, note: Note, state: Option<State>) -> Result<(), AllocError> {
-    write!(svg, "{note}")?;
+fn note_words(alloc: Global, note: Note, state: Option<State>) -> Result<String, AllocError> {
     match (note, state) {
-        (_, None) => Ok(()),
-        (Note::Nothing, Some(state)) => write!(svg, "[{state}]"),
-        (_, Some(state)) => write!(svg, " [{state}]"),
+        (_, None) => format!(in alloc; "{note}"),
+        (Note::Nothing, Some(state)) => format!(in alloc; "[{state}]"),
+        (_, Some(state)) => format!(in alloc; "{note} [{state}]"),
     }
 }
 
 /// The box of the refused record, with what is seen and what is allowed, where the row with this number has it.
-pub fn put_check(
-    svg: &mut String,
+pub fn with_check(
+    svg: Content,
+    alloc: Global,
     drawn: &Drawn,
     places: &Places,
     index: usize,
     caption: Caption<'_>,
-) -> Result<(), AllocError> {
+) -> Result<Content, AllocError> {
     let Some(row) = drawn.row(index) else {
-        return Ok(());
+        return Ok(svg);
     };
     if !row.refused {
-        return Ok(());
+        return Ok(svg);
     }
     let y = y_of(places.of(index).told);
-    let top = y.saturating_sub(12);
-    let seen = y.saturating_add(20);
-    let allowed = y.saturating_add(34);
-    write!(
+    let seen = format!(in alloc; "seen    {}", caption.seen)?;
+    let allowed = format!(in alloc; "allowed {}", caption.allowed)?;
+    let svg = with_rect(svg, alloc, "refused", (8, y.saturating_sub(12)), (844, 53))?;
+    let svg = with_text(
         svg,
-        "<rect class='refused' x='8' y='{top}' width='844' height='53' rx='3'/>\n"
+        alloc,
+        "word verdict",
+        (20, y.saturating_add(20)),
+        seen.as_str(),
     )?;
-    put_text(svg, "word verdict", 20, seen)?;
-    svg.push_str("seen    ")?;
-    put_escaped(svg, caption.seen)?;
-    svg.push_str("</text>\n")?;
-    put_text(svg, "word verdict", 20, allowed)?;
-    svg.push_str("allowed ")?;
-    put_escaped(svg, caption.allowed)?;
-    svg.push_str("</text>\n")
+    with_text(
+        svg,
+        alloc,
+        "word verdict",
+        (20, y.saturating_add(34)),
+        allowed.as_str(),
+    )
 }

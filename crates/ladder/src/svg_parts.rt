@@ -1,7 +1,8 @@
 //! The parts of the picture of a ladder.
 
-use std::alloc::AllocError;
-use std::fmt::Write;
+use crate::xml::{Attributes, Content};
+use crate::xml_names::{Attribute, Tag};
+use std::alloc::{AllocError, Global};
 use wire_base::Side;
 
 /// How wide a picture is.
@@ -16,6 +17,9 @@ pub const STEP: usize = 19;
 const LEFT: usize = 230;
 
 const RIGHT: usize = 630;
+
+/// A place in a picture: so far from its left edge, and from its upper edge.
+pub type At = (usize, usize);
 
 /// Where the time line of this side is drawn.
 pub fn x_of(side: Side) -> usize {
@@ -46,21 +50,52 @@ pub fn y_of(level: usize) -> usize {
     TOP.saturating_add(level.saturating_mul(STEP))
 }
 
-/// Begins a text of these classes.
-pub fn put_text(svg: &mut String, class: &str, x: usize, y: usize) -> Result<(), AllocError> {
-    write!(svg, "<text class='{class}' x='{x}' y='{y}'>")
+/// These words of these classes, in a line of their own.
+pub fn with_text(
+    svg: Content,
+    alloc: Global,
+    class: &str,
+    (x, y): At,
+    words: &str,
+) -> Result<Content, AllocError> {
+    let place = Attributes::new(alloc)
+        .with(Attribute::Class, class)?
+        .with_number(Attribute::X, x)?
+        .with_number(Attribute::Y, y)?;
+    let content = Content::new(alloc).with_words(words)?;
+    svg.with(Tag::Text, place, content)?.with_words("\n")
 }
 
-/// Writes a text with `<`, `>` and `&` as entities, and what is not printable ASCII as `?`.
-pub fn put_escaped(svg: &mut String, text: &str) -> Result<(), AllocError> {
-    for character in text.chars() {
-        match character {
-            '<' => svg.push_str("&lt;")?,
-            '>' => svg.push_str("&gt;")?,
-            '&' => svg.push_str("&amp;")?,
-            ' '..='~' => svg.push(character)?,
-            _ => svg.push('?')?,
-        }
-    }
-    Ok(())
+/// A rectangle of these classes, from one corner to the other.
+pub fn with_rect(
+    svg: Content,
+    alloc: Global,
+    class: &str,
+    (x, y): At,
+    (width, height): At,
+) -> Result<Content, AllocError> {
+    let form = Attributes::new(alloc)
+        .with(Attribute::Class, class)?
+        .with_number(Attribute::X, x)?
+        .with_number(Attribute::Y, y)?
+        .with_number(Attribute::Width, width)?
+        .with_number(Attribute::Height, height)?;
+    svg.with_empty(Tag::Rect, form)?.with_words("\n")
+}
+
+/// A line of these classes, from one place to the other.
+pub fn with_line(
+    svg: Content,
+    alloc: Global,
+    class: &str,
+    (x1, y1): At,
+    (x2, y2): At,
+) -> Result<Content, AllocError> {
+    let form = Attributes::new(alloc)
+        .with(Attribute::Class, class)?
+        .with_number(Attribute::X1, x1)?
+        .with_number(Attribute::Y1, y1)?
+        .with_number(Attribute::X2, x2)?
+        .with_number(Attribute::Y2, y2)?;
+    svg.with_empty(Tag::Line, form)
 }

@@ -1,8 +1,13 @@
 //! How the picture of a ladder looks.
 
-/// Light, and dark where the reader's screen asks for that. What the colours tell stands in words and strokes too: what came damaged is dashed,
-/// as is what has not come, and what was not kept has a hollow head.
-pub const STYLE: &str = "<style>
+use crate::svg_parts::{WIDTH, with_line, with_rect, with_text};
+use crate::xml::{Attributes, Content};
+use crate::xml_names::{Attribute, Tag};
+use std::alloc::{AllocError, Global};
+
+// Light, and dark where the reader's screen asks for that. What the colours tell stands in words and strokes too: what came damaged is dashed,
+// as is what has not come, and what was not kept has a hollow head.
+const STYLE: &str = "
 text { fill: #24292f; font: 11px 'DejaVu Sans Mono', monospace; white-space: pre; }
 text.title { font-size: 13px; font-weight: bold; }
 text.side { font-size: 13px; font-weight: bold; text-anchor: middle; }
@@ -63,27 +68,168 @@ circle, path.head { fill: #e6edf3; }
 path.hollow { fill: #0d1117; stroke: #e6edf3; }
 path.cross { stroke: #ff7b72; }
 }
-</style>
-<defs>
-<marker id='head' viewBox='0 0 8 6' refX='8' refY='3' markerWidth='8' markerHeight='6' markerUnits='userSpaceOnUse' orient='auto'>
-<path class='head' d='M0 0 L8 3 L0 6 Z'/></marker>
-<marker id='hollow' viewBox='0 0 9 7' refX='8.5' refY='3.5' markerWidth='9' markerHeight='7' markerUnits='userSpaceOnUse' orient='auto'>
-<path class='hollow' d='M0.5 0.7 L8 3.5 L0.5 6.3 Z'/></marker>
-<marker id='cross' viewBox='0 0 10 10' refX='5' refY='5' markerWidth='10' markerHeight='10' markerUnits='userSpaceOnUse'>
-<path class='cross' d='M1 1 L9 9 M1 9 L9 1'/></marker>
-</defs>
 ";
 
-/// What the colours and strokes mean.
-pub const LEGEND: &str =
-    "<line class='data key' x1='16' y1='19' x2='34' y2='19'/><text class='key' x='39' y='23'>data</text>
-<line class='again key' x1='78' y1='19' x2='96' y2='19'/><text class='key' x='101' y='23'>sent again</text>
-<line class='ack key' x1='177' y1='19' x2='195' y2='19'/><text class='key' x='200' y='23'>ACK</text>
-<line class='nak key' x1='233' y1='19' x2='251' y2='19'/><text class='key' x='256' y='23'>NAK</text>
-<line class='bad key' x1='289' y1='19' x2='307' y2='19'/><text class='key' x='312' y='23'>damaged</text>
-<line class='rep key' x1='370' y1='19' x2='388' y2='19'/><text class='key' x='393' y='23'>REP</text>
-<line class='start key' x1='426' y1='19' x2='444' y2='19'/><text class='key' x='449' y='23'>STRT STACK</text>
-<rect class='HALTED' x='525' y='15' width='12' height='8'/><text class='key' x='541' y='23'>HALTED</text>
-<rect class='ISTRT' x='590' y='15' width='12' height='8'/><text class='key' x='606' y='23'>starting</text>
-<rect class='RUNNING' x='667' y='15' width='12' height='8'/><text class='key' x='683' y='23'>RUNNING</text>
-";
+// A head of an arrow: its name and its class, its width and its height, where its point is, whether it turns with the arrow, and its lines.
+struct Head {
+    name: &'static str,
+    view: &'static str,
+    point: (&'static str, &'static str),
+    size: (usize, usize),
+    lines: &'static str,
+}
+
+static HEADS: [Head; 3] = [
+    Head {
+        name: "head",
+        view: "0 0 8 6",
+        point: ("8", "3"),
+        size: (8, 6),
+        lines: "M0 0 L8 3 L0 6 Z",
+    },
+    Head {
+        name: "hollow",
+        view: "0 0 9 7",
+        point: ("8.5", "3.5"),
+        size: (9, 7),
+        lines: "M0.5 0.7 L8 3.5 L0.5 6.3 Z",
+    },
+    Head {
+        name: "cross",
+        view: "0 0 10 10",
+        point: ("5", "5"),
+        size: (10, 10),
+        lines: "M1 1 L9 9 M1 9 L9 1",
+    },
+];
+
+/// How all looks, with the heads of arrows, on a ground of this height.
+pub fn with_style(svg: Content, alloc: Global, height: usize) -> Result<Content, AllocError> {
+    let style = Content::new(alloc).with_words(STYLE)?;
+    let mut heads = Content::new(alloc).with_words("\n")?;
+    for head in &HEADS {
+        heads = with_head(heads, alloc, head)?;
+    }
+    let svg = svg
+        .with(Tag::Style, Attributes::new(alloc), style)?
+        .with_words("\n")?
+        .with(Tag::Defs, Attributes::new(alloc), heads)?
+        .with_words("\n")?;
+    with_rect(svg, alloc, "paper", (0, 0), (WIDTH, height))
+}
+
+fn with_head(heads: Content, alloc: Global, head: &Head) -> Result<Content, AllocError> {
+    let (point_x, point_y) = head.point;
+    let (width, height) = head.size;
+    let form = Attributes::new(alloc)
+        .with(Attribute::Id, head.name)?
+        .with(Attribute::ViewBox, head.view)?
+        .with(Attribute::ReferenceX, point_x)?
+        .with(Attribute::ReferenceY, point_y)?
+        .with_number(Attribute::MarkerWidth, width)?
+        .with_number(Attribute::MarkerHeight, height)?
+        .with(Attribute::MarkerUnits, "userSpaceOnUse")?
+        .with(Attribute::Orient, "auto")?;
+    let lines = Attributes::new(alloc)
+        .with(Attribute::Class, head.name)?
+        .with(Attribute::Drawn, head.lines)?;
+    let content = Content::new(alloc).with_empty(Tag::Path, lines)?;
+    heads.with(Tag::Marker, form, content)?.with_words("\n")
+}
+
+// What a stroke of this class means, where it begins, and where its words do.
+struct Key {
+    class: &'static str,
+    x: usize,
+    words_x: usize,
+    words: &'static str,
+}
+
+static STROKES: [Key; 7] = [
+    Key {
+        class: "data key",
+        x: 16,
+        words_x: 39,
+        words: "data",
+    },
+    Key {
+        class: "again key",
+        x: 78,
+        words_x: 101,
+        words: "sent again",
+    },
+    Key {
+        class: "ack key",
+        x: 177,
+        words_x: 200,
+        words: "ACK",
+    },
+    Key {
+        class: "nak key",
+        x: 233,
+        words_x: 256,
+        words: "NAK",
+    },
+    Key {
+        class: "bad key",
+        x: 289,
+        words_x: 312,
+        words: "damaged",
+    },
+    Key {
+        class: "rep key",
+        x: 370,
+        words_x: 393,
+        words: "REP",
+    },
+    Key {
+        class: "start key",
+        x: 426,
+        words_x: 449,
+        words: "STRT STACK",
+    },
+];
+
+static STATES: [Key; 3] = [
+    Key {
+        class: "HALTED",
+        x: 525,
+        words_x: 541,
+        words: "HALTED",
+    },
+    Key {
+        class: "ISTRT",
+        x: 590,
+        words_x: 606,
+        words: "starting",
+    },
+    Key {
+        class: "RUNNING",
+        x: 667,
+        words_x: 683,
+        words: "RUNNING",
+    },
+];
+
+/// What the colours and strokes mean, below this height.
+pub fn with_legend(svg: Content, alloc: Global, y: usize) -> Result<Content, AllocError> {
+    let stroke_y = y.saturating_add(19);
+    let words_y = y.saturating_add(23);
+    let mut svg = svg;
+    for key in &STROKES {
+        let stop = key.x.saturating_add(18);
+        svg = with_line(svg, alloc, key.class, (key.x, stroke_y), (stop, stroke_y))?;
+        svg = with_text(svg, alloc, "key", (key.words_x, words_y), key.words)?;
+    }
+    for key in &STATES {
+        svg = with_rect(
+            svg,
+            alloc,
+            key.class,
+            (key.x, y.saturating_add(15)),
+            (12, 8),
+        )?;
+        svg = with_text(svg, alloc, "key", (key.words_x, words_y), key.words)?;
+    }
+    Ok(svg)
+}
