@@ -13,7 +13,7 @@ ghost use Rattle.coverage.specs.Covered.{WasCovered};
 
 use crate::cover::Cover;
 use dna_node::{layers_run_as_stations, refused_station_alone_is_final};
-use pair_judge::{JudgeFault, Watched, judge_watched};
+use pair_judge::{JudgeFault, Watched, judge_told};
 use std::alloc::Global;
 use std::io::Read;
 use wire_base::Tally;
@@ -42,7 +42,7 @@ pub fn judge_covered<R: Read, S: Read>(
 {
     layers_run_as_stations();
     refused_station_alone_is_final();
-    match judge_watched::<Cover, R, S>(alloc, a, b, Cover::new()) {
+    match judge_told::<Cover, R, S>(alloc, a, b, Cover::new()) {
         Ok(watched) => Ok(watched),
         Err(fault) => Err(fault),
     }

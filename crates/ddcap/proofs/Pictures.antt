@@ -9,10 +9,11 @@ use Rattle.drawing.specs.Drawing.{IsPicture, kind_by}
 use Rattle.drawing.specs.declared.range.Range.{Range}
 
 pub judged_so : (range : Range) (text_a text_b : Option (List ℕ)) (verdict : Verdict) (drawn : DrawnView)
-    → IsPicture range text_a text_b verdict drawn → IsAnswer (kind_by range.line_alone) text_a text_b (Ok verdict)
+    → IsPicture range text_a text_b verdict drawn → IsAnswer (kind_by range.judging) text_a text_b (Ok verdict)
 judged_so range text_a text_b verdict drawn picture = picture.judged
 
-exact_by : (nodes : NodeKind) (text_a text_b : Option (List ℕ)) → IfTold text_a text_b (λ bytes_a bytes_b. IsExact nodes bytes_a bytes_b (Err OutOfMemory))
+exact_by : (nodes : NodeKind) (text_a text_b : Option (List ℕ))
+    → IfTold text_a text_b (λ bytes_a bytes_b. IsExact nodes bytes_a bytes_b (Err OutOfMemory))
 exact_by nodes None text_b = tt
 exact_by nodes (Some bytes_a) None = tt
 exact_by nodes (Some bytes_a) (Some bytes_b) = λ head_a head_b of_a of_b is_a is_b run. tt

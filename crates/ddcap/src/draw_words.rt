@@ -8,7 +8,7 @@ use crate::draw_files::Asked;
 use crate::words::WordsFault;
 use capture::{MAX_RECORDS, positive_of};
 use clap::{Arg, ArgMatches, Command};
-use drawing::{MAX_ROWS, ROWS, Range, Start};
+use drawing::{Judging, MAX_ROWS, ROWS, Range, Start};
 use std::alloc::{AllocError, Global};
 use wire_base::Side;
 
@@ -42,15 +42,21 @@ pub fn drawing_asked<'a>(found: &ArgMatches<'a>) -> Result<Asked<'a>, WordsFault
             None => return Err(WordsFault::BadWords),
         },
     };
+    let svg = found.get_str("svg");
+    let judging = match (found.get_flag("line"), svg) {
+        (true, _) => Judging::Line,
+        (false, None) => Judging::Links,
+        (false, Some(_)) => Judging::StandingLinks,
+    };
     Ok(Asked {
         a,
         b,
         range: Range {
             start,
             rows,
-            line_alone: found.get_flag("line"),
+            judging,
         },
-        svg: found.get_str("svg"),
+        svg,
     })
 }
 

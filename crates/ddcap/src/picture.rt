@@ -35,7 +35,7 @@ pub fn picture_of<A: Read + Seek, B: Read + Seek>(
 ) -> Result<Picture, JudgeFault>
     requires low { 1 ≤ range.rows }
     requires high { range.rows ≤ MAX_ROWS }
-    ensures answer { IsAnswer (kind_by range.line_alone) (A.remaining a.old) (B.remaining b.old) (verdict_answered result) }
+    ensures answer { IsAnswer (kind_by range.judging) (A.remaining a.old) (B.remaining b.old) (verdict_answered result) }
     ensures picture { IfOk result (λ picture. IsDocument picture.svg.items) }
 {
     let pair = match drawing_of(alloc, a, b, range) {

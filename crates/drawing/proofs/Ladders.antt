@@ -82,7 +82,8 @@ failed_answer nodes text_a text_b fault fails = record {
 
 -- the rows of a ladder that was told of what is kept
 picture_so : (range : Range) (text_a text_b : Option (List ℕ)) (ends : ShownEnds) (drawn : DrawnView) (begun : Begun) (after : LadderView)
-    → (order : WasTold (kind_by range.line_alone) text_a text_b ends (IsBegun (keep_of range ends.verdict) range.rows begun)) → IsAnswer (kind_by range.line_alone) text_a text_b (Ok ends.verdict)
+    → (order : WasTold (kind_by range.judging) text_a text_b ends (IsBegun (keep_of range ends.verdict) range.rows begun))
+    → IsAnswer (kind_by range.judging) text_a text_b (Ok ends.verdict)
     → ((rest : List MadeRecord) → Rest begun.is_all rest → IsLadderBy rest ends.verdict ends begun.ladder after)
     → IsDrawn after.kept after.ended drawn → IsPicture range text_a text_b ends.verdict drawn
 picture_so range text_a text_b ends drawn begun after told judged ending drawn_so =
@@ -129,23 +130,24 @@ told_of nodes text_a text_b ends one other follows told = record {
 }
 
 drawing_so : (range : Range) (text_a text_b : Option (List ℕ)) (ends : ShownEnds) (begun : Begun) (result : Result DrawnPair JudgeFault)
-    → IsAnswer (kind_by range.line_alone) text_a text_b (Ok ends.verdict) → WasTold (kind_by range.line_alone) text_a text_b ends (IsBegun (keep_of range ends.verdict) range.rows begun)
+    → IsAnswer (kind_by range.judging) text_a text_b (Ok ends.verdict)
+    → WasTold (kind_by range.judging) text_a text_b ends (IsBegun (keep_of range ends.verdict) range.rows begun)
     → EndsDrawing ends begun result → IsDrawing range text_a text_b result
 drawing_so range text_a text_b ends begun (Ok pair) judged told ending =
     subst (λ (shown : ShownEnds). IsPicture range text_a text_b shown.verdict pair.drawn) (sym ending.1)
     (picture_so range text_a text_b ends pair.drawn begun ending.0 told judged ending.2 ending.3)
-drawing_so range text_a text_b ends begun (Err fault) judged told fails = failed_answer (kind_by range.line_alone) text_a text_b fault fails
+drawing_so range text_a text_b ends begun (Err fault) judged told fails = failed_answer (kind_by range.judging) text_a text_b fault fails
 
 pub ends_so : (range : Range) (text_a text_b : Option (List ℕ)) (ends : ShownEnds) (telling : BothEnds) (begun : Begun)
-    (result : Result DrawnPair JudgeFault) → range.start ≡ None → IsAnswer (kind_by range.line_alone) text_a text_b (Ok ends.verdict)
-    → WasTold (kind_by range.line_alone) text_a text_b ends (IsEnds telling)
+    (result : Result DrawnPair JudgeFault) → range.start ≡ None → IsAnswer (kind_by range.judging) text_a text_b (Ok ends.verdict)
+    → WasTold (kind_by range.judging) text_a text_b ends (IsEnds telling)
     → ((order : List MadeRecord) → IsEnds telling order → IsBegun (keep_for keep.First keep.Last ends.verdict) range.rows begun order)
     → EndsDrawing ends begun result → IsDrawing range text_a text_b result
 ends_so range text_a text_b ends telling begun result none judged told begins ending =
     let keeps : keep_of range ends.verdict ≡ keep_for keep.First keep.Last ends.verdict =
     ap (λ (start : Option Start). keep_for (keep_by keep.First start) (keep_by keep.Last start) ends.verdict) none in
     drawing_so range text_a text_b ends begun result judged
-    (told_of (kind_by range.line_alone) text_a text_b ends (IsEnds telling) (IsBegun (keep_of range ends.verdict) range.rows begun)
+    (told_of (kind_by range.judging) text_a text_b ends (IsEnds telling) (IsBegun (keep_of range ends.verdict) range.rows begun)
     (λ order was. subst (λ (k : Keep). IsBegun k range.rows begun order) (sym keeps) (begins order was)) told)
     ending
 
@@ -154,8 +156,8 @@ same_keep side line (Accepted summary) = refl
 same_keep side line (Refused at place reason) = refl
 
 pub onward_so : (range : Range) (text_a text_b : Option (List ℕ)) (ends : ShownEnds) (telling : Onward) (start : Start) (begun : Begun)
-    (result : Result DrawnPair JudgeFault) → range.start ≡ Some start → IsAnswer (kind_by range.line_alone) text_a text_b (Ok ends.verdict)
-    → WasTold (kind_by range.line_alone) text_a text_b ends (IsOnward telling)
+    (result : Result DrawnPair JudgeFault) → range.start ≡ Some start → IsAnswer (kind_by range.judging) text_a text_b (Ok ends.verdict)
+    → WasTold (kind_by range.judging) text_a text_b ends (IsOnward telling)
     → ((order : List MadeRecord) → IsOnward telling order → IsBegun (keep.From start.side start.line) range.rows begun order)
     → EndsDrawing ends begun result → IsDrawing range text_a text_b result
 onward_so range text_a text_b ends telling start begun result some judged told begins ending =
@@ -163,7 +165,7 @@ onward_so range text_a text_b ends telling start begun result some judged told b
     ap (λ (s : Option Start). keep_for (keep_by keep.First s) (keep_by keep.Last s) ends.verdict) some
     ∙ same_keep start.side start.line ends.verdict in
     drawing_so range text_a text_b ends begun result judged
-    (told_of (kind_by range.line_alone) text_a text_b ends (IsOnward telling) (IsBegun (keep_of range ends.verdict) range.rows begun)
+    (told_of (kind_by range.judging) text_a text_b ends (IsOnward telling) (IsBegun (keep_of range ends.verdict) range.rows begun)
     (λ order was. subst (λ (k : Keep). IsBegun k range.rows begun order) (sym keeps) (begins order was)) told)
     ending
 

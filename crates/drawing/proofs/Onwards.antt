@@ -87,9 +87,10 @@ onward_begun onward begun side line rows known knows all is order was =
         enough = tt;
         none_near = tt;
         reached = is
-            ∙ ap (λ (l : LadderView). ladder_behind (ladder_told (with_no_rows (keep.From side line) rows l) calls) onward.first.later.items) of_known.reached
+            ∙ ap (λ (l : LadderView). ladder_behind (ladder_told (with_no_rows (keep.From side line) rows l) calls) onward.first.later.items)
+            of_known.reached
             ∙ ap (λ (l : List Later). ladder_behind (ladder_told (with_no_rows (keep.From side line) rows
-                (ladder_told (ladder_knowing of_known.start gone) near)) calls) l) was.first.is_later;
+            (ladder_told (ladder_knowing of_known.start gone) near)) calls) l) was.first.is_later;
       },
       subst (λ (b : Bool). Rest b rest) (sym all) was.first.whole,
     )

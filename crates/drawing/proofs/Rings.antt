@@ -1,6 +1,8 @@
 -- A ring in the order of its records, and one record more.
-use Rattle.std.proofs.Common.{◌≡◌, ◌⊎◌, ◌≤◌, ◌<◌, inl, inr, subst, ℕ, ◌+◌, ◌-◌, List, [], ◌∷◌, ◌++◌, length, drop, take, set, get_or, min, sym, ◌∙◌, ap, ap₂, arith}
-use Rattle.std.proofs.lemmas.List.{append_assoc, append-nil, drop-set-lt, drop_more, length-append, length-drop, length-take, length-set, take_all, take_more_set}
+use Rattle.std.proofs.Common.{◌≡◌, ◌⊎◌, ◌≤◌, ◌<◌, inl, inr, subst, ℕ, ◌+◌, ◌-◌, min, sym, ◌∙◌, ap, ap₂, arith}
+use Rattle.std.proofs.Common.{List, [], ◌∷◌, ◌++◌, length, drop, take, set, get_or}
+use Rattle.std.proofs.lemmas.List.{append_assoc, append-nil, drop-set-lt, drop_more, take_all, take_more_set}
+use Rattle.std.proofs.lemmas.List.{length-append, length-drop, length-set, length-take}
 use Rattle.std.proofs.Math.ListN.{drop_of_length-le}
 use Rattle.ladder.specs.Ladder.{LadderView, learned}
 use Rattle.drawing.specs.declared.ring.TheConstants.{RECORDS}

@@ -1,5 +1,5 @@
 -- What is drawn of two captures, and what is written of it.
-use Rattle.std.specs.Prelude.{◌≡◌, ◌⊎◌, ℕ, Bool, true, false, List, [], ◌∷◌, ◌++◌, Option, Some, None, Result, Ok, Err, codes}
+use Rattle.std.specs.Prelude.{◌≡◌, ◌⊎◌, ℕ, Bool, true, List, [], ◌∷◌, ◌++◌, Option, Some, None, Result, Ok, Err, codes}
 use Rattle.std.specs.List.{flat_map}
 use Rattle.std.specs.Io.KnownBytes.{Appends}
 use Rattle.wire_base.specs.Tally.{AppendsBeginning, CountedFault}
@@ -22,14 +22,17 @@ use Rattle.pair_judge.specs.declared.fault.JudgeFault.{JudgeFault}
 use Rattle.drawing.specs.declared.drawing.DrawnPair.{DrawnPair}
 use Rattle.drawing.specs.declared.fault.DrawFault.{DrawFault}
 use Rattle.drawing.specs.declared.fault.DrawFault.TheVariants.{Judge, Write}
+use Rattle.drawing.specs.declared.range.Judging.{Judging}
+use Rattle.drawing.specs.declared.range.Judging.TheVariants as judging
 use Rattle.drawing.specs.declared.range.Range.{Range}
 use Rattle.drawing.specs.Telling.{WereFollowed, WereTold, keep_of}
 
 -- ---- what is judged
 
-abbrev pub kind_by : (line_alone : Bool) → NodeKind
-kind_by true = stations_alone
-kind_by false = both_layers
+abbrev pub kind_by : Judging → NodeKind
+kind_by judging.Links = both_layers
+kind_by judging.StandingLinks = both_layers
+kind_by judging.Line = stations_alone
 
 -- ---- the ladder
 
@@ -60,12 +63,12 @@ IsLadderBy (next ∷ more) verdict ends made after = after ≡ made
 -- This is drawn of two texts in this range: the judge answers the verdict of them, and the ladder was told of the records in an order in which
 -- two nodes can make them, and then of the refused one.
 pub record IsPicture (range : Range) (text_a text_b : Option (List ℕ)) (verdict : Verdict) (drawn : DrawnView) : Type 0 where
-  pub judged : IsAnswer (kind_by range.line_alone) text_a text_b (Ok verdict)
+  pub judged : IsAnswer (kind_by range.judging) text_a text_b (Ok verdict)
   pub ends : ShownEnds
   pub gives : ends.verdict ≡ verdict
   pub made : LadderView
   pub rest : List MadeRecord
-  pub told : WasTold (kind_by range.line_alone) text_a text_b ends (WereTold (keep_of range verdict) range.rows made rest)
+  pub told : WasTold (kind_by range.judging) text_a text_b ends (WereTold (keep_of range verdict) range.rows made rest)
   pub after : LadderView
   pub ladder : IsLadderBy rest verdict ends made after
   pub drawn_so : IsDrawn after.kept after.ended drawn
@@ -74,7 +77,7 @@ pub record IsPicture (range : Range) (text_a text_b : Option (List ℕ)) (verdic
 
 abbrev pub IsDrawing : Range → (text_a text_b : Option (List ℕ)) → Result DrawnPair JudgeFault → Type 0
 IsDrawing range text_a text_b (Ok pair) = IsPicture range text_a text_b pair.ends.verdict pair.drawn
-IsDrawing range text_a text_b (Err fault) = IsAnswer (kind_by range.line_alone) text_a text_b (Err fault)
+IsDrawing range text_a text_b (Err fault) = IsAnswer (kind_by range.judging) text_a text_b (Err fault)
 
 -- ---- what is written
 
@@ -100,4 +103,4 @@ Draws range text_a text_b out (Err Write) =
     (verdict : Verdict) × (drawn : DrawnView) × IsPicture range text_a text_b verdict drawn
     × AppendsBeginning out.old out.new (rows_text drawn) × CountedFault out.old_faults out.new_faults
 Draws range text_a text_b out (Err (Judge fault)) =
-    IsAnswer (kind_by range.line_alone) text_a text_b (Err fault) × (out.new ≡ out.old) × (out.new_faults ≡ out.old_faults)
+    IsAnswer (kind_by range.judging) text_a text_b (Err fault) × (out.new ≡ out.old) × (out.new_faults ≡ out.old_faults)

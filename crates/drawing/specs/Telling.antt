@@ -92,7 +92,8 @@ pub record WereTold (keep : Keep) (rows : ℕ) (ladder : LadderView) (rest order
   pub of_order : map record_told (gone ++ (near ++ (calls ++ later))) ++ rest ≡ order
   pub enough : KeepsEnough keep gone calls
   pub none_near : NoneNear keep near
-  pub reached : ladder ≡ ladder_behind (ladder_told (with_no_rows keep rows (ladder_told (ladder_knowing start gone) near)) calls) (map later_entry later)
+  pub reached :
+      ladder ≡ ladder_behind (ladder_told (with_no_rows keep rows (ladder_told (ladder_knowing start gone) near)) calls) (map later_entry later)
 
 -- ---- those behind a refused record
 

@@ -17,11 +17,11 @@ ghost use Rattle.drawing.specs.inner.Kept.{IsEnds, Rest};
 use crate::begun::Begun;
 use crate::behind::tell_behind;
 use crate::fault::DrawFault;
-use crate::range::{MAX_ROWS, Range, Start};
+use crate::range::{Judging, MAX_ROWS, Range, Start};
 use crate::telling::{BothEnds, Onward};
 use ladder::{Drawn, Ladder, Row};
 use pair_judge::{
-    JudgeFault, JudgedEnds, Observer, Verdict, Watched, judge_line_watched, judge_watched,
+    JudgeFault, JudgedEnds, Observer, Verdict, Watched, judge_line_told, judge_told, judge_watched,
 };
 use std::alloc::{AllocError, Global};
 use std::io::{Read, Seek, Write};
@@ -103,7 +103,7 @@ fn ends_drawn<A: Read + Seek, B: Read + Seek>(
     let Ok(telling) = BothEnds::new(alloc) else {
         return Err(JudgeFault::OutOfMemory);
     };
-    let Watched { ends, observer } = match judged(alloc, a, b, range.line_alone, telling) {
+    let Watched { ends, observer } = match judged(alloc, a, b, range.judging, telling) {
         Ok(watched) => watched,
         Err(fault) => return Err(fault),
     };
@@ -130,7 +130,7 @@ fn onward_drawn<A: Read + Seek, B: Read + Seek>(
     let Ok(telling) = Onward::new(alloc, start) else {
         return Err(JudgeFault::OutOfMemory);
     };
-    let Watched { ends, observer } = match judged(alloc, a, b, range.line_alone, telling) {
+    let Watched { ends, observer } = match judged(alloc, a, b, range.judging, telling) {
         Ok(watched) => watched,
         Err(fault) => return Err(fault),
     };
@@ -145,19 +145,19 @@ fn judged<O: Observer, A: Read, B: Read>(
     alloc: Global,
     a: &mut A,
     b: &mut B,
-    line_alone: bool,
+    judging: Judging,
     observer: O,
 ) -> Result<Watched<O>, JudgeFault>
     requires { O.told observer [] }
-    ensures answer { IsAnswer (spec.kind_by line_alone) (A.remaining a.old) (B.remaining b.old)
+    ensures answer { IsAnswer (spec.kind_by judging) (A.remaining a.old) (B.remaining b.old)
         (verdict_in (only result (λ watched. watched.ends))) }
     ensures told { IfOk result (λ watched.
-        WasTold (spec.kind_by line_alone) (A.remaining a.old) (B.remaining b.old) watched.ends (O.told watched.observer)) }
+        WasTold (spec.kind_by judging) (A.remaining a.old) (B.remaining b.old) watched.ends (O.told watched.observer)) }
 {
-    if line_alone {
-        judged_line(alloc, a, b, observer)
-    } else {
-        judged_links(alloc, a, b, observer)
+    match judging {
+        Judging::Links => judged_links(alloc, a, b, observer),
+        Judging::StandingLinks => judged_standing(alloc, a, b, observer),
+        Judging::Line => judged_line(alloc, a, b, observer),
     }
 }
 
@@ -176,11 +176,29 @@ fn judged_line<O: Observer, A: Read, B: Read>(
 {
     let mut reader_a = Tally::new(&mut *a);
     let mut reader_b = Tally::new(&mut *b);
-    judge_line_watched(alloc, &mut reader_a, &mut reader_b, observer)
+    judge_line_told(alloc, &mut reader_a, &mut reader_b, observer)
 }
 
 // With their links.
 fn judged_links<O: Observer, A: Read, B: Read>(
+    alloc: Global,
+    a: &mut A,
+    b: &mut B,
+    observer: O,
+) -> Result<Watched<O>, JudgeFault>
+    requires { O.told observer [] }
+    ensures answer { IsAnswer both_layers (A.remaining a.old) (B.remaining b.old)
+        (verdict_in (only result (λ watched. watched.ends))) }
+    ensures told { IfOk result (λ watched.
+        WasTold both_layers (A.remaining a.old) (B.remaining b.old) watched.ends (O.told watched.observer)) }
+{
+    let mut reader_a = Tally::new(&mut *a);
+    let mut reader_b = Tally::new(&mut *b);
+    judge_told(alloc, &mut reader_a, &mut reader_b, observer)
+}
+
+// Where both ends stand as they were before a refused record.
+fn judged_standing<O: Observer, A: Read, B: Read>(
     alloc: Global,
     a: &mut A,
     b: &mut B,

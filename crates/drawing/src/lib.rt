@@ -16,4 +16,4 @@ mod told_record;
 
 pub use drawing::{DrawnPair, draw_to, drawing_of};
 pub use fault::DrawFault;
-pub use range::{MAX_ROWS, ROWS, Range, Start};
+pub use range::{Judging, MAX_ROWS, ROWS, Range, Start};

@@ -15,8 +15,19 @@ pub struct Range {
     pub start: Option<Start>,
     /// How many they are at most, 1 to `MAX_ROWS`.
     pub rows: usize,
-    /// Whether stations and line are judged alone, as by [`pair_judge::judge_line`].
-    pub line_alone: bool,
+    /// How both captures are judged.
+    pub judging: Judging,
+}
+
+/// How both captures are judged.
+#[derive(Clone, Copy, Debug, PartialEq, Eq)]
+pub enum Judging {
+    /// Stations with their links, as by [`pair_judge::judge`].
+    Links,
+    /// The same, where both ends stand as they were before a refused record, so that they tell its check. This takes longer.
+    StandingLinks,
+    /// Stations and line alone, as by [`pair_judge::judge_line`].
+    Line,
 }
 
 /// A record, by its side and its line.

@@ -3,7 +3,8 @@ use Rattle.std.proofs.Common.{◌≡◌, ◌≤◌, ℕ, ◌+◌, List, [], ◌�
 use Rattle.ladder.specs.declared.xml.Reference.{Reference}
 use Rattle.ladder.specs.declared.xml_names.Attribute.{Attribute}
 use Rattle.ladder.specs.declared.xml_names.Tag.{Tag}
-use Rattle.ladder.specs.Xml.{AreAttributes, IsContent, IsDocument, IsPlain, IsWords, attribute_text, element_text, empty_text, place_of, reference_text}
+use Rattle.ladder.specs.Xml.{AreAttributes, IsContent, IsDocument, IsPlain, IsWords}
+use Rattle.ladder.specs.Xml.{attribute_text, element_text, empty_text, place_of, reference_text}
 use Rattle.ladder.specs.Xml.IsWords.{NoWord, Plain, Referred}
 use Rattle.ladder.specs.Xml.AreAttributes.{NoAttribute, OneMore}
 use Rattle.ladder.specs.Xml.IsContent.{NoContent, SomeWords, Element, Empty}

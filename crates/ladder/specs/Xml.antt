@@ -85,7 +85,7 @@ Between low high character = (low ≤ character) × (character ≤ high)
 -- a line feed, or printable ASCII, but not & ' < >
 abbrev pub IsPlain : ℕ → Type 0
 IsPlain character =
-    (character ≡ 10) ⊎ (Between 32 37 character ⊎ (Between 40 59 character ⊎ (Between 61 61 character ⊎ Between 63 126 character)))
+    (character ≡ 10) ⊎ (Between 32 37 character ⊎ (Between 40 59 character ⊎ ((character ≡ 61) ⊎ Between 63 126 character)))
 
 abbrev pub reference_text : Reference → List ℕ
 reference_text reference.Less = codes "&lt;"

@@ -51,6 +51,7 @@ impl Given {
     }
 
     /// Behind a record that sent this.
+    #[inline(always)]
     pub fn after_sending(&self, said: Said) -> Given
         ensures { result ≡ spec.after_sending self.now said }
     {
@@ -65,6 +66,7 @@ impl Given {
     }
 
     // Behind data with this number.
+    #[inline(always)]
     fn number_given(&self, num: u8) -> Given
         ensures { result ≡ spec.number_given self.now num }
     {
@@ -90,6 +92,7 @@ impl Given {
     }
 
     /// Behind a record that sent nothing: none was given since the station was started.
+    #[inline(always)]
     pub fn after_other(&self, entry: Entry) -> Given
         ensures { result ≡ spec.after_other self.now entry }
     {
@@ -104,6 +107,7 @@ impl Given {
     }
 }
 
+#[inline(always)]
 fn startup_said(said: Said) -> Startup
     ensures { result ≡ spec.startup_of said }
 {

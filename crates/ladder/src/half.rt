@@ -116,8 +116,8 @@ impl Half {
         }
     }
 
-    /// The side's next record was made, and neither it nor its unit is ever drawn: what is drawn behind it goes by the line, the numbers and the state
-    /// that it leaves. What is said to be sound is read without its checks. Takes no memory.
+    /// The side's next record was made, and neither it nor its unit is ever drawn: what is drawn behind it goes by the line, the numbers and the
+    /// state that it leaves. What is said to be sound is read without its checks. Takes no memory.
     #[inline(always)]
     pub fn learn(&mut self, entry: Entry, bytes: &[u8], sound: bool)
         requires { sound ≡ true → IsSound (reading bytes.now) }

@@ -30,6 +30,7 @@ impl State {
     }
 
     /// The state behind what a user did, or got.
+    #[inline(always)]
     pub fn behind_user(self, entry: Entry) -> State
         ensures { result ≡ spec.behind_user self entry }
     {
@@ -41,6 +42,7 @@ impl State {
     }
 
     /// The state behind what came.
+    #[inline(always)]
     pub fn behind_arrival(self, said: Said) -> State
         ensures { result ≡ spec.behind_arrival self said }
     {
@@ -57,6 +59,7 @@ impl State {
 }
 
 // In ASTRT an acknowledgement of number 0 tells that the other side is ready.
+#[inline(always)]
 fn ready(resp: u8) -> State
     ensures { result ≡ spec.ready resp }
 {

@@ -47,7 +47,7 @@ struct Arrival {
     kept: bool,
 }
 
-/// The arrow of the row with this number: of a sending, and of a receipt or noise whose sending is not drawn.
+/// The arrow of the row with this number: of a sending, and of a receipt or noise whose sending is not drawn, or may not come any more.
 pub fn arrow_of(
     alloc: Global,
     drawn: &Drawn,
@@ -62,11 +62,14 @@ pub fn arrow_of(
             Some(arrival) => Ok(Some(whole(alloc, row, y_of(places.of(index).told), arrival)?)),
             None => Ok(Some(cut(alloc, drawn, row, y_of(places.of(index).told))?)),
         },
-        What::Came { hint, .. } => match row_of_unit(drawn, row.told.side, hint) {
-            Some(_) => Ok(None),
-            None => Ok(Some(from_outside(alloc, row, y_of(places.of(index).told))?)),
-        },
-        What::Noise { .. } => Ok(Some(from_outside(alloc, row, y_of(places.of(index).told))?)),
+        What::Came {
+            hint,
+            sent: Some(_),
+            ..
+        } if row_of_unit(drawn, row.told.side, hint).is_some() => Ok(None),
+        What::Came { .. } | What::Noise { .. } => {
+            Ok(Some(from_outside(alloc, row, y_of(places.of(index).told))?))
+        }
         What::User { .. } => Ok(None),
     }
 }
@@ -95,7 +98,7 @@ fn arrival_below(drawn: &Drawn, places: &Places, sender: Side, unit: u64) -> Opt
                 hint,
                 kept,
                 said,
-                ..
+                sent: Some(_),
             } = row.told.what
             && faces(sender, row.told.side)
             && hint == unit

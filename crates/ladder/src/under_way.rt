@@ -73,6 +73,7 @@ impl UnderWay {
     }
 
     /// One more unit was sent, and neither it nor one before it is drawn where it comes. Takes no memory.
+    #[inline(always)]
     pub fn skip(&mut self)
         ensures { self.new ≡ spec.skipped self.old }
     {

@@ -66,7 +66,7 @@ impl Words {
     }
 
     // A character of more than one byte is told by its first one.
-    #[tactic(auto, using(crate::proofs::XmlWords::line_feed, crate::proofs::XmlWords::below_ampersand, crate::proofs::XmlWords::below_less, crate::proofs::XmlWords::equals, crate::proofs::XmlWords::above_greater))]
+    #[tactic(auto, using(crate::proofs::XmlWords::line_feed, crate::proofs::XmlWords::equals))]
     fn with_byte(self, byte: u8) -> Result<Words, AllocError> {
         match byte {
             b'<' => self.with_reference(Reference::Less),
@@ -74,11 +74,19 @@ impl Words {
             b'&' => self.with_reference(Reference::Ampersand),
             b'\'' => self.with_reference(Reference::Apostrophe),
             b'\n' => self.with_plain(byte),
+            b'=' => self.with_plain(byte),
+            0x80..=0xbf => Ok(self),
+            _ => self.with_other(byte),
+        }
+    }
+
+    // Those between the characters that have a meaning of their own.
+    #[tactic(auto, using(crate::proofs::XmlWords::below_ampersand, crate::proofs::XmlWords::below_less, crate::proofs::XmlWords::above_greater))]
+    fn with_other(self, byte: u8) -> Result<Words, AllocError> {
+        match byte {
             b' '..=b'%' => self.with_plain(byte),
             b'('..=b';' => self.with_plain(byte),
-            b'=' => self.with_plain(byte),
             b'?'..=b'~' => self.with_plain(byte),
-            0x80..=0xbf => Ok(self),
             _ => self.with_plain(b'?'),
         }
     }

@@ -120,7 +120,7 @@ module _ (laws : EndLaws) (own : End) (incoming : Line) (w : JudgeHalf) (half : 
 
 module _ (top : JudgeTop)
     (shown : (head_a head_b : Head) (w : JudgeWorld) (of_a of_b : List Record) →
-      Run (judge_pair top) (wire_layers_start head_a head_b) of_a of_b w → IsShown top head_a head_b w of_a of_b)
+    Run (judge_pair top) (wire_layers_start head_a head_b) of_a of_b w → IsShown top head_a head_b w of_a of_b)
     (text_a text_b : Option (List ℕ)) (tells : List MadeRecord → Type 0) (s : Stopped) (i : IsStoppedIn top text_a text_b tells s) where
   abbrev heard_a : Track
   heard_a = along text_a s.a i.come_a i.made_a

@@ -14,6 +14,7 @@ ghost use Rattle.pair_judge.specs.Judged.{IfTold, IsAcceptance, IsExact, IsFault
 ghost use Rattle.pair_judge.specs.inner.Opened.{OpensAt};
 ghost use Rattle.pair_judge.specs.inner.Stopped.{IsStoppedIn};
 
+mod told;
 mod with_ends;
 
 use crate::course::{Ahead, Course};
@@ -33,8 +34,9 @@ use dna_node::{Finding, layers_deliver_in_order, layers_run_as_stations};
 use dna_station::{Head, captures_deliver_in_order};
 use std::alloc::Global;
 use std::io::Read;
+pub use told::{judge_line_told, judge_told};
 use wire_base::{Side, Tally};
-pub use with_ends::{Watched, judge_line_watched, judge_watched, judge_with_ends};
+pub use with_ends::{Watched, judge_watched, judge_with_ends};
 
 // Each turn makes one record of a side or ends.
 const MOST_TURNS: u64 = 2 * MAX_RECORDS + 1;

@@ -52,7 +52,9 @@ pub use failed_laws::failed_check_as_refused;
 pub use fault::{JudgeFault, TextFault};
 pub use formats::{judged_in_any_format, line_is_judged_too};
 pub use judged_ends::JudgedEnds;
-pub use judging::{Watched, judge, judge_line, judge_line_watched, judge_watched, judge_with_ends};
+pub use judging::{
+    Watched, judge, judge_line, judge_line_told, judge_told, judge_watched, judge_with_ends,
+};
 pub use judging_end::{WatchedEnd, judge_end, judge_end_watched, judge_line_end};
 pub use observer::{Nobody, Observer};
 pub use reason::Reason;

@@ -4,7 +4,7 @@ ghost use Rattle.std.specs.Prelude.{◌≡◌, IfOk, []};
 ghost use Rattle.wire_base.specs.Tally.{tally_faults, tally_lent};
 ghost use Rattle.wire_base.specs.declared.side.Side.{Side};
 ghost use Rattle.capture.specs.Faulty.{CountsReads};
-ghost use Rattle.dna_node.specs.Kind.{both_layers, stations_alone};
+ghost use Rattle.dna_node.specs.Kind.{both_layers};
 ghost use Rattle.pair_judge.specs.Ends.{StandsFor, verdict_in};
 ghost use Rattle.pair_judge.specs.Faulty.{is_failed_read_of};
 ghost use Rattle.pair_judge.specs.Judged.{IfTold, IsAcceptance, IsExact, IsFaultyWhere, IsRefusalWhere};
@@ -17,7 +17,7 @@ use crate::judged_ends::{JudgedEnds, ends_with};
 use crate::observer::{Nobody, Observer};
 use crate::stopped::Stopped;
 use crate::summary::Summary;
-use crate::top::{LinksOnTopLeft, NothingOnTop, Top};
+use crate::top::{LinksOnTopLeft, Top};
 use capture::whole_text;
 use ddcmp_station::view_shows_truth;
 use dna_links::LinkTag;
@@ -106,45 +106,8 @@ pub fn judge_watched<O: Observer, R: Read, S: Read>(
     }
 }
 
-/// Decides the same as `judge_line`, of whose answer all that is said there holds of this verdict, while an observer is told of each record that is
-/// made, as by `judge_watched`; and gives both ends as they are then. Of those the contract says which record is ahead and how many were made, no
-/// more. They show no link.
-///
-/// The faults are those of `judge_line`; `OutOfMemory` is answered also where the observer wants memory. The observer was told of nothing before.
-pub fn judge_line_watched<O: Observer, R: Read, S: Read>(
-    alloc: Global,
-    a: &mut Tally<R>,
-    b: &mut Tally<S>,
-    observer: O,
-) -> Result<Watched<O>, JudgeFault>
-    requires { O.told observer [] }
-    ensures exact { IfTold (R.remaining (tally_lent a.old)) (S.remaining (tally_lent b.old))
-        (λ bytes_a bytes_b. IsExact stations_alone bytes_a bytes_b (verdict_in (only result (λ watched. watched.ends)))) }
-    ensures accepted { IfTold (R.remaining (tally_lent a.old)) (S.remaining (tally_lent b.old))
-        (λ bytes_a bytes_b. IsAcceptance stations_alone bytes_a bytes_b (verdict_in (only result (λ watched. watched.ends)))) }
-    ensures refused { IsRefusalWhere stations_alone (R.remaining (tally_lent a.old)) (S.remaining (tally_lent b.old))
-        (verdict_in (only result (λ watched. watched.ends))) }
-    ensures faulty { IsFaultyWhere stations_alone (R.remaining (tally_lent a.old)) (S.remaining (tally_lent b.old))
-        (verdict_in (only result (λ watched. watched.ends))) }
-    ensures told { IfOk result (λ watched.
-        WasTold stations_alone (R.remaining (tally_lent a.old)) (S.remaining (tally_lent b.old)) watched.ends (O.told watched.observer)) }
-    ensures reads_a { CountsReads (is_failed_read_of Side.A result) (tally_faults a.old) (tally_faults a.new) }
-    ensures reads_b { CountsReads (is_failed_read_of Side.B result) (tally_faults b.old) (tally_faults b.new) }
-{
-    whole_text();
-    captures_deliver_in_order();
-    NothingOnTop::shows();
-    match stop::<NothingOnTop, O, R, S>(alloc, a, b, observer) {
-        Ok((stopped, observer)) => Ok(Watched {
-            ends: with_verdict::<NothingOnTop>(stopped),
-            observer,
-        }),
-        Err(fault) => Err(fault),
-    }
-}
-
 // Both sides with what is answered of their finding.
-fn with_verdict<T: Top>(stopped: Stopped) -> JudgedEnds
+pub(super) fn with_verdict<T: Top>(stopped: Stopped) -> JudgedEnds
     ensures { result ≡ ends_of T.top stopped }
 {
     let summary = Summary {

@@ -8,7 +8,7 @@ use Rattle.pair_judge.specs.inner.Tops.{nothing_on_top}
 use Rattle.pair_judge.proofs.Clauses.{RunLaws, WholeLaws, accepted_of_found, exact_of_fault, exact_of_found, refused_of_found}
 use Rattle.pair_judge.specs.Watched.{WasTold}
 use Rattle.pair_judge.proofs.Ends.{told_there}
-use Rattle.pair_judge.proofs.judging.with_ends.judge_line_watched.Goals as goal
+use Rattle.pair_judge.proofs.judging.told.judge_line_told.Goals as goal
 
 pub returns-in-Ok-clause-exact : goal.returns-in-Ok-clause-exact
 returns-in-Ok-clause-exact g c =
