@@ -137,15 +137,20 @@ record, or for a unit and its receipt. Of a pair that is refused there are the
 
 Example, in the top folder of the sources:
 
-  ./ddcap draw examples/wrong_response.a examples/wrong_response.b
+  ./ddcap draw examples/first_start_lost.a examples/first_start_lost.b
 
-It ends with status 1 and prints rows, among them:
+It ends with status 0 and prints:
 
-     3                |------------- STRT -------------->|                3
-     4                |<------------- STACK -------------|                4
+       2          start |                                  |
+       3                |------------- STRT --------------x|
+                        |                                  | start          2
+       4                |---------- again STRT ----------->|                3
+       5                |<------------- STACK -------------|                4
+       6                |------------ ACK /0 ------------->|                5
 
-The arrow ends with > or < where the unit comes in this row, with . where in
-another one, and with x where it never comes. ~ stands before what came damaged.
+The arrow ends with > or < where the unit comes in this row, with . where it
+comes in another one, and with x where it never comes. ~ stands before what
+came damaged.
 
 With --from a:9 the rows begin with the record in line 9 of A (b:9: of B).
 With --rows 80 there are up to 80 of them; 200 is the most. With --svg FILE

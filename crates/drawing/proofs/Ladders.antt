@@ -10,7 +10,7 @@ use Rattle.ladder.specs.declared.rows.Keep.{Keep}
 use Rattle.ladder.specs.declared.rows.Keep.TheVariants as keep
 use Rattle.pair_judge.specs.Ends.{ShownEnds}
 use Rattle.pair_judge.specs.Finding.{of_side}
-use Rattle.pair_judge.specs.Judged.{IfTold, IsAcceptance, IsAnswer, IsExact, IsFaultyWhere, JudgesOrFails}
+use Rattle.pair_judge.specs.Judged.{Answer, IfTold, IsAcceptance, IsAnswer, IsExact, IsFaultyWhere, JudgesOrFails}
 use Rattle.pair_judge.specs.Order.{MadeRecord}
 use Rattle.pair_judge.specs.Watched.{WasTold}
 use Rattle.pair_judge.specs.declared.fault.JudgeFault.{JudgeFault}
@@ -20,6 +20,7 @@ use Rattle.pair_judge.specs.declared.verdict.Verdict.{Verdict}
 use Rattle.pair_judge.specs.declared.verdict.Verdict.TheVariants.{Accepted, Refused}
 use Rattle.drawing.specs.declared.begun.Begun.{Begun}
 use Rattle.drawing.specs.declared.drawing.DrawnPair.{DrawnPair}
+use Rattle.drawing.specs.declared.range.Judging.{Judging}
 use Rattle.drawing.specs.declared.range.Range.{Range}
 use Rattle.drawing.specs.declared.range.Start.{Start}
 use Rattle.drawing.specs.declared.telling.BothEnds.{BothEnds}
@@ -79,6 +80,11 @@ failed_answer nodes text_a text_b fault fails = record {
   refused = tt;
   faulty = faulty_by nodes text_a text_b fault fails;
 }
+
+-- by whichever judge
+pub answered : (judging which : Judging) (text_a text_b : Option (List ℕ)) (answer : Answer) → judging ≡ which
+    → IsAnswer (kind_by which) text_a text_b answer → IsAnswer (kind_by judging) text_a text_b answer
+answered judging which text_a text_b answer is so = subst (λ (j : Judging). IsAnswer (kind_by j) text_a text_b answer) (sym is) so
 
 -- the rows of a ladder that was told of what is kept
 picture_so : (range : Range) (text_a text_b : Option (List ℕ)) (ends : ShownEnds) (drawn : DrawnView) (begun : Begun) (after : LadderView)

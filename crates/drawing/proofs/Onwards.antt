@@ -1,5 +1,5 @@
 -- The records from one on, and one more.
-use Rattle.std.proofs.Common.{◌≡◌, ℕ, Bool, List, [], ◌∷◌, ◌++◌, map, refl, sym, ◌∙◌, ap, subst}
+use Rattle.std.proofs.Common.{◌≡◌, ℕ, Bool, false, List, [], ◌∷◌, ◌++◌, map, refl, sym, ◌∙◌, ap, subst}
 use Rattle.std.proofs.lemmas.List.{append_assoc, append-nil, map-append}
 use Rattle.capture.specs.Entries.{record_with}
 use Rattle.capture.specs.declared.entry.Entry.{Entry}
@@ -16,12 +16,22 @@ use Rattle.drawing.specs.declared.told_record.Later.{Later}
 use Rattle.drawing.specs.Telling.{ToldView, WereTold, ladder_behind, ladder_knowing, ladder_told, later_entry, record_told, told, with_no_rows}
 use Rattle.drawing.specs.inner.Ending.{IsBegun}
 use Rattle.drawing.specs.inner.Kept.{IsEnds, IsFirst, IsOnward, IsRecent, Rest, Tells, WasToldOf}
-use Rattle.drawing.proofs.Firsts.{nothing_told}
+use Rattle.drawing.proofs.Firsts.{first_rest, nothing_told}
 
 pub ends_more : (before after : BothEnds) (side : Side) (entry : Entry) (bytes : List ℕ)
     → Tells IsFirst before.first after.first (told side entry bytes) → Tells IsRecent before.recent after.recent (told side entry bytes)
     → TellsNext IsEnds before after (made_by side (record_with entry bytes))
 ends_more before after side entry bytes first recent order was = (first order was.0, recent order was.1)
+
+-- where one was left out of the first already
+pub ends_rest : (before after : BothEnds) (side : Side) (entry : Entry) (bytes : List ℕ) → before.first.is_all ≡ false
+    → after.first ≡ before.first → Tells IsRecent before.recent after.recent (told side entry bytes)
+    → TellsNext IsEnds before after (made_by side (record_with entry bytes))
+ends_rest before after side entry bytes left same recent order was = (
+  subst (λ (first : First). IsFirst first (order ++ made_by side (record_with entry bytes) ∷ [])) (sym same)
+      (first_rest before.first (told side entry bytes) left order was.0),
+  recent order was.1,
+)
 
 pub onward_none : (onward : Onward) → IsRecent onward.before [] → IsFirst onward.first [] → IsOnward onward []
 onward_none onward before first = record { ahead = []; tail = []; of_order = refl; before = before; first = first }

@@ -1,7 +1,6 @@
 //! `draw`: two captures, and the rows of their ladder.
 
 ghost use Rattle.std.specs.Prelude.{◌≡◌, ◌≤◌, [], ◌++◌, IfErr, IfOk, List, None, OnOk, Some, Ok, Err, string_bytes};
-ghost use Rattle.dna_node.specs.Kind.{both_layers, stations_alone};
 ghost use Rattle.ladder.specs.declared.rows.Keep.TheVariants.{First, Last};
 ghost use Rattle.pair_judge.specs.Ends.{verdict_in};
 ghost use Rattle.pair_judge.specs.Judged.{IsAnswer, JudgesOrFails};
@@ -154,65 +153,29 @@ fn judged<O: Observer, A: Read, B: Read>(
     ensures told { IfOk result (λ watched.
         WasTold (spec.kind_by judging) (A.remaining a.old) (B.remaining b.old) watched.ends (O.told watched.observer)) }
 {
+    let mut reader_a = Tally::new(&mut *a);
+    let mut reader_b = Tally::new(&mut *b);
+    judged_by(alloc, &mut reader_a, &mut reader_b, judging, observer)
+}
+
+fn judged_by<O: Observer, A: Read, B: Read>(
+    alloc: Global,
+    a: &mut Tally<A>,
+    b: &mut Tally<B>,
+    judging: Judging,
+    observer: O,
+) -> Result<Watched<O>, JudgeFault>
+    requires { O.told observer [] }
+    ensures answer { IsAnswer (spec.kind_by judging) (A.remaining (tally_lent a.old)) (B.remaining (tally_lent b.old))
+        (verdict_in (only result (λ watched. watched.ends))) }
+    ensures told { IfOk result (λ watched. WasTold (spec.kind_by judging) (A.remaining (tally_lent a.old)) (B.remaining (tally_lent b.old))
+        watched.ends (O.told watched.observer)) }
+{
     match judging {
-        Judging::Links => judged_links(alloc, a, b, observer),
-        Judging::StandingLinks => judged_standing(alloc, a, b, observer),
-        Judging::Line => judged_line(alloc, a, b, observer),
+        Judging::Links => judge_told(alloc, a, b, observer),
+        Judging::StandingLinks => judge_watched(alloc, a, b, observer),
+        Judging::Line => judge_line_told(alloc, a, b, observer),
     }
-}
-
-// Stations and line alone.
-fn judged_line<O: Observer, A: Read, B: Read>(
-    alloc: Global,
-    a: &mut A,
-    b: &mut B,
-    observer: O,
-) -> Result<Watched<O>, JudgeFault>
-    requires { O.told observer [] }
-    ensures answer { IsAnswer stations_alone (A.remaining a.old) (B.remaining b.old)
-        (verdict_in (only result (λ watched. watched.ends))) }
-    ensures told { IfOk result (λ watched.
-        WasTold stations_alone (A.remaining a.old) (B.remaining b.old) watched.ends (O.told watched.observer)) }
-{
-    let mut reader_a = Tally::new(&mut *a);
-    let mut reader_b = Tally::new(&mut *b);
-    judge_line_told(alloc, &mut reader_a, &mut reader_b, observer)
-}
-
-// With their links.
-fn judged_links<O: Observer, A: Read, B: Read>(
-    alloc: Global,
-    a: &mut A,
-    b: &mut B,
-    observer: O,
-) -> Result<Watched<O>, JudgeFault>
-    requires { O.told observer [] }
-    ensures answer { IsAnswer both_layers (A.remaining a.old) (B.remaining b.old)
-        (verdict_in (only result (λ watched. watched.ends))) }
-    ensures told { IfOk result (λ watched.
-        WasTold both_layers (A.remaining a.old) (B.remaining b.old) watched.ends (O.told watched.observer)) }
-{
-    let mut reader_a = Tally::new(&mut *a);
-    let mut reader_b = Tally::new(&mut *b);
-    judge_told(alloc, &mut reader_a, &mut reader_b, observer)
-}
-
-// Where both ends stand as they were before a refused record.
-fn judged_standing<O: Observer, A: Read, B: Read>(
-    alloc: Global,
-    a: &mut A,
-    b: &mut B,
-    observer: O,
-) -> Result<Watched<O>, JudgeFault>
-    requires { O.told observer [] }
-    ensures answer { IsAnswer both_layers (A.remaining a.old) (B.remaining b.old)
-        (verdict_in (only result (λ watched. watched.ends))) }
-    ensures told { IfOk result (λ watched.
-        WasTold both_layers (A.remaining a.old) (B.remaining b.old) watched.ends (O.told watched.observer)) }
-{
-    let mut reader_a = Tally::new(&mut *a);
-    let mut reader_b = Tally::new(&mut *b);
-    judge_watched(alloc, &mut reader_a, &mut reader_b, observer)
 }
 
 // A ladder that was told of the first records of an accepted pair, or of the last ones of a refused pair.

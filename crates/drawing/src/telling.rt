@@ -37,10 +37,29 @@ impl BothEnds {
     }
 }
 
+impl BothEnds {
+    // One more record was made, and all were kept so far.
+    #[inline(never)]
+    #[tactic(auto, using(crate::proofs::Onwards::ends_more))]
+    fn keep(
+        &mut self,
+        side: Side,
+        entry: Entry,
+        bytes: &[u8],
+        sound: bool,
+    ) -> Result<(), AllocError>
+        requires { sound ≡ true → IsSound (reading bytes.now) }
+        ensures { OnOk result (TellsNext IsEnds self.old self.new (made_by side (record_with entry bytes.now))) }
+    {
+        self.first.made(side, entry, bytes, sound)?;
+        self.recent.made(side, entry, bytes, sound)
+    }
+}
+
 impl Observer for BothEnds {
     ghost told = { λ ends order. IsEnds ends order };
 
-    #[tactic(auto, using(crate::proofs::Onwards::ends_more))]
+    #[tactic(auto, using(crate::proofs::Onwards::ends_rest))]
     fn made(
         &mut self,
         side: Side,
@@ -48,7 +67,9 @@ impl Observer for BothEnds {
         bytes: &[u8],
         sound: bool,
     ) -> Result<(), AllocError> {
-        self.first.made(side, entry, bytes, sound)?;
+        if self.first.is_all {
+            return self.keep(side, entry, bytes, sound);
+        }
         self.recent.made(side, entry, bytes, sound)
     }
 }

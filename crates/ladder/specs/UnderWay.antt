@@ -25,7 +25,7 @@ with_unit w sending = way w.gone (w.units ++ sending ∷ [])
 
 -- one more unit was sent, and of none that was sent so far it is known how
 abbrev pub skipped : Way → Way
-skipped w = way (min (min (sent_units w + 1) (2 ^ 64 - 1)) (2 ^ 63)) []
+skipped w = way (min (sent_units w) (2 ^ 63 - 1) + 1) []
 
 -- how many of those that may still come have a number up to this one, which is a hint if it is below 2 ^ 63
 abbrev pub passed_by : Way → ℕ → ℕ

@@ -77,7 +77,7 @@ impl UnderWay {
     pub fn skip(&mut self)
         ensures { self.new ≡ spec.skipped self.old }
     {
-        let next = self.sent().saturating_add(1).min(END);
+        let next = self.sent().min(END - 1) + 1;
         self.units.clear();
         self.gone = next;
     }
