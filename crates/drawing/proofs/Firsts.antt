@@ -9,7 +9,7 @@ use Rattle.pair_judge.specs.Order.{MadeRecord}
 use Rattle.drawing.specs.declared.begun.Begun.{Begun}
 use Rattle.drawing.specs.declared.first.First.{First}
 use Rattle.drawing.specs.declared.first.TheConstants.{LATER}
-use Rattle.drawing.specs.declared.ring.TheConstants.{RECORDS}
+use Rattle.drawing.specs.declared.log.TheConstants.{RECORDS}
 use Rattle.drawing.specs.declared.told_record.Later.{Later}
 use Rattle.capture.specs.declared.entry.Entry.{Entry}
 use Rattle.wire_base.specs.declared.side.Side.{Side}

@@ -1,6 +1,6 @@
 mod Told
 mod Results
-mod Rings
+mod Logs
 mod Recents
 mod Firsts
 mod Onwards

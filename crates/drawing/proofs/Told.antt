@@ -25,6 +25,12 @@ pub knowing_more : (ladder : LadderView) (records : List ToldView) (next : ToldV
 knowing_more ladder [] next = refl
 knowing_more ladder (first ∷ records) next = knowing_more (knows ladder first) records next
 
+-- in two parts
+pub knowing_both : (ladder : LadderView) (records more : List ToldView)
+    → ladder_knowing ladder (records ++ more) ≡ ladder_knowing (ladder_knowing ladder records) more
+knowing_both ladder [] more = refl
+knowing_both ladder (first ∷ records) more = knowing_both (knows ladder first) records more
+
 told_more : (ladder : LadderView) (records : List ToldView) (next : ToldView)
     → ladder_told ladder (records ++ next ∷ []) ≡ made (ladder_told ladder records) next.side next.entry next.bytes
 told_more ladder [] next = refl
@@ -44,6 +50,12 @@ behind_more ladder (first ∷ records) next = behind_more (passes ladder first) 
 taken : {X : Type 0} → (records : List X) (i : ℕ) (next : X) → i < length records → next ≡ get_or records i next
     → take (i + 1) records ≡ take i records ++ next ∷ []
 taken {X} records i next within at = take_more records i next within ∙ ap (λ (x : X). take i records ++ x ∷ []) (sym at)
+
+pub known_one_more : (ladder : LadderView) (records : List ToldView) (i : ℕ) (next : ToldView) → i < length records
+    → next ≡ get_or records i next
+    → ladder_knowing ladder (take (i + 1) records) ≡ learned (ladder_knowing ladder (take i records)) next.side next.entry next.bytes
+known_one_more ladder records i next within at =
+    ap (λ (l : List ToldView). ladder_knowing ladder l) (taken records i next within at) ∙ knowing_more ladder (take i records) next
 
 pub told_one_more : (ladder : LadderView) (records : List ToldView) (i : ℕ) (next : ToldView) → i < length records
     → next ≡ get_or records i next

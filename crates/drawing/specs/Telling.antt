@@ -10,7 +10,7 @@ use Rattle.pair_judge.specs.declared.verdict.Verdict.{Verdict}
 use Rattle.pair_judge.specs.declared.verdict.Verdict.TheVariants.{Accepted, Refused}
 use Rattle.drawing.specs.declared.range.Range.{Range}
 use Rattle.drawing.specs.declared.range.Start.{Start}
-use Rattle.drawing.specs.declared.ring.TheConstants.{RECORDS}
+use Rattle.drawing.specs.declared.log.TheConstants.{RECORDS}
 use Rattle.drawing.specs.declared.told_record.Later.{Later}
 use Rattle.wire_base.specs.declared.side.Side.{Side}
 use Rattle.capture.specs.declared.entry.Entry.{Entry}

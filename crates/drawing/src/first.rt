@@ -9,7 +9,7 @@ ghost use Rattle.drawing.specs.inner.Ending.{IsBegun};
 ghost use Rattle.drawing.specs.inner.Kept.{IsFirst, Tells};
 
 use crate::begun::Begun;
-use crate::ring::RECORDS;
+use crate::log::RECORDS;
 use crate::tell::{follow_all, tell_all};
 use crate::told_record::{Later, ToldRecord};
 use capture::Entry;

@@ -1,25 +1,30 @@
 //! The last records, and those before them.
 
-ghost use Rattle.std.specs.Prelude.{◌≡◌, ◌≤◌, true, List, [], IfOk, OnOk};
+ghost use Rattle.std.specs.Prelude.{◌≡◌, ◌<◌, ◌≤◌, true, length, List, [], IfOk, OnOk};
 ghost use Rattle.ddcmp_msg.specs.Reading.{IsSound, reading};
 ghost use Rattle.pair_judge.specs.Order.{MadeRecord};
 ghost use Rattle.ladder.specs.declared.rows.Keep.TheVariants.{Last};
-ghost use Rattle.drawing.specs.Telling.{told};
+ghost use Rattle.drawing.specs.declared.log.TheConstants.{RECORDS};
+ghost use Rattle.drawing.specs.Telling.{ladder_told, told};
 ghost use Rattle.drawing.specs.inner.Ending.{IsBegun};
 ghost use Rattle.drawing.specs.inner.Kept.{IsRecent, Tells, WasToldOf};
 
 use crate::begun::Begun;
-use crate::ring::Ring;
+use crate::log::Log;
+use crate::tell::{teach_all, tell_all};
 use capture::Entry;
 use ladder::{Keep, Ladder};
 use std::alloc::{AllocError, Global};
+use std::mem;
 use wire_base::Side;
 
-/// The last records that were told, and what a ladder knows of those before them.
+/// The last records that were told, at least as many as a log has, and what a ladder knows of those before them. They stand in two logs: where the
+/// newer one is full, the ladder learns the older one, whose memory the next records take.
 #[derive(Drop)]
 pub struct Recent {
     pub before: Ladder,
-    pub records: Ring,
+    pub older: Log,
+    pub newer: Log,
 }
 
 impl Recent {
@@ -30,13 +35,14 @@ impl Recent {
     {
         Ok(Recent {
             before: Ladder::new(alloc, Keep::Last, 1)?,
-            records: Ring::new(alloc),
+            older: Log::new(alloc),
+            newer: Log::new(alloc),
         })
     }
 
     /// One more record was made. `AllocError` where there is no memory for it; then this is of no use.
     #[inline(always)]
-    #[tactic(auto, using(crate::proofs::Recents::recent_grown, crate::proofs::Recents::recent_gone_on))]
+    #[tactic(auto, using(crate::proofs::Recents::recent_made))]
     pub fn made(
         &mut self,
         side: Side,
@@ -47,12 +53,32 @@ impl Recent {
         requires { sound ≡ true → IsSound (reading bytes.now) }
         ensures { OnOk result (Tells IsRecent self.old self.new (told side entry bytes.now)) }
     {
-        if self.records.is_full() {
-            self.records
-                .go_on(&mut self.before, side, entry, bytes, sound)
-        } else {
-            self.records.grow(side, entry, bytes, sound)
+        self.make_room();
+        self.newer.put(side, entry, bytes, sound)
+    }
+
+    // The newer log has room for a record.
+    #[inline(always)]
+    fn make_room(&mut self)
+        ensures kept { (order : List MadeRecord) → IsRecent self.old order → IsRecent self.new order }
+        ensures room { length self.new.newer < RECORDS }
+    {
+        if self.newer.is_full() {
+            self.turn_over();
         }
+    }
+
+    // The ladder learns the older log, and the newer one is the older one from now on.
+    #[inline(never)]
+    #[tactic(auto, using(crate::proofs::Recents::turned))]
+    fn turn_over(&mut self)
+        requires { RECORDS ≤ length self.old.newer }
+        ensures kept { (order : List MadeRecord) → IsRecent self.old order → IsRecent self.new order }
+        ensures none { self.new.newer ≡ [] }
+    {
+        teach_all(&mut self.before, self.older.as_slice());
+        mem::swap(&mut self.older, &mut self.newer);
+        self.newer.clear();
     }
 
     /// A ladder that knows all of them; no row of them is to be drawn. `AllocError` where there is no memory for a unit.
@@ -62,9 +88,11 @@ impl Recent {
     {
         let Recent {
             before: mut ladder,
-            records,
+            older,
+            newer,
         } = self;
-        records.tell(&mut ladder)?;
+        tell_all(&mut ladder, older.as_slice())?;
+        tell_all(&mut ladder, newer.as_slice())?;
         Ok(ladder)
     }
 
@@ -77,10 +105,12 @@ impl Recent {
     {
         let Recent {
             before: mut ladder,
-            records,
+            older,
+            newer,
         } = self;
         ladder.begin(alloc, Keep::Last, rows)?;
-        records.tell(&mut ladder)?;
+        tell_all(&mut ladder, older.as_slice())?;
+        tell_all(&mut ladder, newer.as_slice())?;
         Ok(Begun {
             ladder,
             is_all: true,

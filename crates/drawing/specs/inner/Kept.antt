@@ -1,13 +1,13 @@
 -- What is kept of the records that were told, for the contracts of private functions.
 use Rattle.std.specs.Prelude.{◌≡◌, ◌⊎◌, ◌≤◌, ◌<◌, ℕ, Bool, true, false, List, [], ◌∷◌, ◌++◌, length, map}
 use Rattle.capture.specs.declared.entry.Entry.{Entry}
-use Rattle.ladder.specs.Ladder.{LadderView, learned}
+use Rattle.ladder.specs.Ladder.{LadderView}
 use Rattle.pair_judge.specs.Order.{MadeRecord}
 use Rattle.wire_base.specs.declared.side.Side.{Side}
 use Rattle.drawing.specs.declared.first.First.{First}
 use Rattle.drawing.specs.declared.first.TheConstants.{LATER}
 use Rattle.drawing.specs.declared.recent.Recent.{Recent}
-use Rattle.drawing.specs.declared.ring.TheConstants.{RECORDS}
+use Rattle.drawing.specs.declared.log.TheConstants.{RECORDS}
 use Rattle.drawing.specs.declared.telling.BothEnds.{BothEnds}
 use Rattle.drawing.specs.declared.telling.Onward.{Onward}
 use Rattle.drawing.specs.Telling.{ToldView, ladder_knowing, ladder_told, later_entry, record_told}
@@ -21,22 +21,14 @@ pub record IsNew (ladder : LadderView) : Type 0 where
   pub line_a : ladder.a.line ≡ 2
   pub line_b : ladder.b.line ≡ 2
 
--- a ring before and after it takes one record more: the ladder learns the oldest one
-pub record GoesOn (ring_before ring_after : List ToldView) (before after : LadderView) (next : ToldView) : Type 0 where
-  pub oldest : ToldView
-  pub left : List ToldView
-  pub cut : ring_before ≡ oldest ∷ left
-  pub knows : after ≡ learned before oldest.side oldest.entry oldest.bytes
-  pub is : ring_after ≡ left ++ next ∷ []
-
 -- the last records, and a ladder that knows those before them
 pub record IsRecent (recent : Recent) (order : List MadeRecord) : Type 0 where
   pub start : LadderView
   pub is_new : IsNew start
   pub gone : List ToldView
-  pub of_order : map record_told (gone ++ recent.records) ≡ order
+  pub of_order : map record_told (gone ++ (recent.older ++ recent.newer)) ≡ order
   pub before : recent.before ≡ ladder_knowing start gone
-  pub enough : (gone ≡ []) ⊎ (RECORDS ≤ length recent.records)
+  pub enough : (gone ≡ []) ⊎ (RECORDS ≤ length recent.older)
 
 -- a ladder that was told of all of them
 pub record WasToldOf (ladder : LadderView) (order : List MadeRecord) : Type 0 where
