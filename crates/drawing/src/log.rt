@@ -72,7 +72,7 @@ impl Log {
         ensures { OnOk result (self.new ≡ self.old ++ told side entry bytes.now ∷ []) }
     {
         let Some(slot) = self.records.get_mut(self.count) else {
-            return self.grow(side, entry, bytes, sound);
+            return self.grow(side, &entry, bytes, sound);
         };
         slot.refill(side, entry, bytes, sound)?;
         self.count += 1;
@@ -84,15 +84,15 @@ impl Log {
     fn grow(
         &mut self,
         side: Side,
-        entry: Entry,
+        entry: &Entry,
         bytes: &[u8],
         sound: bool,
     ) -> Result<(), AllocError>
         requires room { length self.old < RECORDS }
         requires sound { sound ≡ true → IsSound (reading bytes.now) }
-        ensures { OnOk result (self.new ≡ self.old ++ told side entry bytes.now ∷ []) }
+        ensures { OnOk result (self.new ≡ self.old ++ told side entry.now bytes.now ∷ []) }
     {
-        let next = ToldRecord::new(self.alloc, side, entry, bytes, sound)?;
+        let next = ToldRecord::new(self.alloc, side, *entry, bytes, sound)?;
         self.records.truncate(self.count);
         self.records.push(next)?;
         self.count += 1;

@@ -44,15 +44,15 @@ impl BothEnds {
     fn keep(
         &mut self,
         side: Side,
-        entry: Entry,
+        entry: &Entry,
         bytes: &[u8],
         sound: bool,
     ) -> Result<(), AllocError>
         requires { sound ≡ true → IsSound (reading bytes.now) }
-        ensures { OnOk result (TellsNext IsEnds self.old self.new (made_by side (record_with entry bytes.now))) }
+        ensures { OnOk result (TellsNext IsEnds self.old self.new (made_by side (record_with entry.now bytes.now))) }
     {
-        self.first.made(side, entry, bytes, sound)?;
-        self.recent.made(side, entry, bytes, sound)
+        self.first.made(side, *entry, bytes, sound)?;
+        self.recent.made(side, *entry, bytes, sound)
     }
 }
 
@@ -68,7 +68,7 @@ impl Observer for BothEnds {
         sound: bool,
     ) -> Result<(), AllocError> {
         if self.first.is_all {
-            return self.keep(side, entry, bytes, sound);
+            return self.keep(side, &entry, bytes, sound);
         }
         self.recent.made(side, entry, bytes, sound)
     }

@@ -70,13 +70,19 @@ impl ToldRecord {
         requires { sound ≡ true → IsSound (reading bytes.now) }
         ensures { OnOk result (self.new ≡ told side entry bytes.now) }
     {
-        self.sound = false;
-        self.bytes.clear();
-        self.bytes.extend_from_slice(bytes)?;
         self.side = side;
         self.entry = entry;
-        self.sound = sound;
-        Ok(())
+        self.bytes.clear();
+        match self.bytes.extend_from_slice(bytes) {
+            Ok(()) => {
+                self.sound = sound;
+                Ok(())
+            }
+            Err(error) => {
+                self.sound = false;
+                Err(error)
+            }
+        }
     }
 
     /// The ladder learns that it was made; neither it nor its unit is drawn.

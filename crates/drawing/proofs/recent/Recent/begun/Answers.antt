@@ -9,6 +9,6 @@ pub returns : goal.returns
 returns c =
     let empty : LadderView = with_no_rows Last c.args.rows c.args.self.before in
     let half = c.in_ok-tell_all.ensures ∙ ap (λ (l : LadderView). ladder_told l c.as_slice.result.now) c.in_ok-begin.ensures.ok
-        ∙ ap (λ (records : List ToldView). ladder_told empty records) c.as_slice.ensures in
+    ∙ ap (λ (records : List ToldView). ladder_told empty records) c.as_slice.ensures in
     let whole = c.in_ok-tell_all-2.ensures ∙ ap (λ (records : List ToldView). ladder_told c.tell_all.new.ladder records) c.as_slice-2.ensures in
     recent_begun c.args.self (record { ladder = c.tell_all-2.new.ladder; is_all = true }) c.args.rows c.tell_all.new.ladder refl half whole
