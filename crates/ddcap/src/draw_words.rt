@@ -43,10 +43,10 @@ pub fn drawing_asked<'a>(found: &ArgMatches<'a>) -> Result<Asked<'a>, WordsFault
         },
     };
     let svg = found.get_str("svg");
-    let judging = match (found.get_flag("line"), svg) {
-        (true, _) => Judging::Line,
-        (false, None) => Judging::Links,
-        (false, Some(_)) => Judging::StandingLinks,
+    let judging = if found.get_flag("line") {
+        Judging::Line
+    } else {
+        Judging::Links
     };
     Ok(Asked {
         a,

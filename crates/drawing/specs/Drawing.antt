@@ -31,7 +31,6 @@ use Rattle.drawing.specs.Telling.{WereFollowed, WereTold, keep_of}
 
 abbrev pub kind_by : Judging → NodeKind
 kind_by judging.Links = both_layers
-kind_by judging.StandingLinks = both_layers
 kind_by judging.Line = stations_alone
 
 -- ---- the ladder

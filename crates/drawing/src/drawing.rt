@@ -19,9 +19,7 @@ use crate::fault::DrawFault;
 use crate::range::{Judging, MAX_ROWS, Range, Start};
 use crate::telling::{BothEnds, Onward};
 use ladder::{Drawn, Ladder, Row};
-use pair_judge::{
-    JudgeFault, JudgedEnds, Observer, Verdict, Watched, judge_line_told, judge_told, judge_watched,
-};
+use pair_judge::{JudgeFault, JudgedEnds, Observer, Verdict, Watched, judge_line_told, judge_told};
 use std::alloc::{AllocError, Global};
 use std::io::{Read, Seek, Write};
 use wire_base::{Side, Tally, write_whole};
@@ -173,7 +171,6 @@ fn judged_by<O: Observer, A: Read, B: Read>(
 {
     match judging {
         Judging::Links => judge_told(alloc, a, b, observer),
-        Judging::StandingLinks => judge_watched(alloc, a, b, observer),
         Judging::Line => judge_line_told(alloc, a, b, observer),
     }
 }

@@ -24,8 +24,6 @@ pub struct Range {
 pub enum Judging {
     /// Stations with their links, as by [`pair_judge::judge`].
     Links,
-    /// The same, where both ends stand as they were before a refused record, so that they tell its check. This takes longer.
-    StandingLinks,
     /// Stations and line alone, as by [`pair_judge::judge_line`].
     Line,
 }

@@ -12,7 +12,7 @@ ghost use Rattle.pair_judge.specs.inner.Making.{is_receipt};
 
 use crate::failed_check::{FailedCheck, NotSound};
 use crate::held_link::HeldLink;
-use crate::layers::Layers;
+use crate::layers::{Layers, packet_of};
 use crate::line::Line;
 use crate::receipt::coming;
 use capture::Entry;
@@ -76,6 +76,26 @@ pub fn failed_own(layers: &Layers, entry: Entry, bytes: &[u8]) -> Option<FailedC
             })
         }
         Entry::Close { link } => layers.failed_link_event(LinkEvent::Close { link }),
+    }
+}
+
+/// The check of a packet that this record does not pass at the links, whatever the station says of its message.
+pub fn failed_at_links(
+    layers: &Layers,
+    incoming: &Line,
+    entry: Entry,
+    bytes: &[u8],
+) -> Option<FailedCheck> {
+    let Reading::Sound(message) = read_unit(bytes) else {
+        return None;
+    };
+    match entry {
+        Entry::Sent => layers.failed_first(packet_of(&message)),
+        Entry::Received { kept: true, hint } if incoming.gone <= hint => {
+            let unit = incoming.unit(hint)?;
+            layers.failed_kept(packet_of(&message), unit.link())
+        }
+        _ => None,
     }
 }
 

@@ -19,6 +19,7 @@ use ddcmp_station::HeldPacket;
 use dna_links::LinkTag;
 use dna_station::Head;
 use nsp_link::Piece;
+pub use sending::packet_of;
 use std::alloc::{AllocError, Global};
 use std::marker::Model;
 use wire_base::RingWindow;

@@ -58,7 +58,7 @@ impl JudgedEnds {
                 None => None,
             },
             Reason::NoOrder => both_await(own, other),
-            _ => own.failed(incoming),
+            _ => own.failed(incoming, reason),
         }
     }
 }

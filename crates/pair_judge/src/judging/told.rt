@@ -26,7 +26,8 @@ use wire_base::Tally;
 /// of all that was read of both texts but the records ahead, in an order in which two nodes can make them.
 ///
 /// It makes a step as `judge` does, and asks nothing before: it is faster than `judge_watched`. The ends show which records are ahead, and how many
-/// were made; where the links refuse a record, the station has made its own step already, so that nothing more is said of them.
+/// were made; where the links refuse a record, the station has made its own step already, so that nothing more is said of them. The check that
+/// fails is told of them as of others (`failed`).
 ///
 /// The faults are those of `judge`; `OutOfMemory` is answered also where the observer wants memory. The observer was told of nothing before.
 pub fn judge_told<O: Observer, R: Read, S: Read>(

@@ -41,8 +41,8 @@ impl Layers {
         }
     }
 
-    // The links meet a packet that is first sent.
-    fn failed_first(&self, packet: &[u8]) -> Option<FailedCheck>
+    /// The check that a packet does not pass at the links, if it is first sent now.
+    pub fn failed_first(&self, packet: &[u8]) -> Option<FailedCheck>
         ensures { result ≡ spec.failed_packet
             (λ carried. option_map FailedCheck.LinkSending (link_sending.failed_sending self.now.links carried)) packet.now }
     {
@@ -89,8 +89,8 @@ impl Layers {
         }
     }
 
-    // The links meet a packet that is kept.
-    fn failed_kept(&self, packet: &[u8], link: &HeldLink) -> Option<FailedCheck>
+    /// The check that a packet does not pass at the links, if it is kept now with the tag of its unit.
+    pub fn failed_kept(&self, packet: &[u8], link: &HeldLink) -> Option<FailedCheck>
         ensures { result ≡ spec.failed_packet
             (λ carried. option_map FailedCheck.LinkArrival (link_arrival.failed_arrival self.now.links carried (tag_or_none link.now))) packet.now }
     {

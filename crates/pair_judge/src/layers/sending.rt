@@ -107,8 +107,8 @@ impl Layers {
     }
 }
 
-// The packet of a data message.
-pub(super) fn packet_of<'a>(message: &Message<'a>) -> &'a [u8]
+/// The packet of a data message; of another one no byte.
+pub fn packet_of<'a>(message: &Message<'a>) -> &'a [u8]
     ensures { result.now ≡ body_of (view message.now) }
 {
     match message {

@@ -7,7 +7,7 @@ ghost use Rattle.pair_judge.specs.FailedCheck.{reason_of_failed};
 use super::SideEnd;
 use crate::course::Ahead;
 use crate::failed_check::{FailedCheck, NotSound};
-use crate::failed_record::{failed_own, failed_record};
+use crate::failed_record::{failed_at_links, failed_own, failed_record};
 use crate::line::Line;
 use crate::reason::Reason;
 use capture::Entry;
@@ -16,13 +16,17 @@ use ddcmp_station::FailedArrival;
 use dna_packet::{Packet, read_nsp, read_packet};
 
 impl SideEnd {
-    /// The first check that the record ahead does not pass, where this line leads from the other side; `None` where there is none, or it waits.
-    /// Takes no memory.
-    pub(crate) fn failed(&self, incoming: &Line) -> Option<FailedCheck> {
+    /// The first check that the record ahead does not pass, which is refused for this reason, where this line leads from the other side; `None` where
+    /// there is none, or it waits. Where the links refused it and the station had made its own step by then, it is theirs. Takes no memory.
+    pub(crate) fn failed(&self, incoming: &Line, reason: Reason) -> Option<FailedCheck> {
         let Ahead::Waits(entry) = self.ahead else {
             return None;
         };
-        failed_record(&self.layers, incoming, entry, self.capture.bytes())
+        let bytes = self.capture.bytes();
+        match failed_record(&self.layers, incoming, entry, bytes) {
+            Some(check) if check.reason() == reason => Some(check),
+            _ => failed_at_links(&self.layers, incoming, entry, bytes),
+        }
     }
 
     /// The check that the record ahead of an end alone does not pass, which is refused for this reason, with what is seen there and what is allowed.

@@ -1,4 +1,4 @@
-use Rattle.drawing.specs.declared.range.Judging.TheVariants.{Links, StandingLinks, Line}
+use Rattle.drawing.specs.declared.range.Judging.TheVariants.{Links, Line}
 use Rattle.drawing.proofs.Ladders.{answered}
 use Rattle.drawing.proofs.drawing.judged_by.Goals as goal
 
@@ -6,12 +6,6 @@ pub returns-in-Links-clause-answer : goal.returns-in-Links-clause-answer
 returns-in-Links-clause-answer g c =
     let said = c.judge_told.ensures in
     answered c.args.judging Links _ _ _ c.in-Links.is
-    (record { exact = said.exact; accepted = said.accepted; refused = said.refused; faulty = said.faulty })
-
-pub returns-in-StandingLinks-clause-answer : goal.returns-in-StandingLinks-clause-answer
-returns-in-StandingLinks-clause-answer g c =
-    let said = c.judge_watched.ensures in
-    answered c.args.judging StandingLinks _ _ _ c.in-StandingLinks.is
     (record { exact = said.exact; accepted = said.accepted; refused = said.refused; faulty = said.faulty })
 
 pub returns-in-Line-clause-answer : goal.returns-in-Line-clause-answer
