@@ -9,7 +9,7 @@ ghost use Rattle.ddcap.specs.PrintedDrawing.{verdict_answered};
 
 use ddcmp_msg::read_unit;
 use drawing::{DrawnPair, MAX_ROWS, Range, drawing_of};
-use ladder::Caption;
+use ladder::{Caption, Drawn, Sending, What};
 use pair_judge::{JudgeFault, JudgedEnds, Verdict};
 use std::alloc::{AllocError, Global};
 use std::io::{Read, Seek};
@@ -55,7 +55,8 @@ fn svg_of(alloc: Global, pair: &DrawnPair, title: &str) -> Result<Vec<u8>, Alloc
     ensures { IfOk result (λ text. IsDocument text.items) }
 {
     let verdict = verdict_words(alloc, pair.ends.verdict())?;
-    let check = check_words(alloc, &pair.ends)?;
+    let unit_name = unit_name(alloc, &pair.drawn)?;
+    let check = check_words(alloc, &pair.ends, unit_name.as_str())?;
     let (seen, allowed) = seen_and_allowed(check.as_str());
     let caption = Caption {
         title,
@@ -83,14 +84,14 @@ fn verdict_words(alloc: Global, verdict: Verdict) -> Result<String, AllocError> 
 }
 
 // What is said of the check that the refused record does not pass, in rows; nothing where none is refused.
-fn check_words(alloc: Global, ends: &JudgedEnds) -> Result<String, AllocError> {
+fn check_words(alloc: Global, ends: &JudgedEnds, unit_name: &str) -> Result<String, AllocError> {
     let Verdict::Refused { side, reason, .. } = ends.verdict() else {
         return Ok(String::new(alloc));
     };
     let (Some((_, failed)), Some((entry, bytes))) = (ends.failed(), ends.ahead(side)) else {
         return Ok(String::new(alloc));
     };
-    let fronts = FrontTexts::of(alloc, ends.end(side), entry, bytes, "")?;
+    let fronts = FrontTexts::of(alloc, ends.end(side), entry, bytes, unit_name)?;
     let rows = CheckRows {
         side,
         reason,
@@ -99,6 +100,23 @@ fn check_words(alloc: Global, ends: &JudgedEnds) -> Result<String, AllocError> {
         fronts: fronts.lent(),
     };
     format!(in alloc; "{rows}")
+}
+
+// The short name of the unit that the last row's record names by its hint, as what was sent is told; nothing where it names none.
+fn unit_name(alloc: Global, drawn: &Drawn) -> Result<String, AllocError> {
+    let Some(row) = drawn.row(drawn.len().saturating_sub(1)) else {
+        return Ok(String::new(alloc));
+    };
+    match row.told.what {
+        What::Came {
+            sent: Some(Sending { said, .. }),
+            ..
+        } => {
+            let words = said.brief();
+            format!(in alloc; "{words}, ")
+        }
+        _ => Ok(String::new(alloc)),
+    }
 }
 
 // The words of its first two rows, behind their keys.
