@@ -25,7 +25,7 @@ use Rattle.dna_node.specs.Layers.{stations}
 use Rattle.dna_play.specs.Owed.{Debt, timer_debt}
 use Rattle.dna_play.specs.LinkOwed.{LinkOwed, InitiateTurn, ConfirmTurn, DisconnectTurn, retried, changed}
 use Rattle.dna_play.specs.Compose.{address}
-use Rattle.dna_play.specs.Player.{End, made_half, station_of, links_of, after_record, new_end}
+use Rattle.dna_play.specs.Player.{End, station_of, links_of, after_record, new_end}
 use Rattle.dna_play.specs.Player as player
 use Rattle.dna_play.specs.Stepped.{owing_more}
 use Rattle.dna_play.proofs.Once.Orderly.{IsHigher, higher}

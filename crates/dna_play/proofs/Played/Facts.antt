@@ -38,10 +38,11 @@ use Rattle.dna_play.proofs.Played.SidesLined.{is_lined}
 use Rattle.dna_play.proofs.Played.SentLined.{AreSentLined, sent_lined}
 use Rattle.dna_play.proofs.Played.Steps.{PlayHalf, MakesAll}
 use Rattle.dna_play.proofs.Played.Order.{InOrder, order_join}
-use Rattle.dna_play.proofs.Played.Runs.{more_of_a, exchanged_nodes}
+use Rattle.dna_play.proofs.Played.Reached.{exchanged_ends, exchanged_script}
+use Rattle.dna_play.proofs.Played.Runs.{more_of_a}
 use Rattle.dna_play.proofs.Once.Checked.{is_checked_run}
 use Rattle.dna_play.proofs.Played.Checked.{AreInOrder, orderly}
-use Rattle.dna_play.proofs.Played.Known.{known_a, exchanged_ends}
+use Rattle.dna_play.proofs.Played.Known.{known_a}
 use Rattle.dna_play.proofs.Ends.Stage.{Known}
 use Rattle.dna_play.proofs.Ends.Receives.{IsLined}
 
@@ -158,7 +159,7 @@ module _ (script : Script) where
 
 -- ---- the other end, with the sides exchanged
 
-going_on : (script : Script) (played : Played) → Going script played → Going (exchanged_nodes script) (exchanged_ends played)
+going_on : (script : Script) (played : Played) → Going script played → Going (exchanged_script script) (exchanged_ends played)
 going_on script played g = record {
   made = record { run = exchange player_pair g.made.run; lines_a = g.made.lines_b; lines_b = g.made.lines_a };
   count_a = g.count_b;
@@ -170,4 +171,4 @@ going_on script played g = record {
 
 module _ (script : Script) (node_a : IsNode script.node_a) (node_b : IsNode script.node_b) (played : Played) (g : Going script played) where
   pub later_b : Later played.b played.a
-  later_b = later_a (exchanged_nodes script) node_b node_a (exchanged_ends played) (going_on script played g)
+  later_b = later_a (exchanged_script script) node_b node_a (exchanged_ends played) (going_on script played g)

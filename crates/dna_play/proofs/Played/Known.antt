@@ -87,7 +87,3 @@ module _ (head_a head_b : Head) (played : Played) (run : Run layers_pair (layers
         node = nodes.of_a.links.node_is ∙ ap (λ (x : Head). x.own) (sym head);
         peer = nodes.of_a.links.peer_is ∙ ap (λ (x : Head). x.peer) (sym head);
       }
-
--- the same two ends, with the sides exchanged
-abbrev pub exchanged_ends : Played → Played
-exchanged_ends played = record { a = played.b; b = played.a; of_a = played.of_b; of_b = played.of_a }

@@ -39,7 +39,7 @@ use Rattle.dna_play.specs.Play.{plays}
 use Rattle.dna_play.specs.Kept.{KeptStation, KeptLinks, kept}
 use Rattle.dna_play.specs.KeptStation as of_station
 use Rattle.dna_play.specs.KeptLinks.{Delivering}
-use Rattle.dna_play.specs.KeptPlay.{KeptStepped, kept_plays, arrived, up_address, ups, all_short, came_as}
+use Rattle.dna_play.specs.KeptPlay.{KeptStepped, kept_plays, arrived, up_address, ups, came_as}
 use Rattle.dna_play.specs.KeptPlay as keeping
 use Rattle.dna_play.specs.KeptRun.{bytes_of, kept_stepped, IsKept}
 use Rattle.dna_station.proofs.Cut.Arriving.{arrival_refusal_same}

@@ -35,7 +35,7 @@ use Rattle.dna_play.specs.Player as player
 use Rattle.dna_play.specs.Stepped.{owing_more, links_owing_more}
 use Rattle.dna_play.specs.Receipt.{complete, delivered_by, delivered_now, carried_debt, gets_all, passing}
 use Rattle.dna_play.specs.Kept.{KeptLinks, kept}
-use Rattle.dna_play.specs.KeptLinks.{Delivering, delivering_none, delivering_at, took_segment, arrives, message_came, with_end}
+use Rattle.dna_play.specs.KeptLinks.{Delivering, delivering_none, delivering_at, took_segment, arrives, message_came}
 use Rattle.dna_play.specs.KeptLinks as of_links
 use Rattle.dna_play.specs.KeptPlay.{arrived, up_address, ups, all_short}
 use Rattle.dna_play.proofs.Played.Steps.{PlayHalf}

@@ -28,7 +28,7 @@ use Rattle.dna_play.specs.Stepped.{Stop, made}
 use Rattle.dna_play.specs.Play.{after_sending, sends_message, sends_choice, sends, plays}
 use Rattle.dna_play.specs.Kept.{KeptStation, KeptLinks, kept, live_ends}
 use Rattle.dna_play.specs.KeptStation as of_station
-use Rattle.dna_play.specs.KeptLinks.{gave_by, turn_sent, sent_at}
+use Rattle.dna_play.specs.KeptLinks.{sent_at}
 use Rattle.dna_play.specs.KeptLinks as of_links
 use Rattle.dna_play.specs.KeptPlay.{KeptStepped, kept_plays}
 use Rattle.dna_play.specs.KeptPlay as keeping
