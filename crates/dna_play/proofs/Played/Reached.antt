@@ -127,39 +127,37 @@ pub step_of_b : (so_far : Played) (step : ScriptStep) (made : Stepped) → step.
 unfolding plays_step
 step_of_b so_far step made at is = ap (λ (side : Side). plays_at so_far side step.step) at ∙ ap (with_b so_far) is
 
-module _ {script : Script} where
-  step_reached : {steps count_a count_b : ℕ} {later : List ScriptStep} (so_far : Played) (step : ScriptStep) (next : Played) →
-      Reached script steps count_a count_b (step ∷ later) so_far → plays_step so_far step ≡ Ok next →
-      Reached script (steps + 1) (count_a + starts_at A step.side step.step) (count_b + starts_at B step.side step.step) later next
-  unfolding plays_step
-  step_reached {steps} {count_a} {count_b} {later} so_far step next r e = go step.side refl e
-    where
-      same : (x y : Played) → ◌≡◌ {A = Result Played Stop} (Ok x) (Ok y) → x ≡ y
-      same x y e = cc
+-- behind one step more
+record OneMore (script : Script) (steps : ℕ) (later : List ScriptStep) (next : Played) : Type 0 where
+  count_a : ℕ
+  count_b : ℕ
+  reached : Reached script (steps + 1) count_a count_b later next
 
-      no_more : (n : ℕ) → n ≡ n + 0
-      no_more n = omega arith
+step_reached : {script : Script} {steps count_a count_b : ℕ} {later : List ScriptStep} (so_far : Played) (step : ScriptStep) (next : Played) →
+    Reached script steps count_a count_b (step ∷ later) so_far → plays_step so_far step ≡ Ok next → OneMore script steps later next
+unfolding plays_step
+step_reached {script} {steps} {count_a} {count_b} {later} so_far step next r e = go step.side refl e
+  where
+    leads_to : (n m : ℕ) (reached : Played) → ◌≡◌ {A = Result Played Stop} (Ok reached) (Ok next) → Reached script (steps + 1) n m later reached →
+        OneMore script steps later next
+    leads_to n m reached e r = record { count_a = n; count_b = m; reached = subst (Reached script (steps + 1) n m later) (same e) r }
+      where
+        same : ◌≡◌ {A = Result Played Stop} (Ok reached) (Ok next) → reached ≡ next
+        same e = cc
 
-      of_a : (result : Result Stepped Stop) → step.side ≡ A → plays so_far.a so_far.b.half step.step ≡ result → with_a so_far result ≡ Ok next →
-          Reached script (steps + 1) (count_a + starts_now step.step) (count_b + 0) later next
-      of_a (Ok made) at is e =
-          subst (λ (n : ℕ). Reached script (steps + 1) (count_a + starts_now step.step) n later next) (no_more count_b)
-          (subst (Reached script (steps + 1) (count_a + starts_now step.step) count_b later) (same (after_a so_far made) next e)
-          (StepOfA so_far step made at r is))
-      of_a (Err stop) at is e = absurd cc
+    of_a : (result : Result Stepped Stop) → step.side ≡ A → plays so_far.a so_far.b.half step.step ≡ result → with_a so_far result ≡ Ok next →
+        OneMore script steps later next
+    of_a (Ok made) at is e = leads_to (count_a + starts_now step.step) count_b (after_a so_far made) e (StepOfA so_far step made at r is)
+    of_a (Err stop) at is e = absurd cc
 
-      of_b : (result : Result Stepped Stop) → step.side ≡ B → plays so_far.b so_far.a.half step.step ≡ result → with_b so_far result ≡ Ok next →
-          Reached script (steps + 1) (count_a + 0) (count_b + starts_now step.step) later next
-      of_b (Ok made) at is e =
-          subst (λ (n : ℕ). Reached script (steps + 1) n (count_b + starts_now step.step) later next) (no_more count_a)
-          (subst (Reached script (steps + 1) count_a (count_b + starts_now step.step) later) (same (after_b so_far made) next e)
-          (StepOfB so_far step made at r is))
-      of_b (Err stop) at is e = absurd cc
+    of_b : (result : Result Stepped Stop) → step.side ≡ B → plays so_far.b so_far.a.half step.step ≡ result → with_b so_far result ≡ Ok next →
+        OneMore script steps later next
+    of_b (Ok made) at is e = leads_to count_a (count_b + starts_now step.step) (after_b so_far made) e (StepOfB so_far step made at r is)
+    of_b (Err stop) at is e = absurd cc
 
-      go : (side : Side) → step.side ≡ side → plays_at so_far side step.step ≡ Ok next →
-          Reached script (steps + 1) (count_a + starts_at A side step.step) (count_b + starts_at B side step.step) later next
-      go A at e = of_a (plays so_far.a so_far.b.half step.step) at refl e
-      go B at e = of_b (plays so_far.b so_far.a.half step.step) at refl e
+    go : (side : Side) → step.side ≡ side → plays_at so_far side step.step ≡ Ok next → OneMore script steps later next
+    go A at e = of_a (plays so_far.a so_far.b.half step.step) at refl e
+    go B at e = of_b (plays so_far.b so_far.a.half step.step) at refl e
 
 -- ---- whole scripts
 
@@ -185,12 +183,11 @@ module _ (script : Script) where
 
   after_step : (steps count_a count_b : ℕ) (so_far : Played) (step : ScriptStep) (later : List ScriptStep) →
       Reached script steps count_a count_b (step ∷ later) so_far →
-      ((next : Played) →
-      Reached script (steps + 1) (count_a + starts_at A step.side step.step) (count_b + starts_at B step.side step.step) later next →
-      Reaches (plays_all (steps + 1) next later)) →
+      ((n m : ℕ) (next : Played) → Reached script (steps + 1) n m later next → Reaches (plays_all (steps + 1) next later)) →
       (result : Result Played Stop) → plays_step so_far step ≡ result →
       Reaches (if_made result (λ next. plays_all (steps + 1) next later) (λ stop. record { steps = steps; stop = stop; so_far = so_far }))
-  after_step steps count_a count_b so_far step later r all (Ok next) is = all next (step_reached so_far step next r is)
+  after_step steps count_a count_b so_far step later r all (Ok next) is =
+      let k = step_reached so_far step next r is in all k.count_a k.count_b next k.reached
   after_step steps count_a count_b so_far step later r all (Err stop) is =
       record { count_a = count_a; count_b = count_b; step = step; later = later; before = r; stops = is }
 
@@ -198,9 +195,7 @@ module _ (script : Script) where
       Reaches (plays_all steps so_far list)
   all_reached steps count_a count_b so_far [] r = record { steps = steps; count_a = count_a; count_b = count_b; all = r }
   all_reached steps count_a count_b so_far (step ∷ later) r =
-      after_step steps count_a count_b so_far step later r
-      (λ next k. all_reached (steps + 1) (count_a + starts_at A step.side step.step) (count_b + starts_at B step.side step.step) next later k)
-      (plays_step so_far step) refl
+      after_step steps count_a count_b so_far step later r (λ n m next k. all_reached (steps + 1) n m next later k) (plays_step so_far step) refl
 
   script_reached : Reaches (play script)
   script_reached = all_reached 0 0 0 (not_begun script) script.steps NoStep
