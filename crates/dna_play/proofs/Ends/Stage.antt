@@ -36,7 +36,7 @@ use Rattle.dna_links.proofs.Tables.Outcomes.{user_did}
 use Rattle.dna_play.proofs.Once.Addresses.{LinkList, AreAddressed}
 use Rattle.dna_play.proofs.Links.Pays.{OwedFits}
 use Rattle.dna_play.proofs.Links.Fits.{EventFits, IsPlain}
-use Rattle.dna_play.proofs.Links.Owing.{turn_fits}
+use Rattle.dna_play.proofs.Links.Owing.{turn_fits, ahead_owes}
 use Rattle.dna_play.proofs.Links.Confirms.{done_over}
 use Rattle.dna_play.proofs.Ends.SendMakes.{PacketsFit}
 use Rattle.dna_play.proofs.Ends.Sends.{IsSound}
@@ -184,15 +184,7 @@ module _ (e : End) (h : Stage e) where
   retried_fits l o Disconnecting is change e' f =
       subst (λ (c : LinkOwed → LinkOwed). OwedFits l (c o)) (same_Some _ change e') (turn_fits l o DisconnectTurn is f)
   retried_fits l o Running is change e' f = subst (λ (c : LinkOwed → LinkOwed). OwedFits l (c o)) (same_Some _ change e')
-      (record {
-        connect_ack = f.connect_ack;
-        initiate = f.initiate;
-        confirm = f.confirm;
-        disconnect = f.disconnect;
-        data_ack = f.data_ack;
-        ahead =
-            omega arith;
-      })
+      (record { turns = λ turn e. f.turns turn (ahead_owes turn 0 o e); ahead = omega arith })
   retried_fits l o phase is change e' f = absurd cc
 
   pub retry_stage : (number : ℕ) (link : LinkOf TrueFlow) (change : LinkOwed → LinkOwed) → slice_get (links_of e.half).links number ≡ Some link →

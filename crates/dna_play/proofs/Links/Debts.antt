@@ -22,7 +22,7 @@ use Rattle.dna_links.proofs.Runs.Sides.{set_same}
 use Rattle.two_nodes.proofs.NumberedSteps.{at_pushed}
 use Rattle.dna_play.proofs.Once.Addresses.{LinkList}
 use Rattle.dna_play.proofs.Links.Pays.{with_found}
-use Rattle.dna_play.proofs.Links.Owing.{phase_of}
+use Rattle.dna_play.proofs.Links.Pays.{phase_of}
 
 -- ---- what is newly owed
 

@@ -18,7 +18,7 @@ use Rattle.dna_links.specs.TrueLinks.{Links}
 use Rattle.dna_station.specs.WireStation.{StationVariables}
 use Rattle.dna_node.specs.Layers.{LayersUnit}
 use Rattle.dna_play.specs.Script.{Send}
-use Rattle.dna_play.specs.LinkOwed.{LinkOwed, LinksOwed, EndConfirm, Turn}
+use Rattle.dna_play.specs.LinkOwed.{LinkOwed, LinksOwed, EndConfirm, Turn, ConnectAckTurn, InitiateTurn, ConfirmTurn, DisconnectTurn, DataAckTurn}
 use Rattle.dna_play.specs.NextSent.{LinkEnd, LinkChoice, Confirms, OfLink, turn_of, link_choice, without_turn, after_link_choice}
 use Rattle.dna_play.specs.NextSent.{Choice, SendNew, choice, after_choice}
 use Rattle.dna_play.specs.Compose.{link_message, message_at, turn_message, message_of}
@@ -55,11 +55,11 @@ use Rattle.dna_play.proofs.Stored.Turns.{TurnMade, confirm_stays, turn_made}
 
 -- only a link that lives has one
 due_lives : (l : LinkOf TrueFlow) (o : LinkOwed) → OwedFits l o → (turn : Turn) → IsDue (end_of l o) turn → is_live l.port.phase ≡ true
-due_lives l o fits turn (DueConnectAck owed) = ap is_live (fits.connect_ack owed)
-due_lives l o fits turn (DueInitiate owed) = ap is_live (fits.initiate owed)
-due_lives l o fits turn (DueConfirm owed) = ap is_live (fits.confirm owed)
-due_lives l o fits turn (DueDisconnect owed) = ap is_live (fits.disconnect owed)
-due_lives l o fits turn (DueDataAck owed) = ap is_live (fits.data_ack owed)
+due_lives l o fits turn (DueConnectAck owed) = ap is_live (fits.turns ConnectAckTurn owed)
+due_lives l o fits turn (DueInitiate owed) = ap is_live (fits.turns InitiateTurn owed)
+due_lives l o fits turn (DueConfirm owed) = ap is_live (fits.turns ConfirmTurn owed)
+due_lives l o fits turn (DueDisconnect owed) = ap is_live (fits.turns DisconnectTurn owed)
+due_lives l o fits turn (DueDataAck owed) = ap is_live (fits.turns DataAckTurn owed)
 due_lives l o fits turn (DueSegment running due) = ap is_live (running_is l.port.phase running)
 
 -- ---- the bytes of the unit

@@ -204,7 +204,7 @@ module _ (s : Links) (made : Sent TrueFlow Numbers) (n : ℕ) (l : LinkOf TrueFl
     turn_made DataAckTurn (DueDataAck owed) e =
         let words = ack_of (variables_of l).received ∷ [] in
         let r = run_made s made (λ link. sends_acks words link.flow) (address l.port.own) (address l.port.far) n l there
-        (run_owns shape (owes.data_ack owed)) distinct e in
+        (run_owns shape (owes.turns DataAckTurn owed)) distinct e in
         let d = acks_did l.flow words r.sent r.is in
         record {
           left = with_flow r.sent.flow l;
