@@ -19,7 +19,6 @@ pub mod UserStages
 pub mod ComesStage
 -- messages that are whole go to the user
 pub mod UpsFollow
-pub mod Receives
 pub mod ComesMade
 -- noise, and each step
 pub mod NoiseStage

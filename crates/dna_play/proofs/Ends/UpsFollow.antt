@@ -1,15 +1,16 @@
 -- What a receipt makes whole the user gets at once: each delivery that follows it is made.
-use Rattle.std.proofs.Common.{◌≡◌, ℕ, suc, ◌+◌, Bool, true, false, cond, Option, Some, None, List, [], ◌∷◌, ◌++◌, map, drop, Result, Ok, Err, refl}
+use Rattle.std.proofs.Common.{◌≡◌, ℕ, suc, ◌+◌, Bool, true, false, cond, Option, Some, None, List, [], ◌∷◌, ◌++◌, drop, Result, Ok, Err, refl}
 use Rattle.std.proofs.Common.{sym, ap, ◌∙◌, arith, append_assoc, ◌⊎◌, inl, inr}
 use Rattle.std.specs.Prelude.{slice_get}
 use Rattle.std.proofs.lemmas.List.{drop-drop}
 use Rattle.std.proofs.lemmas.Slice.Eq.{bytes_eq-Decides}
 use Rattle.two_nodes.specs.Nodes.{answered, advance, stepped}
+use Rattle.dna_packet.specs.Nsp.{NspValue, DataSegment}
 use Rattle.capture.specs.declared.event.Event.TheVariants as events
 use Rattle.capture.specs.declared.record.Record.TheVariants.{User}
 use Rattle.dna_station.specs.declared.link_refusal.LinkRefusal.{LinkRefusal}
 use Rattle.dna_station.specs.declared.link_refusal.LinkRefusal.TheVariants.{NoLink}
-use Rattle.dna_links.specs.declared.port.LinkTest.TheVariants.{HasAddress}
+use Rattle.dna_links.specs.declared.port.LinkTest.TheVariants.{HasAddress, ActedOn}
 use Rattle.dna_links.specs.LookUps.{is_at}
 use Rattle.dna_links.specs.Pieces.{Piece, Whole, with_piece, next_message}
 use Rattle.dna_links.specs.Links.{LinkOf, changed, with_flow}
@@ -19,10 +20,12 @@ use Rattle.dna_links.specs.TrueLinks.{Links, links_user}
 use Rattle.dna_station.specs.Machine.{does}
 use Rattle.dna_node.specs.Layers.{with_links}
 use Rattle.dna_play.specs.HasLine.{has_line}
-use Rattle.dna_play.specs.Player.{end_step, made_half, makes, links_of, after_record}
-use Rattle.dna_play.specs.Stepped.{Stepped}
-use Rattle.dna_play.specs.Receipt.{complete, with_half, gets_all}
+use Rattle.dna_play.specs.LinkOwed as owing
+use Rattle.dna_play.specs.Player.{end_step, made_half, makes, links_of}
+use Rattle.dna_play.specs.Receipt.{complete}
+use Rattle.dna_links.proofs.Tables.Outcomes.{IsFound}
 use Rattle.dna_links.proofs.Runs.Sides.{set_same, at_set}
+use Rattle.dna_play.proofs.Once.Addresses.{LinkList, OwnsIn}
 use Rattle.dna_play.proofs.Links.Pays.{found_at, with_found}
 use Rattle.dna_play.proofs.Played.Steps.{PlayHalf}
 
@@ -151,22 +154,14 @@ module _ (own other : PlayHalf) where
       ap (λ (b : Bool). cond b (made_half (advance end_step own other (User (events.Up address message)))) None) lined
       ∙ ap (λ (r : Result Links LinkRefusal). made_half (answered own other (does own.state (with_links own.state.station r)))) does_it
 
--- all that is whole is delivered
-pub gets_whole : (other : PlayHalf) (address number : ℕ) (messages : List (List ℕ)) (so_far : Stepped) → AllLined address messages →
-    IsWholeAt (links_of so_far.end.half) address number messages →
-    (got : Stepped) × (gets_all (map (λ (message : List ℕ). events.Up address message) messages) other so_far ≡ Ok got)
-gets_whole other address number [] so_far lined h = (so_far, refl)
-gets_whole other address number (message ∷ later) so_far lined h =
-    let d = one_delivered (links_of so_far.end.half) address number message later h in
-    let half = so_far.end.half in
-    let k = with_flow (delivering message d.next.w h.link.flow) h.link in
-    let left : Links = changed number k (links_of half) in
-    let next : PlayHalf = stepped half (record half.state { station = record half.state.station { links = left } }) in
-    let r = gets_whole other address number later
-    (record { end = after_record so_far.end next; records = so_far.records ++ User (events.Up address message) ∷ [] }) lined.1 d.others in (
-      r.0,
-      ap (λ (o : Option PlayHalf). with_half o
-          (λ half. gets_all (map (λ (message : List ℕ). events.Up address message) later) other
-          (record { end = after_record so_far.end half; records = so_far.records ++ User (events.Up address message) ∷ [] })))
-          (up_made half other address message left lined.0 d.does) ∙ r.1,
-    )
+-- ---- what is whole
+
+-- no two links have the same own address
+abbrev pub AreDistinct : LinkList → Type 0
+AreDistinct links = (i j a : ℕ) → OwnsIn links i a → OwnsIn links j a → i ≡ j
+
+-- what is whole of the link that a segment is for has lines
+abbrev pub IsLined : Links → NspValue → Type 0
+IsLined s (DataSegment segment) = (number : ℕ) (link : LinkOf TrueFlow) → IsFound (ActedOn segment.dstaddr segment.srcaddr) s number link →
+    AllLined segment.dstaddr (complete [] (owing.variables_of link).pieces)
+IsLined s m = Unit {0}

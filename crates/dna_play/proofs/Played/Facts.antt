@@ -44,7 +44,7 @@ use Rattle.dna_play.proofs.Once.Checked.{is_checked_run}
 use Rattle.dna_play.proofs.Played.Checked.{AreInOrder, orderly}
 use Rattle.dna_play.proofs.Played.Known.{known_a}
 use Rattle.dna_play.proofs.Ends.Stage.{Known}
-use Rattle.dna_play.proofs.Ends.Receives.{IsLined}
+use Rattle.dna_play.proofs.Ends.UpsFollow.{IsLined}
 
 pub record Facts (own other : End) : Type 0 where
   pub known : Known own other

@@ -6,7 +6,6 @@ use Rattle.wire_base.specs.declared.side.Side.TheVariants.{A, B}
 use Rattle.capture.specs.Range.{IsNode}
 use Rattle.dna_play.specs.Script.{StepValue, ScriptStep, Script}
 use Rattle.dna_play.specs.ScriptText.{MAX_STEPS, IsStep, IsScript}
-use Rattle.dna_play.specs.Player.{End}
 use Rattle.dna_play.specs.Stepped.{Stop, BadStep, Full, Stepped}
 use Rattle.dna_play.specs.Play.{plays}
 use Rattle.dna_play.specs.Played.{Played, Stopped, with_a, with_b, plays_at, plays_step, play}
@@ -38,12 +37,9 @@ next_ruled : (script : Script) → IsNode script.node_a → IsNode script.node_b
 unfolding plays_step
 next_ruled script node_a node_b so_far r few_a few_b few step fits = go step.side (now_at script node_a node_b r few_a few_b few step.side)
   where
-    rule_of : (own other : End) → KeptNow own other → GoesByRule own other.half step.step (plays own other.half step.step)
-    rule_of own other now = goes_by_rule own other now.stage now.theirs now.later now.few step fits
-
     go : (side : Side) → KeptNow (own_end side so_far) (other_end side so_far) → rule_at so_far side step.step (plays_at so_far side step.step)
-    go A now = a_ruled so_far step.step (plays so_far.a so_far.b.half step.step) (rule_of so_far.a so_far.b now)
-    go B now = b_ruled so_far step.step (plays so_far.b so_far.a.half step.step) (rule_of so_far.b so_far.a now)
+    go A now = a_ruled so_far step.step (plays so_far.a so_far.b.half step.step) (goes_by_rule so_far.a so_far.b now step fits)
+    go B now = b_ruled so_far step.step (plays so_far.b so_far.a.half step.step) (goes_by_rule so_far.b so_far.a now step fits)
 
 -- ---- the laws
 

@@ -5,7 +5,7 @@ use Rattle.std.specs.Prelude.{slice_get, slice_index, nat_le}
 use Rattle.ddcmp_msg.specs.Reading.{reading}
 use Rattle.std.proofs.lemmas.Bool.{and_parts}
 use Rattle.std.proofs.lemmas.Option.{same_Some}
-use Rattle.capture.specs.declared.limit.TheConstants.{MAX_HINT, MAX_LINK}
+use Rattle.capture.specs.declared.limit.TheConstants.{MAX_LINK}
 use Rattle.capture.specs.declared.event.Event.{Event}
 use Rattle.capture.specs.declared.event.Event.TheVariants as events
 use Rattle.capture.specs.declared.record.Record.{Record}
@@ -39,15 +39,16 @@ use Rattle.dna_play.specs.Play.{by_user, with_address, giving, timed, retrying, 
 use Rattle.dna_play.specs.StepRule.{HasUnit, HasNext, IsHurt, IsOneOf, HasLink, IsCalled, Asks, gives_address, IsFull, GoesByRule}
 use Rattle.dna_play.proofs.Played.PlayLines.{line_tested}
 use Rattle.dna_play.proofs.Played.Steps.{PlayHalf}
-use Rattle.dna_play.proofs.Played.Facts.{Facts, Later}
+use Rattle.dna_play.proofs.Played.Facts.{Facts}
 use Rattle.dna_links.proofs.Tables.Outcomes.{UserDid, HandsIn, Closes, IsFound, looked, user_did}
 use Rattle.dna_links.proofs.Runs.Reads.{at_is}
 use Rattle.dna_play.proofs.Links.Pays.{some_found}
 use Rattle.dna_play.proofs.Ends.Sends.{IsSound, send_goes}
-use Rattle.dna_play.proofs.Ends.Stage.{Stage, Known, sound_of}
+use Rattle.dna_play.proofs.Ends.Stage.{Known, sound_of}
 use Rattle.dna_play.proofs.Ends.User.{start_made, start_makes, halt_makes, link_event_made}
 use Rattle.dna_play.proofs.Ends.StepStages.{facts_now}
-use Rattle.dna_play.proofs.Ends.ComesMade.{unit_made_to, damage_made_to}
+use Rattle.dna_play.proofs.Stored.Now.{KeptNow}
+use Rattle.dna_play.proofs.Stored.Receipts.{unit_made_to, damage_made_to}
 use Rattle.dna_play.proofs.Ends.NoiseStage.{is_noise, noise_made}
 use Rattle.dna_play.proofs.Links.Phases.{takes_is, takes_when, connected_is, connected_when, retries_live, IsRetried, retried_is, called_is}
 use Rattle.dna_play.proofs.Links.Made.{event_made, open_line, accept_line, reject_line, close_line, is_there, live_found, open_taken, accept_taken}
@@ -55,9 +56,9 @@ use Rattle.dna_play.proofs.Links.Made.{reject_taken, in_taken, close_taken}
 
 -- ---- one step
 
-module _ (own other : End) (h : Stage own) (theirs : Stage other) (later : Later own other) (few : own.passed ≤ MAX_HINT) where
+module _ (own other : End) (now : KeptNow own other) where
   facts : Facts own other
-  facts = facts_now own other h theirs later
+  facts = facts_now own other now.stage now.theirs now.later
 
   known : Known own other
   known = facts.known
@@ -105,7 +106,7 @@ module _ (own other : End) (h : Stage own) (theirs : Stage other) (later : Later
       go states.Running is = (λ halted. let e = sym is ∙ halted in cc, never_full Timer refl)
 
   sound : IsSound own
-  sound = sound_of own other h theirs known
+  sound = sound_of own other now.stage now.theirs known
 
   send_ruled : Rules Send (sends own other.half)
   send_ruled = go (choice (variables_of own.half) own.owed (link_choice own.links_owed.confirms (link_ends_of own))) refl
@@ -135,12 +136,12 @@ module _ (own other : End) (h : Stage own) (theirs : Stage other) (later : Later
   deliver_ruled : Rules Deliver (on_unit (slice_get other.half.sent own.passed) (λ bytes. comes own other.half true bytes))
   deliver_ruled = on_ruled Deliver (λ bytes. comes own other.half true bytes) nothing_next
       (λ unit there. made_ruled Deliver (comes own other.half true unit.bytes) (unit, there) (never_full Deliver refl)
-      (unit_made_to own other h theirs later facts few unit there true))
+      (unit_made_to own other now unit there true))
 
   refuse_ruled : Rules Refuse (on_unit (slice_get other.half.sent own.passed) (λ bytes. comes own other.half false bytes))
   refuse_ruled = on_ruled Refuse (λ bytes. comes own other.half false bytes) nothing_next
       (λ unit there. made_ruled Refuse (comes own other.half false unit.bytes) (unit, there) (never_full Refuse refl)
-      (unit_made_to own other h theirs later facts few unit there false))
+      (unit_made_to own other now unit there false))
 
   lose_ruled : Rules Lose (on_unit (slice_get other.half.sent own.passed) (λ bytes. silent (passing own)))
   lose_ruled = on_ruled Lose (λ bytes. silent (passing own)) nothing_next (λ unit there. ((unit, there), never_full Lose refl))
@@ -173,7 +174,7 @@ module _ (own other : End) (h : Stage own) (theirs : Stage other) (later : Later
           Rules (Damage place value) (cond b (comes own other.half true (damaged place value unit.bytes)) (Err BadStep))
       go unit there true is = made_ruled (Damage place value) (comes own other.half true (damaged place value unit.bytes))
           (unit, there, hurt_of place value unit is)
-          (never_full (Damage place value) refl) (damage_made_to own other h theirs later facts few unit there place value is)
+          (never_full (Damage place value) refl) (damage_made_to own other now unit there place value is)
       go unit there false is = λ asks. undamaged unit there is asks
 
   noise_ruled : (bytes : List ℕ) → has_line (recorded.Noise bytes) ≡ true → Rules (Noise bytes) (hears own other.half bytes)
