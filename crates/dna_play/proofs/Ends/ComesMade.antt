@@ -1,18 +1,16 @@
 -- The record of what comes to an end of the player has a line: of a unit on the line to it, as it was sent or damaged.
-use Rattle.std.proofs.Common.{◌≡◌, ℕ, zero, suc, ◌<◌, ◌≤◌, ◌^◌, Bool, true, false, ◌&&◌, cond, Some, None, List, [], ◌∷◌, length, length-set}
-use Rattle.std.proofs.Common.{ap, ◌∙◌, leb-true, arith}
+use Rattle.std.proofs.Common.{◌≡◌, ℕ, zero, suc, ◌<◌, ◌≤◌, ◌^◌, Bool, true, false, ◌&&◌, Some, List, [], ◌∷◌, length, length-set}
+use Rattle.std.proofs.Common.{leb-true, arith}
 use Rattle.std.specs.Prelude.{slice_get, slice_index, slice_set, bit_xor, nat_lt, nat_le}
 use Rattle.std.proofs.lemmas.Bool.{and_parts}
 use Rattle.std.proofs.lemmas.Nat.{xor_of_8}
-use Rattle.two_nodes.specs.Nodes.{Made, advance}
 use Rattle.capture.specs.declared.limit.TheConstants.{MAX_HINT, MAX_UNIT}
 use Rattle.capture.specs.declared.record.Record.TheVariants.{Received}
 use Rattle.dna_node.specs.Layers.{LayersUnit}
 use Rattle.dna_play.specs.HasLine.{has_line}
-use Rattle.dna_play.specs.Player.{End, made_half, makes, end_step}
+use Rattle.dna_play.specs.Player.{End}
 use Rattle.dna_play.specs.Receipt.{is_damage, damaged}
 use Rattle.dna_play.proofs.Played.PlayLines.{line_tested}
-use Rattle.dna_play.proofs.Played.Steps.{PlayHalf}
 use Rattle.dna_play.proofs.Played.Facts.{Facts}
 
 -- one of these bytes is another
@@ -22,13 +20,6 @@ set_bytes (b ∷ bytes) zero y small all zero = small
 set_bytes (b ∷ bytes) zero y small all (suc i) = all (suc i)
 set_bytes (b ∷ bytes) (suc place) y small all zero = all 0
 set_bytes (b ∷ bytes) (suc place) y small all (suc i) = set_bytes bytes place y small (λ j. all (suc j)) i
-
--- a record that has a line and is made
-pub made_is : (own other : PlayHalf) (bytes : List ℕ) (hint : ℕ) (kept : Bool) (half : PlayHalf) → has_line (Received hint kept bytes) ≡ true →
-    advance end_step own other (Received hint kept bytes) ≡ Made half → makes own other (Received hint kept bytes) ≡ Some half
-unfolding end_step
-made_is own other bytes hint kept half lined is =
-    ap (λ (b : Bool). cond b (made_half (advance end_step own other (Received hint kept bytes))) None) lined ∙ ap made_half is
 
 module _ (own other : End) (facts : Facts own other) (few : own.passed ≤ MAX_HINT) (unit : LayersUnit)
     (there : slice_get other.half.sent own.passed ≡ Some unit) where

@@ -1,5 +1,5 @@
 -- Bytes that nobody sent: an end of the player hears them exactly where a block check shows that they are damaged, and that keeps what holds of it.
-use Rattle.std.proofs.Common.{◌≡◌, ℕ, Bool, true, false, cond, Some, None, List, refl, sym, ap, ◌∙◌, subst, inl, inr}
+use Rattle.std.proofs.Common.{◌≡◌, ℕ, true, false, Some, List, refl, sym, ap, ◌∙◌, subst, inl, inr}
 use Rattle.std.specs.Prelude.{slice_get}
 use Rattle.two_nodes.specs.Nodes.{Made, stepped, answered, advance}
 use Rattle.ddcmp_msg.specs.Reading.{ReadingValue, reading}
@@ -14,12 +14,12 @@ use Rattle.dna_node.specs.Rules.{by_bytes}
 use Rattle.dna_node.specs.Layers.{LayersTruth, to_station, layers_machine}
 use Rattle.dna_station.specs.Machine.{noise_step}
 use Rattle.dna_play.specs.HasLine.{has_line}
-use Rattle.dna_play.specs.Player.{End, end_step, made_half, makes, station_of, links_of, after_record}
+use Rattle.dna_play.specs.Player.{End, end_step, makes, station_of, links_of, after_record}
 use Rattle.dna_play.specs.Receipt.{heard, hears}
 use Rattle.dna_play.specs.StepRule.{IsNoise}
 use Rattle.dna_station.proofs.Cut.Node.{arrival_packets}
 use Rattle.dna_play.proofs.Played.Steps.{PlayHalf}
-use Rattle.dna_play.proofs.Played.Runs.{makes_tells}
+use Rattle.dna_play.proofs.Played.Runs.{makes_tells, line_makes}
 use Rattle.dna_play.proofs.Ends.StationStage.{header_stage, data_bad_stage, arrived_packets}
 use Rattle.dna_play.proofs.Links.Stage.{same_holds}
 use Rattle.dna_play.proofs.Ends.Stage.{Stage, Known}
@@ -56,13 +56,9 @@ module _ (own other : PlayHalf) where
   is_noise bytes half e = noise_by bytes half (reading bytes) refl (makes_tells own other (Noise bytes) half e).1
 
   -- what is damaged is heard
-  pub left_makes : (bytes : List ℕ) (half : PlayHalf) → has_line (Noise bytes) ≡ true → advance end_step own other (Noise bytes) ≡ Made half →
-      makes own other (Noise bytes) ≡ Some half
-  left_makes bytes half lined e = ap (λ (b : Bool). cond b (made_half (advance end_step own other (Noise bytes))) None) lined ∙ ap made_half e
-
   pub noise_made : (bytes : List ℕ) → has_line (Noise bytes) ≡ true → IsNoise bytes → (half : PlayHalf) × (makes own other (Noise bytes) ≡ Some half)
-  noise_made bytes lined (inl e) = (damage_left HeaderBad, left_makes bytes (damage_left HeaderBad) lined (header_heard bytes e))
-  noise_made bytes lined (inr e) = (damage_left DataBad, left_makes bytes (damage_left DataBad) lined (data_heard bytes e))
+  noise_made bytes lined (inl e) = (damage_left HeaderBad, line_makes own other (Noise bytes) (damage_left HeaderBad) lined (header_heard bytes e))
+  noise_made bytes lined (inr e) = (damage_left DataBad, line_makes own other (Noise bytes) (damage_left DataBad) lined (data_heard bytes e))
 
 -- ---- the end after it
 

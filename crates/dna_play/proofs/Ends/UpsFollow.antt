@@ -1,14 +1,12 @@
 -- What a receipt makes whole the user gets at once: each delivery that follows it is made.
-use Rattle.std.proofs.Common.{◌≡◌, ℕ, suc, ◌+◌, Bool, true, false, cond, Option, Some, None, List, [], ◌∷◌, ◌++◌, drop, Result, Ok, Err, refl}
+use Rattle.std.proofs.Common.{◌≡◌, ℕ, suc, ◌+◌, Bool, true, false, cond, Option, Some, None, List, [], ◌∷◌, ◌++◌, drop, Ok, Err, refl}
 use Rattle.std.proofs.Common.{sym, ap, ◌∙◌, arith, append_assoc, ◌⊎◌, inl, inr}
 use Rattle.std.specs.Prelude.{slice_get}
 use Rattle.std.proofs.lemmas.List.{drop-drop}
 use Rattle.std.proofs.lemmas.Slice.Eq.{bytes_eq-Decides}
-use Rattle.two_nodes.specs.Nodes.{answered, advance, stepped}
 use Rattle.dna_packet.specs.Nsp.{NspValue, DataSegment}
 use Rattle.capture.specs.declared.event.Event.TheVariants as events
 use Rattle.capture.specs.declared.record.Record.TheVariants.{User}
-use Rattle.dna_station.specs.declared.link_refusal.LinkRefusal.{LinkRefusal}
 use Rattle.dna_station.specs.declared.link_refusal.LinkRefusal.TheVariants.{NoLink}
 use Rattle.dna_links.specs.declared.port.LinkTest.TheVariants.{HasAddress, ActedOn}
 use Rattle.dna_links.specs.LookUps.{is_at}
@@ -18,16 +16,13 @@ use Rattle.dna_links.specs.User.{Up, delivered}
 use Rattle.dna_links.specs.TrueFlow.{TrueFlow, true_flows, delivered_as, delivers_whole, delivers}
 use Rattle.dna_links.specs.TrueLinks.{Links, links_user}
 use Rattle.dna_station.specs.Machine.{does}
-use Rattle.dna_node.specs.Layers.{with_links}
 use Rattle.dna_play.specs.HasLine.{has_line}
 use Rattle.dna_play.specs.LinkOwed as owing
-use Rattle.dna_play.specs.Player.{end_step, made_half, makes, links_of}
 use Rattle.dna_play.specs.Receipt.{complete}
 use Rattle.dna_links.proofs.Tables.Outcomes.{IsFound}
 use Rattle.dna_links.proofs.Runs.Sides.{set_same, at_set}
 use Rattle.dna_play.proofs.Once.Addresses.{LinkList, OwnsIn}
 use Rattle.dna_play.proofs.Links.Pays.{found_at, with_found}
-use Rattle.dna_play.proofs.Played.Steps.{PlayHalf}
 
 -- ---- the first message that is whole is the next one, and the others are whole behind it
 
@@ -143,16 +138,6 @@ one_delivered s address number message rest h =
 abbrev pub AllLined : (address : ℕ) → List (List ℕ) → Type 0
 AllLined address [] = Unit {0}
 AllLined address (message ∷ later) = (has_line (User (events.Up address message)) ≡ true) × AllLined address later
-
-module _ (own other : PlayHalf) where
-  pub up_made : (address : ℕ) (message : List ℕ) (left : Links) → has_line (User (events.Up address message)) ≡ true →
-      links_user (links_of own) (Up address message) ≡ Ok left →
-      makes own other (User (events.Up address message)) ≡ Some
-      (stepped own (record own.state { station = record own.state.station { links = left } }))
-  unfolding end_step
-  up_made address message left lined does_it =
-      ap (λ (b : Bool). cond b (made_half (advance end_step own other (User (events.Up address message)))) None) lined
-      ∙ ap (λ (r : Result Links LinkRefusal). made_half (answered own other (does own.state (with_links own.state.station r)))) does_it
 
 -- ---- what is whole
 

@@ -1,5 +1,5 @@
 -- What a script plays is a run of nodes that ask no rule on tags, and each record has a line.
-use Rattle.std.proofs.Common.{◌≡◌, ℕ, ◌+◌, Bool, true, false, Some, None, List, [], ◌∷◌, ◌++◌, Ok, Err, refl, cond, subst, sym, append_assoc}
+use Rattle.std.proofs.Common.{◌≡◌, ℕ, ◌+◌, Bool, true, false, Some, None, List, [], ◌∷◌, ◌++◌, Ok, Err, refl, cond, subst, sym, ap, ◌∙◌, append_assoc}
 use Rattle.std.proofs.Common.{append-nil}
 use Rattle.std.specs.List.{AllByRecursion}
 use Rattle.two_nodes.specs.Nodes.{World, Run, Done, Outcome, Made, Waits, Refused, advance, exchanged_world}
@@ -38,6 +38,10 @@ makes_tells own other r h e = go (has_line r) refl e
         (advance end_step own other r ≡ Made h)
     go true line e = (line, by_outcome (advance end_step own other r) e)
     go false line e = absurd cc
+
+pub line_makes : (own other : PlayHalf) (r : Record) (h : PlayHalf) → has_line r ≡ true → advance end_step own other r ≡ Made h →
+    makes own other r ≡ Some h
+line_makes own other r h line e = ap (λ (b : Bool). cond b (made_half (advance end_step own other r)) None) line ∙ ap made_half e
 
 -- one more has a line
 with_line : (records : List Record) (r : Record) → AllByRecursion IsRecord records → IsRecord r → AllByRecursion IsRecord (records ++ r ∷ [])

@@ -23,7 +23,8 @@ use Rattle.dna_play.specs.KeptPlay.{KeptStepped, kept_plays}
 use Rattle.dna_play.specs.KeptPlay as keeping
 use Rattle.dna_play.specs.KeptRun.{kept_stepped, IsKept}
 use Rattle.dna_play.proofs.Played.Steps.{PlayHalf}
-use Rattle.dna_play.proofs.Ends.NoiseStage.{damage_left, header_heard, data_heard, is_noise, left_makes}
+use Rattle.dna_play.proofs.Played.Runs.{line_makes}
+use Rattle.dna_play.proofs.Ends.NoiseStage.{damage_left, header_heard, data_heard, is_noise}
 use Rattle.dna_play.proofs.Stored.Timers.{none_behind}
 use Rattle.dna_play.proofs.Stored.LiveEnds.{left_same}
 use Rattle.dna_play.proofs.Stored.LiveLinks.{kept_links}
@@ -93,11 +94,13 @@ module _ (own other : End) (now : KeptNow own other) (bytes : List ℕ) (lined :
   by_reading : (r : ReadingValue) → reading bytes ≡ r → KeptAs (keeping.hears (kept own) bytes r)
   by_reading read_as.HeaderBad e =
       as_heard read_as.HeaderBad HeaderBad e
-      (left_makes own.half other.half bytes (damage_left own.half other.half HeaderBad) lined (header_heard own.half other.half bytes e))
+      (line_makes own.half other.half (recorded.Noise bytes) (damage_left own.half other.half HeaderBad) lined
+      (header_heard own.half other.half bytes e))
       (header_bad_came (station_of own.half) own.owed) ∙ told read_as.HeaderBad
   by_reading read_as.DataBad e =
       as_heard read_as.DataBad DataBad e
-      (left_makes own.half other.half bytes (damage_left own.half other.half DataBad) lined (data_heard own.half other.half bytes e))
+      (line_makes own.half other.half (recorded.Noise bytes) (damage_left own.half other.half DataBad) lined
+      (data_heard own.half other.half bytes e))
       (data_bad_came (station_of own.half) own.owed) ∙ told read_as.DataBad
   by_reading (read_as.Sound m) e = not_made (sound_never m e) ∙ told (read_as.Sound m)
   by_reading (read_as.Malformed departure) e = not_made never ∙ told (read_as.Malformed departure)

@@ -58,7 +58,8 @@ use Rattle.dna_play.proofs.Ends.ReceiptStage.{unit_stage}
 use Rattle.dna_play.proofs.Ends.StationStage.{cut_of, left_owed}
 use Rattle.dna_play.proofs.Ends.Stage.{Stage}
 use Rattle.dna_play.proofs.Ends.ComesStage.{from_here, can_be, are_bytes_of}
-use Rattle.dna_play.proofs.Ends.ComesMade.{made_is, unit_line, damaged_line}
+use Rattle.dna_play.proofs.Played.Runs.{line_makes}
+use Rattle.dna_play.proofs.Ends.ComesMade.{unit_line, damaged_line}
 use Rattle.dna_play.proofs.Ends.StepStages.{facts_now}
 use Rattle.dna_play.proofs.Stored.Timers.{none_behind, kept_on, next_on_line}
 use Rattle.dna_play.proofs.Stored.LiveLinks.{record_same}
@@ -230,7 +231,8 @@ module _ (own other : End) (now : KeptNow own other) where
         let u = unit_made own.half other.half own.passed unit there now.stage.ahead facts.known.ready facts.known.bounded
         (from_here own other now.later now.stage now.theirs facts unit there) is_kept can in
         let line = unit_line own other facts now.few unit there is_kept in
-        let makes_it = made_is own.half other.half unit.bytes own.passed is_kept (left_half own (left is_kept) u.links) line u.makes_it in
+        let makes_it = line_makes own.half other.half (Received own.passed is_kept unit.bytes) (left_half own (left is_kept) u.links) line
+        u.makes_it in
         let after = now.later (after_record own (left_half own (left is_kept) u.links)) (first is_kept) (First makes_it Nothing)
         (quiet own (Received own.passed is_kept unit.bytes) refl refl) in
         record {
@@ -275,7 +277,7 @@ module _ (own other : End) (now : KeptNow own other) where
           record {
             left = after;
             links = s;
-            makes_it = made_is own.half other.half hurt own.passed false (left_half own after s) line makes_it;
+            makes_it = line_makes own.half other.half (Received own.passed false hurt) (left_half own after s) line makes_it;
             after = same;
             got = nothing_got own other.half now.counted ordered (Received own.passed false hurt ∷ []) after (arrival_debt k read false)
                 (left_end own after (arrival_debt k read false) None s) None live refl refl (record_same s.links own.links_owed now.counted);
