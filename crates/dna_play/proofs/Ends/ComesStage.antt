@@ -1,5 +1,5 @@
 -- That an end of the player takes what comes, with what its user gets then, keeps what holds of it.
-use Rattle.std.proofs.Common.{◌≡◌, ℕ, Bool, true, false, ◌&&◌, ◌⊎◌, inl, inr, Option, Some, None, List, [], ◌∷◌, ◌++◌, refl, sym, ap, ◌∙◌, subst}
+use Rattle.std.proofs.Common.{◌≡◌, ℕ, Bool, true, false, ◌&&◌, Option, Some, None, List, [], ◌∷◌, ◌++◌, refl, sym, ap, ◌∙◌, subst}
 use Rattle.std.specs.Prelude.{slice_get}
 use Rattle.std.proofs.lemmas.Bool.{and_parts}
 use Rattle.two_nodes.specs.Nodes.{Outcome, Made, advance}
@@ -25,9 +25,9 @@ use Rattle.dna_play.proofs.Played.Steps.{PlayHalf, MakesAll, Nothing, First, one
 use Rattle.dna_play.proofs.Played.Order.{InOrder, AreUps, now_ups, up_more, quiet}
 use Rattle.dna_play.proofs.Played.Runs.{makes_tells}
 use Rattle.dna_play.proofs.Played.Facts.{Facts, Later}
-use Rattle.dna_play.proofs.Ends.DamagedUnits.{Damaged, damage_is_seen}
-use Rattle.dna_play.proofs.Ends.ReceiptMakes.{header_made, data_made, taken_is_data, within, unit_made}
-use Rattle.dna_play.proofs.Ends.ReceiptStage.{unit_stage, header_bad_stage, data_bad_after}
+use Rattle.dna_play.proofs.Ends.DamagedUnits.{Damaged, damage_is_seen, ShownDamage, read_of, damage_of, never_kept}
+use Rattle.dna_play.proofs.Ends.ReceiptMakes.{damage_made, taken_is_data, within, unit_made}
+use Rattle.dna_play.proofs.Ends.ReceiptStage.{unit_stage, hurt_stage}
 use Rattle.dna_play.proofs.Ends.Stage.{Stage, link_event_stage}
 use Rattle.dna_play.proofs.Ends.User.{link_event_made}
 use Rattle.dna_play.proofs.Ends.UserStages.{Staged}
@@ -126,7 +126,7 @@ module _ (own other : End) (later : Later own other) where
 
     pub damage_staged : (place value : ℕ) → is_damage place value unit.bytes ≡ true →
         Staged (comes own other.half true (damaged place value unit.bytes))
-    damage_staged place value is = by_reading (damage_is_seen unit.message unit.bytes place value are_bytes_of told is).shows
+    damage_staged place value is = go (damage_of hurt differs.shows)
       where
         hurt : List ℕ
         hurt = damaged place value unit.bytes
@@ -134,17 +134,12 @@ module _ (own other : End) (later : Later own other) where
         differs : Damaged place value unit.bytes
         differs = damage_is_seen unit.message unit.bytes place value are_bytes_of told is
 
-        as_read : (r : ReadingValue) → reading hurt ≡ r → Staged (receives own other.half hurt r (true && can_keep own r)) →
-            Staged (comes own other.half true hurt)
-        as_read r e s = subst (λ (x : ReadingValue). Staged (receives own other.half hurt x (true && can_keep own x))) (sym e) s
-
-        by_reading : (reading (damaged place value unit.bytes) ≡ read_as.HeaderBad) ⊎ (reading (damaged place value unit.bytes) ≡ read_as.DataBad) →
-            Staged (comes own other.half true (damaged place value unit.bytes))
-        by_reading (inl e) = as_read read_as.HeaderBad e (received_staged hurt read_as.HeaderBad false (λ half m.
-            subst (λ (x : PlayHalf). Stage (after_receipt own read_as.HeaderBad false (after_record own x)))
-            (same_half _ half (sym (header_made own.half other.half own.passed unit there h.ahead hurt differs.differs e) ∙ m))
-            (header_bad_stage own other h theirs facts.known unit there h.ahead)))
-        by_reading (inr e) = as_read read_as.DataBad e (received_staged hurt read_as.DataBad false (λ half m.
-            subst (λ (x : PlayHalf). Stage (after_receipt own read_as.DataBad false (after_record own x)))
-            (same_half _ half (sym (data_made own.half other.half own.passed unit there h.ahead hurt differs.differs e) ∙ m))
-            (data_bad_after own other h theirs facts.known unit there h.ahead)))
+        go : (d : ShownDamage) × (reading hurt ≡ read_of d) → Staged (comes own other.half true hurt)
+        go shown =
+            let d = shown.0 in let e = shown.1 in
+            subst (λ (x : ReadingValue). Staged (receives own other.half hurt x (true && can_keep own x))) (sym e)
+            (subst (λ (b : Bool). Staged (receives own other.half hurt (read_of d) b)) (sym (never_kept own d))
+            (received_staged hurt (read_of d) false (λ half m.
+            subst (λ (x : PlayHalf). Stage (after_receipt own (read_of d) false (after_record own x)))
+            (same_half _ half (sym (damage_made own.half other.half own.passed unit there h.ahead d hurt differs.differs e) ∙ m))
+            (hurt_stage own other h theirs facts.known unit there h.ahead d))))

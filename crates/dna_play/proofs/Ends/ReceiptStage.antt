@@ -11,7 +11,7 @@ use Rattle.dna_links.specs.declared.port.Phase.{Phase}
 use Rattle.dna_links.specs.declared.port.Phase.TheVariants.{Called, Confirming}
 use Rattle.dna_links.specs.declared.port.LinkTest.TheVariants.{TheLink, LiveTo, CallingAt, ActedOn}
 use Rattle.dna_links.specs.LookUps.{is_running}
-use Rattle.dna_station.specs.Book.{Sound, HeaderBad, DataBad, body_of}
+use Rattle.dna_station.specs.Book.{Sound, body_of}
 use Rattle.dna_station.specs.Bounds.{IsWithin}
 use Rattle.dna_station.specs.StationBook.{after_arrival}
 use Rattle.dna_links.specs.Links.{LinkOf, Carried, LinkTruth, with_link}
@@ -36,8 +36,9 @@ use Rattle.dna_play.proofs.Once.Messages.{IsAddressed}
 use Rattle.dna_play.proofs.Links.Fits.{IsPlain}
 use Rattle.dna_play.proofs.Links.Confirms.{end_done}
 use Rattle.dna_play.proofs.Links.Debts.{came_debt}
-use Rattle.dna_play.proofs.Ends.ReceiptMakes.{came_left}
-use Rattle.dna_play.proofs.Ends.StationStage.{sound_stage, header_stage, data_bad_stage, arrived_packets}
+use Rattle.dna_play.proofs.Ends.ReceiptMakes.{came_left, hurt_left}
+use Rattle.dna_play.proofs.Ends.DamagedUnits.{ShownDamage, read_of, arrival_of}
+use Rattle.dna_play.proofs.Ends.StationStage.{sound_stage, damage_stage, arrived_packets}
 use Rattle.dna_play.proofs.Links.Stage.{ConfirmHolds, LinkHolds, left_links, same_holds, came_holds, debt_holds}
 use Rattle.dna_play.proofs.Ends.Stage.{Stage, Known}
 
@@ -169,24 +170,12 @@ module _ (own other : End) (h : Stage own) (theirs : Stage other) (known : Known
 
     -- ---- the end after a damaged one
 
-    pub header_bad_stage : Stage
-        (after_receipt own read_as.HeaderBad false (after_record own (came_left own.half other.half own.passed unit there ahead HeaderBad false s)))
-    header_bad_stage = record {
-      pays = header_stage (station_of own.half) own.owed h.pays;
-      packets = arrived_packets (station_of own.half) (after_arrival (station_of own.half) HeaderBad false)
-          (arrival_packets (station_of own.half) HeaderBad false) h.packets;
-      links = same_holds s own.addresses own.links_owed h.links ordered;
-      plain = h.plain;
-      few = h.few;
-      ahead = omega arith;
-    }
-
-    pub data_bad_after : Stage
-        (after_receipt own read_as.DataBad false (after_record own (came_left own.half other.half own.passed unit there ahead DataBad false s)))
-    data_bad_after = record {
-      pays = data_bad_stage (station_of own.half) own.owed h.pays;
-      packets = arrived_packets (station_of own.half) (after_arrival (station_of own.half) DataBad false)
-          (arrival_packets (station_of own.half) DataBad false) h.packets;
+    pub hurt_stage : (d : ShownDamage) →
+        Stage (after_receipt own (read_of d) false (after_record own (hurt_left own.half other.half own.passed unit there ahead d)))
+    hurt_stage d = record {
+      pays = damage_stage (station_of own.half) own.owed h.pays d;
+      packets = arrived_packets (station_of own.half) (after_arrival (station_of own.half) (arrival_of d) false)
+          (arrival_packets (station_of own.half) (arrival_of d) false) h.packets;
       links = same_holds s own.addresses own.links_owed h.links ordered;
       plain = h.plain;
       few = h.few;

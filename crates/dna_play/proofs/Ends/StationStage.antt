@@ -18,13 +18,14 @@ use Rattle.dna_station.specs.Cut.{AreLabelled, cut}
 use Rattle.dna_station.specs.WireStation.{HeldPacket, WireStation}
 use Rattle.dna_station.specs.WireBook.{wire_after_sending, wire_after_arrival}
 use Rattle.dna_station.specs.WireNode.{unlabelled}
-use Rattle.dna_play.specs.Owed.{Owed, still_owed, with_debt, message_debt, damage_debt}
+use Rattle.dna_play.specs.Owed.{Owed, still_owed, with_debt, message_debt, damage_debt, arrival_debt}
 use Rattle.dna_play.specs.NextSent.{LinkEnd, Choice, after_choice}
 use Rattle.dna_play.specs.Compose.{message_of}
 use Rattle.dna_station.proofs.Cut.Sending.{sending_same}
 use Rattle.dna_station.proofs.Cut.Arriving.{arrival_same, header_same, data_bad_same}
 use Rattle.dna_station.proofs.Cut.Node.{arrival_packets, unlabelled_bodies, sending_unlabelled}
 use Rattle.two_nodes.proofs.NumberedSteps.{at_pushed}
+use Rattle.dna_play.proofs.Ends.DamagedUnits.{ShownDamage, OfHeader, OfData, read_of, arrival_of}
 use Rattle.dna_play.proofs.Ends.StationPays.{IsPayable}
 use Rattle.dna_play.proofs.Ends.StationOwes.{start_pays, halt_pays, same_pays, choice_pays, sound_pays, header_pays, data_bad_pays}
 use Rattle.dna_play.proofs.Ends.UnitLines.{PacketFits, IsOfBytes}
@@ -99,15 +100,13 @@ module _ (s : Station) (owed : Owed) (p : StationPays s owed) where
       (came_kept s ordered m u kept within)
       (sound_pays (cut_of s) owed p m u.tag kept)
 
-  pub header_stage : StationPays (after_arrival s HeaderBad false)
-      (with_debt (damage_debt s.state HeaderCheck) (left_owed s (after_arrival s HeaderBad false) owed))
-  header_stage = as_kept (after_arrival s HeaderBad false) (wire_after_arrival (cut_of s) HeaderBad false)
+  pub damage_stage : (d : ShownDamage) → StationPays (after_arrival s (arrival_of d) false)
+      (with_debt (arrival_debt (cut_of s).variables (read_of d) false) (left_owed s (after_arrival s (arrival_of d) false) owed))
+  damage_stage OfHeader = as_kept (after_arrival s HeaderBad false) (wire_after_arrival (cut_of s) HeaderBad false)
       (with_debt (damage_debt s.state HeaderCheck))
       (header_kept s) (header_pays (cut_of s) owed p)
-
-  pub data_bad_stage : StationPays (after_arrival s DataBad false)
-      (with_debt (damage_debt s.state DataCheck) (left_owed s (after_arrival s DataBad false) owed))
-  data_bad_stage = as_kept (after_arrival s DataBad false) (wire_after_arrival (cut_of s) DataBad false) (with_debt (damage_debt s.state DataCheck))
+  damage_stage OfData = as_kept (after_arrival s DataBad false) (wire_after_arrival (cut_of s) DataBad false)
+      (with_debt (damage_debt s.state DataCheck))
       (data_bad_kept s) (data_bad_pays (cut_of s) owed p)
 
 -- ---- its packets

@@ -1,9 +1,8 @@
 -- What comes to an end of the player is the same of what its node keeps: a unit as it was sent, with a buffer or without one, or damaged; with what
 -- its user gets then.
 use Rattle.std.proofs.Common.{◌≡◌, ℕ, ◌+◌, Bool, true, false, ◌&&◌, cond, Option, Some, None, List, [], ◌∷◌, length, drop, Result, Ok, Err, refl, sym}
-use Rattle.std.proofs.Common.{ap, ap₂, ◌∙◌, subst, le-leb, ◌⊎◌, inl, inr}
+use Rattle.std.proofs.Common.{ap, ap₂, ◌∙◌, subst, le-leb}
 use Rattle.std.specs.Prelude.{slice_get}
-use Rattle.two_nodes.specs.Nodes.{Made, advance}
 use Rattle.ddcmp_msg.specs.Reading.{ReadingValue, reading}
 use Rattle.ddcmp_msg.specs.Reading as read_as
 use Rattle.dna_packet.specs.Nsp.{NspValue}
@@ -30,7 +29,7 @@ use Rattle.dna_node.specs.LayersPair.{side_of}
 use Rattle.dna_node.specs.Layers.{LayersTruth, LayersUnit}
 use Rattle.dna_play.specs.Owed.{Debt, arrival_debt, can_take, with_debt}
 use Rattle.dna_play.specs.Script.{Deliver, Refuse, Damage}
-use Rattle.dna_play.specs.Player.{End, end_step, makes, links_of, station_of, after_record}
+use Rattle.dna_play.specs.Player.{End, makes, links_of, station_of, after_record}
 use Rattle.dna_play.specs.Player as player
 use Rattle.dna_play.specs.Stepped.{Stop, BadStep, Stepped, made}
 use Rattle.dna_play.specs.Receipt.{carried_in, carried, after_receipt, then_gets, on_unit, is_damage, damaged}
@@ -52,8 +51,8 @@ use Rattle.dna_play.proofs.Played.Steps.{PlayHalf, Nothing, First}
 use Rattle.dna_play.proofs.Played.Order.{quiet}
 use Rattle.dna_play.proofs.Played.Facts.{Facts}
 use Rattle.dna_play.proofs.Once.Checked.{meets_it}
-use Rattle.dna_play.proofs.Ends.DamagedUnits.{Damaged, damage_is_seen}
-use Rattle.dna_play.proofs.Ends.ReceiptMakes.{came_left, header_made, data_made, taken_is_data, within, unit_made}
+use Rattle.dna_play.proofs.Ends.DamagedUnits.{Damaged, damage_is_seen, ShownDamage, OfHeader, OfData, read_of, arrival_of, damage_of}
+use Rattle.dna_play.proofs.Ends.ReceiptMakes.{came_left, damage_made, taken_is_data, within, unit_made}
 use Rattle.dna_play.proofs.Ends.ReceiptStage.{unit_stage}
 use Rattle.dna_play.proofs.Ends.StationStage.{cut_of, left_owed}
 use Rattle.dna_play.proofs.Ends.Stage.{Stage}
@@ -64,7 +63,7 @@ use Rattle.dna_play.proofs.Ends.StepStages.{facts_now}
 use Rattle.dna_play.proofs.Stored.Timers.{none_behind, kept_on, next_on_line}
 use Rattle.dna_play.proofs.Stored.LiveLinks.{record_same}
 use Rattle.dna_play.proofs.Stored.Now.{KeptNow}
-use Rattle.dna_play.proofs.Stored.Stations.{station_with, sound_came, header_bad_came, data_bad_came, can_keep_same}
+use Rattle.dna_play.proofs.Stored.Stations.{station_with, sound_came, damage_came, can_keep_same}
 use Rattle.dna_play.proofs.Stored.Deliveries.{with_links}
 use Rattle.dna_play.proofs.Stored.Segments.{left_half, left_end, Got, nothing_got, message_got}
 
@@ -268,19 +267,19 @@ module _ (own other : End) (now : KeptNow own other) where
       differs : Damaged place value unit.bytes
       differs = damage_is_seen unit.message unit.bytes place value (are_bytes_of own other now.later now.stage now.theirs facts unit there) told is
 
-      bad_received : (read : ReadingValue) (arrival : ArrivalValue LayersTruth) (after : Station) →
-          advance end_step own.half other.half (Received own.passed false hurt) ≡ Made (left_half own after s) →
-          station_with (cut_of after).variables (with_debt (arrival_debt k read false) (left_owed station after own.owed)) ≡ of_station.after_arrival
-          read false (kept own).station → IsReceived hurt read false
-      bad_received read arrival after makes_it same =
+      bad_received : (d : ShownDamage) → reading hurt ≡ read_of d → IsReceived hurt (read_of d) false
+      bad_received d e =
+          let after = after_arrival station (arrival_of d) false in
           let line = damaged_line own other facts now.few unit there place value is in
+          let makes_it = damage_made own.half other.half own.passed unit there now.stage.ahead d hurt differs.differs e in
           record {
             left = after;
             links = s;
             makes_it = line_makes own.half other.half (Received own.passed false hurt) (left_half own after s) line makes_it;
-            after = same;
-            got = nothing_got own other.half now.counted ordered (Received own.passed false hurt ∷ []) after (arrival_debt k read false)
-                (left_end own after (arrival_debt k read false) None s) None live refl refl (record_same s.links own.links_owed now.counted);
+            after = damage_came station own.owed d;
+            got = nothing_got own other.half now.counted ordered (Received own.passed false hurt ∷ []) after (arrival_debt k (read_of d) false)
+                (left_end own after (arrival_debt k (read_of d) false) None s) None live refl refl
+                (record_same s.links own.links_owed now.counted);
           }
 
       -- it is made, and is the same of both
@@ -289,24 +288,13 @@ module _ (own other : End) (now : KeptNow own other) where
             ≡ keeping.receives (kept own) hurt read (true && of_station.can_keep read (kept own).station)
         made_to : (stepped : Stepped) × (receiving.receives own other.half hurt read (true && receiving.can_keep own read) ≡ Ok stepped)
 
+      hurt_same : (d : ShownDamage) → IsReceived hurt (read_of d) false → HurtSame (read_of d)
+      hurt_same OfHeader x =
+          record { same = made_kept hurt read_as.HeaderBad false x; made_to = (_, is_made hurt read_as.HeaderBad false x) }
+      hurt_same OfData x = record { same = made_kept hurt read_as.DataBad false x; made_to = (_, is_made hurt read_as.DataBad false x) }
+
       damage_comes : HurtSame (reading hurt)
-      damage_comes = go differs.shows
-        where
-          go : (reading hurt ≡ read_as.HeaderBad) ⊎ (reading hurt ≡ read_as.DataBad) → HurtSame (reading hurt)
-          go (inl e) =
-              let x = bad_received read_as.HeaderBad HeaderBad (after_arrival station HeaderBad false)
-              (header_made own.half other.half own.passed unit there now.stage.ahead hurt differs.differs e) (header_bad_came station own.owed) in
-              subst HurtSame (sym e) (record {
-                same = made_kept hurt read_as.HeaderBad false x;
-                made_to = (_, is_made hurt read_as.HeaderBad false x);
-              })
-          go (inr e) =
-              let x = bad_received read_as.DataBad DataBad (after_arrival station DataBad false)
-              (data_made own.half other.half own.passed unit there now.stage.ahead hurt differs.differs e) (data_bad_came station own.owed) in
-              subst HurtSame (sym e) (record {
-                same = made_kept hurt read_as.DataBad false x;
-                made_to = (_, is_made hurt read_as.DataBad false x);
-              })
+      damage_comes = let d = damage_of hurt differs.shows in subst HurtSame (sym d.1) (hurt_same d.0 (bad_received d.0 d.1))
 
       pub damage_made_to : (stepped : Stepped) × (receiving.comes own other.half true hurt ≡ Ok stepped)
       damage_made_to = damage_comes.made_to
