@@ -2,6 +2,7 @@
 pub mod Steps
 pub mod Reached
 pub mod Order
+pub mod Cases
 pub mod Walk
 pub mod StepMakes
 pub mod PlayLines

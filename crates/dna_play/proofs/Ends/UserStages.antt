@@ -1,6 +1,6 @@
 -- That an end of the player does what its user says, lets its timers run out, and sends what it has chosen keeps what holds of it, with what it owes
 -- then.
-use Rattle.std.proofs.Common.{◌≡◌, ℕ, ◌+◌, ◌≤◌, Bool, true, false, cond, nat_lt, ltb-true, Option, Some, None, List, length, Result, Ok, Err, refl}
+use Rattle.std.proofs.Common.{◌≡◌, ℕ, ◌+◌, ◌≤◌, true, Option, Some, None, List, length, Result, refl}
 use Rattle.std.proofs.Common.{sym, subst, arith}
 use Rattle.std.specs.Prelude.{nat_le}
 use Rattle.std.proofs.lemmas.Bool.{and_parts}
@@ -12,9 +12,8 @@ use Rattle.capture.specs.declared.limit.TheConstants.{MAX_LINK}
 use Rattle.capture.specs.declared.record.Record.{Record}
 use Rattle.capture.specs.declared.record.Record.TheVariants.{Sent, User}
 use Rattle.capture.specs.Range.{record_bytes, most_bytes}
-use Rattle.dna_links.specs.declared.port.LinkTest.{LinkTest}
 use Rattle.dna_links.specs.declared.port.LinkTest.TheVariants.{CalledBy, LiveAt}
-use Rattle.dna_links.specs.Links.{LinkOf, with_link}
+use Rattle.dna_links.specs.Links.{LinkOf}
 use Rattle.dna_links.specs.User.{LinkEventValue}
 use Rattle.dna_links.specs.User as of_links
 use Rattle.dna_links.specs.TrueFlow.{TrueFlow, true_flows}
@@ -28,11 +27,12 @@ use Rattle.dna_play.specs.LinkOwed.{retried}
 use Rattle.dna_play.specs.NextSent.{Choice, link_choice, choice}
 use Rattle.dna_play.specs.Player.{End, makes, station_of, links_of, link_ends_of, after_record}
 use Rattle.dna_play.specs.Player as player
-use Rattle.dna_play.specs.Stepped.{Stop, BadStep, Full, Stepped, made, owing_more, links_owing_more}
+use Rattle.dna_play.specs.Stepped.{Stop, Stepped, made, owing_more, links_owing_more}
 use Rattle.dna_play.specs.Play.{with_address, giving, by_user, timed, retrying, after_sending, sends_message, sends_choice, sends}
+use Rattle.dna_play.proofs.Played.Cases.{made_case, giving_case, AllOf}
 use Rattle.dna_play.proofs.Once.Orderly.{IsHigher, higher}
 use Rattle.dna_play.proofs.Played.Steps.{PlayHalf}
-use Rattle.dna_links.proofs.Tables.Outcomes.{IsFound, UserDid, looked, user_did}
+use Rattle.dna_links.proofs.Tables.Outcomes.{IsFound, UserDid, user_did}
 use Rattle.dna_play.proofs.Links.Fits.{EventFits}
 use Rattle.dna_play.proofs.Ends.OwedPays.{debt_pays}
 use Rattle.dna_play.proofs.Links.Debts.{DebtFits}
@@ -46,19 +46,12 @@ use Rattle.dna_play.proofs.Ends.User.{link_event_made, start_made, halt_made}
 
 -- what holds of the end that a step leaves, if it leaves one
 abbrev pub Staged : Result Stepped Stop → Type 0
-Staged (Ok stepped) = Stage stepped.end
-Staged (Err stop) = Unit {0}
+Staged = AllOf (λ (stepped : Stepped). Stage stepped.end)
 
 pub made_staged : (e : End) (r : Record) (more : End → End) (o : Option PlayHalf) →
     ((half : PlayHalf) → o ≡ Some half → Stage (more (after_record e half))) →
     Staged (made e r more o)
-made_staged e r more None all = tt
-made_staged e r more (Some half) all = all half refl
-
-pub link_staged : (test : LinkTest) (s : Links) (next : ℕ → LinkOf TrueFlow → Result Stepped Stop) →
-    ((number : ℕ) (link : LinkOf TrueFlow) → IsFound test s number link → Staged (next number link)) → Staged (with_link test s (Err BadStep) next)
-link_staged test s next all = looked test s (Err BadStep) next _ refl (λ none e. subst Staged e tt)
-    (λ number link found e. subst Staged e (all number link found))
+made_staged e r more o all = made_case Staged e r more o (λ none. tt) all
 
 -- ---- one thing more is owed
 
@@ -106,12 +99,7 @@ module _ (own other : End) (h : Stage own) (theirs : Stage other) (known : Known
   giving_staged : (next : End → ℕ → Result Stepped Stop) →
       (own.addresses + 1 ≤ MAX_LINK → Staged (next (with_address own (own.addresses + 1)) (own.addresses + 1))) →
       Staged (giving own next)
-  giving_staged next all = go (nat_lt own.addresses MAX_LINK) refl
-    where
-      go : (b : Bool) → nat_lt own.addresses MAX_LINK ≡ b →
-          Staged (cond b (next (with_address own (own.addresses + 1)) (own.addresses + 1)) (Err Full))
-      go true e = let less = ltb-true own.addresses MAX_LINK e in all (omega arith)
-      go false e = tt
+  giving_staged next all = giving_case Staged own next (λ full. tt) (λ less. all (omega arith))
 
   -- a debt of a turn is none of a DC
   no_confirm : (number : ℕ) (turn : Turn) (confirm : EndConfirm) → Owes number turn ≡ OwesConfirm confirm → ⊥

@@ -13,7 +13,8 @@ use Rattle.dna_play.proofs.Played.Steps.{PlayHalf}
 use Rattle.dna_play.proofs.Played.StepMakes.{passed, Good, plays_good}
 use Rattle.dna_play.proofs.Played.Reached.{Reached, NoStep, StepOfA, StepOfB}
 use Rattle.dna_play.proofs.Played.SentGrows.{Grows, all_grows}
-use Rattle.dna_play.proofs.Played.Walk.{Comes, Silent, Makes, Delivers, AllOf, each, off_line, plays_comes}
+use Rattle.dna_play.proofs.Played.Cases.{AllOf, each}
+use Rattle.dna_play.proofs.Played.Walk.{Comes, Silent, Makes, Delivers, off_line, plays_comes}
 use Rattle.dna_play.proofs.Stored.LiveEnds.{Counted}
 
 -- an end, of which so many units have passed

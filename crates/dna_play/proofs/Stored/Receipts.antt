@@ -306,7 +306,8 @@ module _ (own other : End) (now : KeptNow own other) where
       ((unit : LayersUnit) → slice_get other.half.sent own.passed ≡ Some unit → kept_stepped own (next unit.bytes) ≡ then_next unit.bytes) →
       kept_stepped own (on_unit (slice_get other.half.sent own.passed) next) ≡ keeping.with_next (drop own.passed (bytes_of other.half.sent))
       then_next
-  on_line next then_next same = go (slice_get other.half.sent own.passed) refl ∙ sym (next_on_line own.passed other.half.sent then_next)
+  on_line next then_next same =
+      go (slice_get other.half.sent own.passed) refl ∙ sym (next_on_line own.passed other.half.sent then_next)
     where
       go : (o : Option LayersUnit) → slice_get other.half.sent own.passed ≡ o → kept_stepped own (on_unit o next) ≡ kept_on o then_next
       go None there = refl
