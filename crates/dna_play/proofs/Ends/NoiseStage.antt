@@ -18,6 +18,7 @@ use Rattle.dna_play.specs.Player.{End, end_step, makes, station_of, links_of, af
 use Rattle.dna_play.specs.Receipt.{heard, hears}
 use Rattle.dna_play.specs.StepRule.{IsNoise}
 use Rattle.dna_station.proofs.Cut.Node.{arrival_packets}
+use Rattle.dna_play.proofs.Played.Cases.{made_case}
 use Rattle.dna_play.proofs.Played.Steps.{PlayHalf}
 use Rattle.dna_play.proofs.Played.Runs.{makes_tells, line_makes}
 use Rattle.dna_play.proofs.Ends.DamagedUnits.{ShownDamage, OfHeader, OfData, read_of, arrival_of, damage_of}
@@ -25,7 +26,7 @@ use Rattle.dna_play.proofs.Ends.StationStage.{damage_stage, arrived_packets}
 use Rattle.dna_play.proofs.Links.Stage.{same_holds}
 use Rattle.dna_play.proofs.Ends.Stage.{Stage, Known}
 use Rattle.dna_play.proofs.Ends.ComesStage.{same_half}
-use Rattle.dna_play.proofs.Ends.UserStages.{Staged, made_staged}
+use Rattle.dna_play.proofs.Ends.UserStages.{Staged}
 
 module _ (own other : PlayHalf) where
   -- the half that damage leaves: its front stays
@@ -85,5 +86,5 @@ module _ (own other : End) (h : Stage own) (known : Known own other) where
       (same_half (damage_left own.half other.half d.0) half (sym (damage_heard own.half other.half d.0 bytes d.1) ∙ made)) (heard_as d.0))
 
   pub noise_staged : (bytes : List ℕ) → Staged (hears own other.half bytes)
-  noise_staged bytes = made_staged own (Noise bytes) (heard own (reading bytes)) (makes own.half other.half (Noise bytes))
+  noise_staged bytes = made_case Staged own (Noise bytes) (heard own (reading bytes)) (makes own.half other.half (Noise bytes)) (λ none. tt)
       (λ half e. heard_stage bytes half (makes_tells own.half other.half (Noise bytes) half e).1 (is_noise own.half other.half bytes half e))

@@ -1,12 +1,11 @@
 -- Each step of a script keeps what holds of its end.
 use Rattle.std.proofs.Common.{true, false, [], arith}
 use Rattle.std.specs.Prelude.{slice_get}
-use Rattle.dna_links.specs.declared.port.LinkTest.TheVariants.{LiveAt, CalledBy}
 use Rattle.dna_play.specs.Script.{StepValue, Start, Halt, Timer, Send, Deliver, Refuse, Lose, Damage, Noise, Open, Accept, Reject, In, Close, Retry}
-use Rattle.dna_play.specs.Player.{End, links_of}
+use Rattle.dna_play.specs.Player.{End}
 use Rattle.dna_play.specs.Receipt.{passing, is_damage}
 use Rattle.dna_play.specs.Play.{plays}
-use Rattle.dna_play.proofs.Played.Cases.{link_case, unit_case, test_case}
+use Rattle.dna_play.proofs.Played.Cases.{unit_case, test_case}
 use Rattle.dna_play.proofs.Played.Steps.{Nothing}
 use Rattle.dna_play.proofs.Played.Order.{nothing_in_order}
 use Rattle.dna_play.proofs.Played.Facts.{Facts, Later}
@@ -42,10 +41,8 @@ module _ (own other : End) (h : Stage own) (theirs : Stage other) (later : Later
       (λ is. damage_staged own other later h theirs facts_now unit there place value is))
   plays_staged (Noise bytes) = noise_staged own other h known bytes
   plays_staged Open = open_staged own other h theirs known
-  plays_staged (Accept partner) =
-      link_case Staged (CalledBy partner) (links_of own.half) _ (λ none. tt) (accept_staged own other h theirs known partner)
-  plays_staged (Reject partner) =
-      link_case Staged (CalledBy partner) (links_of own.half) _ (λ none. tt) (reject_staged own other h theirs known partner)
+  plays_staged (Accept partner) = accept_staged own other h theirs known partner
+  plays_staged (Reject partner) = reject_staged own other h theirs known partner
   plays_staged (In link message) = in_staged own other h theirs known link message
-  plays_staged (Close link) = link_case Staged (LiveAt link) (links_of own.half) _ (λ none. tt) (close_staged own other h theirs known link)
-  plays_staged (Retry link) = link_case Staged (LiveAt link) (links_of own.half) _ (λ none. tt) (retried_staged own other h theirs known link)
+  plays_staged (Close link) = close_staged own other h theirs known link
+  plays_staged (Retry link) = retried_staged own other h theirs known link
