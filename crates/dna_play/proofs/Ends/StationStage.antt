@@ -1,6 +1,6 @@
 -- What holds of an end of the player as a station, on true numbers, is kept by each thing that happens: what it owes can be paid, and its packets
 -- fit.
-use Rattle.std.proofs.Common.{◌≡◌, ℕ, Bool, true, false, Some, List, length, sym, ap, ◌∙◌, subst, ◌⊎◌, inl, inr}
+use Rattle.std.proofs.Common.{◌≡◌, ℕ, Bool, true, false, Some, List, sym, ap, ◌∙◌, subst}
 use Rattle.std.specs.Prelude.{slice_get}
 use Rattle.ddcmp_msg.specs.Message.{MessageValue, Data}
 use Rattle.ddcmp_msg.specs.declared.nak_reason.NakReason.TheVariants.{HeaderCheck, DataCheck}
@@ -24,7 +24,7 @@ use Rattle.dna_play.specs.Compose.{message_of}
 use Rattle.dna_station.proofs.Cut.Sending.{sending_same}
 use Rattle.dna_station.proofs.Cut.Arriving.{arrival_same, header_same, data_bad_same}
 use Rattle.dna_station.proofs.Cut.Node.{arrival_packets, unlabelled_bodies, sending_unlabelled}
-use Rattle.two_nodes.proofs.NumberedSteps.{at_pushed}
+use Rattle.dna_links.proofs.Runs.Sides.{all_pushed}
 use Rattle.dna_play.proofs.Ends.DamagedUnits.{ShownDamage, OfHeader, OfData, read_of, arrival_of}
 use Rattle.dna_play.proofs.Ends.StationPays.{IsPayable}
 use Rattle.dna_play.proofs.Ends.StationOwes.{start_pays, halt_pays, same_pays, choice_pays, sound_pays, header_pays, data_bad_pays}
@@ -120,11 +120,8 @@ sent_packets s (Data flags resp num body) h all = go (is_new s)
   where
     go : (b : Bool) (i : ℕ) (packet : List ℕ) → slice_get (with_packet b s.packets body) i ≡ Some packet → PacketFits packet
     go false i packet at = all i packet at
-    go true i packet at = by_place (at_pushed s.packets body packet i at)
-      where
-        by_place : (slice_get s.packets i ≡ Some packet) ⊎ ((i ≡ length s.packets) × (body ≡ packet)) → PacketFits packet
-        by_place (inl there) = all i packet there
-        by_place (inr e) = subst PacketFits e.1 (record { bytes = h.body; some = h.in_range.0; most = h.in_range.1 })
+    go true i packet at = all_pushed (λ i packet. PacketFits packet) s.packets body
+        (record { bytes = h.body; some = h.in_range.0; most = h.in_range.1 }) all i packet at
 sent_packets s m h all = all
 
 pub arrived_packets : (s t : Station) → t.packets ≡ s.packets → PacketsFit s → PacketsFit t

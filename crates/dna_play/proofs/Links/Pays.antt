@@ -122,6 +122,10 @@ module _ (s : Links) where
       looked test s 0 (λ number link. 0) (tried test) refl (λ none e. none)
       (λ number link found e. absurd (never number link found.there found.passed))
 
+  pub without_found : {R : Type 0} (test : LinkTest) (otherwise : R) (next : ℕ → LinkOf TrueFlow → R) → number_of test s ≡ None →
+      with_link test s otherwise next ≡ otherwise
+  without_found test otherwise next none = ap (λ (o : Option ℕ). at_number s.links o otherwise next) none
+
   pub with_found : {R : Type 0} (test : LinkTest) (n : ℕ) (l : LinkOf TrueFlow) (otherwise : R) (next : ℕ → LinkOf TrueFlow → R) →
       IsFound test s n l → with_link test s otherwise next ≡ next n l
   with_found test n l otherwise next found =

@@ -1,5 +1,5 @@
 -- Records of a side that starts at most once, and gives each of its link addresses higher than all before.
-use Rattle.std.proofs.Common.{arith}
+use Rattle.std.proofs.Common.{refl, arith}
 use Rattle.std.specs.Prelude.{◌≡◌, ℕ, ◌+◌, ◌<◌, ◌≤◌, if◌then◌else◌, Option, Some, None, List, [], ◌∷◌, ◌++◌}
 use Rattle.capture.specs.declared.record.Record.{Record}
 use Rattle.capture.specs.declared.record.Record.TheVariants.{Sent, Received, Noise, User}
@@ -20,6 +20,10 @@ higher most (Some address) = address
 abbrev pub highest : ℕ → List LinkEventValue → ℕ
 highest most [] = most
 highest most (event ∷ later) = highest (higher most (given_address event)) later
+
+pub highest-join : (most : ℕ) (first later : List LinkEventValue) → highest most (first ++ later) ≡ highest (highest most first) later
+highest-join most [] later = refl
+highest-join most (event ∷ first) later = highest-join (higher most (given_address event)) first later
 
 -- each address that these events give is higher than all before
 abbrev pub AddressesRise : ℕ → List LinkEventValue → Type 0
