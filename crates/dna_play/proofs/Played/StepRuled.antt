@@ -1,6 +1,6 @@
 -- A step of a script is bad only where its rule says so, and full only where the addresses of its end are used up.
 use Rattle.std.proofs.Common.{◌≡◌, ℕ, ◌+◌, ◌<◌, ◌≤◌, Bool, true, false, ◌&&◌, nat_lt, ltb-true, lt-ltb, le-leb, leb-true, Option}
-use Rattle.std.proofs.Common.{Some, None, List, [], ◌∷◌, length, Result, Ok, refl, sym, ap, ap₂, ◌∙◌, subst, arith}
+use Rattle.std.proofs.Common.{Some, None, List, length, Result, Ok, refl, sym, ap, ap₂, ◌∙◌, subst, arith}
 use Rattle.std.specs.Prelude.{slice_get, slice_index, nat_le}
 use Rattle.ddcmp_msg.specs.Reading.{reading}
 use Rattle.std.proofs.lemmas.Bool.{and_parts}
@@ -16,7 +16,7 @@ use Rattle.dna_station.specs.declared.state.State.{State}
 use Rattle.dna_station.specs.declared.state.State.TheVariants.{Halted, Istrt, Astrt}
 use Rattle.dna_station.specs.declared.state.State.TheVariants as states
 use Rattle.dna_links.specs.declared.port.Phase.{Phase}
-use Rattle.dna_links.specs.declared.port.Phase.TheVariants.{Calling, Confirming, Running, Disconnecting}
+use Rattle.dna_links.specs.declared.port.Phase.TheVariants.{Running}
 use Rattle.dna_links.specs.declared.port.LinkTest.TheVariants.{LiveAt, CalledBy}
 use Rattle.dna_links.specs.LookUps.{is_live, is_called, is_at}
 use Rattle.dna_links.specs.Links.{LinkOf, number_of}
@@ -50,7 +50,8 @@ use Rattle.dna_play.proofs.Ends.StepStages.{facts_now}
 use Rattle.dna_play.proofs.Stored.Now.{KeptNow}
 use Rattle.dna_play.proofs.Stored.Receipts.{unit_made_to, damage_made_to}
 use Rattle.dna_play.proofs.Ends.NoiseStage.{is_noise, noise_made}
-use Rattle.dna_play.proofs.Links.Phases.{takes_is, takes_when, connected_is, connected_when, retries_live, IsRetried, retried_is, called_is}
+use Rattle.dna_play.proofs.Links.Phases.{Takes, Connected, Retried, takes_is, takes_when, connected_is, connected_when, retries_live, IsRetried}
+use Rattle.dna_play.proofs.Links.Phases.{retried_is, called_is}
 use Rattle.dna_play.proofs.Links.Made.{event_made, open_line, accept_line, reject_line, close_line, is_there, live_found, open_taken, accept_taken}
 use Rattle.dna_play.proofs.Links.Made.{reject_taken, in_taken, close_taken}
 
@@ -79,23 +80,23 @@ module _ (own other : End) (now : KeptNow own other) where
   made_ruled step result asks room m = subst (Rules step) (sym m.1) (asks, room)
 
   -- a record that is made exactly where the rule says so
-  record_ruled : (step : StepValue) (r : Record) (more : End → End) (e : End) → ¬ (IsFull own step) → (o : Option PlayHalf) →
-      ((half : PlayHalf) → o ≡ Some half → Asks own other.half step) → (o ≡ None → ¬ (Asks own other.half step)) → Rules step (made e r more o)
-  record_ruled step r more e room o may never = made_case (Rules step) e r more o never (λ half is. (may half is, room))
+  record_ruled : (step : StepValue) (r : Record) (more : End → End) → gives_address step ≡ false →
+      ((half : PlayHalf) → makes own.half other.half r ≡ Some half → Asks own other.half step) →
+      (Asks own other.half step → (half : PlayHalf) × (makes own.half other.half r ≡ Some half)) →
+      Rules step (made own r more (makes own.half other.half r))
+  record_ruled step r more no_address may goes = made_case (Rules step) own r more (makes own.half other.half r)
+      (λ none asks. let e = sym none ∙ (goes asks).1 in cc) (λ half is. (may half is, never_full step no_address))
 
   -- ---- the station
 
   start_ruled : Rules Start (plays own other.half Start)
   unfolding plays
-  start_ruled = record_ruled Start (User events.Start) (owing_more (Some OwesStrt)) own (never_full Start refl)
-      (makes own.half other.half (User events.Start))
-      (λ half e. (start_made own.half other.half half e).0)
-      (λ none asks. let e = sym none ∙ (start_makes own.half other.half asks).1 in cc)
+  start_ruled = record_ruled Start (User events.Start) (owing_more (Some OwesStrt)) refl
+      (λ half e. (start_made own.half other.half half e).0) (λ asks. start_makes own.half other.half asks)
 
   halt_ruled : Rules Halt (plays own other.half Halt)
   unfolding plays
-  halt_ruled = record_ruled Halt (User events.Halt) no_more own (never_full Halt refl) (makes own.half other.half (User events.Halt))
-      (λ half e. tt) (λ none asks. let e = sym none ∙ (halt_makes own.half other.half).1 in cc)
+  halt_ruled = record_ruled Halt (User events.Halt) no_more refl (λ half e. tt) (λ asks. halt_makes own.half other.half)
 
   timer_ruled : Rules Timer (timed own (timer_debt (variables_of own.half).state (variables_of own.half)))
   timer_ruled = go (station_of own.half).state refl
@@ -171,10 +172,8 @@ module _ (own other : End) (now : KeptNow own other) where
           let e = sym (is_hurt place value unit (subst (IsHurt place value) same asks.2)) ∙ whole in cc
 
   noise_ruled : (bytes : List ℕ) → has_line (recorded.Noise bytes) ≡ true → Rules (Noise bytes) (hears own other.half bytes)
-  noise_ruled bytes lined = record_ruled (Noise bytes) (recorded.Noise bytes) (heard own (reading bytes)) own (never_full (Noise bytes) refl)
-      (makes own.half other.half (recorded.Noise bytes))
-      (λ half e. is_noise own.half other.half bytes half e)
-      (λ none asks. let e = sym none ∙ (noise_made own.half other.half bytes lined asks).1 in cc)
+  noise_ruled bytes lined = record_ruled (Noise bytes) (recorded.Noise bytes) (heard own (reading bytes)) refl
+      (λ half e. is_noise own.half other.half bytes half e) (λ asks. noise_made own.half other.half bytes lined asks)
 
   -- ---- addresses
 
@@ -265,51 +264,42 @@ module _ (own other : End) (now : KeptNow own other) where
 
   in_ruled : (address : ℕ) (message : List ℕ) → has_line (User (events.In address message)) ≡ true →
       Rules (In address message) (by_user own other.half (events.In address message) no_more)
-  in_ruled address message lined = record_ruled (In address message) (User (events.In address message)) no_more own
-      (never_full (In address message) refl)
-      (makes own.half other.half (User (events.In address message)))
+  in_ruled address message lined = record_ruled (In address message) (User (events.In address message)) no_more refl
       (λ half e. let m = link_event_made own.half other.half half (events.In address message) (of_links.In address message) refl e in
       handed m.left (user_did true_flows s m.left (of_links.In address message) m.does_it))
-      (λ none l.
+      (λ l.
       let may = takes_when l.link.port.phase l.phase in
-      let t = in_taken s address message l.number l.link (there_live address (Calling ∷ Confirming ∷ Running ∷ []) l may.1) may.0 in
-      let e = sym none ∙ (event_made own.half other.half (events.In address message) (of_links.In address message) refl lined t).1 in cc)
+      event_made own.half other.half (events.In address message) (of_links.In address message) refl lined
+      (in_taken s address message l.number l.link (there_live address Takes l may.1) may.0))
     where
-      handed : (left : Links) → UserDid true_flows s (of_links.In address message) left → HasLink own address (Calling ∷ Confirming ∷ Running ∷ [])
-      handed left (HandsIn a m number link found may) = has_link address number link (Calling ∷ Confirming ∷ Running ∷ []) found
-          (takes_is link.port.phase may)
+      handed : (left : Links) → UserDid true_flows s (of_links.In address message) left → HasLink own address Takes
+      handed left (HandsIn a m number link found may) = has_link address number link Takes found (takes_is link.port.phase may)
 
   close_ruled : (address : ℕ) → IsLink address → Rules (Close address) (plays own other.half (Close address))
   unfolding plays
   close_ruled address linked = link_case (Rules (Close address)) (LiveAt address) s _
-      (λ none l. none_live address (Confirming ∷ Running ∷ []) none (λ phase p. (connected_when phase p).1) l)
-      (λ number link found. record_ruled (Close address) (User (events.Close address)) (links_owing_more (Owes number DisconnectTurn)) own
-      (never_full (Close address) refl)
-      (makes own.half other.half (User (events.Close address)))
+      (λ none l. none_live address Connected none (λ phase p. (connected_when phase p).1) l)
+      (λ number link found. record_ruled (Close address) (User (events.Close address)) (links_owing_more (Owes number DisconnectTurn)) refl
       (λ half e. let m = link_event_made own.half other.half half (events.Close address) (of_links.Close address) refl e in
       closed m.left (user_did true_flows s m.left (of_links.Close address) m.does_it))
-      (λ none l.
-      let may = connected_when link.port.phase (same_phase address number link (Confirming ∷ Running ∷ []) found l) in
-      let t = close_taken s address number link found may.0 in
-      let e = sym none ∙ (event_made own.half other.half (events.Close address) (of_links.Close address) refl (close_line address linked) t).1 in cc))
+      (λ l.
+      let may = connected_when link.port.phase (same_phase address number link Connected found l) in
+      event_made own.half other.half (events.Close address) (of_links.Close address) refl (close_line address linked)
+      (close_taken s address number link found may.0)))
     where
-      closed : (left : Links) → UserDid true_flows s (of_links.Close address) left → HasLink own address (Confirming ∷ Running ∷ [])
-      closed left (Closes a number link found may) = has_link address number link (Confirming ∷ Running ∷ []) found (connected_is link.port.phase may)
+      closed : (left : Links) → UserDid true_flows s (of_links.Close address) left → HasLink own address Connected
+      closed left (Closes a number link found may) = has_link address number link Connected found (connected_is link.port.phase may)
 
   retry_ruled : (address : ℕ) → Rules (Retry address) (plays own other.half (Retry address))
   unfolding plays
   retry_ruled address = link_case (Rules (Retry address)) (LiveAt address) s _
-      (λ none l. none_live address (Calling ∷ Confirming ∷ Disconnecting ∷ Running ∷ []) none retries_live l)
+      (λ none l. none_live address Retried none retries_live l)
       (λ number link found. go number link found (retried link.port.phase) (retried_is link.port.phase))
     where
       go : (number : ℕ) (link : LinkOf TrueFlow) → IsFound (LiveAt address) s number link → (o : Option (LinkOwed → LinkOwed)) →
           IsRetried link.port.phase o → Rules (Retry address) (retrying own number o)
-      go number link found None never = λ l. never (same_phase address number link (Calling ∷ Confirming ∷ Disconnecting ∷ Running ∷ []) found l)
-      go number link found (Some change) may = (
-        has_link address number link
-            (Calling ∷ Confirming ∷ Disconnecting ∷ Running ∷ []) found may,
-        never_full (Retry address) refl,
-      )
+      go number link found None never = λ l. never (same_phase address number link Retried found l)
+      go number link found (Some change) may = (has_link address number link Retried found may, never_full (Retry address) refl)
 
   -- ---- the steps
 
