@@ -66,11 +66,7 @@ pub record OwedFits (l : LinkOf TrueFlow) (owed : LinkOwed) : Type 0 where
 -- ---- what a turn says of its link
 
 pub data IsDue (l : LinkEnd) : Turn → Type 0 where
-  DueConnectAck : l.owed.connect_ack ≡ true → IsDue l ConnectAckTurn
-  DueInitiate : l.owed.initiate ≡ true → IsDue l InitiateTurn
-  DueConfirm : l.owed.confirm ≡ true → IsDue l ConfirmTurn
-  DueDisconnect : l.owed.disconnect ≡ true → IsDue l DisconnectTurn
-  DueDataAck : l.owed.data_ack ≡ true → IsDue l DataAckTurn
+  DueFlag : {turn : Turn} → is_owed turn l.owed ≡ true → IsDue l turn
   DueSegment : is_running l.port.phase ≡ true → (has_repeat l || has_new l) ≡ true → IsDue l SegmentTurn
 
 module _ (l : LinkEnd) (turn : Turn) where
@@ -81,11 +77,11 @@ module _ (l : LinkEnd) (turn : Turn) where
 
   pub turn_due : turn_of l ≡ Some turn → IsDue l turn
   turn_due e =
-      one_due l.owed.connect_ack ConnectAckTurn _ (λ is. DueConnectAck is)
-      (one_due l.owed.initiate InitiateTurn _ (λ is. DueInitiate is)
-      (one_due l.owed.confirm ConfirmTurn _ (λ is. DueConfirm is)
-      (one_due l.owed.disconnect DisconnectTurn _ (λ is. DueDisconnect is)
-      (one_due l.owed.data_ack DataAckTurn _ (λ is. DueDataAck is)
+      one_due l.owed.connect_ack ConnectAckTurn _ (λ is. DueFlag is)
+      (one_due l.owed.initiate InitiateTurn _ (λ is. DueFlag is)
+      (one_due l.owed.confirm ConfirmTurn _ (λ is. DueFlag is)
+      (one_due l.owed.disconnect DisconnectTurn _ (λ is. DueFlag is)
+      (one_due l.owed.data_ack DataAckTurn _ (λ is. DueFlag is)
       (one_due (has_segment l) SegmentTurn None
       (λ is. let p = and_parts (is_running l.port.phase) (has_repeat l || has_new l) is in DueSegment p.0 p.1) (λ none. absurd cc)))))) e
 
@@ -237,7 +233,7 @@ module _ (s : Links) where
 
     -- what is due may be sent
     pub due_may : (turn : Turn) → IsDue it turn → MaySendIt (turn_message turn it)
-    due_may ConnectAckTurn (DueConnectAck is) =
+    due_may ConnectAckTurn (DueFlag is) =
         let phase = pays.turns ConnectAckTurn is in
         let p = and_parts (not l.port.opened) _ (in_it Called phase) in
         some_found (BegunBy far) n l there
@@ -247,19 +243,19 @@ module _ (s : Links) where
           with_found (BegunBy far) number link (Err NoLink)
               (λ number link. Ok (unchanged true_flows s number link)) found,
         ))
-    due_may InitiateTurn (DueInitiate is) =
+    due_may InitiateTurn (DueFlag is) =
         let phase = pays.turns InitiateTurn is in
         let p = and_parts l.port.opened (is_some l.port.own) (in_it Calling phase) in
         (_, phase_may (OpenedAt own) is_calling n l (opened_at (ap is_live phase) p.0 p.1) (ap is_calling phase))
-    due_may ConfirmTurn (DueConfirm is) =
+    due_may ConfirmTurn (DueFlag is) =
         let phase = pays.turns ConfirmTurn is in
         let p = and_parts (is_some l.port.own) _ (in_it Confirming phase) in
         (_, phase_may (TheLink own far) is_confirming n l (both Confirming phase refl p.0 p.1) (ap is_confirming phase))
-    due_may DisconnectTurn (DueDisconnect is) =
+    due_may DisconnectTurn (DueFlag is) =
         let phase = pays.turns DisconnectTurn is in
         let p = and_parts (is_some l.port.own) _ (in_it Disconnecting phase) in
         (_, phase_may (TheLink own far) is_disconnecting n l (both Disconnecting phase refl p.0 p.1) (ap is_disconnecting phase))
-    due_may DataAckTurn (DueDataAck is) =
+    due_may DataAckTurn (DueFlag is) =
         let phase = pays.turns DataAckTurn is in
         let p = and_parts (is_some l.port.own) _ (in_it Running phase) in
         let m = data_ack_may l.flow ordered answered in (
@@ -267,4 +263,5 @@ module _ (s : Links) where
           run_may own far n l (λ link. true_flows.sends_acks (ack_of it.variables.received ∷ []) link.flow) (both Running phase refl p.0 p.1)
               (ap is_running phase) m.0 m.1,
         )
+    due_may SegmentTurn (DueFlag is) = absurd cc
     due_may SegmentTurn (DueSegment running due) = segment_may (running_is l.port.phase running) due
