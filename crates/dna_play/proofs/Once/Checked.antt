@@ -184,9 +184,9 @@ module _ (own other : Half LayersNode LayersUnit) where
 
 -- ---- a run
 
-pub record HoldsAt (head_a head_b : Head) (w : World LayersNode LayersUnit) (made_a made_b : List Record) : Type 0 where
-  pub joined : LayersJoined head_a head_b w made_a made_b
-  pub begun : BothBegun (cut_world stations w) made_a made_b
+record HoldsAt (head_a head_b : Head) (w : World LayersNode LayersUnit) (made_a made_b : List Record) : Type 0 where
+  joined : LayersJoined head_a head_b w made_a made_b
+  begun : BothBegun (cut_world stations w) made_a made_b
 
 module _ (head_a head_b : Head) where
   start_begun : BothBegun (cut_world stations (layers_start head_a head_b)) [] []
@@ -197,7 +197,7 @@ module _ (head_a head_b : Head) where
     count_b = refl;
   }
 
-  pub holds_at : (w : World LayersNode LayersUnit) (made_a made_b : List Record) → Run layers_pair (layers_start head_a head_b) made_a made_b w →
+  holds_at : (w : World LayersNode LayersUnit) (made_a made_b : List Record) → Run layers_pair (layers_start head_a head_b) made_a made_b w →
       HoldsAt head_a head_b w made_a made_b
   holds_at w made_a made_b run = record {
     joined = lasts layers_pair (LayersJoined head_a head_b) (joined_kept head_a head_b) [] [] (start_joined head_a head_b) run;

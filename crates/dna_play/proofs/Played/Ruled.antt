@@ -1,9 +1,9 @@
 -- In a script that starts each side at most once the next step goes by its rule.
-use Rattle.std.proofs.Common.{◌≡◌, ℕ, ◌≤◌, List, [], ◌∷◌, ◌++◌, take, Result, Ok, Err, subst, arith, length-append}
-use Rattle.std.specs.List.{AllByRecursion}
+use Rattle.std.proofs.Common.{◌≡◌, ℕ, ◌≤◌, List, [], ◌∷◌, take, Result, Ok, Err, subst, arith, length-append}
 use Rattle.wire_base.specs.declared.side.Side.{Side}
 use Rattle.wire_base.specs.declared.side.Side.TheVariants.{A, B}
 use Rattle.capture.specs.Range.{IsNode}
+use Rattle.capture.proofs.SoFarLaws.{All-behind}
 use Rattle.dna_play.specs.Script.{StepValue, ScriptStep, Script}
 use Rattle.dna_play.specs.ScriptText.{MAX_STEPS, IsStep, IsScript}
 use Rattle.dna_play.specs.Stepped.{Stop, BadStep, Full, Stepped}
@@ -43,17 +43,13 @@ next_ruled script node_a node_b so_far r few_a few_b few step fits = go step.sid
 
 -- ---- the laws
 
-last_step : (steps : List ScriptStep) (step : ScriptStep) → AllByRecursion IsStep (steps ++ step ∷ []) → IsStep step
-last_step [] step h = h.0
-last_step (first ∷ steps) step h = last_step steps step h.1
-
 pub next_goes_by_rule : (script : Script) (step : ScriptStep) (so_far : Played) → IsScript (and_then script step) → play script ≡ Ok so_far →
     StartsOnce script.steps →
     StepsByRule so_far step (plays_step so_far step)
 next_goes_by_rule script step so_far fits e once =
     let l = length-append script.steps (step ∷ []) in let few = fits.few in
     next_ruled script fits.node_a fits.node_b so_far (whole_reached script so_far e) once.of_a once.of_b (omega arith) step
-    (last_step script.steps step fits.each)
+    (All-behind IsStep script.steps (step ∷ []) fits.each).0
 
 pub stopped_by_rule : (script : Script) (stopped : Stopped) → IsScript script → play script ≡ Err stopped →
     StartsOnce (take stopped.steps script.steps) → StopsByRule script stopped

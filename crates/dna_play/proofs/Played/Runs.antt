@@ -6,6 +6,7 @@ use Rattle.two_nodes.specs.Nodes.{World, Run, Done, Outcome, Made, Waits, Refuse
 use Rattle.two_nodes.proofs.Order.{one_more_of_a, exchange}
 use Rattle.capture.specs.declared.record.Record.{Record}
 use Rattle.capture.specs.Range.{IsRecord}
+use Rattle.capture.proofs.SoFarLaws.{All-push}
 use Rattle.dna_station.specs.declared.refusal.StepRefusal.{StepRefusal}
 use Rattle.dna_node.specs.Layers.{LayersNode, LayersUnit}
 use Rattle.dna_node.specs.LayersPair.{layers_start}
@@ -43,11 +44,6 @@ pub line_makes : (own other : PlayHalf) (r : Record) (h : PlayHalf) → has_line
     makes own other r ≡ Some h
 line_makes own other r h line e = ap (λ (b : Bool). cond b (made_half (advance end_step own other r)) None) line ∙ ap made_half e
 
--- one more has a line
-with_line : (records : List Record) (r : Record) → AllByRecursion IsRecord records → IsRecord r → AllByRecursion IsRecord (records ++ r ∷ [])
-with_line [] r all one = (one, tt)
-with_line (first ∷ later) r all one = (all.0, with_line later r all.1 one)
-
 -- ---- the records of one step
 
 abbrev pub start_of : Script → World LayersNode LayersUnit
@@ -70,7 +66,7 @@ module _ (script : Script) where
       (more_of_a b (of_a ++ r ∷ []) of_b rest
       (record {
         run = one_more_of_a player_pair r next h.run told.1;
-        lines_a = with_line of_a r h.lines_a (line_told r told.0);
+        lines_a = All-push IsRecord of_a r h.lines_a (line_told r told.0);
         lines_b =
             h.lines_b;
       }))
