@@ -1,15 +1,11 @@
 -- Bytes that nobody sent: an end of the player hears them exactly where a block check shows that they are damaged, and that keeps what holds of it.
 use Rattle.std.proofs.Common.{◌≡◌, ℕ, true, false, Some, List, refl, sym, ap, ◌∙◌, subst, inl, inr}
-use Rattle.std.specs.Prelude.{slice_get}
 use Rattle.two_nodes.specs.Nodes.{Made, stepped, answered, advance}
 use Rattle.ddcmp_msg.specs.Reading.{ReadingValue, reading}
 use Rattle.ddcmp_msg.specs.Reading as read_as
 use Rattle.capture.specs.declared.record.Record.TheVariants.{Noise}
 use Rattle.dna_station.specs.Book.{HeaderBad, DataBad}
 use Rattle.dna_station.specs.StationBook.{after_arrival}
-use Rattle.dna_links.specs.Links.{LinkOf}
-use Rattle.dna_links.specs.TrueFlow.{TrueFlow}
-use Rattle.dna_links.specs.CutFlow.{IsOrdered}
 use Rattle.dna_node.specs.Rules.{by_bytes}
 use Rattle.dna_node.specs.Layers.{layers_machine}
 use Rattle.dna_station.specs.Machine.{noise_step}
@@ -24,7 +20,7 @@ use Rattle.dna_play.proofs.Played.Runs.{makes_tells, line_makes}
 use Rattle.dna_play.proofs.Ends.DamagedUnits.{ShownDamage, OfHeader, OfData, read_of, arrival_of, damage_of}
 use Rattle.dna_play.proofs.Ends.StationStage.{damage_stage, arrived_packets}
 use Rattle.dna_play.proofs.Links.Stage.{same_holds}
-use Rattle.dna_play.proofs.Ends.Stage.{Stage, Known}
+use Rattle.dna_play.proofs.Ends.Stage.{Stage, Known, ordered_of}
 use Rattle.dna_play.proofs.Ends.ComesStage.{same_half}
 use Rattle.dna_play.proofs.Ends.UserStages.{Staged}
 
@@ -63,15 +59,12 @@ module _ (own other : PlayHalf) where
 -- ---- the end after it
 
 module _ (own other : End) (h : Stage own) (known : Known own other) where
-  ordered : (i : ℕ) (l : LinkOf TrueFlow) → slice_get (links_of own.half).links i ≡ Some l → IsOrdered l.flow
-  ordered i l at = (known.numbers i l at).0
-
   heard_as : (d : ShownDamage) → Stage (heard own (read_of d) (after_record own (damage_left own.half other.half d)))
   heard_as d = record {
     pays = damage_stage (station_of own.half) own.owed h.pays d;
     packets = arrived_packets (station_of own.half) (after_arrival (station_of own.half) (arrival_of d) false)
         (arrival_packets (station_of own.half) (arrival_of d) false) h.packets;
-    links = same_holds (links_of own.half) own.addresses own.links_owed h.links ordered;
+    links = same_holds (links_of own.half) own.addresses own.links_owed h.links (ordered_of (links_of own.half).links known.numbers);
     plain = h.plain;
     few = h.few;
     ahead = h.ahead;

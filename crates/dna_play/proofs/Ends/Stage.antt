@@ -111,6 +111,9 @@ sound_of own other h theirs known = record {
     far_small i l at (Some a) e = let o = known.addressed.far i l at a e in let less = known.others.highest o.number a o.owns in
         let few = theirs.few in omega arith
 
+pub ordered_of : (links : LinkList) → HasNumbers links → (i : ℕ) (l : LinkOf TrueFlow) → slice_get links i ≡ Some l → IsOrdered l.flow
+ordered_of links numbers i l at = (numbers i l at).0
+
 -- ---- the user of the links
 
 -- these links are left
@@ -118,9 +121,6 @@ abbrev pub with_left : PlayHalf → Links → PlayHalf
 with_left own left = stepped own (record own.state { station = record own.state.station { links = left } })
 
 module _ (e : End) (h : Stage e) (numbers : HasNumbers (links_of e.half).links) where
-  ordered : (i : ℕ) (l : LinkOf TrueFlow) → slice_get (links_of e.half).links i ≡ Some l → IsOrdered l.flow
-  ordered i l at = (numbers i l at).0
-
   pub link_event_stage : (others : LinkList) → AreAddressed (links_of e.half).links others e.addresses → (event : LinkEventValue) (left : Links) →
       EventFits (links_of e.half) h.links.fit event → IsHigher e.addresses (given_address event) →
       higher e.addresses (given_address event) ≤ MAX_LINK → links_user (links_of e.half) event ≡ Ok left →
@@ -128,8 +128,8 @@ module _ (e : End) (h : Stage e) (numbers : HasNumbers (links_of e.half).links) 
   link_event_stage others addressed event left fits less few does_it = record {
     pays = unchanged_stage (station_of e.half) e.owed h.pays;
     packets = h.packets;
-    links = user_holds (links_of e.half) e.addresses e.links_owed h.links ordered others addressed event left fits less
-        (user_did true_flows (links_of e.half) left event does_it);
+    links = user_holds (links_of e.half) e.addresses e.links_owed h.links (ordered_of (links_of e.half).links numbers) others addressed event
+        left fits less (user_did true_flows (links_of e.half) left event does_it);
     plain = h.plain;
     few = few;
     ahead = h.ahead;
@@ -145,7 +145,7 @@ module _ (e : End) (h : Stage e) (numbers : HasNumbers (links_of e.half).links) 
   start_event_stage is = record {
     pays = start_stage (station_of e.half) e.owed h.pays is;
     packets = event_packets (station_of e.half) events.Start h.packets;
-    links = same_holds (links_of e.half) e.addresses e.links_owed h.links ordered;
+    links = same_holds (links_of e.half) e.addresses e.links_owed h.links (ordered_of (links_of e.half).links numbers);
     plain = h.plain;
     few = h.few;
     ahead = h.ahead;
@@ -155,7 +155,7 @@ module _ (e : End) (h : Stage e) (numbers : HasNumbers (links_of e.half).links) 
   halt_event_stage = record {
     pays = halt_stage (station_of e.half) e.owed h.pays;
     packets = h.packets;
-    links = same_holds (links_of e.half) e.addresses e.links_owed h.links ordered;
+    links = same_holds (links_of e.half) e.addresses e.links_owed h.links (ordered_of (links_of e.half).links numbers);
     plain = h.plain;
     few = h.few;
     ahead = h.ahead;
