@@ -38,18 +38,18 @@ same_first x y xs ys e = cc
 same_rest : (x y : List ℕ) (xs ys : List (List ℕ)) → x ∷ xs ≡ y ∷ ys → xs ≡ ys
 same_rest x y xs ys e = cc
 
+pub drop_more : {X : Type 0} (n : ℕ) (x : X) (xs : List X) → drop (n + 1) (x ∷ xs) ≡ drop n xs
+drop_more n x xs = ap (λ (k : ℕ). drop k (x ∷ xs)) (more n)
+  where
+    more : (n : ℕ) → n + 1 ≡ suc n
+    more n = omega arith
+
 pub next_whole : (begun : List ℕ) (pieces : List (Option Piece)) (message : List ℕ) (rest : List (List ℕ)) → complete begun pieces ≡ message ∷ rest →
     IsNextWhole begun pieces message rest
 next_whole begun [] message rest e = absurd cc
 next_whole begun (None ∷ later) message rest e = absurd cc
 next_whole begun (Some p ∷ later) message rest e = go p.ends refl e (next_whole (begun ++ p.body) later message rest)
   where
-    one_less : (n : ℕ) → drop (n + 1) (Some p ∷ later) ≡ drop n later
-    one_less n = ap (λ (k : ℕ). drop k (Some p ∷ later)) (more n)
-      where
-        more : (n : ℕ) → n + 1 ≡ suc n
-        more n = omega arith
-
     go : (b : Bool) → p.ends ≡ b → cond b ((begun ++ p.body) ∷ complete [] later) (complete (begun ++ p.body) later) ≡ message ∷ rest →
         (complete (begun ++ p.body) later ≡ message ∷ rest → IsNextWhole (begun ++ p.body) later message rest) →
         IsNextWhole begun (Some p ∷ later) message rest
@@ -66,7 +66,7 @@ next_whole begun (Some p ∷ later) message rest e = go p.ends refl e (next_whol
           is = ap (λ (b : Bool). cond b (Some (record { pieces = 1; message = p.body })) (with_piece p (next_message later))) ends ∙
               ap (with_piece p) n.is;
           message_is = sym (append_assoc begun p.body n.w.message) ∙ n.message_is;
-          left = ap (complete []) (one_less n.w.pieces) ∙ n.left;
+          left = ap (complete []) (drop_more n.w.pieces (Some p) later) ∙ n.left;
         }
 
 -- the flow after it is delivered, which came in so many pieces

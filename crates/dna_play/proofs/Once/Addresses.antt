@@ -248,7 +248,7 @@ module _ (s : Links) (others : LinkList) (most : ℕ) (h : AreAddressed s.links 
         keeps = answer_keeps s.links number link (answered true_flows phase address link) there none;
       })
 
-  one_kept : (number : ℕ) (link left : LinkOf TrueFlow) → slice_get s.links number ≡ Some link → PortKept link left →
+  pub one_kept : (number : ℕ) (link left : LinkOf TrueFlow) → slice_get s.links number ≡ Some link → PortKept link left →
       Leaves (changed number left s) most
   one_kept number link left there p =
       record { addressed = kept_addressed s.links number link left there others most p h; keeps = kept_keeps s.links number link left there p.own }
