@@ -5,7 +5,6 @@ use Rattle.std.specs.Prelude.{slice_get}
 use Rattle.two_nodes.specs.Nodes.{Run}
 use Rattle.two_nodes.specs.Cutting.{cut_half}
 use Rattle.two_nodes.proofs.Lasting.{lasts}
-use Rattle.two_nodes.proofs.Order.{exchange}
 use Rattle.ddcmp_msg.specs.Reading.{reading}
 use Rattle.ddcmp_msg.specs.Reading as read_as
 use Rattle.dna_packet.specs.Nsp.{NspValue}
@@ -25,7 +24,7 @@ use Rattle.dna_node.specs.LayersPair.{layers_pair, layers_start, side_of, link_e
 use Rattle.dna_play.specs.Script.{Script}
 use Rattle.dna_play.specs.Player.{End, station_of, links_of}
 use Rattle.dna_play.specs.Played.{Played, head_a, head_b}
-use Rattle.dna_play.specs.PlayRun.{player_pair, ArePlayed, world_of}
+use Rattle.dna_play.specs.PlayRun.{ArePlayed, world_of}
 use Rattle.dna_station.proofs.Bounds.Numbers.{is_data}
 use Rattle.dna_station.proofs.Bounds.Runs.{sound_bounded}
 use Rattle.dna_node.proofs.LayersRead.{LayersRead, packet_in, read_kept, start_read}
@@ -43,7 +42,6 @@ use Rattle.dna_play.proofs.Played.SidesLined.{is_lined}
 use Rattle.dna_play.proofs.Played.SentLined.{AreSentLined, sent_lined}
 use Rattle.dna_play.proofs.Played.Steps.{PlayHalf, MakesAll}
 use Rattle.dna_play.proofs.Played.Order.{InOrder, order_join}
-use Rattle.dna_play.proofs.Played.Reached.{exchanged_ends, exchanged_script}
 use Rattle.dna_play.proofs.Played.Runs.{more_of_a}
 use Rattle.dna_play.proofs.Once.Checked.{is_checked_run, ready_a}
 use Rattle.dna_play.proofs.Played.Checked.{AreInOrder, orderly}
@@ -181,19 +179,3 @@ module _ (script : Script) where
           few_a = omega arith;
           few_b = g.few_b;
         })
-
--- ---- the other end, with the sides exchanged
-
-going_on : (script : Script) (played : Played) → Going script played → Going (exchanged_script script) (exchanged_ends played)
-going_on script played g = record {
-  made = record { run = exchange player_pair g.made.run; lines_a = g.made.lines_b; lines_b = g.made.lines_a };
-  count_a = g.count_b;
-  count_b = g.count_a;
-  order = record { of_side_a = g.order.of_side_b; of_side_b = g.order.of_side_a };
-  few_a = g.few_b;
-  few_b = g.few_a;
-}
-
-module _ (script : Script) (node_a : IsNode script.node_a) (node_b : IsNode script.node_b) (played : Played) (g : Going script played) where
-  pub later_b : Later played.b played.a
-  later_b = later_a (exchanged_script script) node_b node_a (exchanged_ends played) (going_on script played g)
