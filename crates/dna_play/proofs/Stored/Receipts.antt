@@ -32,7 +32,7 @@ use Rattle.dna_play.specs.Script.{Deliver, Refuse, Damage}
 use Rattle.dna_play.specs.Player.{End, makes, links_of, station_of, after_record}
 use Rattle.dna_play.specs.Player as player
 use Rattle.dna_play.specs.Stepped.{Stop, BadStep, Stepped, made}
-use Rattle.dna_play.specs.Receipt.{carried_in, carried, after_receipt, then_gets, on_unit, is_damage, damaged}
+use Rattle.dna_play.specs.Receipt.{carried_in, carried, after_receipt, then_gets, is_damage, damaged}
 use Rattle.dna_play.specs.Receipt as receiving
 use Rattle.dna_play.specs.Play.{plays}
 use Rattle.dna_play.specs.Kept.{KeptStation, KeptLinks, kept}
@@ -60,7 +60,7 @@ use Rattle.dna_play.proofs.Ends.ComesStage.{from_here, can_be, are_bytes_of}
 use Rattle.dna_play.proofs.Played.Runs.{line_makes}
 use Rattle.dna_play.proofs.Ends.ComesMade.{unit_line, damaged_line}
 use Rattle.dna_play.proofs.Ends.StepStages.{facts_now}
-use Rattle.dna_play.proofs.Stored.Timers.{none_behind, kept_on, next_on_line}
+use Rattle.dna_play.proofs.Stored.Timers.{none_behind, on_line}
 use Rattle.dna_play.proofs.Stored.LiveLinks.{record_same}
 use Rattle.dna_play.proofs.Stored.Now.{KeptNow}
 use Rattle.dna_play.proofs.Stored.Stations.{station_with, sound_came, damage_came, can_keep_same}
@@ -147,7 +147,7 @@ module _ (own other : End) (now : KeptNow own other) where
 
     is_within : IsWithin station unit.message unit.known.station
     is_within = within own.half other.half own.passed unit there now.stage.ahead facts.known.ready facts.known.bounded
-        (from_here own other now.later now.stage now.theirs facts unit there)
+        from
 
     -- the judge takes it too
     judged_takes : can_take k unit.message ≡ true → arrival_refusal judged.periods station (Sound unit.message unit.known.station) true ≡ None
@@ -228,7 +228,7 @@ module _ (own other : End) (now : KeptNow own other) where
         let is_kept = buffer && receiving.can_keep own (reading unit.bytes) in
         let can = can_be own other now.later now.stage now.theirs facts unit there buffer in
         let u = unit_made own.half other.half own.passed unit there now.stage.ahead facts.known.ready facts.known.bounded
-        (from_here own other now.later now.stage now.theirs facts unit there) is_kept can in
+        from is_kept can in
         let line = unit_line own other facts now.few unit there is_kept in
         let makes_it = line_makes own.half other.half (Received own.passed is_kept unit.bytes) (left_half own (left is_kept) u.links) line
         u.makes_it in
@@ -301,29 +301,19 @@ module _ (own other : End) (now : KeptNow own other) where
 
   -- ---- the steps
 
-  -- the next unit on the line
-  on_line : (next : List ℕ → Result Stepped Stop) (then_next : List ℕ → Result KeptStepped Stop) →
-      ((unit : LayersUnit) → slice_get other.half.sent own.passed ≡ Some unit → kept_stepped own (next unit.bytes) ≡ then_next unit.bytes) →
-      kept_stepped own (on_unit (slice_get other.half.sent own.passed) next) ≡ keeping.with_next (drop own.passed (bytes_of other.half.sent))
-      then_next
-  on_line next then_next same =
-      go (slice_get other.half.sent own.passed) refl ∙ sym (next_on_line own.passed other.half.sent then_next)
-    where
-      go : (o : Option LayersUnit) → slice_get other.half.sent own.passed ≡ o → kept_stepped own (on_unit o next) ≡ kept_on o then_next
-      go None there = refl
-      go (Some unit) there = same unit there
-
   pub deliver_kept : IsKept own other.half Deliver
   unfolding plays kept_plays
-  deliver_kept = on_line (receiving.comes own other.half true) (keeping.comes (kept own) true) (λ unit there. unit_kept unit there true)
+  deliver_kept = on_line own other.half (receiving.comes own other.half true) (keeping.comes (kept own) true)
+      (λ unit there. unit_kept unit there true)
 
   pub refuse_kept : IsKept own other.half Refuse
   unfolding plays kept_plays
-  refuse_kept = on_line (receiving.comes own other.half false) (keeping.comes (kept own) false) (λ unit there. unit_kept unit there false)
+  refuse_kept = on_line own other.half (receiving.comes own other.half false) (keeping.comes (kept own) false)
+      (λ unit there. unit_kept unit there false)
 
   pub damage_kept : (place value : ℕ) → IsKept own other.half (Damage place value)
   unfolding plays kept_plays
-  damage_kept place value = on_line
+  damage_kept place value = on_line own other.half
       (λ bytes. cond (is_damage place value bytes) (receiving.comes own other.half true (damaged place value bytes)) (Err BadStep))
       (keeping.comes_damaged (kept own) place value) (λ unit there. go unit there (is_damage place value unit.bytes) refl)
     where
