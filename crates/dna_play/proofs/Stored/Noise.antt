@@ -1,5 +1,5 @@
 -- Bytes that nobody sent: the same of an end of the player and of what its node keeps.
-use Rattle.std.proofs.Common.{◌≡◌, ℕ, Bool, true, Option, Some, None, List, [], ◌∷◌, length, Result, Ok, Err, refl, sym, ap, ap₂, ◌∙◌, inl}
+use Rattle.std.proofs.Common.{◌≡◌, ℕ, Bool, true, Option, Some, List, [], ◌∷◌, length, Result, Ok, Err, refl, sym, ap, ap₂, ◌∙◌, inl}
 use Rattle.std.proofs.Common.{inr}
 use Rattle.std.specs.Prelude.{nat_le}
 use Rattle.std.proofs.lemmas.Bool.{and_parts}
@@ -12,7 +12,7 @@ use Rattle.dna_station.specs.Book.{HeaderBad, DataBad}
 use Rattle.dna_play.specs.HasLine.{numbers_fit, are_bytes, has_line}
 use Rattle.dna_play.specs.Script.{Noise}
 use Rattle.dna_play.specs.Player.{End, makes, station_of, links_of, after_record}
-use Rattle.dna_play.specs.Stepped.{Stop, BadStep, made}
+use Rattle.dna_play.specs.Stepped.{Stop, BadStep, made, Stepped}
 use Rattle.dna_play.specs.Receipt.{heard, hears}
 use Rattle.dna_play.specs.Play.{plays}
 use Rattle.dna_play.specs.StepRule.{IsNoise}
@@ -20,6 +20,7 @@ use Rattle.dna_play.specs.Kept.{KeptStation, KeptLinks, kept}
 use Rattle.dna_play.specs.KeptPlay.{KeptStepped, kept_plays}
 use Rattle.dna_play.specs.KeptPlay as keeping
 use Rattle.dna_play.specs.KeptRun.{kept_stepped, IsKept}
+use Rattle.dna_play.proofs.Played.Cases.{made_case}
 use Rattle.dna_play.proofs.Played.Steps.{PlayHalf}
 use Rattle.dna_play.proofs.Played.Runs.{line_makes}
 use Rattle.dna_play.proofs.Ends.DamagedUnits.{ShownDamage, OfHeader, OfData, read_of}
@@ -68,12 +69,10 @@ module _ (own other : End) (now : KeptNow own other) (bytes : List ℕ) (lined :
       ∙ heard_by d
 
   not_made : (IsNoise bytes → ⊥) → kept_stepped own (hears own other.half bytes) ≡ Err BadStep
-  not_made never = go (makes own.half other.half (recorded.Noise bytes)) refl
-    where
-      go : (o : Option PlayHalf) → makes own.half other.half (recorded.Noise bytes) ≡ o →
-          kept_stepped own (made own (recorded.Noise bytes) (heard own (reading bytes)) o) ≡ Err BadStep
-      go None e = refl
-      go (Some half) e = absurd (never (is_noise own.half other.half bytes half e))
+  not_made never =
+      made_case (λ (result : Result Stepped Stop). kept_stepped own result ≡ Err BadStep) own (recorded.Noise bytes) (heard own (reading bytes))
+      (makes own.half other.half (recorded.Noise bytes)) (λ none. refl)
+      (λ half e. absurd (never (is_noise own.half other.half bytes half e)))
 
   sound_never : (m : MessageValue) → reading bytes ≡ read_as.Sound m → IsNoise bytes → ⊥
   sound_never m e (inl f) = let g = sym e ∙ f in cc
