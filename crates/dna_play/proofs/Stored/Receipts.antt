@@ -58,7 +58,7 @@ use Rattle.dna_play.proofs.Ends.StationStage.{cut_of, left_owed}
 use Rattle.dna_play.proofs.Ends.Stage.{Stage}
 use Rattle.dna_play.proofs.Ends.ComesStage.{from_here, can_be, are_bytes_of}
 use Rattle.dna_play.proofs.Played.Runs.{line_makes}
-use Rattle.dna_play.proofs.Ends.ComesMade.{unit_line, damaged_line}
+use Rattle.dna_play.proofs.Ends.ComesLined.{unit_line, damaged_line}
 use Rattle.dna_play.proofs.Ends.StepStages.{facts_now}
 use Rattle.dna_play.proofs.Stored.Timers.{none_behind, on_line}
 use Rattle.dna_play.proofs.Stored.LiveLinks.{record_same}
