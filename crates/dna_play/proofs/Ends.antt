@@ -19,8 +19,8 @@ pub mod UserStages
 pub mod ComesStage
 -- messages that are whole go to the user
 pub mod UpsFollow
-pub mod Receives
-pub mod ComesMade
+-- records of what comes have lines
+pub mod ComesLined
 -- noise, and each step
 pub mod NoiseStage
 pub mod StepStages

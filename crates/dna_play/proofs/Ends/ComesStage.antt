@@ -1,11 +1,10 @@
 -- That an end of the player takes what comes, with what its user gets then, keeps what holds of it.
-use Rattle.std.proofs.Common.{◌≡◌, ℕ, Bool, true, false, ◌&&◌, ◌⊎◌, inl, inr, Option, Some, None, List, [], ◌∷◌, ◌++◌, refl, sym, ap, ◌∙◌, subst}
+use Rattle.std.proofs.Common.{◌≡◌, ℕ, Bool, true, false, ◌&&◌, Some, List, [], ◌∷◌, ◌++◌, refl, sym, ap, ◌∙◌, subst}
 use Rattle.std.specs.Prelude.{slice_get}
 use Rattle.std.proofs.lemmas.Bool.{and_parts}
 use Rattle.two_nodes.specs.Nodes.{Outcome, Made, advance}
 use Rattle.ddcmp_msg.specs.Reading.{ReadingValue, reading}
 use Rattle.ddcmp_msg.specs.Reading as read_as
-use Rattle.capture.specs.declared.event.Event.{Event}
 use Rattle.capture.specs.declared.event.Event.TheVariants as events
 use Rattle.capture.specs.declared.record.Record.TheVariants.{Received, User}
 use Rattle.dna_station.specs.declared.refusal.StepRefusal.{StepRefusal}
@@ -16,18 +15,19 @@ use Rattle.dna_play.specs.Owed.{can_take}
 use Rattle.dna_play.specs.HasLine.{are_bytes}
 use Rattle.dna_play.specs.Player.{End, end_step, makes, links_of, after_record}
 use Rattle.dna_play.specs.Player as player
-use Rattle.dna_play.specs.Stepped.{Stepped, made}
-use Rattle.dna_play.specs.Receipt.{carried, delivered_now, after_receipt, with_half, gets_all, then_gets, receives, can_keep, comes, is_damage}
+use Rattle.dna_play.specs.Stepped.{Stepped}
+use Rattle.dna_play.specs.Receipt.{carried, after_receipt, receives, can_keep, comes, is_damage}
 use Rattle.dna_play.specs.Receipt.{damaged}
 use Rattle.dna_station.proofs.Bounds.Numbers.{is_data}
+use Rattle.dna_play.proofs.Played.Cases.{made_case, AllOf, each, then_each}
 use Rattle.dna_play.proofs.Played.PlayLines.{bytes_tested}
 use Rattle.dna_play.proofs.Played.Steps.{PlayHalf, MakesAll, Nothing, First, one_more}
-use Rattle.dna_play.proofs.Played.Order.{InOrder, AreUps, now_ups, up_more, quiet}
+use Rattle.dna_play.proofs.Played.Order.{InOrder, up_more, quiet}
 use Rattle.dna_play.proofs.Played.Runs.{makes_tells}
 use Rattle.dna_play.proofs.Played.Facts.{Facts, Later}
-use Rattle.dna_play.proofs.Ends.DamagedUnits.{Damaged, damage_is_seen}
-use Rattle.dna_play.proofs.Ends.ReceiptMakes.{header_made, data_made, taken_is_data, within, unit_made}
-use Rattle.dna_play.proofs.Ends.ReceiptStage.{unit_stage, header_bad_stage, data_bad_after}
+use Rattle.dna_play.proofs.Ends.DamagedUnits.{Damaged, damage_is_seen, ShownDamage, read_of, damage_of, never_kept}
+use Rattle.dna_play.proofs.Ends.ReceiptMakes.{damage_made, taken_is_data, within, unit_made}
+use Rattle.dna_play.proofs.Ends.ReceiptStage.{unit_stage, hurt_stage}
 use Rattle.dna_play.proofs.Ends.Stage.{Stage, link_event_stage}
 use Rattle.dna_play.proofs.Ends.User.{link_event_made}
 use Rattle.dna_play.proofs.Ends.UserStages.{Staged}
@@ -59,41 +59,30 @@ module _ (own other : End) (later : Later own other) where
     records = so_far.records ++ User (events.Up address message) ∷ [];
   }
 
-  one_got : (address : ℕ) (message : List ℕ) (list : List Event) (so_far : Stepped) → SoFar so_far →
-      ((next : Stepped) → SoFar next → Staged (gets_all list other.half next)) → (o : Option PlayHalf) →
-      makes so_far.end.half other.half (User (events.Up address message)) ≡ o →
-      Staged (with_half o (λ half. gets_all list other.half (with_up so_far address message half)))
-  one_got address message list so_far s all None e = tt
-  one_got address message list so_far s all (Some half) e = all (with_up so_far address message half) (record {
+  -- a delivery keeps it
+  one_got : (so_far : Stepped) (address : ℕ) (message : List ℕ) (half : PlayHalf) → SoFar so_far →
+      makes so_far.end.half other.half (User (events.Up address message)) ≡ Some half → SoFar (with_up so_far address message half)
+  one_got so_far address message half s e = record {
     stage = up_stage so_far.end other s.stage (later so_far.end so_far.records s.makes_all s.order) address message half e;
     makes_all = one_more (User (events.Up address message)) s.makes_all e;
     order = up_more own 0 so_far address message s.order;
-  })
-
-  gets_staged : (list : List Event) → AreUps list → (so_far : Stepped) → SoFar so_far → Staged (gets_all list other.half so_far)
-  gets_staged [] ups so_far s = s.stage
-  gets_staged (events.Up address message ∷ list) ups so_far s = one_got address message list so_far s (λ next n. gets_staged list ups next n)
-      (makes so_far.end.half other.half (User (events.Up address message))) refl
-  gets_staged (event ∷ list) ups so_far s = absurd ups
+  }
 
   -- ---- a receipt, with all that is got
 
   module _ (bytes : List ℕ) (read : ReadingValue) (kept : Bool)
       (stays : (half : PlayHalf) → advance end_step own.half other.half (Received own.passed kept bytes) ≡ Made half →
       Stage (after_receipt own read kept (after_record own half))) where
-    then_staged : (o : Option PlayHalf) → makes own.half other.half (Received own.passed kept bytes) ≡ o →
-        Staged (then_gets other.half (carried kept read) (made own (Received own.passed kept bytes) (after_receipt own read kept) o))
-    then_staged None e = tt
-    then_staged (Some half) e =
-        gets_staged (delivered_now (links_of half) (carried kept read)) (now_ups (links_of half) (carried kept read))
-        (record { end = after_receipt own read kept (after_record own half); records = Received own.passed kept bytes ∷ [] }) (record {
-          stage = stays half (makes_tells own.half other.half (Received own.passed kept bytes) half e).1;
-          makes_all = First e Nothing;
-          order = quiet own (Received own.passed kept bytes) refl refl;
-        })
-
     pub received_staged : Staged (receives own other.half bytes read kept)
-    received_staged = then_staged (makes own.half other.half (Received own.passed kept bytes)) refl
+    received_staged =
+        let r = Received own.passed kept bytes in
+        each (λ stepped so_far. so_far.stage) (receives own other.half bytes read kept)
+        (then_each other.half SoFar one_got (carried kept read) _
+        (made_case (AllOf SoFar) own r (after_receipt own read kept) (makes own.half other.half r) (λ none. tt) (λ half e. record {
+          stage = stays half (makes_tells own.half other.half r half e).1;
+          makes_all = First e Nothing;
+          order = quiet own r refl refl;
+        })))
 
   -- ---- a unit that is on the line
 
@@ -126,7 +115,7 @@ module _ (own other : End) (later : Later own other) where
 
     pub damage_staged : (place value : ℕ) → is_damage place value unit.bytes ≡ true →
         Staged (comes own other.half true (damaged place value unit.bytes))
-    damage_staged place value is = by_reading (damage_is_seen unit.message unit.bytes place value are_bytes_of told is).shows
+    damage_staged place value is = go (damage_of hurt differs.shows)
       where
         hurt : List ℕ
         hurt = damaged place value unit.bytes
@@ -134,17 +123,12 @@ module _ (own other : End) (later : Later own other) where
         differs : Damaged place value unit.bytes
         differs = damage_is_seen unit.message unit.bytes place value are_bytes_of told is
 
-        as_read : (r : ReadingValue) → reading hurt ≡ r → Staged (receives own other.half hurt r (true && can_keep own r)) →
-            Staged (comes own other.half true hurt)
-        as_read r e s = subst (λ (x : ReadingValue). Staged (receives own other.half hurt x (true && can_keep own x))) (sym e) s
-
-        by_reading : (reading (damaged place value unit.bytes) ≡ read_as.HeaderBad) ⊎ (reading (damaged place value unit.bytes) ≡ read_as.DataBad) →
-            Staged (comes own other.half true (damaged place value unit.bytes))
-        by_reading (inl e) = as_read read_as.HeaderBad e (received_staged hurt read_as.HeaderBad false (λ half m.
-            subst (λ (x : PlayHalf). Stage (after_receipt own read_as.HeaderBad false (after_record own x)))
-            (same_half _ half (sym (header_made own.half other.half own.passed unit there h.ahead hurt differs.differs e) ∙ m))
-            (header_bad_stage own other h theirs facts.known unit there h.ahead)))
-        by_reading (inr e) = as_read read_as.DataBad e (received_staged hurt read_as.DataBad false (λ half m.
-            subst (λ (x : PlayHalf). Stage (after_receipt own read_as.DataBad false (after_record own x)))
-            (same_half _ half (sym (data_made own.half other.half own.passed unit there h.ahead hurt differs.differs e) ∙ m))
-            (data_bad_after own other h theirs facts.known unit there h.ahead)))
+        go : (d : ShownDamage) × (reading hurt ≡ read_of d) → Staged (comes own other.half true hurt)
+        go shown =
+            let d = shown.0 in let e = shown.1 in
+            subst (λ (x : ReadingValue). Staged (receives own other.half hurt x (true && can_keep own x))) (sym e)
+            (subst (λ (b : Bool). Staged (receives own other.half hurt (read_of d) b)) (sym (never_kept own d))
+            (received_staged hurt (read_of d) false (λ half m.
+            subst (λ (x : PlayHalf). Stage (after_receipt own (read_of d) false (after_record own x)))
+            (same_half _ half (sym (damage_made own.half other.half own.passed unit there h.ahead d hurt differs.differs e) ∙ m))
+            (hurt_stage own other h theirs facts.known unit there h.ahead d))))

@@ -1,6 +1,6 @@
 -- A unit that is damaged by a step of a script shows it, and its bytes are no longer those that were sent.
 use Rattle.std.proofs.Common.{◌≡◌, ◌≢◌, ℕ, zero, suc, ◌<◌, ◌≤◌, ◌^◌, Bool, true, false, ◌&&◌, List, [], ◌∷◌, ◌++◌, length, refl, sym, ap, ◌∙◌, subst}
-use Rattle.std.proofs.Common.{arith, ltb-true, leb-true, ◌⊎◌}
+use Rattle.std.proofs.Common.{arith, ltb-true, leb-true, ◌⊎◌, inl, inr}
 use Rattle.std.specs.Prelude.{slice_index, slice_set, bytes_eq, bit_xor, nat_lt, nat_le}
 use Rattle.std.specs.Int.Bits.{xor_self, xor_zero_l, xor_assoc}
 use Rattle.std.proofs.lemmas.Bool.{and_parts}
@@ -13,8 +13,35 @@ use Rattle.ddcmp_msg.proofs.Damage.{damage_shows}
 use Rattle.ddcmp_msg.proofs.Rule.{reading_follows}
 use Rattle.ddcmp_msg.specs.ReadingRule.{IsReading}
 use Rattle.dna_play.specs.HasLine.{are_bytes}
-use Rattle.dna_play.specs.Receipt.{is_damage, damaged}
+use Rattle.dna_station.specs.Book.{ArrivalValue}
+use Rattle.dna_station.specs.Book as book
+use Rattle.dna_play.specs.Player.{End}
+use Rattle.dna_play.specs.Receipt.{can_keep, is_damage, damaged}
+use Rattle.dna_play.specs.StepRule.{IsNoise}
 use Rattle.dna_play.proofs.Played.PlayLines.{bytes_told}
+
+-- ---- what a block check shows: the header is damaged, or the data
+
+pub data ShownDamage : Type 0 where
+  OfHeader : ShownDamage
+  OfData : ShownDamage
+
+abbrev pub read_of : ShownDamage → ReadingValue
+read_of OfHeader = HeaderBad
+read_of OfData = DataBad
+
+abbrev pub arrival_of : {K : Type 0} → ShownDamage → ArrivalValue K
+arrival_of OfHeader = book.HeaderBad
+arrival_of OfData = book.DataBad
+
+pub damage_of : (bytes : List ℕ) → IsNoise bytes → (d : ShownDamage) × (reading bytes ≡ read_of d)
+damage_of bytes (inl e) = (OfHeader, e)
+damage_of bytes (inr e) = (OfData, e)
+
+-- it is not kept
+pub never_kept : (own : End) (d : ShownDamage) → can_keep own (read_of d) ≡ false
+never_kept own OfHeader = refl
+never_kept own OfData = refl
 
 -- a list about one of its places
 record SplitAt (bytes : List ℕ) (place : ℕ) : Type 0 where
@@ -58,7 +85,7 @@ unit_of : (m : MessageValue) (bytes : List ℕ) → are_bytes bytes ≡ true →
 unit_of m bytes are e = subst (λ (r : ReadingValue). IsReading r bytes) e (reading_follows bytes (bytes_told bytes are))
 
 pub record Damaged (place value : ℕ) (bytes : List ℕ) : Type 0 where
-  pub shows : (reading (damaged place value bytes) ≡ HeaderBad) ⊎ (reading (damaged place value bytes) ≡ DataBad)
+  pub shows : IsNoise (damaged place value bytes)
   pub differs : bytes_eq (damaged place value bytes) bytes ≡ false
 
 pub damage_is_seen : (m : MessageValue) (bytes : List ℕ) (place value : ℕ) → are_bytes bytes ≡ true → reading bytes ≡ Sound m →

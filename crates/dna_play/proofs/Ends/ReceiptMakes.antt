@@ -9,7 +9,6 @@ use Rattle.two_nodes.specs.Nodes.{Made, stepped, concluded, read, advance}
 use Rattle.two_nodes.specs.Cutting.{cut_half}
 use Rattle.ddcmp_msg.specs.Message.{MessageValue}
 use Rattle.ddcmp_msg.specs.Reading.{ReadingValue, reading}
-use Rattle.ddcmp_msg.specs.Reading as read_as
 use Rattle.dna_packet.specs.Nsp.{NspValue, DataSegment, LinkService, DataAck, OtherDataAck, ConnectAck, NoOperation, ConnectInitiate, ConnectConfirm}
 use Rattle.dna_packet.specs.Nsp.{DisconnectInitiate, DisconnectConfirm}
 use Rattle.capture.specs.declared.record.Record.TheVariants.{Received}
@@ -21,7 +20,7 @@ use Rattle.dna_station.specs.declared.refusal.StationRefusal.{StationRefusal}
 use Rattle.dna_station.specs.declared.refusal.StepRefusal.{StepRefusal}
 use Rattle.dna_station.specs.declared.refusal.StepRefusal.TheVariants.{HintOrder}
 use Rattle.dna_station.specs.Table.{row}
-use Rattle.dna_station.specs.Book.{ArrivalValue, Sound, HeaderBad, DataBad, keep_refusal, has_packet, num_of}
+use Rattle.dna_station.specs.Book.{ArrivalValue, Sound, keep_refusal, has_packet, num_of}
 use Rattle.dna_station.specs.StationBook.{arrival_refusal, after_arrival}
 use Rattle.dna_station.specs.Bounds.{IsBounded, IsWithin}
 use Rattle.dna_station.specs.WireNode.{unlabelled}
@@ -43,6 +42,7 @@ use Rattle.dna_station.proofs.Cut.Arriving.{arrival_refusal_same}
 use Rattle.dna_node.proofs.OnTop.{IsMet, NotKept, KeptNone, KeptOne}
 use Rattle.dna_play.proofs.Played.Steps.{PlayHalf}
 use Rattle.dna_station.proofs.Bounds.Numbers.{is_data}
+use Rattle.dna_play.proofs.Ends.DamagedUnits.{ShownDamage, OfHeader, OfData, read_of, arrival_of}
 use Rattle.dna_play.proofs.Once.Checked.{row_is_data, IsReady, meets_it}
 
 -- a packet that can be taken is of data
@@ -114,18 +114,21 @@ module _ (own other : PlayHalf) (hint : ℕ) (unit : LayersUnit) (there : slice_
         front = hint + 1;
       })
 
-  -- a damaged one
-  pub header_made : (bytes : List ℕ) → bytes_eq bytes unit.bytes ≡ false → reading bytes ≡ read_as.HeaderBad →
-      advance end_step own other (Received hint false bytes) ≡ Made (came_left HeaderBad false s.links)
-  header_made bytes differs shows =
-      is_made false bytes _ (ap₂ (λ (r : ReadingValue) (b : Bool). comes (layers_machine by_bytes) own.state (hint + 1) false (coming_by b unit r))
-      shows differs)
+  -- and the one that a damaged unit leaves
+  abbrev pub hurt_left : ShownDamage → PlayHalf
+  hurt_left d =
+      stepped own (record own.state { station = record s { station = after_arrival s.station (arrival_of d) false }; front = hint + 1 })
 
-  pub data_made : (bytes : List ℕ) → bytes_eq bytes unit.bytes ≡ false → reading bytes ≡ read_as.DataBad →
-      advance end_step own other (Received hint false bytes) ≡ Made (came_left DataBad false s.links)
-  data_made bytes differs shows =
+  pub damage_made : (d : ShownDamage) (bytes : List ℕ) → bytes_eq bytes unit.bytes ≡ false → reading bytes ≡ read_of d →
+      advance end_step own other (Received hint false bytes) ≡ Made (hurt_left d)
+  damage_made d bytes differs shows =
       is_made false bytes _ (ap₂ (λ (r : ReadingValue) (b : Bool). comes (layers_machine by_bytes) own.state (hint + 1) false (coming_by b unit r))
-      shows differs)
+      shows differs ∙ met_damage d)
+    where
+      met_damage : (d : ShownDamage) → comes (layers_machine by_bytes) own.state (hint + 1) false (coming_by false unit (read_of d))
+          ≡ Ok (record own.state { station = record s { station = after_arrival s.station (arrival_of d) false }; front = hint + 1 })
+      met_damage OfHeader = refl
+      met_damage OfData = refl
 
   module _ (h : IsReady own other) (bounded : IsBounded (cut_half stations own) (cut_half stations other))
       (from : is_data unit.message ≡ true → (u : SentMessage) → unit.known.carried ≡ Some u → (u.packet.src ≡ s.links.peer) ×

@@ -11,14 +11,13 @@ use Rattle.dna_links.specs.declared.port.Phase.{Phase}
 use Rattle.dna_links.specs.declared.port.Phase.TheVariants.{Called, Confirming}
 use Rattle.dna_links.specs.declared.port.LinkTest.TheVariants.{TheLink, LiveTo, CallingAt, ActedOn}
 use Rattle.dna_links.specs.LookUps.{is_running}
-use Rattle.dna_station.specs.Book.{Sound, HeaderBad, DataBad, body_of}
+use Rattle.dna_station.specs.Book.{Sound, body_of}
 use Rattle.dna_station.specs.Bounds.{IsWithin}
 use Rattle.dna_station.specs.StationBook.{after_arrival}
-use Rattle.dna_links.specs.Links.{LinkOf, Carried, LinkTruth, with_link}
+use Rattle.dna_links.specs.Links.{Carried, LinkTruth, with_link}
 use Rattle.dna_links.specs.Arriving.{of_anyone, ends_link, message_arrived}
-use Rattle.dna_links.specs.TrueFlow.{TrueFlow, Numbers, true_flows}
+use Rattle.dna_links.specs.TrueFlow.{Numbers, true_flows}
 use Rattle.dna_links.specs.TrueLinks.{Links, links_arrived}
-use Rattle.dna_links.specs.CutFlow.{IsOrdered}
 use Rattle.dna_links.specs.Runs.{SentMessage}
 use Rattle.dna_node.specs.Rules.{by_bytes}
 use Rattle.dna_node.specs.Content.{content}
@@ -36,17 +35,15 @@ use Rattle.dna_play.proofs.Once.Messages.{IsAddressed}
 use Rattle.dna_play.proofs.Links.Fits.{IsPlain}
 use Rattle.dna_play.proofs.Links.Confirms.{end_done}
 use Rattle.dna_play.proofs.Links.Debts.{came_debt}
-use Rattle.dna_play.proofs.Ends.ReceiptMakes.{came_left}
-use Rattle.dna_play.proofs.Ends.StationStage.{sound_stage, header_stage, data_bad_stage, arrived_packets}
+use Rattle.dna_play.proofs.Ends.ReceiptMakes.{came_left, hurt_left}
+use Rattle.dna_play.proofs.Ends.DamagedUnits.{ShownDamage, read_of, arrival_of}
+use Rattle.dna_play.proofs.Ends.StationStage.{sound_stage, damage_stage, arrived_packets}
 use Rattle.dna_play.proofs.Links.Stage.{ConfirmHolds, LinkHolds, left_links, same_holds, came_holds, debt_holds}
-use Rattle.dna_play.proofs.Ends.Stage.{Stage, Known}
+use Rattle.dna_play.proofs.Ends.Stage.{Stage, Known, ordered_of}
 
 module _ (own other : End) (h : Stage own) (theirs : Stage other) (known : Known own other) where
   abbrev s : Links
   s = links_of own.half
-
-  ordered : (i : ℕ) (l : LinkOf TrueFlow) → slice_get s.links i ≡ Some l → IsOrdered l.flow
-  ordered i l at = (known.numbers i l at).0
 
   -- ---- the DC for a DI
 
@@ -123,7 +120,7 @@ module _ (own other : End) (h : Stage own) (theirs : Stage other) (known : Known
       let m = u.packet.message in
       let came = (checked _ _ _ left does).1 in
       debt_holds left.links own.addresses (left_links s.links left.links own.links_owed)
-      (came_holds s own.addresses own.links_owed h.links ordered of_anyone m u.truth left plain came
+      (came_holds s own.addresses own.links_owed h.links (ordered_of s.links known.numbers) of_anyone m u.truth left plain came
       (arrived_did true_flows of_anyone s left u.truth u.packet does))
       (message_debt s m) (came_debt s of_anyone u.truth left m came) (λ confirm e. confirmed u.truth left confirm m told came e)
 
@@ -133,12 +130,12 @@ module _ (own other : End) (h : Stage own) (theirs : Stage other) (known : Known
         IsMet by_bytes s unit.known.carried kept links →
         LinkHolds links.links own.addresses
         (with_debt (carried_debt s (carried kept (read_as.Sound unit.message))) (left_links s.links links.links own.links_owed))
-    links_stage false links taken is_read NotKept = same_holds s own.addresses own.links_owed h.links ordered
+    links_stage false links taken is_read NotKept = same_holds s own.addresses own.links_owed h.links (ordered_of s.links known.numbers)
     links_stage true links taken is_read (KeptNone is) =
         let e = is_read refl ∙ ap (λ (o : Option SentMessage). Ok (packet_in o)) is in
         subst (λ (r : Result (Option Carried) StepRefusal). LinkHolds s.links own.addresses
         (with_debt (carried_debt s (carried_in r)) (left_links s.links s.links own.links_owed))) (sym e)
-        (same_holds s own.addresses own.links_owed h.links ordered)
+        (same_holds s own.addresses own.links_owed h.links (ordered_of s.links known.numbers))
     links_stage true links taken is_read (KeptOne u left is does) =
         let e = is_read refl ∙ ap (λ (o : Option SentMessage). Ok (packet_in o)) is in
         let place = unit.known.station.place in
@@ -169,25 +166,13 @@ module _ (own other : End) (h : Stage own) (theirs : Stage other) (known : Known
 
     -- ---- the end after a damaged one
 
-    pub header_bad_stage : Stage
-        (after_receipt own read_as.HeaderBad false (after_record own (came_left own.half other.half own.passed unit there ahead HeaderBad false s)))
-    header_bad_stage = record {
-      pays = header_stage (station_of own.half) own.owed h.pays;
-      packets = arrived_packets (station_of own.half) (after_arrival (station_of own.half) HeaderBad false)
-          (arrival_packets (station_of own.half) HeaderBad false) h.packets;
-      links = same_holds s own.addresses own.links_owed h.links ordered;
-      plain = h.plain;
-      few = h.few;
-      ahead = omega arith;
-    }
-
-    pub data_bad_after : Stage
-        (after_receipt own read_as.DataBad false (after_record own (came_left own.half other.half own.passed unit there ahead DataBad false s)))
-    data_bad_after = record {
-      pays = data_bad_stage (station_of own.half) own.owed h.pays;
-      packets = arrived_packets (station_of own.half) (after_arrival (station_of own.half) DataBad false)
-          (arrival_packets (station_of own.half) DataBad false) h.packets;
-      links = same_holds s own.addresses own.links_owed h.links ordered;
+    pub hurt_stage : (d : ShownDamage) →
+        Stage (after_receipt own (read_of d) false (after_record own (hurt_left own.half other.half own.passed unit there ahead d)))
+    hurt_stage d = record {
+      pays = damage_stage (station_of own.half) own.owed h.pays d;
+      packets = arrived_packets (station_of own.half) (after_arrival (station_of own.half) (arrival_of d) false)
+          (arrival_packets (station_of own.half) (arrival_of d) false) h.packets;
+      links = same_holds s own.addresses own.links_owed h.links (ordered_of s.links known.numbers);
       plain = h.plain;
       few = h.few;
       ahead = omega arith;

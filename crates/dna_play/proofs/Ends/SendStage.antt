@@ -26,7 +26,7 @@ use Rattle.two_nodes.proofs.NumberedSteps.{at_pushed}
 use Rattle.dna_play.proofs.Played.Steps.{PlayHalf}
 use Rattle.dna_links.proofs.Tables.Outcomes.{sent_did}
 use Rattle.dna_play.proofs.Once.Addresses.{LinkList, AreAddressed}
-use Rattle.dna_play.proofs.Links.Pays.{OwedFits, IsDue, DueSegment, turn_due, known_at, running_is, fits_in}
+use Rattle.dna_play.proofs.Links.Pays.{OwedFits, IsDue, DueFlag, DueSegment, turn_due, known_at, running_is, fits_in}
 use Rattle.dna_play.proofs.Links.Choices.{TurnAt, end_at, first_chosen}
 use Rattle.dna_play.proofs.Links.Fits.{IsPlain, turn_plain}
 use Rattle.dna_play.proofs.Links.Owing.{sent_turn_fits}
@@ -86,6 +86,7 @@ module _ (e : End) (other : PlayHalf) (sound : IsSound e) (h : Stage e) (numbers
   of_first number turn (confirm ∷ later) list e' = absurd cc
 
   is_of_run : (it : LinkEnd) → IsDue it SegmentTurn → is_running it.port.phase ≡ true
+  is_of_run it (DueFlag is) = absurd cc
   is_of_run it (DueSegment running due) = running
 
   module _ (one : LinkChoice) (asked : link_choice e.links_owed.confirms (link_ends_of e) ≡ Some one) (message : NspValue)

@@ -25,7 +25,7 @@ use Rattle.dna_node.specs.Layers.{stations}
 use Rattle.dna_play.specs.Owed.{Debt, timer_debt}
 use Rattle.dna_play.specs.LinkOwed.{LinkOwed, InitiateTurn, ConfirmTurn, DisconnectTurn, retried, changed}
 use Rattle.dna_play.specs.Compose.{address}
-use Rattle.dna_play.specs.Player.{End, made_half, station_of, links_of, after_record, new_end}
+use Rattle.dna_play.specs.Player.{End, station_of, links_of, after_record, new_end}
 use Rattle.dna_play.specs.Player as player
 use Rattle.dna_play.specs.Stepped.{owing_more}
 use Rattle.dna_play.proofs.Once.Orderly.{IsHigher, higher}
@@ -36,7 +36,7 @@ use Rattle.dna_links.proofs.Tables.Outcomes.{user_did}
 use Rattle.dna_play.proofs.Once.Addresses.{LinkList, AreAddressed}
 use Rattle.dna_play.proofs.Links.Pays.{OwedFits}
 use Rattle.dna_play.proofs.Links.Fits.{EventFits, IsPlain}
-use Rattle.dna_play.proofs.Links.Owing.{turn_fits}
+use Rattle.dna_play.proofs.Links.Owing.{turn_fits, ahead_owes}
 use Rattle.dna_play.proofs.Links.Confirms.{done_over}
 use Rattle.dna_play.proofs.Ends.SendMakes.{PacketsFit}
 use Rattle.dna_play.proofs.Ends.Sends.{IsSound}
@@ -111,6 +111,9 @@ sound_of own other h theirs known = record {
     far_small i l at (Some a) e = let o = known.addressed.far i l at a e in let less = known.others.highest o.number a o.owns in
         let few = theirs.few in omega arith
 
+pub ordered_of : (links : LinkList) → HasNumbers links → (i : ℕ) (l : LinkOf TrueFlow) → slice_get links i ≡ Some l → IsOrdered l.flow
+ordered_of links numbers i l at = (numbers i l at).0
+
 -- ---- the user of the links
 
 -- these links are left
@@ -118,9 +121,6 @@ abbrev pub with_left : PlayHalf → Links → PlayHalf
 with_left own left = stepped own (record own.state { station = record own.state.station { links = left } })
 
 module _ (e : End) (h : Stage e) (numbers : HasNumbers (links_of e.half).links) where
-  ordered : (i : ℕ) (l : LinkOf TrueFlow) → slice_get (links_of e.half).links i ≡ Some l → IsOrdered l.flow
-  ordered i l at = (numbers i l at).0
-
   pub link_event_stage : (others : LinkList) → AreAddressed (links_of e.half).links others e.addresses → (event : LinkEventValue) (left : Links) →
       EventFits (links_of e.half) h.links.fit event → IsHigher e.addresses (given_address event) →
       higher e.addresses (given_address event) ≤ MAX_LINK → links_user (links_of e.half) event ≡ Ok left →
@@ -128,8 +128,8 @@ module _ (e : End) (h : Stage e) (numbers : HasNumbers (links_of e.half).links) 
   link_event_stage others addressed event left fits less few does_it = record {
     pays = unchanged_stage (station_of e.half) e.owed h.pays;
     packets = h.packets;
-    links = user_holds (links_of e.half) e.addresses e.links_owed h.links ordered others addressed event left fits less
-        (user_did true_flows (links_of e.half) left event does_it);
+    links = user_holds (links_of e.half) e.addresses e.links_owed h.links (ordered_of (links_of e.half).links numbers) others addressed event
+        left fits less (user_did true_flows (links_of e.half) left event does_it);
     plain = h.plain;
     few = few;
     ahead = h.ahead;
@@ -145,7 +145,7 @@ module _ (e : End) (h : Stage e) (numbers : HasNumbers (links_of e.half).links) 
   start_event_stage is = record {
     pays = start_stage (station_of e.half) e.owed h.pays is;
     packets = event_packets (station_of e.half) events.Start h.packets;
-    links = same_holds (links_of e.half) e.addresses e.links_owed h.links ordered;
+    links = same_holds (links_of e.half) e.addresses e.links_owed h.links (ordered_of (links_of e.half).links numbers);
     plain = h.plain;
     few = h.few;
     ahead = h.ahead;
@@ -155,7 +155,7 @@ module _ (e : End) (h : Stage e) (numbers : HasNumbers (links_of e.half).links) 
   halt_event_stage = record {
     pays = halt_stage (station_of e.half) e.owed h.pays;
     packets = h.packets;
-    links = same_holds (links_of e.half) e.addresses e.links_owed h.links ordered;
+    links = same_holds (links_of e.half) e.addresses e.links_owed h.links (ordered_of (links_of e.half).links numbers);
     plain = h.plain;
     few = h.few;
     ahead = h.ahead;
@@ -184,15 +184,7 @@ module _ (e : End) (h : Stage e) where
   retried_fits l o Disconnecting is change e' f =
       subst (λ (c : LinkOwed → LinkOwed). OwedFits l (c o)) (same_Some _ change e') (turn_fits l o DisconnectTurn is f)
   retried_fits l o Running is change e' f = subst (λ (c : LinkOwed → LinkOwed). OwedFits l (c o)) (same_Some _ change e')
-      (record {
-        connect_ack = f.connect_ack;
-        initiate = f.initiate;
-        confirm = f.confirm;
-        disconnect = f.disconnect;
-        data_ack = f.data_ack;
-        ahead =
-            omega arith;
-      })
+      (record { turns = λ turn e. f.turns turn (ahead_owes turn 0 o e); ahead = omega arith })
   retried_fits l o phase is change e' f = absurd cc
 
   pub retry_stage : (number : ℕ) (link : LinkOf TrueFlow) (change : LinkOwed → LinkOwed) → slice_get (links_of e.half).links number ≡ Some link →

@@ -15,16 +15,18 @@ use Rattle.dna_station.specs.declared.state.StationEvent.TheVariants as events
 use Rattle.dna_station.specs.declared.tag.Tag.{Tag}
 use Rattle.dna_station.specs.Causes.{with_cause, has_cause}
 use Rattle.dna_station.specs.Table.{Effect, Respond, TakePacket, AnswerRep, row, counts_damage}
-use Rattle.dna_station.specs.Book.{Sound, HeaderBad, DataBad, num_of, resp_of, has_packet, damaged_by}
+use Rattle.dna_station.specs.Book.{Sound, num_of, resp_of, has_packet, damaged_by}
 use Rattle.dna_station.specs.Station.{wire}
 use Rattle.dna_station.specs.WireStation.{HeldPacket, StationVariables, WireStation, wire_after_event}
 use Rattle.dna_station.specs.WireBook.{acknowledges, wire_acknowledged_by, wire_responded, wire_is_next, wire_does, wire_book, wire_after_sending}
 use Rattle.dna_station.specs.WireBook.{wire_after_arrival}
-use Rattle.dna_play.specs.Owed.{Owed, Debt, OwesRep, OwesNak, with_debt, data_debt, rep_debt, damage_debt, same_state, can_take, message_debt}
+use Rattle.dna_play.specs.Owed.{Owed, Debt, OwesRep, OwesNak, with_debt, data_debt}
+use Rattle.dna_play.specs.Owed.{rep_debt, damage_debt, same_state, can_take, message_debt, arrival_debt}
 use Rattle.dna_play.specs.Owed.{still_owed}
 use Rattle.dna_play.specs.NextSent.{LinkEnd, Choice, SendStrt, SendStack, SendNak, SendRep, SendAgain, SendNew, SendAck, after_choice}
 use Rattle.dna_play.specs.Compose.{no_flags, data_with, packet_again, new_data, packet_with, link_message, message_of}
 use Rattle.dna_station.proofs.Steps.Effects.{kept_by_all}
+use Rattle.dna_play.proofs.Ends.DamagedUnits.{ShownDamage, OfHeader, OfData, read_of, arrival_of}
 use Rattle.dna_play.proofs.Ends.StationPays.{IsPayable}
 use Rattle.dna_play.proofs.Ends.OwedPays.{StayOpen, one_more, now_open, used_up, rep_aside, still, lessened, debt_pays}
 
@@ -222,10 +224,7 @@ module _ {L : Type 0} where
         go state true e = absurd cc
         go state false e = same_pays
 
-    pub header_pays : let v = wire_after_arrival w HeaderBad false in
-        Pays v (with_debt (damage_debt k.state HeaderCheck) (still_owed k v.variables owed))
-    header_pays = damaged_pays HeaderCheck k.state refl
-
-    pub data_bad_pays : let v = wire_after_arrival w DataBad false in
-        Pays v (with_debt (damage_debt k.state DataCheck) (still_owed k v.variables owed))
-    data_bad_pays = damaged_pays DataCheck k.state refl
+    pub damage_pays : (d : ShownDamage) → let v = wire_after_arrival w (arrival_of d) false in
+        Pays v (with_debt (arrival_debt k (read_of d) false) (still_owed k v.variables owed))
+    damage_pays OfHeader = damaged_pays HeaderCheck k.state refl
+    damage_pays OfData = damaged_pays DataCheck k.state refl

@@ -1,16 +1,15 @@
 -- What holds of an end of the player as a station, on true numbers, is kept by each thing that happens: what it owes can be paid, and its packets
 -- fit.
-use Rattle.std.proofs.Common.{◌≡◌, ℕ, Bool, true, false, Some, List, length, sym, ap, ◌∙◌, subst, ◌⊎◌, inl, inr}
+use Rattle.std.proofs.Common.{◌≡◌, ℕ, Bool, true, false, Some, List, sym, ap, ◌∙◌, subst}
 use Rattle.std.specs.Prelude.{slice_get}
 use Rattle.ddcmp_msg.specs.Message.{MessageValue, Data}
-use Rattle.ddcmp_msg.specs.declared.nak_reason.NakReason.TheVariants.{HeaderCheck, DataCheck}
 use Rattle.dna_station.specs.declared.head.Head.{Head}
 use Rattle.dna_station.specs.declared.state.State.TheVariants.{Halted}
 use Rattle.dna_station.specs.declared.state.StationEvent.{StationEvent}
 use Rattle.dna_station.specs.declared.state.StationEvent.TheVariants as events
 use Rattle.dna_station.specs.Table.{change_of}
 use Rattle.dna_station.specs.Bounds.{IsOrdered, IsWithin}
-use Rattle.dna_station.specs.Book.{Sound, HeaderBad, DataBad}
+use Rattle.dna_station.specs.Book.{Sound}
 use Rattle.dna_station.specs.Station.{Station, after_event}
 use Rattle.dna_station.specs.Truth.{Truth}
 use Rattle.dna_station.specs.StationBook.{with_packet, is_new, after_sending, after_arrival}
@@ -18,15 +17,16 @@ use Rattle.dna_station.specs.Cut.{AreLabelled, cut}
 use Rattle.dna_station.specs.WireStation.{HeldPacket, WireStation}
 use Rattle.dna_station.specs.WireBook.{wire_after_sending, wire_after_arrival}
 use Rattle.dna_station.specs.WireNode.{unlabelled}
-use Rattle.dna_play.specs.Owed.{Owed, still_owed, with_debt, message_debt, damage_debt}
+use Rattle.dna_play.specs.Owed.{Owed, still_owed, with_debt, message_debt, arrival_debt}
 use Rattle.dna_play.specs.NextSent.{LinkEnd, Choice, after_choice}
 use Rattle.dna_play.specs.Compose.{message_of}
 use Rattle.dna_station.proofs.Cut.Sending.{sending_same}
 use Rattle.dna_station.proofs.Cut.Arriving.{arrival_same, header_same, data_bad_same}
 use Rattle.dna_station.proofs.Cut.Node.{arrival_packets, unlabelled_bodies, sending_unlabelled}
-use Rattle.two_nodes.proofs.NumberedSteps.{at_pushed}
+use Rattle.dna_links.proofs.Runs.Sides.{all_pushed}
+use Rattle.dna_play.proofs.Ends.DamagedUnits.{ShownDamage, OfHeader, OfData, read_of, arrival_of}
 use Rattle.dna_play.proofs.Ends.StationPays.{IsPayable}
-use Rattle.dna_play.proofs.Ends.StationOwes.{start_pays, halt_pays, same_pays, choice_pays, sound_pays, header_pays, data_bad_pays}
+use Rattle.dna_play.proofs.Ends.StationOwes.{start_pays, halt_pays, same_pays, choice_pays, sound_pays, damage_pays}
 use Rattle.dna_play.proofs.Ends.UnitLines.{PacketFits, IsOfBytes}
 use Rattle.dna_play.proofs.Ends.SendMakes.{PacketsFit}
 
@@ -59,13 +59,14 @@ module _ (s : Station) where
       arrived (after_arrival s (Sound m u) kept) (wire_after_arrival (cut_of s) (Sound m u.tag) kept) (arrival_packets s (Sound m u) kept)
       (arrival_same (unlabelled s.packets) s labelled ordered m u kept within)
 
-  pub header_kept : cut_of (after_arrival s HeaderBad false) ≡ wire_after_arrival (cut_of s) HeaderBad false
-  header_kept = arrived (after_arrival s HeaderBad false) (wire_after_arrival (cut_of s) HeaderBad false) (arrival_packets s HeaderBad false)
-      (header_same (unlabelled s.packets) s false)
-
-  pub data_bad_kept : cut_of (after_arrival s DataBad false) ≡ wire_after_arrival (cut_of s) DataBad false
-  data_bad_kept = arrived (after_arrival s DataBad false) (wire_after_arrival (cut_of s) DataBad false) (arrival_packets s DataBad false)
-      (data_bad_same (unlabelled s.packets) s false)
+  damage_kept : (d : ShownDamage) → cut_of (after_arrival s (arrival_of d) false) ≡ wire_after_arrival (cut_of s) (arrival_of d) false
+  damage_kept d =
+      arrived (after_arrival s (arrival_of d) false) (wire_after_arrival (cut_of s) (arrival_of d) false) (arrival_packets s (arrival_of d) false)
+      (go d)
+    where
+      go : (d : ShownDamage) → cut (unlabelled s.packets) (after_arrival s (arrival_of d) false) ≡ wire_after_arrival (cut_of s) (arrival_of d) false
+      go OfHeader = header_same (unlabelled s.packets) s false
+      go OfData = data_bad_same (unlabelled s.packets) s false
 
 module _ (s : Station) (owed : Owed) (p : StationPays s owed) where
   -- where a node keeps this of it after a record
@@ -99,16 +100,10 @@ module _ (s : Station) (owed : Owed) (p : StationPays s owed) where
       (came_kept s ordered m u kept within)
       (sound_pays (cut_of s) owed p m u.tag kept)
 
-  pub header_stage : StationPays (after_arrival s HeaderBad false)
-      (with_debt (damage_debt s.state HeaderCheck) (left_owed s (after_arrival s HeaderBad false) owed))
-  header_stage = as_kept (after_arrival s HeaderBad false) (wire_after_arrival (cut_of s) HeaderBad false)
-      (with_debt (damage_debt s.state HeaderCheck))
-      (header_kept s) (header_pays (cut_of s) owed p)
-
-  pub data_bad_stage : StationPays (after_arrival s DataBad false)
-      (with_debt (damage_debt s.state DataCheck) (left_owed s (after_arrival s DataBad false) owed))
-  data_bad_stage = as_kept (after_arrival s DataBad false) (wire_after_arrival (cut_of s) DataBad false) (with_debt (damage_debt s.state DataCheck))
-      (data_bad_kept s) (data_bad_pays (cut_of s) owed p)
+  pub damage_stage : (d : ShownDamage) → StationPays (after_arrival s (arrival_of d) false)
+      (with_debt (arrival_debt (cut_of s).variables (read_of d) false) (left_owed s (after_arrival s (arrival_of d) false) owed))
+  damage_stage d = as_kept (after_arrival s (arrival_of d) false) (wire_after_arrival (cut_of s) (arrival_of d) false)
+      (with_debt (arrival_debt (cut_of s).variables (read_of d) false)) (damage_kept s d) (damage_pays (cut_of s) owed p d)
 
 -- ---- its packets
 
@@ -121,11 +116,8 @@ sent_packets s (Data flags resp num body) h all = go (is_new s)
   where
     go : (b : Bool) (i : ℕ) (packet : List ℕ) → slice_get (with_packet b s.packets body) i ≡ Some packet → PacketFits packet
     go false i packet at = all i packet at
-    go true i packet at = by_place (at_pushed s.packets body packet i at)
-      where
-        by_place : (slice_get s.packets i ≡ Some packet) ⊎ ((i ≡ length s.packets) × (body ≡ packet)) → PacketFits packet
-        by_place (inl there) = all i packet there
-        by_place (inr e) = subst PacketFits e.1 (record { bytes = h.body; some = h.in_range.0; most = h.in_range.1 })
+    go true i packet at = all_pushed (λ i packet. PacketFits packet) s.packets body
+        (record { bytes = h.body; some = h.in_range.0; most = h.in_range.1 }) all i packet at
 sent_packets s m h all = all
 
 pub arrived_packets : (s t : Station) → t.packets ≡ s.packets → PacketsFit s → PacketsFit t

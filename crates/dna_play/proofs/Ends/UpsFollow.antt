@@ -1,15 +1,14 @@
 -- What a receipt makes whole the user gets at once: each delivery that follows it is made.
-use Rattle.std.proofs.Common.{◌≡◌, ℕ, suc, ◌+◌, Bool, true, false, cond, Option, Some, None, List, [], ◌∷◌, ◌++◌, map, drop, Result, Ok, Err, refl}
+use Rattle.std.proofs.Common.{◌≡◌, ℕ, suc, ◌+◌, Bool, true, false, cond, Option, Some, None, List, [], ◌∷◌, ◌++◌, drop, Ok, Err, refl}
 use Rattle.std.proofs.Common.{sym, ap, ◌∙◌, arith, append_assoc, ◌⊎◌, inl, inr}
 use Rattle.std.specs.Prelude.{slice_get}
 use Rattle.std.proofs.lemmas.List.{drop-drop}
 use Rattle.std.proofs.lemmas.Slice.Eq.{bytes_eq-Decides}
-use Rattle.two_nodes.specs.Nodes.{answered, advance, stepped}
+use Rattle.dna_packet.specs.Nsp.{NspValue, DataSegment}
 use Rattle.capture.specs.declared.event.Event.TheVariants as events
 use Rattle.capture.specs.declared.record.Record.TheVariants.{User}
-use Rattle.dna_station.specs.declared.link_refusal.LinkRefusal.{LinkRefusal}
 use Rattle.dna_station.specs.declared.link_refusal.LinkRefusal.TheVariants.{NoLink}
-use Rattle.dna_links.specs.declared.port.LinkTest.TheVariants.{HasAddress}
+use Rattle.dna_links.specs.declared.port.LinkTest.TheVariants.{HasAddress, ActedOn}
 use Rattle.dna_links.specs.LookUps.{is_at}
 use Rattle.dna_links.specs.Pieces.{Piece, Whole, with_piece, next_message}
 use Rattle.dna_links.specs.Links.{LinkOf, changed, with_flow}
@@ -17,14 +16,13 @@ use Rattle.dna_links.specs.User.{Up, delivered}
 use Rattle.dna_links.specs.TrueFlow.{TrueFlow, true_flows, delivered_as, delivers_whole, delivers}
 use Rattle.dna_links.specs.TrueLinks.{Links, links_user}
 use Rattle.dna_station.specs.Machine.{does}
-use Rattle.dna_node.specs.Layers.{with_links}
 use Rattle.dna_play.specs.HasLine.{has_line}
-use Rattle.dna_play.specs.Player.{end_step, made_half, makes, links_of, after_record}
-use Rattle.dna_play.specs.Stepped.{Stepped}
-use Rattle.dna_play.specs.Receipt.{complete, with_half, gets_all}
+use Rattle.dna_play.specs.LinkOwed as owing
+use Rattle.dna_play.specs.Receipt.{complete}
+use Rattle.dna_links.proofs.Tables.Outcomes.{IsFound}
 use Rattle.dna_links.proofs.Runs.Sides.{set_same, at_set}
+use Rattle.dna_play.proofs.Once.Addresses.{LinkList, OwnsIn}
 use Rattle.dna_play.proofs.Links.Pays.{found_at, with_found}
-use Rattle.dna_play.proofs.Played.Steps.{PlayHalf}
 
 -- ---- the first message that is whole is the next one, and the others are whole behind it
 
@@ -40,18 +38,18 @@ same_first x y xs ys e = cc
 same_rest : (x y : List ℕ) (xs ys : List (List ℕ)) → x ∷ xs ≡ y ∷ ys → xs ≡ ys
 same_rest x y xs ys e = cc
 
+pub drop_more : {X : Type 0} (n : ℕ) (x : X) (xs : List X) → drop (n + 1) (x ∷ xs) ≡ drop n xs
+drop_more n x xs = ap (λ (k : ℕ). drop k (x ∷ xs)) (more n)
+  where
+    more : (n : ℕ) → n + 1 ≡ suc n
+    more n = omega arith
+
 pub next_whole : (begun : List ℕ) (pieces : List (Option Piece)) (message : List ℕ) (rest : List (List ℕ)) → complete begun pieces ≡ message ∷ rest →
     IsNextWhole begun pieces message rest
 next_whole begun [] message rest e = absurd cc
 next_whole begun (None ∷ later) message rest e = absurd cc
 next_whole begun (Some p ∷ later) message rest e = go p.ends refl e (next_whole (begun ++ p.body) later message rest)
   where
-    one_less : (n : ℕ) → drop (n + 1) (Some p ∷ later) ≡ drop n later
-    one_less n = ap (λ (k : ℕ). drop k (Some p ∷ later)) (more n)
-      where
-        more : (n : ℕ) → n + 1 ≡ suc n
-        more n = omega arith
-
     go : (b : Bool) → p.ends ≡ b → cond b ((begun ++ p.body) ∷ complete [] later) (complete (begun ++ p.body) later) ≡ message ∷ rest →
         (complete (begun ++ p.body) later ≡ message ∷ rest → IsNextWhole (begun ++ p.body) later message rest) →
         IsNextWhole begun (Some p ∷ later) message rest
@@ -68,7 +66,7 @@ next_whole begun (Some p ∷ later) message rest e = go p.ends refl e (next_whol
           is = ap (λ (b : Bool). cond b (Some (record { pieces = 1; message = p.body })) (with_piece p (next_message later))) ends ∙
               ap (with_piece p) n.is;
           message_is = sym (append_assoc begun p.body n.w.message) ∙ n.message_is;
-          left = ap (complete []) (one_less n.w.pieces) ∙ n.left;
+          left = ap (complete []) (drop_more n.w.pieces (Some p) later) ∙ n.left;
         }
 
 -- the flow after it is delivered, which came in so many pieces
@@ -141,32 +139,14 @@ abbrev pub AllLined : (address : ℕ) → List (List ℕ) → Type 0
 AllLined address [] = Unit {0}
 AllLined address (message ∷ later) = (has_line (User (events.Up address message)) ≡ true) × AllLined address later
 
-module _ (own other : PlayHalf) where
-  pub up_made : (address : ℕ) (message : List ℕ) (left : Links) → has_line (User (events.Up address message)) ≡ true →
-      links_user (links_of own) (Up address message) ≡ Ok left →
-      makes own other (User (events.Up address message)) ≡ Some
-      (stepped own (record own.state { station = record own.state.station { links = left } }))
-  unfolding end_step
-  up_made address message left lined does_it =
-      ap (λ (b : Bool). cond b (made_half (advance end_step own other (User (events.Up address message)))) None) lined
-      ∙ ap (λ (r : Result Links LinkRefusal). made_half (answered own other (does own.state (with_links own.state.station r)))) does_it
+-- ---- what is whole
 
--- all that is whole is delivered
-pub gets_whole : (other : PlayHalf) (address number : ℕ) (messages : List (List ℕ)) (so_far : Stepped) → AllLined address messages →
-    IsWholeAt (links_of so_far.end.half) address number messages →
-    (got : Stepped) × (gets_all (map (λ (message : List ℕ). events.Up address message) messages) other so_far ≡ Ok got)
-gets_whole other address number [] so_far lined h = (so_far, refl)
-gets_whole other address number (message ∷ later) so_far lined h =
-    let d = one_delivered (links_of so_far.end.half) address number message later h in
-    let half = so_far.end.half in
-    let k = with_flow (delivering message d.next.w h.link.flow) h.link in
-    let left : Links = changed number k (links_of half) in
-    let next : PlayHalf = stepped half (record half.state { station = record half.state.station { links = left } }) in
-    let r = gets_whole other address number later
-    (record { end = after_record so_far.end next; records = so_far.records ++ User (events.Up address message) ∷ [] }) lined.1 d.others in (
-      r.0,
-      ap (λ (o : Option PlayHalf). with_half o
-          (λ half. gets_all (map (λ (message : List ℕ). events.Up address message) later) other
-          (record { end = after_record so_far.end half; records = so_far.records ++ User (events.Up address message) ∷ [] })))
-          (up_made half other address message left lined.0 d.does) ∙ r.1,
-    )
+-- no two links have the same own address
+abbrev pub AreDistinct : LinkList → Type 0
+AreDistinct links = (i j a : ℕ) → OwnsIn links i a → OwnsIn links j a → i ≡ j
+
+-- what is whole of the link that a segment is for has lines
+abbrev pub IsLined : Links → NspValue → Type 0
+IsLined s (DataSegment segment) = (number : ℕ) (link : LinkOf TrueFlow) → IsFound (ActedOn segment.dstaddr segment.srcaddr) s number link →
+    AllLined segment.dstaddr (complete [] (owing.variables_of link).pieces)
+IsLined s m = Unit {0}

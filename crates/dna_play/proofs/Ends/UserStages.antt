@@ -1,6 +1,6 @@
 -- That an end of the player does what its user says, lets its timers run out, and sends what it has chosen keeps what holds of it, with what it owes
 -- then.
-use Rattle.std.proofs.Common.{◌≡◌, ℕ, ◌+◌, ◌≤◌, Bool, true, false, cond, nat_lt, ltb-true, Option, Some, None, List, length, Result, Ok, Err, refl}
+use Rattle.std.proofs.Common.{◌≡◌, ℕ, ◌<◌, ◌+◌, ◌≤◌, true, Option, Some, None, List, length, Result, refl}
 use Rattle.std.proofs.Common.{sym, subst, arith}
 use Rattle.std.specs.Prelude.{nat_le}
 use Rattle.std.proofs.lemmas.Bool.{and_parts}
@@ -9,18 +9,17 @@ use Rattle.ddcmp_msg.specs.Message.{MessageValue}
 use Rattle.capture.specs.declared.event.Event.{Event}
 use Rattle.capture.specs.declared.event.Event.TheVariants as events
 use Rattle.capture.specs.declared.limit.TheConstants.{MAX_LINK}
-use Rattle.capture.specs.declared.record.Record.{Record}
 use Rattle.capture.specs.declared.record.Record.TheVariants.{Sent, User}
 use Rattle.capture.specs.Range.{record_bytes, most_bytes}
-use Rattle.dna_links.specs.declared.port.LinkTest.{LinkTest}
 use Rattle.dna_links.specs.declared.port.LinkTest.TheVariants.{CalledBy, LiveAt}
-use Rattle.dna_links.specs.Links.{LinkOf, with_link}
+use Rattle.dna_links.specs.Links.{LinkOf}
 use Rattle.dna_links.specs.User.{LinkEventValue}
 use Rattle.dna_links.specs.User as of_links
 use Rattle.dna_links.specs.TrueFlow.{TrueFlow, true_flows}
 use Rattle.dna_links.specs.TrueLinks.{Links}
 use Rattle.dna_links.specs.Captures.{given_address}
 use Rattle.dna_node.specs.Content.{link_event}
+use Rattle.dna_play.specs.Script.{Start, Halt, Open, Accept, Reject, In, Close, Retry}
 use Rattle.dna_play.specs.HasLine.{numbers_fit, are_bytes, has_line}
 use Rattle.dna_play.specs.Owed.{Debt, OwesStrt, timer_debt}
 use Rattle.dna_play.specs.LinkOwed.{LinkOwed, EndConfirm, LinkDebt, NoDebt, Owes, OwesConfirm, Turn, InitiateTurn, ConfirmTurn, DisconnectTurn}
@@ -28,11 +27,12 @@ use Rattle.dna_play.specs.LinkOwed.{retried}
 use Rattle.dna_play.specs.NextSent.{Choice, link_choice, choice}
 use Rattle.dna_play.specs.Player.{End, makes, station_of, links_of, link_ends_of, after_record}
 use Rattle.dna_play.specs.Player as player
-use Rattle.dna_play.specs.Stepped.{Stop, BadStep, Full, Stepped, made, owing_more, links_owing_more}
-use Rattle.dna_play.specs.Play.{with_address, giving, by_user, timed, retrying, after_sending, sends_message, sends_choice, sends}
+use Rattle.dna_play.specs.Stepped.{Stop, Stepped, made, owing_more, links_owing_more}
+use Rattle.dna_play.specs.Play.{with_address, giving, by_user, timed, retrying, after_sending, sends_message, sends_choice, sends, no_more, plays}
+use Rattle.dna_play.proofs.Played.Cases.{made_case, link_case, giving_case, AllOf}
 use Rattle.dna_play.proofs.Once.Orderly.{IsHigher, higher}
 use Rattle.dna_play.proofs.Played.Steps.{PlayHalf}
-use Rattle.dna_links.proofs.Tables.Outcomes.{IsFound, UserDid, looked, user_did}
+use Rattle.dna_links.proofs.Tables.Outcomes.{IsFound, UserDid, user_did}
 use Rattle.dna_play.proofs.Links.Fits.{EventFits}
 use Rattle.dna_play.proofs.Ends.OwedPays.{debt_pays}
 use Rattle.dna_play.proofs.Links.Debts.{DebtFits}
@@ -46,19 +46,7 @@ use Rattle.dna_play.proofs.Ends.User.{link_event_made, start_made, halt_made}
 
 -- what holds of the end that a step leaves, if it leaves one
 abbrev pub Staged : Result Stepped Stop → Type 0
-Staged (Ok stepped) = Stage stepped.end
-Staged (Err stop) = Unit {0}
-
-pub made_staged : (e : End) (r : Record) (more : End → End) (o : Option PlayHalf) →
-    ((half : PlayHalf) → o ≡ Some half → Stage (more (after_record e half))) →
-    Staged (made e r more o)
-made_staged e r more None all = tt
-made_staged e r more (Some half) all = all half refl
-
-pub link_staged : (test : LinkTest) (s : Links) (next : ℕ → LinkOf TrueFlow → Result Stepped Stop) →
-    ((number : ℕ) (link : LinkOf TrueFlow) → IsFound test s number link → Staged (next number link)) → Staged (with_link test s (Err BadStep) next)
-link_staged test s next all = looked test s (Err BadStep) next _ refl (λ none e. subst Staged e tt)
-    (λ number link found e. subst Staged e (all number link found))
+Staged = AllOf (λ (stepped : Stepped). Stage stepped.end)
 
 -- ---- one thing more is owed
 
@@ -103,65 +91,63 @@ module _ (own other : End) (h : Stage own) (theirs : Stage other) (known : Known
       (link_event_stage own h known.numbers (links_of other.half).links known.addressed value m.left (fits m.lined) less few m.does_it)
       debt (owes m.left (user_did true_flows s m.left value m.does_it)) never)
 
-  giving_staged : (next : End → ℕ → Result Stepped Stop) →
-      (own.addresses + 1 ≤ MAX_LINK → Staged (next (with_address own (own.addresses + 1)) (own.addresses + 1))) →
-      Staged (giving own next)
-  giving_staged next all = go (nat_lt own.addresses MAX_LINK) refl
-    where
-      go : (b : Bool) → nat_lt own.addresses MAX_LINK ≡ b →
-          Staged (cond b (next (with_address own (own.addresses + 1)) (own.addresses + 1)) (Err Full))
-      go true e = let less = ltb-true own.addresses MAX_LINK e in all (omega arith)
-      go false e = tt
-
   -- a debt of a turn is none of a DC
   no_confirm : (number : ℕ) (turn : Turn) (confirm : EndConfirm) → Owes number turn ≡ OwesConfirm confirm → ⊥
   no_confirm number turn confirm e = cc
 
-  pub open_staged : Staged (giving own (λ end address. by_user end other.half (events.Open address)
-      (links_owing_more (Owes (length s.links) InitiateTurn))))
-  open_staged = giving_staged (λ end address. by_user end other.half (events.Open address) (links_owing_more (Owes (length s.links) InitiateTurn)))
-      (λ few.
-      let address = own.addresses + 1 in
-      made_staged (with_address own address) (User (events.Open address)) (links_owing_more (Owes (length s.links) InitiateTurn))
-      (makes own.half other.half (User (events.Open address)))
-      (event_left (events.Open address) (of_links.Open address) (Owes (length s.links) InitiateTurn) refl (λ lined. tt) (omega arith) few
-      (λ left did. open_debt s (links_of other.half).links own.addresses known.addressed address left (omega arith) did)
-      (no_confirm (length s.links) InitiateTurn)))
+  user_staged : (e : End) (event : Event) (more : End → End) →
+      ((half : PlayHalf) → makes e.half other.half (User event) ≡ Some half → Stage (more (after_record e half))) →
+      Staged (by_user e other.half event more)
+  user_staged e event more all = made_case Staged e (User event) more (makes e.half other.half (User event)) (λ none. tt) all
 
-  pub accept_staged : (partner number : ℕ) (link : LinkOf TrueFlow) → IsFound (CalledBy partner) s number link →
-      Staged (giving own (λ end address. by_user end other.half (events.Accept partner address) (links_owing_more (Owes number ConfirmTurn))))
-  accept_staged partner number link found =
-      giving_staged (λ end address. by_user end other.half (events.Accept partner address) (links_owing_more (Owes number ConfirmTurn))) (λ few.
+  -- with the next address
+  given_staged : (event : ℕ → Event) (debt : LinkDebt) → (own.addresses < MAX_LINK → (half : PlayHalf) →
+      makes own.half other.half (User (event (own.addresses + 1))) ≡ Some half →
+      Stage (links_owing_more debt (after_record (with_address own (own.addresses + 1)) half))) →
+      Staged (giving own (λ end address. by_user end other.half (event address) (links_owing_more debt)))
+  given_staged event debt all =
+      giving_case Staged own (λ end address. by_user end other.half (event address) (links_owing_more debt)) (λ full. tt) (λ less.
+      user_staged (with_address own (own.addresses + 1)) (event (own.addresses + 1)) (links_owing_more debt) (all less))
+
+  pub open_staged : Staged (plays own other.half Open)
+  unfolding plays
+  open_staged = given_staged (λ address. events.Open address) (Owes (length s.links) InitiateTurn) (λ less.
       let address = own.addresses + 1 in
-      made_staged (with_address own address) (User (events.Accept partner address)) (links_owing_more (Owes number ConfirmTurn))
-      (makes own.half other.half (User (events.Accept partner address)))
-      (event_left (events.Accept partner address) (of_links.Accept partner address) (Owes number ConfirmTurn) refl (λ lined. tt) (omega arith) few
+      event_left (events.Open address) (of_links.Open address) (Owes (length s.links) InitiateTurn) refl (λ lined. tt) (omega arith) (omega arith)
+      (λ left did. open_debt s (links_of other.half).links own.addresses known.addressed address left (omega arith) did)
+      (no_confirm (length s.links) InitiateTurn))
+
+  pub accept_staged : (partner : ℕ) → Staged (plays own other.half (Accept partner))
+  unfolding plays
+  accept_staged partner = link_case Staged (CalledBy partner) s _ (λ none. tt) (λ number link found.
+      given_staged (λ address. events.Accept partner address) (Owes number ConfirmTurn) (λ less.
+      let address = own.addresses + 1 in
+      event_left (events.Accept partner address) (of_links.Accept partner address) (Owes number ConfirmTurn) refl (λ lined. tt) (omega arith)
+      (omega arith)
       (λ left did. accept_debt s (links_of other.half).links own.addresses known.addressed partner address number link left found (omega arith) did)
       (no_confirm number ConfirmTurn)))
 
-  pub reject_staged : (partner number : ℕ) (link : LinkOf TrueFlow) → IsFound (CalledBy partner) s number link →
-      Staged (giving own (λ end address. by_user end other.half (events.Reject partner address) (links_owing_more (Owes number DisconnectTurn))))
-  reject_staged partner number link found =
-      giving_staged (λ end address. by_user end other.half (events.Reject partner address) (links_owing_more (Owes number DisconnectTurn))) (λ few.
+  pub reject_staged : (partner : ℕ) → Staged (plays own other.half (Reject partner))
+  unfolding plays
+  reject_staged partner = link_case Staged (CalledBy partner) s _ (λ none. tt) (λ number link found.
+      given_staged (λ address. events.Reject partner address) (Owes number DisconnectTurn) (λ less.
       let address = own.addresses + 1 in
-      made_staged (with_address own address) (User (events.Reject partner address)) (links_owing_more (Owes number DisconnectTurn))
-      (makes own.half other.half (User (events.Reject partner address)))
-      (event_left (events.Reject partner address) (of_links.Reject partner address) (Owes number DisconnectTurn) refl (λ lined. tt) (omega arith) few
+      event_left (events.Reject partner address) (of_links.Reject partner address) (Owes number DisconnectTurn) refl (λ lined. tt) (omega arith)
+      (omega arith)
       (λ left did. reject_debt s (links_of other.half).links own.addresses known.addressed partner address number link left found (omega arith) did)
       (no_confirm number DisconnectTurn)))
 
-  pub close_staged : (address number : ℕ) (link : LinkOf TrueFlow) → IsFound (LiveAt address) s number link →
-      Staged (by_user own other.half (events.Close address) (links_owing_more (Owes number DisconnectTurn)))
-  close_staged address number link found =
-      made_staged own (User (events.Close address)) (links_owing_more (Owes number DisconnectTurn))
-      (makes own.half other.half (User (events.Close address)))
+  pub close_staged : (address : ℕ) → Staged (plays own other.half (Close address))
+  unfolding plays
+  close_staged address = link_case Staged (LiveAt address) s _ (λ none. tt) (λ number link found.
+      user_staged own (events.Close address) (links_owing_more (Owes number DisconnectTurn))
       (event_left (events.Close address) (of_links.Close address) (Owes number DisconnectTurn) refl (λ lined. tt) tt h.few
       (λ left did. close_debt s (links_of other.half).links own.addresses known.addressed address number link left found did)
-      (no_confirm number DisconnectTurn))
+      (no_confirm number DisconnectTurn)))
 
-  pub in_staged : (address : ℕ) (message : List ℕ) → Staged (by_user own other.half (events.In address message) (λ e. e))
-  in_staged address message = made_staged own (User (events.In address message)) (λ e. e)
-      (makes own.half other.half (User (events.In address message)))
+  pub in_staged : (address : ℕ) (message : List ℕ) → Staged (plays own other.half (In address message))
+  unfolding plays
+  in_staged address message = user_staged own (events.In address message) no_more
       (event_left (events.In address message) (of_links.In address message) NoDebt refl (line_bytes (events.In address message)) tt h.few
       (λ left did. tt) (λ confirm e. cc))
     where
@@ -172,14 +158,16 @@ module _ (own other : End) (h : Stage own) (theirs : Stage other) (known : Known
 
   -- ---- the user of the station
 
-  pub start_staged : Staged (by_user own other.half events.Start (owing_more (Some OwesStrt)))
-  start_staged = made_staged own (User events.Start) (owing_more (Some OwesStrt)) (makes own.half other.half (User events.Start)) (λ half e.
+  pub start_staged : Staged (plays own other.half Start)
+  unfolding plays
+  start_staged = user_staged own events.Start (owing_more (Some OwesStrt)) (λ half e.
       let m = start_made own.half other.half half e in
       subst (λ (x : PlayHalf). Stage (owing_more (Some OwesStrt) (after_record own x))) m.1
       (strt_stage _ (start_event_stage own h known.numbers m.0)))
 
-  pub halt_staged : Staged (by_user own other.half events.Halt (λ e. e))
-  halt_staged = made_staged own (User events.Halt) (λ e. e) (makes own.half other.half (User events.Halt)) (λ half e.
+  pub halt_staged : Staged (plays own other.half Halt)
+  unfolding plays
+  halt_staged = user_staged own events.Halt no_more (λ half e.
       subst (λ (x : PlayHalf). Stage (after_record own x)) (halt_made own.half other.half half e) (halt_event_stage own h known.numbers))
 
   -- ---- timers
@@ -191,13 +179,15 @@ module _ (own other : End) (h : Stage own) (theirs : Stage other) (known : Known
       go None e = tt
       go (Some debt) e = timer_stage own h debt e
 
-  pub retried_staged : (address number : ℕ) (link : LinkOf TrueFlow) → IsFound (LiveAt address) s number link →
-      Staged (retrying own number (retried link.port.phase))
-  retried_staged address number link found = go (retried link.port.phase) refl
+  pub retried_staged : (address : ℕ) → Staged (plays own other.half (Retry address))
+  unfolding plays
+  retried_staged address = link_case Staged (LiveAt address) s _ (λ none. tt)
+      (λ number link found. go number link found (retried link.port.phase) refl)
     where
-      go : (o : Option (LinkOwed → LinkOwed)) → retried link.port.phase ≡ o → Staged (retrying own number o)
-      go None e = tt
-      go (Some change) e = retry_stage own h number link change found.there e
+      go : (number : ℕ) (link : LinkOf TrueFlow) → IsFound (LiveAt address) s number link → (o : Option (LinkOwed → LinkOwed)) →
+          retried link.port.phase ≡ o → Staged (retrying own number o)
+      go number link found None e = tt
+      go number link found (Some change) e = retry_stage own h number link change found.there e
 
   -- ---- sending
 

@@ -1,5 +1,5 @@
 -- What a message that comes makes the links owe belongs to the phase that it leaves their link in.
-use Rattle.std.proofs.Common.{◌≡◌, ℕ, Bool, true, false, cond, Option, Some, None, length, Result, Ok, refl, sym, ap, ◌∙◌, subst, arith, ◌⊎◌, inl}
+use Rattle.std.proofs.Common.{◌≡◌, ℕ, Bool, true, false, cond, Some, length, Result, Ok, refl, sym, ap, ◌∙◌, subst, arith, ◌⊎◌, inl}
 use Rattle.std.proofs.Common.{inr}
 use Rattle.std.specs.Prelude.{slice_get}
 use Rattle.std.proofs.lemmas.Option.{same_Some, slice_get_within}
@@ -9,10 +9,9 @@ use Rattle.dna_station.specs.declared.link_refusal.LinkRefusal.{LinkRefusal}
 use Rattle.dna_station.specs.declared.link_refusal.LinkRefusal.TheVariants.{CrossedLink}
 use Rattle.dna_links.specs.declared.port.Phase.{Phase}
 use Rattle.dna_links.specs.declared.port.Phase.TheVariants.{Called, Confirming, Running}
-use Rattle.dna_links.specs.declared.port.LinkTest.{LinkTest}
 use Rattle.dna_links.specs.declared.port.LinkTest.TheVariants.{TheLink, LiveTo, CallingAt, ActedOn}
 use Rattle.dna_links.specs.LookUps.{is_running}
-use Rattle.dna_links.specs.Links.{LinkOf, LinkTruth, check, number_of, at_number, with_link, begun, changed}
+use Rattle.dna_links.specs.Links.{LinkOf, LinkTruth, check, with_link, begun, changed}
 use Rattle.dna_links.specs.Arriving.{PartnerRule, is_for, is_of_pair, called, confirmed, running, message_arrived}
 use Rattle.dna_links.specs.TrueFlow.{TrueFlow, Numbers, true_flows}
 use Rattle.dna_links.specs.TrueLinks.{Links}
@@ -21,8 +20,8 @@ use Rattle.dna_links.proofs.Tables.Outcomes.{looked, checked}
 use Rattle.dna_links.proofs.Runs.Sides.{set_same}
 use Rattle.two_nodes.proofs.NumberedSteps.{at_pushed}
 use Rattle.dna_play.proofs.Once.Addresses.{LinkList}
-use Rattle.dna_play.proofs.Links.Pays.{with_found}
-use Rattle.dna_play.proofs.Links.Owing.{phase_of}
+use Rattle.dna_play.proofs.Links.Pays.{with_found, without_found}
+use Rattle.dna_play.proofs.Links.Pays.{phase_of}
 
 -- ---- what is newly owed
 
@@ -59,10 +58,6 @@ module _ (s : Links) (rule : PartnerRule) (truth : LinkTruth Numbers) (left : Li
   left_as : (P : LinkList → Type 0) (next : Links) → P next.links → ◌≡◌ {A = Result Links LinkRefusal} (Ok next) (Ok left) → P left.links
   left_as P next p e = let same : next ≡ left = cc in subst (λ (x : Links). P x.links) same p
 
-  no_link : (test : LinkTest) (otherwise : LinkDebt) (next : ℕ → LinkOf TrueFlow → LinkDebt) → number_of test s ≡ None →
-      with_link test s otherwise next ≡ otherwise
-  no_link test otherwise next none = ap (λ (o : Option ℕ). at_number s.links o otherwise next) none
-
   repeated_fits : (number : ℕ) (phase : Phase) → InPhase number phase left.links → Leaves (repeated_call_debt number phase)
   repeated_fits number Called here = here
   repeated_fits number Confirming here = here
@@ -89,7 +84,7 @@ module _ (s : Links) (rule : PartnerRule) (truth : LinkTruth Numbers) (left : Li
   pub came_debt : (m : NspValue) → message_arrived true_flows rule s m truth ≡ Ok left → Leaves (message_debt s m)
   came_debt (ConnectInitiate retransmitted src services info segsize user_data) e =
       looked (LiveTo src) s (Ok (begun (called true_flows rule src segsize truth.tag) s)) (λ number link. Ok s) (Ok left) e
-      (λ none e. subst Leaves (sym (no_link (LiveTo src) (Owes (length s.links) ConnectAckTurn)
+      (λ none e. subst Leaves (sym (without_found s (LiveTo src) (Owes (length s.links) ConnectAckTurn)
       (λ number link. repeated_call_debt number link.port.phase) none))
       (left_as (InPhase (length s.links) Called) (begun (called true_flows rule src segsize truth.tag) s)
       (when_pushed s (called true_flows rule src segsize truth.tag)) e))
@@ -100,7 +95,7 @@ module _ (s : Links) (rule : PartnerRule) (truth : LinkTruth Numbers) (left : Li
   came_debt (ConnectConfirm dst src services info segsize user_data) e =
       looked (CallingAt dst) s (Ok s) (λ number link. check (rule (is_for number truth.tag)) CrossedLink
       (Ok (changed number (confirmed true_flows rule src segsize truth.tag link) s))) (Ok left) e
-      (λ none e. subst Leaves (sym (no_link (CallingAt dst) (again_debt dst src) (λ number link. Owes number DataAckTurn) none))
+      (λ none e. subst Leaves (sym (without_found s (CallingAt dst) (again_debt dst src) (λ number link. Owes number DataAckTurn) none))
       (running_fits dst src e))
       (λ number link found e.
       let c = checked _ _ _ left e in
@@ -117,7 +112,8 @@ module _ (s : Links) (rule : PartnerRule) (truth : LinkTruth Numbers) (left : Li
       looked (ActedOn segment.dstaddr segment.srcaddr) s (Ok s)
       (λ number link. check (rule (is_of_pair number link.partner truth.tag)) CrossedLink
       (Ok (changed number (running true_flows rule (λ l. true_flows.takes_segment segment truth.known l.flow) link) s))) (Ok left) e
-      (λ none e. subst Leaves (sym (no_link (ActedOn segment.dstaddr segment.srcaddr) NoDebt (λ number link. Owes number DataAckTurn) none)) tt)
+      (λ none e. subst Leaves
+      (sym (without_found s (ActedOn segment.dstaddr segment.srcaddr) NoDebt (λ number link. Owes number DataAckTurn) none)) tt)
       (λ number link found e.
       let c = checked _ _ _ left e in
       subst Leaves (sym (with_found s (ActedOn segment.dstaddr segment.srcaddr) number link NoDebt (λ number link. Owes number DataAckTurn) found))

@@ -1,7 +1,7 @@
 -- What a link of the player is stays so, whatever its user does, whatever the player sends and whatever comes of what the other end sends: what its
 -- phase asks of its addresses and its SEGSIZE, and pieces of bytes that are no longer than a segment may be.
 use Rattle.std.proofs.Common.{◌≡◌, ℕ, zero, suc, ◌+◌, ◌≤◌, Bool, true, false, ◌&&◌, not, eqb, nat_lt, nat_le, cond, Option, Some, None, List, [], ◌∷◌}
-use Rattle.std.proofs.Common.{◌++◌, length, take, drop, fold, Result, Ok, refl, sym, ap, ap₂, ◌∙◌, subst, arith, eq-eqb, ◌⊎◌, inl, inr}
+use Rattle.std.proofs.Common.{◌++◌, length, take, drop, fold, Result, Ok, refl, sym, ap, ap₂, ◌∙◌, subst, arith, eq-eqb}
 use Rattle.std.specs.Prelude.{slice_get, is_some}
 use Rattle.std.proofs.lemmas.Bool.{and_parts}
 use Rattle.std.proofs.lemmas.List.{length-take}
@@ -26,7 +26,6 @@ use Rattle.dna_play.specs.LinkOwed.{LinkOwed, Turn, ConnectAckTurn, InitiateTurn
 use Rattle.dna_play.specs.Compose.{piece_to_send, turn_message}
 use Rattle.dna_links.specs.Pieces.{SEGSIZE, piece_with, next_piece_of, next_piece}
 use Rattle.two_nodes.proofs.NumberedSteps.{slice_get-drop}
-use Rattle.two_nodes.proofs.NumberedSteps.{at_pushed}
 use Rattle.dna_play.proofs.Once.Orderly.{IsHigher}
 use Rattle.dna_links.proofs.Tables.Outcomes.{looked, checked, UserDid, Opens, Accepts, Rejects, HandsIn, Delivers, Closes, SentDid, OfNone, Stays}
 use Rattle.dna_links.proofs.Tables.Outcomes.{EndsCalled, Segment, Acks}
@@ -92,12 +91,8 @@ empty_fits = record { unsent = tt; given = λ i p at. absurd cc }
 new_fits : (f g : TrueFlow) (p : Piece) → FlowFits f → PieceFits p → g.unsent ≡ without_piece p f.unsent → g.given ≡ f.given ++ p ∷ [] → FlowFits g
 new_fits f g p h this unsent given = record {
   unsent = subst (λ (u : Unsent). AllBytes u.messages) (sym unsent) (left_fits p f.unsent.messages h.unsent);
-  given = λ i q at. go i q (at_pushed f.given p q i (sym (ap (λ (l : List Piece). slice_get l i) given) ∙ at));
+  given = λ i q at. all_pushed (λ i q. PieceFits q) f.given p this h.given i q (sym (ap (λ (l : List Piece). slice_get l i) given) ∙ at);
 }
-  where
-    go : (i : ℕ) (q : Piece) → (slice_get f.given i ≡ Some q) ⊎ ((i ≡ length f.given) × (p ≡ q)) → PieceFits q
-    go i q (inl at) = h.given i q at
-    go i q (inr e) = subst PieceFits e.1 this
 
 with_last : (f : TrueFlow) (last : ℕ) → FlowFits f → FlowFits (record f { last = last })
 with_last f last h = record { unsent = h.unsent; given = h.given }

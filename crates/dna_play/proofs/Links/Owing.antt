@@ -31,7 +31,7 @@ use Rattle.dna_links.proofs.Runs.Sides.{at_set}
 use Rattle.dna_links.proofs.Runs.Pieces.{delivered_is}
 use Rattle.dna_play.proofs.Once.Addresses.{LinkList, AreAddressed, freed_same}
 use Rattle.dna_play.proofs.Links.FlowDid.{SegmentDid, GivesIt, GivesAgain, segment_did, acks_did}
-use Rattle.dna_play.proofs.Links.Pays.{OwedFits}
+use Rattle.dna_play.proofs.Links.Pays.{is_owed, phase_of, OwedFits}
 
 -- ---- one link
 
@@ -50,17 +50,17 @@ same_is Disconnecting Disconnecting e = refl
 same_is Ended Ended e = refl
 same_is p q e = absurd cc
 
+owes_nothing : (turn : Turn) → is_owed turn nothing ≡ true → ⊥
+owes_nothing ConnectAckTurn e = cc
+owes_nothing turn e = cc
+
 nothing_fits : (l : LinkOf TrueFlow) → OwedFits l nothing
-nothing_fits l =
-    record {
-      connect_ack = λ e. absurd cc;
-      initiate = λ e. absurd cc;
-      confirm = λ e. absurd cc;
-      disconnect = λ e. absurd cc;
-      data_ack =
-          λ e. absurd cc;
-      ahead = omega arith;
-    }
+nothing_fits l = record { turns = λ turn e. absurd (owes_nothing turn e); ahead = omega arith }
+
+-- how many are sent in this go is no flag
+pub ahead_owes : (turn : Turn) (n : ℕ) (o : LinkOwed) → is_owed turn (record o { ahead = n }) ≡ true → is_owed turn o ≡ true
+ahead_owes ConnectAckTurn n o e = e
+ahead_owes turn n o e = e
 
 still_fits : (l k : LinkOf TrueFlow) (o : LinkOwed) → IsOrdered l.flow → FlowMoves l.flow k.flow → OwedFits l o → OwedFits k (still_owed l k o)
 still_fits l k o ordered moves fits = go (same_phase l.port.phase k.port.phase) refl
@@ -79,118 +79,37 @@ still_fits l k o ordered moves fits = go (same_phase l.port.phase k.port.phase) 
         let d = left in let ahead = fits.ahead in let before = length-drop l.flow.acknowledged l.flow.given in
         let after = length-drop k.flow.acknowledged k.flow.given in
         let least = moves.least in let given = moves.given in
-        record {
-          connect_ack = λ e. is ∙ fits.connect_ack e;
-          initiate = λ e. is ∙ fits.initiate e;
-          confirm = λ e. is ∙ fits.confirm e;
-          disconnect = λ e. is ∙ fits.disconnect e;
-          data_ack = λ e. is ∙ fits.data_ack e;
-          ahead = omega arith;
-        }
-    go false same =
-        record {
-          connect_ack = λ e. absurd cc;
-          initiate = λ e. absurd cc;
-          confirm = λ e. absurd cc;
-          disconnect = λ e. absurd cc;
-          data_ack =
-              λ e. absurd cc;
-          ahead = omega arith;
-        }
+        record { turns = λ turn e. is ∙ fits.turns turn (ahead_owes turn (o.ahead - lowered_by) o e); ahead = omega arith }
+    go false same = record { turns = λ turn e. absurd (owes_nothing turn (ahead_owes turn (0 - lowered_by) nothing e)); ahead = omega arith }
 
--- the phase that each turn belongs to
-abbrev pub phase_of : Turn → Phase
-phase_of ConnectAckTurn = Called
-phase_of InitiateTurn = Calling
-phase_of ConfirmTurn = Confirming
-phase_of DisconnectTurn = Disconnecting
-phase_of DataAckTurn = Running
-phase_of SegmentTurn = Running
+-- a flag is raised, or a turn is sent: the others stay
+raised_owes : (l : LinkOf TrueFlow) (o : LinkOwed) (turn other : Turn) → l.port.phase ≡ phase_of turn → OwedFits l o →
+    is_owed other (with_turn turn true o) ≡ true → l.port.phase ≡ phase_of other
+raised_owes l o ConnectAckTurn ConnectAckTurn is f e = is
+raised_owes l o InitiateTurn InitiateTurn is f e = is
+raised_owes l o ConfirmTurn ConfirmTurn is f e = is
+raised_owes l o DisconnectTurn DisconnectTurn is f e = is
+raised_owes l o DataAckTurn DataAckTurn is f e = is
+raised_owes l o turn other is f e = f.turns other e
+
+sent_owes : (o : LinkOwed) (turn other : Turn) → is_owed other (without_turn turn o) ≡ true → is_owed other o ≡ true
+sent_owes o ConnectAckTurn ConnectAckTurn e = absurd cc
+sent_owes o InitiateTurn InitiateTurn e = absurd cc
+sent_owes o ConfirmTurn ConfirmTurn e = absurd cc
+sent_owes o DisconnectTurn DisconnectTurn e = absurd cc
+sent_owes o DataAckTurn DataAckTurn e = absurd cc
+sent_owes o SegmentTurn other e = ahead_owes other (o.ahead + 1) o e
+sent_owes o turn other e = e
 
 pub turn_fits : (l : LinkOf TrueFlow) (o : LinkOwed) (turn : Turn) → l.port.phase ≡ phase_of turn → OwedFits l o → OwedFits l (with_turn turn true o)
-turn_fits l o ConnectAckTurn is f =
-    record { connect_ack = λ e. is; initiate = f.initiate; confirm = f.confirm; disconnect = f.disconnect; data_ack = f.data_ack; ahead = f.ahead }
-turn_fits l o InitiateTurn is f =
-    record { connect_ack = f.connect_ack; initiate = λ e. is; confirm = f.confirm; disconnect = f.disconnect; data_ack = f.data_ack; ahead = f.ahead }
-turn_fits l o ConfirmTurn is f =
-    record {
-      connect_ack = f.connect_ack;
-      initiate = f.initiate;
-      confirm = λ e. is;
-      disconnect = f.disconnect;
-      data_ack = f.data_ack;
-      ahead =
-          f.ahead;
-    }
-turn_fits l o DisconnectTurn is f =
-    record { connect_ack = f.connect_ack; initiate = f.initiate; confirm = f.confirm; disconnect = λ e. is; data_ack = f.data_ack; ahead = f.ahead }
-turn_fits l o DataAckTurn is f =
-    record { connect_ack = f.connect_ack; initiate = f.initiate; confirm = f.confirm; disconnect = f.disconnect; data_ack = λ e. is; ahead = f.ahead }
 turn_fits l o SegmentTurn is f = f
+turn_fits l o turn is f = record { turns = λ other e. raised_owes l o turn other is f e; ahead = f.ahead }
 
 -- what is sent is owed no more
 pub sent_turn_fits : (l : LinkOf TrueFlow) (o : LinkOwed) (turn : Turn) → (turn ≡ SegmentTurn → o.ahead + 1 ≤ length (variables_of l).outstanding) →
     OwedFits l o → OwedFits l (without_turn turn o)
-sent_turn_fits l o ConnectAckTurn more f =
-    record {
-      connect_ack = λ e. absurd cc;
-      initiate = f.initiate;
-      confirm = f.confirm;
-      disconnect = f.disconnect;
-      data_ack = f.data_ack;
-      ahead =
-          f.ahead;
-    }
-sent_turn_fits l o InitiateTurn more f =
-    record {
-      connect_ack = f.connect_ack;
-      initiate = λ e. absurd cc;
-      confirm = f.confirm;
-      disconnect = f.disconnect;
-      data_ack = f.data_ack;
-      ahead =
-          f.ahead;
-    }
-sent_turn_fits l o ConfirmTurn more f =
-    record {
-      connect_ack = f.connect_ack;
-      initiate = f.initiate;
-      confirm = λ e. absurd cc;
-      disconnect = f.disconnect;
-      data_ack = f.data_ack;
-      ahead =
-          f.ahead;
-    }
-sent_turn_fits l o DisconnectTurn more f =
-    record {
-      connect_ack = f.connect_ack;
-      initiate = f.initiate;
-      confirm = f.confirm;
-      disconnect = λ e. absurd cc;
-      data_ack = f.data_ack;
-      ahead =
-          f.ahead;
-    }
-sent_turn_fits l o DataAckTurn more f =
-    record {
-      connect_ack = f.connect_ack;
-      initiate = f.initiate;
-      confirm = f.confirm;
-      disconnect = f.disconnect;
-      data_ack = λ e. absurd cc;
-      ahead =
-          f.ahead;
-    }
-sent_turn_fits l o SegmentTurn more f =
-    record {
-      connect_ack = f.connect_ack;
-      initiate = f.initiate;
-      confirm = f.confirm;
-      disconnect = f.disconnect;
-      data_ack = f.data_ack;
-      ahead =
-          more refl;
-    }
+sent_turn_fits l o SegmentTurn more f = record { turns = λ other e. f.turns other (sent_owes o SegmentTurn other e); ahead = more refl }
+sent_turn_fits l o turn more f = record { turns = λ other e. f.turns other (sent_owes o turn other e); ahead = f.ahead }
 
 -- ---- all links
 

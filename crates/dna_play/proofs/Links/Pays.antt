@@ -40,23 +40,33 @@ fits_in phase l = is_some l.port.own && (is_some l.port.far && eqb l.segsize SEG
 abbrev pub Fits : LinkOf TrueFlow → Type 0
 Fits l = fits_in l.port.phase l ≡ true
 
+-- whether a turn is owed by its flag; segments never are
+abbrev pub is_owed : Turn → LinkOwed → Bool
+is_owed ConnectAckTurn owed = owed.connect_ack
+is_owed InitiateTurn owed = owed.initiate
+is_owed ConfirmTurn owed = owed.confirm
+is_owed DisconnectTurn owed = owed.disconnect
+is_owed DataAckTurn owed = owed.data_ack
+is_owed SegmentTurn owed = false
+
+-- the phase that each turn belongs to
+abbrev pub phase_of : Turn → Phase
+phase_of ConnectAckTurn = Called
+phase_of InitiateTurn = Calling
+phase_of ConfirmTurn = Confirming
+phase_of DisconnectTurn = Disconnecting
+phase_of DataAckTurn = Running
+phase_of SegmentTurn = Running
+
 -- what a link owes is what its phase lets it send, and no more segments are sent in a go than are outstanding
 pub record OwedFits (l : LinkOf TrueFlow) (owed : LinkOwed) : Type 0 where
-  pub connect_ack : owed.connect_ack ≡ true → l.port.phase ≡ Called
-  pub initiate : owed.initiate ≡ true → l.port.phase ≡ Calling
-  pub confirm : owed.confirm ≡ true → l.port.phase ≡ Confirming
-  pub disconnect : owed.disconnect ≡ true → l.port.phase ≡ Disconnecting
-  pub data_ack : owed.data_ack ≡ true → l.port.phase ≡ Running
+  pub turns : (turn : Turn) → is_owed turn owed ≡ true → l.port.phase ≡ phase_of turn
   pub ahead : owed.ahead ≤ length (variables_of l).outstanding
 
 -- ---- what a turn says of its link
 
 pub data IsDue (l : LinkEnd) : Turn → Type 0 where
-  DueConnectAck : l.owed.connect_ack ≡ true → IsDue l ConnectAckTurn
-  DueInitiate : l.owed.initiate ≡ true → IsDue l InitiateTurn
-  DueConfirm : l.owed.confirm ≡ true → IsDue l ConfirmTurn
-  DueDisconnect : l.owed.disconnect ≡ true → IsDue l DisconnectTurn
-  DueDataAck : l.owed.data_ack ≡ true → IsDue l DataAckTurn
+  DueFlag : {turn : Turn} → is_owed turn l.owed ≡ true → IsDue l turn
   DueSegment : is_running l.port.phase ≡ true → (has_repeat l || has_new l) ≡ true → IsDue l SegmentTurn
 
 module _ (l : LinkEnd) (turn : Turn) where
@@ -67,11 +77,11 @@ module _ (l : LinkEnd) (turn : Turn) where
 
   pub turn_due : turn_of l ≡ Some turn → IsDue l turn
   turn_due e =
-      one_due l.owed.connect_ack ConnectAckTurn _ (λ is. DueConnectAck is)
-      (one_due l.owed.initiate InitiateTurn _ (λ is. DueInitiate is)
-      (one_due l.owed.confirm ConfirmTurn _ (λ is. DueConfirm is)
-      (one_due l.owed.disconnect DisconnectTurn _ (λ is. DueDisconnect is)
-      (one_due l.owed.data_ack DataAckTurn _ (λ is. DueDataAck is)
+      one_due l.owed.connect_ack ConnectAckTurn _ (λ is. DueFlag is)
+      (one_due l.owed.initiate InitiateTurn _ (λ is. DueFlag is)
+      (one_due l.owed.confirm ConfirmTurn _ (λ is. DueFlag is)
+      (one_due l.owed.disconnect DisconnectTurn _ (λ is. DueFlag is)
+      (one_due l.owed.data_ack DataAckTurn _ (λ is. DueFlag is)
       (one_due (has_segment l) SegmentTurn None
       (λ is. let p = and_parts (is_running l.port.phase) (has_repeat l || has_new l) is in DueSegment p.0 p.1) (λ none. absurd cc)))))) e
 
@@ -107,6 +117,10 @@ module _ (s : Links) where
   none_found test never =
       looked test s 0 (λ number link. 0) (tried test) refl (λ none e. none)
       (λ number link found e. absurd (never number link found.there found.passed))
+
+  pub without_found : {R : Type 0} (test : LinkTest) (otherwise : R) (next : ℕ → LinkOf TrueFlow → R) → number_of test s ≡ None →
+      with_link test s otherwise next ≡ otherwise
+  without_found test otherwise next none = ap (λ (o : Option ℕ). at_number s.links o otherwise next) none
 
   pub with_found : {R : Type 0} (test : LinkTest) (n : ℕ) (l : LinkOf TrueFlow) (otherwise : R) (next : ℕ → LinkOf TrueFlow → R) →
       IsFound test s n l → with_link test s otherwise next ≡ next n l
@@ -219,8 +233,8 @@ module _ (s : Links) where
 
     -- what is due may be sent
     pub due_may : (turn : Turn) → IsDue it turn → MaySendIt (turn_message turn it)
-    due_may ConnectAckTurn (DueConnectAck is) =
-        let phase = pays.connect_ack is in
+    due_may ConnectAckTurn (DueFlag is) =
+        let phase = pays.turns ConnectAckTurn is in
         let p = and_parts (not l.port.opened) _ (in_it Called phase) in
         some_found (BegunBy far) n l there
         (ap₂ (λ (b c : Bool). b && c) (ap is_live phase) (ap₂ (λ (b c : Bool). b && c) p.0 (at_it l.port.far (and_parts _ _ p.1).0)))
@@ -229,24 +243,25 @@ module _ (s : Links) where
           with_found (BegunBy far) number link (Err NoLink)
               (λ number link. Ok (unchanged true_flows s number link)) found,
         ))
-    due_may InitiateTurn (DueInitiate is) =
-        let phase = pays.initiate is in
+    due_may InitiateTurn (DueFlag is) =
+        let phase = pays.turns InitiateTurn is in
         let p = and_parts l.port.opened (is_some l.port.own) (in_it Calling phase) in
         (_, phase_may (OpenedAt own) is_calling n l (opened_at (ap is_live phase) p.0 p.1) (ap is_calling phase))
-    due_may ConfirmTurn (DueConfirm is) =
-        let phase = pays.confirm is in
+    due_may ConfirmTurn (DueFlag is) =
+        let phase = pays.turns ConfirmTurn is in
         let p = and_parts (is_some l.port.own) _ (in_it Confirming phase) in
         (_, phase_may (TheLink own far) is_confirming n l (both Confirming phase refl p.0 p.1) (ap is_confirming phase))
-    due_may DisconnectTurn (DueDisconnect is) =
-        let phase = pays.disconnect is in
+    due_may DisconnectTurn (DueFlag is) =
+        let phase = pays.turns DisconnectTurn is in
         let p = and_parts (is_some l.port.own) _ (in_it Disconnecting phase) in
         (_, phase_may (TheLink own far) is_disconnecting n l (both Disconnecting phase refl p.0 p.1) (ap is_disconnecting phase))
-    due_may DataAckTurn (DueDataAck is) =
-        let phase = pays.data_ack is in
+    due_may DataAckTurn (DueFlag is) =
+        let phase = pays.turns DataAckTurn is in
         let p = and_parts (is_some l.port.own) _ (in_it Running phase) in
         let m = data_ack_may l.flow ordered answered in (
           _,
           run_may own far n l (λ link. true_flows.sends_acks (ack_of it.variables.received ∷ []) link.flow) (both Running phase refl p.0 p.1)
               (ap is_running phase) m.0 m.1,
         )
+    due_may SegmentTurn (DueFlag is) = absurd cc
     due_may SegmentTurn (DueSegment running due) = segment_may (running_is l.port.phase running) due

@@ -1,79 +1,72 @@
 -- Phases of a link, as the rules of a script's steps and the tables of the links have them.
-use Rattle.std.proofs.Common.{◌≡◌, true, inl, inr, Option, Some, None, [], ◌∷◌, refl, ap}
+use Rattle.std.proofs.Common.{◌≡◌, Bool, true, ◌&&◌, inl, inr, Option, Some, None, List, [], ◌∷◌, refl, ap, ◌∙◌}
+use Rattle.std.specs.Prelude.{is_some}
+use Rattle.std.proofs.lemmas.Bool.{and_parts}
 use Rattle.dna_links.specs.declared.port.Phase.{Phase}
 use Rattle.dna_links.specs.declared.port.Phase.TheVariants.{Calling, Called, Confirming, Running, Disconnecting, Ended}
-use Rattle.dna_links.specs.LookUps.{is_live, is_called, is_connected, takes_messages}
+use Rattle.dna_links.specs.LookUps.{is_live, is_called, is_calling, is_connected, takes_messages}
 use Rattle.dna_play.specs.LinkOwed.{LinkOwed, retried}
 use Rattle.dna_play.specs.StepRule.{IsOneOf}
 
-pub takes_is : (phase : Phase) → takes_messages phase ≡ true → IsOneOf (Calling ∷ Confirming ∷ Running ∷ []) phase
+-- whether each of these phases passes a test
+abbrev all_pass : (Phase → Bool) → List Phase → Bool
+all_pass test [] = true
+all_pass test (one ∷ later) = test one && all_pass test later
+
+one_passes : (test : Phase → Bool) (phases : List Phase) (phase : Phase) → all_pass test phases ≡ true → IsOneOf phases phase → test phase ≡ true
+one_passes test [] phase all one = absurd one
+one_passes test (first ∷ later) phase all (inl e) = ap test e ∙ (and_parts (test first) (all_pass test later) all).0
+one_passes test (first ∷ later) phase all (inr one) = one_passes test later phase (and_parts (test first) (all_pass test later) all).1 one
+
+abbrev pub Takes : List Phase
+Takes = Calling ∷ Confirming ∷ Running ∷ []
+
+abbrev pub Connected : List Phase
+Connected = Confirming ∷ Running ∷ []
+
+abbrev pub Retried : List Phase
+Retried = Calling ∷ Confirming ∷ Disconnecting ∷ Running ∷ []
+
+pub takes_is : (phase : Phase) → takes_messages phase ≡ true → IsOneOf Takes phase
 takes_is Calling e = inl refl
 takes_is Confirming e = inr (inl refl)
 takes_is Running e = inr (inr (inl refl))
-takes_is Called e = absurd cc
-takes_is Disconnecting e = absurd cc
-takes_is Ended e = absurd cc
+takes_is phase e = absurd cc
 
-pub takes_when : (phase : Phase) → IsOneOf (Calling ∷ Confirming ∷ Running ∷ []) phase → (takes_messages phase ≡ true) × (is_live phase ≡ true)
-takes_when phase (inl e) = (ap takes_messages e, ap is_live e)
-takes_when phase (inr (inl e)) = (ap takes_messages e, ap is_live e)
-takes_when phase (inr (inr (inl e))) = (ap takes_messages e, ap is_live e)
-takes_when phase (inr (inr (inr e))) = absurd e
+pub takes_when : (phase : Phase) → IsOneOf Takes phase → (takes_messages phase ≡ true) × (is_live phase ≡ true)
+takes_when phase one = (one_passes takes_messages Takes phase refl one, one_passes is_live Takes phase refl one)
 
-pub connected_is : (phase : Phase) → is_connected phase ≡ true → IsOneOf (Confirming ∷ Running ∷ []) phase
+pub connected_is : (phase : Phase) → is_connected phase ≡ true → IsOneOf Connected phase
 connected_is Confirming e = inl refl
 connected_is Running e = inr (inl refl)
-connected_is Calling e = absurd cc
-connected_is Called e = absurd cc
-connected_is Disconnecting e = absurd cc
-connected_is Ended e = absurd cc
+connected_is phase e = absurd cc
 
-pub connected_when : (phase : Phase) → IsOneOf (Confirming ∷ Running ∷ []) phase → (is_connected phase ≡ true) × (is_live phase ≡ true)
-connected_when phase (inl e) = (ap is_connected e, ap is_live e)
-connected_when phase (inr (inl e)) = (ap is_connected e, ap is_live e)
-connected_when phase (inr (inr e)) = absurd e
+pub connected_when : (phase : Phase) → IsOneOf Connected phase → (is_connected phase ≡ true) × (is_live phase ≡ true)
+connected_when phase one = (one_passes is_connected Connected phase refl one, one_passes is_live Connected phase refl one)
 
-abbrev pub Retries : Phase → Type 0
-Retries phase = IsOneOf (Calling ∷ Confirming ∷ Disconnecting ∷ Running ∷ []) phase
-
-pub retries_live : (phase : Phase) → Retries phase → is_live phase ≡ true
-retries_live phase (inl e) = ap is_live e
-retries_live phase (inr (inl e)) = ap is_live e
-retries_live phase (inr (inr (inl e))) = ap is_live e
-retries_live phase (inr (inr (inr (inl e)))) = ap is_live e
-retries_live phase (inr (inr (inr (inr e)))) = absurd e
+pub retries_live : (phase : Phase) → IsOneOf Retried phase → is_live phase ≡ true
+retries_live phase one = one_passes is_live Retried phase refl one
 
 -- whether it can be retried
 abbrev pub IsRetried : Phase → Option (LinkOwed → LinkOwed) → Type 0
-IsRetried phase None = ¬ (Retries phase)
-IsRetried phase (Some change) = Retries phase
+IsRetried phase None = ¬ (IsOneOf Retried phase)
+IsRetried phase (Some change) = IsOneOf Retried phase
+
+retries : (phase : Phase) → IsOneOf Retried phase → is_some (retried phase) ≡ true
+retries phase one = one_passes (λ (p : Phase). is_some (retried p)) Retried phase refl one
 
 pub retried_is : (phase : Phase) → IsRetried phase (retried phase)
 retried_is Calling = inl refl
 retried_is Confirming = inr (inl refl)
 retried_is Disconnecting = inr (inr (inl refl))
 retried_is Running = inr (inr (inr (inl refl)))
-retried_is Called = λ r. never r
-  where
-    never : Retries Called → ⊥
-    never (inl e) = cc
-    never (inr (inl e)) = cc
-    never (inr (inr (inl e))) = cc
-    never (inr (inr (inr (inl e)))) = cc
-    never (inr (inr (inr (inr e)))) = e
-retried_is Ended = λ r. never r
-  where
-    never : Retries Ended → ⊥
-    never (inl e) = cc
-    never (inr (inl e)) = cc
-    never (inr (inr (inl e))) = cc
-    never (inr (inr (inr (inl e)))) = cc
-    never (inr (inr (inr (inr e)))) = e
+retried_is Called = λ one. let e = retries Called one in cc
+retried_is Ended = λ one. let e = retries Ended one in cc
 
 pub called_is : (phase : Phase) → is_called phase ≡ true → phase ≡ Called
 called_is Called e = refl
-called_is Calling e = absurd cc
-called_is Confirming e = absurd cc
-called_is Running e = absurd cc
-called_is Disconnecting e = absurd cc
-called_is Ended e = absurd cc
+called_is phase e = absurd cc
+
+pub calling_is : (phase : Phase) → is_calling phase ≡ true → phase ≡ Calling
+calling_is Calling e = refl
+calling_is phase e = absurd cc

@@ -1,6 +1,6 @@
 -- What holds of the links of an end of the player is kept by each thing that happens: they fit, what they owe goes with them, each DC names a link
 -- that is over, and what they sent is of the player.
-use Rattle.std.proofs.Common.{◌≡◌, ℕ, ◌+◌, ◌≤◌, true, Some, List, [], ◌∷◌, length, drop, suc, Ok, refl, ap, ◌∙◌, subst, arith, ◌⊎◌, inl, inr}
+use Rattle.std.proofs.Common.{◌≡◌, ℕ, ◌+◌, ◌≤◌, true, Some, List, [], ◌∷◌, drop, suc, Ok, refl, ap, ◌∙◌, arith}
 use Rattle.std.specs.Prelude.{slice_get}
 use Rattle.dna_packet.specs.Nsp.{NspValue}
 use Rattle.dna_links.specs.Links.{LinkOf, LinkTruth}
@@ -14,7 +14,7 @@ use Rattle.dna_links.specs.Captures.{given_address}
 use Rattle.dna_play.specs.LinkOwed.{LinkOwed, LinksOwed, EndConfirm, Turn, LinkDebt, NoDebt, Owes, OwesConfirm, with_turn, with_debt, changed}
 use Rattle.dna_play.specs.LinkOwed.{all_still_owed}
 use Rattle.dna_play.specs.NextSent.{LinkChoice, Confirms, OfLink, without_turn, after_link_choice}
-use Rattle.two_nodes.proofs.NumberedSteps.{at_pushed}
+use Rattle.dna_links.proofs.Runs.Sides.{all_pushed}
 use Rattle.dna_play.proofs.Once.Orderly.{IsHigher, higher}
 use Rattle.dna_links.proofs.Tables.Outcomes.{UserDid, SentDid, ArrivedDid}
 use Rattle.dna_play.proofs.Once.Addresses.{LinkList, AreAddressed}
@@ -92,11 +92,11 @@ module _ (links : LinkList) (most : ℕ) (owed : LinksOwed) (h : LinkHolds links
     confirms = h.confirms;
   }
   debt_holds (OwesConfirm confirm) fits new =
-      record { fit = h.fit; owes = h.owes; confirms = λ i c at. go i c (at_pushed owed.confirms confirm c i at) }
-    where
-      go : (i : ℕ) (c : EndConfirm) → (slice_get owed.confirms i ≡ Some c) ⊎ ((i ≡ length owed.confirms) × (confirm ≡ c)) → ConfirmHolds links most c
-      go i c (inl at) = h.confirms i c at
-      go i c (inr e) = subst (ConfirmHolds links most) e.1 (new confirm refl)
+      record {
+        fit = h.fit;
+        owes = h.owes;
+        confirms = all_pushed (λ i c. ConfirmHolds links most c) owed.confirms confirm (new confirm refl) h.confirms;
+      }
 
   -- of a link, what is retried or sent
   pub change_holds : (number : ℕ) (change : LinkOwed → LinkOwed) →

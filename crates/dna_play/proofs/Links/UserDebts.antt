@@ -12,7 +12,7 @@ use Rattle.dna_links.specs.TrueLinks.{Links}
 use Rattle.dna_play.specs.LinkOwed.{Turn, Owes, InitiateTurn, ConfirmTurn, DisconnectTurn}
 use Rattle.dna_links.proofs.Tables.Outcomes.{IsFound, UserDid, Opens, Accepts, Rejects, Closes}
 use Rattle.dna_play.proofs.Once.Addresses.{LinkList, AreAddressed, freed_same}
-use Rattle.dna_play.proofs.Links.Owing.{phase_of}
+use Rattle.dna_play.proofs.Links.Pays.{phase_of}
 use Rattle.dna_play.proofs.Links.Debts.{InPhase, DebtFits, when_set, when_pushed}
 
 -- one look-up finds one link

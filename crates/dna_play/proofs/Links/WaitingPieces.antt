@@ -18,6 +18,7 @@ use Rattle.dna_links.specs.TrueFlow.{TrueFlow, Numbers, true_flows}
 use Rattle.dna_links.specs.TrueFlow as flow
 use Rattle.dna_links.specs.TrueLinks.{Links}
 use Rattle.dna_links.specs.Captures.{delivery_count}
+use Rattle.dna_play.proofs.Ends.UpsFollow.{drop_more}
 use Rattle.dna_play.proofs.Links.FlowDid.{SegmentDid, GivesIt, GivesAgain, segment_did, acks_did}
 use Rattle.dna_links.proofs.Runs.Pieces.{delivered_is}
 use Rattle.dna_links.proofs.Runs.Sides.{set_same, set_other}
@@ -59,12 +60,6 @@ message_fills [] w e = absurd cc
 message_fills (None ∷ later) w e = absurd cc
 message_fills (Some p ∷ later) w e = go p.ends (next_message later) refl (message_fills later) e
   where
-    one_less : (n : ℕ) → drop (n + 1) (Some p ∷ later) ≡ drop n later
-    one_less n = ap (λ (k : ℕ). drop k (Some p ∷ later)) (more n)
-      where
-        more : (n : ℕ) → n + 1 ≡ suc n
-        more n = omega arith
-
     go : (b : Bool) (o : Option Whole) → next_message later ≡ o →
         ((w : Whole) → next_message later ≡ Some w → filled (drop w.pieces later) + 1 ≤ filled later) →
         cond b (Some (record { pieces = 1; message = p.body })) (with_piece p o) ≡ Some w →
@@ -77,7 +72,7 @@ message_fills (Some p ∷ later) w e = go p.ends (next_message later) refl (mess
         let many : v.pieces + 1 ≡ w.pieces = ap (λ (x : Whole). x.pieces)
         (same_Some (record { pieces = v.pieces + 1; message = p.body ++ v.message }) w e) in
         let f = fills v is in
-        let less : filled (drop (v.pieces + 1) (Some p ∷ later)) ≡ filled (drop v.pieces later) = ap filled (one_less v.pieces) in
+        let less : filled (drop (v.pieces + 1) (Some p ∷ later)) ≡ filled (drop v.pieces later) = ap filled (drop_more v.pieces (Some p) later) in
         subst (λ (n : ℕ). filled (drop n (Some p ∷ later)) + 1 ≤ filled (Some p ∷ later)) many (omega arith)
 
 -- how many wait at a link

@@ -19,7 +19,7 @@ use Rattle.dna_links.specs.TrueLinks.{Links, links_arrived}
 use Rattle.dna_links.specs.Captures.{given_address}
 use Rattle.dna_links.specs.Runs.{SentMessage, LinkSide, LinkWorld, LinkStep, ByUser, Sends, SendsNone, Keeps, KeepsNone, Reached, Start, ByA, ByB}
 use Rattle.dna_links.specs.Runs.{sends, keeps, new_world}
-use Rattle.dna_play.proofs.Once.Orderly.{higher, highest, AddressesRise}
+use Rattle.dna_play.proofs.Once.Orderly.{higher, highest, AddressesRise, highest-join}
 use Rattle.two_nodes.proofs.NumberedSteps.{at_pushed}
 use Rattle.dna_links.proofs.Runs.Reads.{at_is}
 use Rattle.dna_links.proofs.Tables.Outcomes.{IsFound, looked, checked, user_did, sent_did}
@@ -100,10 +100,6 @@ pub rise_parts : (most : ℕ) (first later : List LinkEventValue) → AddressesR
 rise_parts most [] later r = (tt, r)
 rise_parts most (event ∷ first) later r = let p = rise_parts (higher most (given_address event)) first later r.1 in ((r.0, p.0), p.1)
 
-highest-append : (most : ℕ) (first later : List LinkEventValue) → highest most (first ++ later) ≡ highest (highest most first) later
-highest-append most [] later = refl
-highest-append most (event ∷ first) later = highest-append (higher most (given_address event)) first later
-
 pub record BothAddressed (w : LinkWorld) (events_a events_b : List LinkEventValue) : Type 0 where
   pub of_a : IsAddressedSide w.a w.b (highest 0 events_a)
   pub of_b : IsAddressedSide w.b w.a (highest 0 events_b)
@@ -118,12 +114,12 @@ reached_addressed node_a peer_a node_b peer_b (ByA {w} {of_a} {of_b} {events} {l
     let p = rise_parts 0 of_a events rise_a in
     let now = reached_addressed node_a peer_a node_b peer_b r p.0 rise_b in
     let s = step_left w.a w.b (highest 0 of_a) (highest 0 of_b) now.of_a now.of_b left events p.1 step in
-    record { of_a = subst (IsAddressedSide left w.b) (sym (highest-append 0 of_a events)) s.of_left; of_b = s.of_other }
+    record { of_a = subst (IsAddressedSide left w.b) (sym (highest-join 0 of_a events)) s.of_left; of_b = s.of_other }
 reached_addressed node_a peer_a node_b peer_b (ByB {w} {of_a} {of_b} {events} {left} r step) rise_a rise_b =
     let p = rise_parts 0 of_b events rise_b in
     let now = reached_addressed node_a peer_a node_b peer_b r rise_a p.0 in
     let s = step_left w.b w.a (highest 0 of_b) (highest 0 of_a) now.of_b now.of_a left events p.1 step in
-    record { of_a = s.of_other; of_b = subst (IsAddressedSide left w.a) (sym (highest-append 0 of_b events)) s.of_left }
+    record { of_a = s.of_other; of_b = subst (IsAddressedSide left w.a) (sym (highest-join 0 of_b events)) s.of_left }
 
 -- ---- the rule on partners asks nothing
 

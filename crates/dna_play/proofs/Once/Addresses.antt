@@ -19,7 +19,7 @@ use Rattle.dna_play.proofs.Once.Orderly.{IsHigher, higher}
 use Rattle.two_nodes.proofs.NumberedSteps.{at_pushed}
 use Rattle.dna_links.proofs.Runs.Reads.{at_is}
 use Rattle.dna_links.proofs.Tables.Outcomes.{looked, UserDid, Opens, Accepts, Rejects, HandsIn, Delivers, Closes}
-use Rattle.dna_links.proofs.Runs.Sides.{set_same, set_other, at_set}
+use Rattle.dna_links.proofs.Runs.Sides.{set_same, set_other, at_set, all_set, all_pushed}
 
 abbrev pub LinkList : Type 0
 LinkList = List (LinkOf TrueFlow)
@@ -121,17 +121,9 @@ module _ (links : LinkList) (n : ℕ) (l k : LinkOf TrueFlow) (there : slice_get
     distinct = λ i j a x y. h.distinct i j a (set_back same i a x) (set_back same j a y);
     highest = λ i a x. h.highest i a (set_back same i a x);
     least = λ i a x. h.least i a (set_back same i a x);
-    far = λ i m at. at_far i m (at_set links n i k m at);
-    named = λ i m at. at_named i m (at_set links n i k m at);
+    far = all_set (λ i m. HasFar others m) links n k far h.far;
+    named = all_set (λ i m. IsNamed m) links n k named h.named;
   }
-    where
-      at_far : (i : ℕ) (m : LinkOf TrueFlow) → ((i ≡ n) × (k ≡ m)) ⊎ ((i ≡ n → ⊥) × (slice_get links i ≡ Some m)) → HasFar others m
-      at_far i m (inl e) = subst (HasFar others) e.1 far
-      at_far i m (inr e) = h.far i m e.1
-
-      at_named : (i : ℕ) (m : LinkOf TrueFlow) → ((i ≡ n) × (k ≡ m)) ⊎ ((i ≡ n → ⊥) × (slice_get links i ≡ Some m)) → IsNamed m
-      at_named i m (inl e) = subst IsNamed e.1 named
-      at_named i m (inr e) = h.named i m e.1
 
   -- one that keeps its port's addresses
   pub kept_addressed : (others : LinkList) (most : ℕ) → PortKept l k → AreAddressed links others most → AreAddressed (slice_set links n k) others most
@@ -182,14 +174,6 @@ module _ (links : LinkList) (k : LinkOf TrueFlow) where
   pub push_keeps : KeepsAddresses links (links ++ k ∷ [])
   push_keeps i a o = record { link = o.link; there = slice_get-append links (k ∷ []) i o.link o.there; owns = o.owns }
 
-  push_each : (P : LinkOf TrueFlow → Type 0) → ((i : ℕ) (l : LinkOf TrueFlow) → slice_get links i ≡ Some l → P l) → P k →
-      (i : ℕ) (l : LinkOf TrueFlow) → slice_get (links ++ k ∷ []) i ≡ Some l → P l
-  push_each P all this i l at = go (at_pushed links k l i at)
-    where
-      go : (slice_get links i ≡ Some l) ⊎ ((i ≡ length links) × (k ≡ l)) → P l
-      go (inl a) = all i l a
-      go (inr e) = subst P e.1 this
-
   -- a link without an address
   pub push_unnamed : (others : LinkList) (most : ℕ) → k.port.own ≡ None → HasFar others k → AreAddressed links others most →
       AreAddressed (links ++ k ∷ []) others most
@@ -197,8 +181,8 @@ module _ (links : LinkList) (k : LinkOf TrueFlow) where
     distinct = λ i j a x y. h.distinct i j a (old i a (push_back i a x)) (old j a (push_back j a y));
     highest = λ i a x. h.highest i a (old i a (push_back i a x));
     least = λ i a x. h.least i a (old i a (push_back i a x));
-    far = push_each (HasFar others) h.far far;
-    named = push_each IsNamed h.named (λ c. none);
+    far = all_pushed (λ i l. HasFar others l) links k far h.far;
+    named = all_pushed (λ i l. IsNamed l) links k (λ c. none) h.named;
   }
     where
       old : (i a : ℕ) → OwnsIn links i a ⊎ ((i ≡ length links) × (k.port.own ≡ Some a)) → OwnsIn links i a
@@ -210,7 +194,7 @@ module _ (links : LinkList) (k : LinkOf TrueFlow) where
       AreAddressed links others most → AreAddressed (links ++ k ∷ []) others address
   push_named others most address less own far named h =
       fresh_addressed links (links ++ k ∷ []) others most (length links) address less (λ i a x. old i a (push_back i a x))
-      (push_each (λ (l : LinkOf TrueFlow). HasFar others l × IsNamed l) (λ i l at. (h.far i l at, h.named i l at)) (far, named)) h
+      (all_pushed (λ i l. HasFar others l × IsNamed l) links k (far, named) (λ i l at. (h.far i l at, h.named i l at))) h
     where
       old : (i a : ℕ) → OwnsIn links i a ⊎ ((i ≡ length links) × (k.port.own ≡ Some a)) → OwnsIn links i a ⊎ ((i ≡ length links) × (a ≡ address))
       old i a (inl x) = inl x
@@ -222,16 +206,12 @@ module _ (links : LinkList) (n : ℕ) (l k : LinkOf TrueFlow) (there : slice_get
       AreAddressed links others most → AreAddressed (slice_set links n k) others address
   answer_addressed others most address less own far named h =
       fresh_addressed links (slice_set links n k) others most n address less (λ i a x. back i a x (at_set links n i k x.link x.there))
-      (λ i m at. each i m (at_set links n i k m at)) h
+      (all_set (λ i m. HasFar others m × IsNamed m) links n k (far, named) (λ i m at. (h.far i m at, h.named i m at))) h
     where
       back : (i a : ℕ) (x : OwnsIn (slice_set links n k) i a) → ((i ≡ n) × (k ≡ x.link)) ⊎ ((i ≡ n → ⊥) × (slice_get links i ≡ Some x.link)) →
           OwnsIn links i a ⊎ ((i ≡ n) × (a ≡ address))
       back i a x (inl e) = inr (e.0, same_Some a address (sym x.owns ∙ sym (ap (λ (y : LinkOf TrueFlow). y.port.own) e.1) ∙ own))
       back i a x (inr e) = inl (record { link = x.link; there = e.1; owns = x.owns })
-
-      each : (i : ℕ) (m : LinkOf TrueFlow) → ((i ≡ n) × (k ≡ m)) ⊎ ((i ≡ n → ⊥) × (slice_get links i ≡ Some m)) → HasFar others m × IsNamed m
-      each i m (inl e) = (subst (HasFar others) e.1 far, subst IsNamed e.1 named)
-      each i m (inr e) = (h.far i m e.1, h.named i m e.1)
 
   pub answer_keeps : KeepsAddresses links (slice_set links n k)
   answer_keeps i a o =
@@ -268,7 +248,7 @@ module _ (s : Links) (others : LinkList) (most : ℕ) (h : AreAddressed s.links 
         keeps = answer_keeps s.links number link (answered true_flows phase address link) there none;
       })
 
-  one_kept : (number : ℕ) (link left : LinkOf TrueFlow) → slice_get s.links number ≡ Some link → PortKept link left →
+  pub one_kept : (number : ℕ) (link left : LinkOf TrueFlow) → slice_get s.links number ≡ Some link → PortKept link left →
       Leaves (changed number left s) most
   one_kept number link left there p =
       record { addressed = kept_addressed s.links number link left there others most p h; keeps = kept_keeps s.links number link left there p.own }

@@ -34,7 +34,7 @@ use Rattle.dna_links.specs.TrueLinks.{Links, links_arrived}
 use Rattle.dna_links.specs.Runs.{SentMessage}
 use Rattle.dna_node.specs.Layers.{Layers, LayersNode, LayersUnit, with_links, keeps, meets_on, layers_machine, stations, unit_of_station}
 use Rattle.dna_node.specs.LayersPair.{layers_pair, layers_start, link_event_in, link_events, side_of}
-use Rattle.dna_play.proofs.Once.Orderly.{AddressesRise, starts, IsOrderly}
+use Rattle.dna_play.proofs.Once.Orderly.{AddressesRise, IsOrderly, starts-join}
 use Rattle.dna_play.specs.PlayRun.{player_pair}
 use Rattle.dna_station.proofs.Bounds.Numbers.{is_data}
 use Rattle.dna_node.proofs.OnTop.{of_stations, lifted}
@@ -184,9 +184,9 @@ module _ (own other : Half LayersNode LayersUnit) where
 
 -- ---- a run
 
-pub record HoldsAt (head_a head_b : Head) (w : World LayersNode LayersUnit) (made_a made_b : List Record) : Type 0 where
-  pub joined : LayersJoined head_a head_b w made_a made_b
-  pub begun : BothBegun (cut_world stations w) made_a made_b
+record HoldsAt (head_a head_b : Head) (w : World LayersNode LayersUnit) (made_a made_b : List Record) : Type 0 where
+  joined : LayersJoined head_a head_b w made_a made_b
+  begun : BothBegun (cut_world stations w) made_a made_b
 
 module _ (head_a head_b : Head) where
   start_begun : BothBegun (cut_world stations (layers_start head_a head_b)) [] []
@@ -197,7 +197,7 @@ module _ (head_a head_b : Head) where
     count_b = refl;
   }
 
-  pub holds_at : (w : World LayersNode LayersUnit) (made_a made_b : List Record) → Run layers_pair (layers_start head_a head_b) made_a made_b w →
+  holds_at : (w : World LayersNode LayersUnit) (made_a made_b : List Record) → Run layers_pair (layers_start head_a head_b) made_a made_b w →
       HoldsAt head_a head_b w made_a made_b
   holds_at w made_a made_b run = record {
     joined = lasts layers_pair (LayersJoined head_a head_b) (joined_kept head_a head_b) [] [] (start_joined head_a head_b) run;
@@ -232,13 +232,9 @@ module _ (head_a head_b : Head) (w : World LayersNode LayersUnit) (made_a made_b
   ready_b = ready_a head_b head_a (exchanged_world w) made_b made_a (exchange layers_pair run) orderly_b orderly_a
 
 -- a beginning of what is orderly
-starts-both : (made later : List Record) → starts (made ++ later) ≡ starts made + starts later
-starts-both [] later = omega arith
-starts-both (r ∷ made) later = let e = starts-both made later in omega arith
-
 orderly_first : (made later : List Record) → IsOrderly (made ++ later) → IsOrderly made
 orderly_first made later o =
-    let e = starts-both made later in let f = o.few in
+    let e = starts-join made later in let f = o.few in
     record {
       few = omega arith;
       rise = (rise_parts 0 (link_events made) (link_events later) (subst (AddressesRise 0) (flat_map-append link_event_in made later) o.rise)).0;

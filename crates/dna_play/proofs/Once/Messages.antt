@@ -19,8 +19,8 @@ use Rattle.dna_links.specs.TrueFlow.{TrueFlow, Numbers, true_flows}
 use Rattle.dna_links.specs.TrueLinks.{Links}
 use Rattle.dna_links.proofs.Runs.Reads.{at_is}
 use Rattle.dna_links.proofs.Tables.Outcomes.{looked, checked, SentDid, OfNone, Stays, EndsCalled, Segment, Acks}
-use Rattle.dna_play.proofs.Once.Addresses.{LinkList, Owner, owner_kept, KeepsAddresses, AreAddressed, PortKept, kept_addressed, kept_keeps}
-use Rattle.dna_play.proofs.Once.Addresses.{set_addressed, push_unnamed, push_keeps, LeavesAddressed}
+use Rattle.dna_play.proofs.Once.Addresses.{LinkList, Owner, owner_kept, KeepsAddresses, AreAddressed, kept_keeps}
+use Rattle.dna_play.proofs.Once.Addresses.{set_addressed, push_unnamed, push_keeps, LeavesAddressed, one_kept}
 
 -- the address of the sender's link in a message, and that of the link it is for; a DC names a link that is over
 abbrev pub source : NspValue → Option ℕ
@@ -84,6 +84,9 @@ module _ (s : Links) (others : LinkList) (most : ℕ) (h : AreAddressed s.links 
       (and_parts (is_live link.port.phase) (has_both link.port src dst) passed).1 in
       (src, at_is link.port.own src both.0, is, λ a e. at_is link.port.far dst both.1 ∙ sym for ∙ e)
 
+  same_sent : (x y : Sent TrueFlow Numbers) → ◌≡◌ {A = Result (Sent TrueFlow Numbers) LinkRefusal} (Ok x) (Ok y) → x ≡ y
+  same_sent x y e = cc
+
   in_phase_from : (m : NspValue) (test : LinkTest) (is_right : Phase → Bool) (made : Sent TrueFlow Numbers) →
       ((link : LinkOf TrueFlow) → passes test link.port ≡ true → OfThis m link) → in_its_phase true_flows test is_right s ≡ Ok made → SentFrom m made
   in_phase_from m test is_right made tells e =
@@ -92,9 +95,6 @@ module _ (s : Links) (others : LinkList) (most : ℕ) (h : AreAddressed s.links 
       (λ number link found e.
       let c = checked _ _ _ made e in let t = tells link found.passed in
       subst (SentFrom m) (same_sent (unchanged true_flows s number link) made c.1) (of_link m number link t.0 found.there t.1 t.2 t.3))
-    where
-      same_sent : (x y : Sent TrueFlow Numbers) → ◌≡◌ {A = Result (Sent TrueFlow Numbers) LinkRefusal} (Ok x) (Ok y) → x ≡ y
-      same_sent x y e = cc
 
   run_from : (m : NspValue) (src dst : ℕ) (sends : LinkOf TrueFlow → Result (Sending TrueFlow Numbers) LinkRefusal) (made : Sent TrueFlow Numbers) →
       source m ≡ Some src → target m ≡ Some dst → in_run true_flows src dst sends s ≡ Ok made → SentFrom m made
@@ -112,9 +112,6 @@ module _ (s : Links) (others : LinkList) (most : ℕ) (h : AreAddressed s.links 
       carried number link (Ok sent) a e =
           subst (SentFrom m) (same_sent (record
           { links = changed number (with_flow sent.flow link) s; truth = truth_of true_flows number link sent.known }) made e) a
-        where
-          same_sent : (x y : Sent TrueFlow Numbers) → ◌≡◌ {A = Result (Sent TrueFlow Numbers) LinkRefusal} (Ok x) (Ok y) → x ≡ y
-          same_sent x y e = cc
 
   pub sent_from : (m : NspValue) (made : Sent TrueFlow Numbers) → message_sent true_flows s m ≡ Ok made → SentFrom m made
   sent_from (ConnectInitiate retransmitted src services info segsize user_data) made e =
@@ -152,18 +149,14 @@ module _ (s : Links) (others : LinkList) (most : ℕ) (h : AreAddressed s.links 
   same_links : Stays' s
   same_links = record { addressed = h; keeps = λ i a o. o }
 
-  one_kept : (number : ℕ) (link left : LinkOf TrueFlow) → slice_get s.links number ≡ Some link → PortKept link left → Stays' (changed number left s)
-  one_kept number link left there p =
-      record { addressed = kept_addressed s.links number link left there others most p h; keeps = kept_keeps s.links number link left there p.own }
-
   with_flow_kept : (number : ℕ) (link : LinkOf TrueFlow) (f : TrueFlow) → slice_get s.links number ≡ Some link →
       Stays' (changed number (with_flow f link) s)
   with_flow_kept number link f there =
-      one_kept number link (with_flow f link) there (record { own = refl; far = refl; partner = refl; called = λ c. c })
+      one_kept s others most h number link (with_flow f link) there (record { own = refl; far = refl; partner = refl; called = λ c. c })
 
   ended_kept : (number : ℕ) (link : LinkOf TrueFlow) → slice_get s.links number ≡ Some link → Stays' (changed number (ended true_flows link) s)
   ended_kept number link there =
-      one_kept number link (ended true_flows link) there (record { own = refl; far = refl; partner = refl; called = λ c. absurd cc })
+      one_kept s others most h number link (ended true_flows link) there (record { own = refl; far = refl; partner = refl; called = λ c. absurd cc })
 
   pub sent_stays : (m : NspValue) (made : Sent TrueFlow Numbers) → SentDid true_flows s m made → Stays' made.links
   sent_stays m made (OfNone none) = same_links
@@ -222,7 +215,7 @@ module _ (s : Links) (others : LinkList) (most : ℕ) (h : AreAddressed s.links 
         (λ number link. check (of_partner (is_of_pair number link.partner truth.tag)) CrossedLink
         (Ok (changed number (running true_flows of_partner takes link) s))) (Ok left) e (λ none e. came s left same_links e)
         (λ number link found e. let c = checked _ _ _ left e in
-        came _ left (one_kept number link (running true_flows of_partner takes link) found.there
+        came _ left (one_kept s others most h number link (running true_flows of_partner takes link) found.there
         (record { own = refl; far = refl; partner = refl; called = λ c. absurd cc })) c.1)
 
     pub came_stays : (m : NspValue) (left : Links) → ((a : ℕ) → source m ≡ Some a → Owner others truth.tag.link a) →

@@ -1,5 +1,6 @@
 -- Records of a side that starts at most once, and gives each of its link addresses higher than all before.
-use Rattle.std.specs.Prelude.{ℕ, ◌+◌, ◌<◌, ◌≤◌, if◌then◌else◌, Option, Some, None, List, [], ◌∷◌}
+use Rattle.std.proofs.Common.{refl, arith}
+use Rattle.std.specs.Prelude.{◌≡◌, ℕ, ◌+◌, ◌<◌, ◌≤◌, if◌then◌else◌, Option, Some, None, List, [], ◌∷◌, ◌++◌}
 use Rattle.capture.specs.declared.record.Record.{Record}
 use Rattle.capture.specs.declared.record.Record.TheVariants.{Sent, Received, Noise, User}
 use Rattle.dna_station.specs.Delivery.{begins}
@@ -20,6 +21,10 @@ abbrev pub highest : ℕ → List LinkEventValue → ℕ
 highest most [] = most
 highest most (event ∷ later) = highest (higher most (given_address event)) later
 
+pub highest-join : (most : ℕ) (first later : List LinkEventValue) → highest most (first ++ later) ≡ highest (highest most first) later
+highest-join most [] later = refl
+highest-join most (event ∷ first) later = highest-join (higher most (given_address event)) first later
+
 -- each address that these events give is higher than all before
 abbrev pub AddressesRise : ℕ → List LinkEventValue → Type 0
 AddressesRise most [] = Unit {0}
@@ -35,6 +40,10 @@ starts_in (Noise bytes) = 0
 abbrev pub starts : List Record → ℕ
 starts [] = 0
 starts (r ∷ later) = starts_in r + starts later
+
+pub starts-join : (first later : List Record) → starts (first ++ later) ≡ starts first + starts later
+starts-join [] later = omega arith
+starts-join (r ∷ first) later = let e = starts-join first later in omega arith
 
 -- the side starts at most once, and gives its link addresses in order
 pub record IsOrderly (records : List Record) : Type 0 where

@@ -1,6 +1,6 @@
 -- In every run the periods of a station, of its partner and of its units lie among those that were begun. So where each side starts at most
 -- once, every message that is acted on is of the one pair of periods, and the rule on periods asks nothing.
-use Rattle.std.proofs.Common.{◌≡◌, ℕ, ◌+◌, ◌≤◌, Bool, true, false, eqb, cond, ◌⊎◌, inl, inr, Option, Some, None, List, [], ◌∷◌, ◌++◌, length, fold}
+use Rattle.std.proofs.Common.{◌≡◌, ℕ, ◌+◌, ◌≤◌, Bool, true, false, eqb, cond, Option, Some, None, List, [], ◌∷◌, ◌++◌, fold}
 use Rattle.std.proofs.Common.{refl, sym, ap, ◌∙◌, subst, arith}
 use Rattle.std.specs.Prelude.{slice_get}
 use Rattle.ddcmp_msg.specs.Message.{MessageValue, Data, Ack, Nak, Rep, Strt, Stack}
@@ -25,11 +25,11 @@ use Rattle.dna_station.specs.StationBook.{passes, does, sending_refusal, after_s
 use Rattle.dna_station.specs.Line.{SentUnit}
 use Rattle.dna_station.specs.Node.{Node}
 use Rattle.dna_station.specs.Pair.{pair}
-use Rattle.dna_play.proofs.Once.Orderly.{starts_in, starts}
+use Rattle.dna_links.proofs.Runs.Sides.{all_pushed}
+use Rattle.dna_play.proofs.Once.Orderly.{starts_in, starts, starts-join}
 use Rattle.dna_station.proofs.Steps.Effects.{kept_by_all, Stays, does_stays, sending_stays, by_response, by_packet, by_rep}
 use Rattle.dna_station.proofs.Steps.Happens.{Happens, ComesOf, Itself, BadHeader, BadData, Nothing, UserEvent, Sending, Receipt, Counted, Unheard}
 use Rattle.dna_station.proofs.Steps.Happens.{happens, event_of}
-use Rattle.two_nodes.proofs.NumberedSteps.{at_pushed}
 use Rattle.dna_station.proofs.Bounds.Numbers.{unit_of}
 
 abbrev pub is_on : State → Bool
@@ -113,13 +113,9 @@ sending_begun s own periods bytes m allowed h =
     record {
       started = λ e. omega arith;
       partner = λ e. subst (λ (o : Option ℕ). IsBegun o periods) (sym stays.partner) (h.partner (ap goes_with (sym stays.state) ∙ e));
-      units = λ i u at. go this same i u (at_pushed own (unit_of s bytes m) u i at);
+      units = all_pushed (λ i u. UnitBegun (after_sending s m).period periods u) own (unit_of s bytes m) this
+          (λ i u at. subst (λ (p : ℕ). UnitBegun p periods u) (sym same) (h.units i u at));
     }
-  where
-    go : UnitBegun (after_sending s m).period periods (unit_of s bytes m) → (after_sending s m).period ≡ s.period → (i : ℕ) (u : SentUnit) →
-        (slice_get own i ≡ Some u) ⊎ ((i ≡ length own) × (unit_of s bytes m ≡ u)) → UnitBegun (after_sending s m).period periods u
-    go this same i u (inl at) = subst (λ (p : ℕ). UnitBegun p periods u) (sym same) (h.units i u at)
-    go this same i u (inr e) = subst (UnitBegun (after_sending s m).period periods) e.1 this
 
 -- ---- a receipt
 
@@ -260,10 +256,6 @@ module _ (own other : Half Node SentUnit) (mine : AreBegun own.state.station own
 
 -- ---- in every run
 
-pub starts-append : (made : List Record) (r : Record) → starts (made ++ r ∷ []) ≡ starts made + starts_in r
-starts-append [] r = omega arith
-starts-append (first ∷ made) r = let e = starts-append made r in omega arith
-
 pub record BothBegun (w : World Node SentUnit) (made_a made_b : List Record) : Type 0 where
   pub of_a : AreBegun w.a.state.station w.a.sent w.b.state.station.period
   pub of_b : AreBegun w.b.state.station w.b.sent w.a.state.station.period
@@ -277,7 +269,7 @@ begun_kept = record {
       record {
         of_a = l.of_own;
         of_b = l.of_other;
-        count_a = let e = l.period in let f = starts-append made_a r in let g = c.count_a in
+        count_a = let e = l.period in let f = starts-join made_a (r ∷ []) in let g = c.count_a in
             omega arith;
         count_b = c.count_b;
       };
@@ -287,7 +279,7 @@ begun_kept = record {
         of_a = l.of_other;
         of_b = l.of_own;
         count_a = c.count_a;
-        count_b = let e = l.period in let f = starts-append made_b r in
+        count_b = let e = l.period in let f = starts-join made_b (r ∷ []) in
             let g = c.count_b in omega arith;
       };
 }

@@ -1,16 +1,17 @@
 -- What is known of an end of the player beside the other while a script is played: of what may come to it, and of what its user may get then. It
 -- stays known while the end takes a unit and its user gets what is whole.
-use Rattle.std.proofs.Common.{◌≡◌, ℕ, ◌+◌, ◌<◌, ◌≤◌, ◌^◌, true, Option, Some, None, List, [], ◌++◌, Ok, sym, ap, ◌∙◌, arith}
+use Rattle.std.proofs.Common.{◌≡◌, ℕ, ◌+◌, ◌<◌, ◌≤◌, ◌^◌, true, Option, Some, None, List, [], ◌++◌, Ok, sym, ap, ◌∙◌, arith, subst}
 use Rattle.std.specs.Prelude.{slice_get}
 use Rattle.two_nodes.specs.Nodes.{Run}
+use Rattle.two_nodes.specs.Cutting.{cut_half}
 use Rattle.two_nodes.proofs.Lasting.{lasts}
-use Rattle.two_nodes.proofs.Order.{exchange}
 use Rattle.ddcmp_msg.specs.Reading.{reading}
 use Rattle.ddcmp_msg.specs.Reading as read_as
 use Rattle.dna_packet.specs.Nsp.{NspValue}
 use Rattle.capture.specs.declared.record.Record.{Record}
 use Rattle.capture.specs.Range.{IsNode}
 use Rattle.dna_node.specs.Rules.{judged}
+use Rattle.dna_station.specs.declared.head.Head.{Head}
 use Rattle.dna_station.specs.Book.{Sound, body_of}
 use Rattle.dna_station.specs.StationBook.{arrival_refusal}
 use Rattle.dna_links.specs.Arriving.{of_partner}
@@ -18,19 +19,22 @@ use Rattle.dna_links.specs.CutLinks.{ArrivesNear}
 use Rattle.dna_links.specs.Bounds.{AreLinksBounded}
 use Rattle.dna_links.specs.Runs.{SentMessage, LinkWorld}
 use Rattle.dna_node.specs.Content.{content}
-use Rattle.dna_node.specs.Layers.{LayersUnit}
+use Rattle.dna_node.specs.Layers.{LayersUnit, stations}
 use Rattle.dna_node.specs.LayersPair.{layers_pair, layers_start, side_of, link_events}
 use Rattle.dna_play.specs.Script.{Script}
 use Rattle.dna_play.specs.Player.{End, station_of, links_of}
 use Rattle.dna_play.specs.Played.{Played, head_a, head_b}
-use Rattle.dna_play.specs.PlayRun.{player_pair, ArePlayed, world_of}
+use Rattle.dna_play.specs.PlayRun.{ArePlayed, world_of}
 use Rattle.dna_station.proofs.Bounds.Numbers.{is_data}
+use Rattle.dna_station.proofs.Bounds.Runs.{sound_bounded}
 use Rattle.dna_node.proofs.LayersRead.{LayersRead, packet_in, read_kept, start_read}
 use Rattle.dna_links.proofs.Runs.Bounds.{BothOwned, sound, owned, bounded}
 use Rattle.dna_node.proofs.ReadInRange.{content_in_range}
 use Rattle.dna_node.proofs.CutLayersNode.{IsLayersBounded}
 use Rattle.dna_node.proofs.LayersBounds.{a_bounded}
 use Rattle.dna_links.proofs.Runs.Steps.{BothLinksSound}
+use Rattle.dna_play.proofs.Once.Addresses.{AreAddressed}
+use Rattle.dna_play.proofs.Once.AddressRuns.{BothAddressed, reached_addressed}
 use Rattle.dna_play.proofs.Once.Nodes.{BothFrom, reached_from}
 use Rattle.dna_play.proofs.Once.Units.{unit_reads, unit_content}
 use Rattle.dna_play.proofs.Played.HandedLined.{events_lined}
@@ -38,12 +42,12 @@ use Rattle.dna_play.proofs.Played.SidesLined.{is_lined}
 use Rattle.dna_play.proofs.Played.SentLined.{AreSentLined, sent_lined}
 use Rattle.dna_play.proofs.Played.Steps.{PlayHalf, MakesAll}
 use Rattle.dna_play.proofs.Played.Order.{InOrder, order_join}
-use Rattle.dna_play.proofs.Played.Runs.{more_of_a, exchanged_nodes}
-use Rattle.dna_play.proofs.Once.Checked.{is_checked_run}
+use Rattle.dna_play.proofs.Played.Runs.{more_of_a}
+use Rattle.dna_play.proofs.Once.Checked.{is_checked_run, ready_a}
 use Rattle.dna_play.proofs.Played.Checked.{AreInOrder, orderly}
-use Rattle.dna_play.proofs.Played.Known.{known_a, exchanged_ends}
+use Rattle.dna_play.proofs.Played.Known.{heads_stay, numbers_of}
 use Rattle.dna_play.proofs.Ends.Stage.{Known}
-use Rattle.dna_play.proofs.Ends.Receives.{IsLined}
+use Rattle.dna_play.proofs.Ends.UpsFollow.{IsLined}
 
 pub record Facts (own other : End) : Type 0 where
   pub known : Known own other
@@ -120,12 +124,32 @@ module _ (script : Script) where
     lines : AreSentLined played.a.half × AreSentLined played.b.half
     lines = sent_lined run g.made.lines_a g.made.lines_b (λ k unit at. absurd cc) (λ k unit at. absurd cc)
 
+    addresses : BothAddressed links_world (link_events played.of_a) (link_events played.of_b)
+    addresses = reached_addressed script.node_a script.node_b script.node_b script.node_a met.joined.joined.reached g.order.of_side_a.rise
+        g.order.of_side_b.rise
+
+    known_a : Known played.a played.b
+    known_a =
+        let order = met.joined.placed.order in
+        let head = (heads_stay run).0 in
+        record {
+          ready = ready_a (head_a script) (head_b script) (world_of played) played.of_a played.of_b run
+              (orderly played.of_a g.order.of_side_a g.few_a) (orderly played.of_b g.order.of_side_b g.few_b);
+          bounded = sound_bounded (cut_half stations played.a.half) (cut_half stations played.b.half) order.of_a.sound order.of_b.sound;
+          numbers = numbers_of links_world.a links_world.b bounds.0;
+          addressed = subst (AreAddressed (links_of played.a.half).links (links_of played.b.half).links) g.order.of_side_a.top addresses.of_a.links;
+          others = subst (AreAddressed (links_of played.b.half).links (links_of played.a.half).links) g.order.of_side_b.top addresses.of_b.links;
+          head_own = subst (λ (x : Head). x.own < 2 ^ 16) (sym head) (word _ node_a);
+          head_peer = subst (λ (x : Head). x.peer < 2 ^ 16) (sym head) (word _ node_b);
+          node = nodes.of_a.links.node_is ∙ ap (λ (x : Head). x.own) (sym head);
+          peer = nodes.of_a.links.peer_is ∙ ap (λ (x : Head). x.peer) (sym head);
+        }
+
     pub facts_a : Facts played.a played.b
     facts_a =
         let order = met.joined.placed.order in
         record {
-          known = known_a (head_a script) (head_b script) played run g.order.of_side_a g.order.of_side_b g.few_a g.few_b (word _ node_a)
-              (word _ node_b) (word _ node_b) (word _ node_a);
+          known = known_a;
           from = λ k u at. let f = nodes.of_b.from k u at in (f.0 ∙ sym nodes.of_a.links.peer_is, f.1 ∙ sym nodes.of_a.links.node_is);
           whole = is_lined links_world.a links_world.b (link_events played.of_a)
               (link_events played.of_b) all_sound.of_a all_sound.of_b all_owned.of_a all_owned.of_b
@@ -155,19 +179,3 @@ module _ (script : Script) where
           few_a = omega arith;
           few_b = g.few_b;
         })
-
--- ---- the other end, with the sides exchanged
-
-going_on : (script : Script) (played : Played) → Going script played → Going (exchanged_nodes script) (exchanged_ends played)
-going_on script played g = record {
-  made = record { run = exchange player_pair g.made.run; lines_a = g.made.lines_b; lines_b = g.made.lines_a };
-  count_a = g.count_b;
-  count_b = g.count_a;
-  order = record { of_side_a = g.order.of_side_b; of_side_b = g.order.of_side_a };
-  few_a = g.few_b;
-  few_b = g.few_a;
-}
-
-module _ (script : Script) (node_a : IsNode script.node_a) (node_b : IsNode script.node_b) (played : Played) (g : Going script played) where
-  pub later_b : Later played.b played.a
-  later_b = later_a (exchanged_nodes script) node_b node_a (exchanged_ends played) (going_on script played g)

@@ -9,7 +9,8 @@ use Rattle.dna_play.specs.Stepped.{Stop, Stepped}
 use Rattle.dna_play.specs.Play.{plays}
 use Rattle.dna_play.proofs.Played.Steps.{PlayHalf}
 use Rattle.dna_play.proofs.Played.WaitingRecords.{waiting_at, delivery_waits, record_waits}
-use Rattle.dna_play.proofs.Played.Walk.{Comes, Silent, Makes, Delivers, AllOf, each, off_line, plays_comes}
+use Rattle.dna_play.proofs.Played.Cases.{AllOf, each}
+use Rattle.dna_play.proofs.Played.Walk.{Comes, Silent, Makes, Delivers, off_line, plays_comes}
 
 -- the records that a step makes, with the pieces that wait behind it, are at most so many
 abbrev pub Few : (most : ℕ) → Result Stepped Stop → Type 0

@@ -11,6 +11,7 @@ use Rattle.capture.specs.declared.event.Event.TheVariants as events
 use Rattle.capture.specs.declared.limit.TheConstants.{MAX_MESSAGE}
 use Rattle.capture.specs.declared.record.Record.{Record}
 use Rattle.capture.specs.declared.record.Record.TheVariants.{Sent, Received, Noise, User}
+use Rattle.capture.proofs.SoFarLaws.{All-behind}
 use Rattle.capture.specs.Range.{IsLink, IsRecord}
 use Rattle.two_nodes.specs.Beginning.{BeginsWith}
 use Rattle.dna_links.specs.Pieces.{Piece}
@@ -45,11 +46,6 @@ all_of_both P (x ∷ xs) ys h later = (h.0, all_of_both P xs ys h.1 later)
 all_of_first : {X : Type 0} (P : X → Type 0) (xs ys : List X) → AllByRecursion P (xs ++ ys) → AllByRecursion P xs
 all_of_first P [] ys h = tt
 all_of_first P (x ∷ xs) ys h = (h.0, all_of_first P xs ys h.1)
-
--- those behind the first list
-all_of_rest : {X : Type 0} (P : X → Type 0) (xs ys : List X) → AllByRecursion P (xs ++ ys) → AllByRecursion P ys
-all_of_rest P [] ys h = h
-all_of_rest P (x ∷ xs) ys h = all_of_rest P xs ys h.1
 
 one_of_all : {X : Type 0} (P : X → Type 0) (xs : List X) (i : ℕ) (x : X) → slice_get xs i ≡ Some x → AllByRecursion P xs → P x
 one_of_all P [] i x at h = absurd cc
@@ -170,7 +166,7 @@ whole_lined f (Some partner) others p held all =
     let theirs = all partner held.0 held.1 in
     let messages = complete [] (drop f.passed f.received) in
     let b = whole_begins messages f (held.0).flow p theirs.0 held.2 refl in
-    all_of_rest IsMessage f.delivered messages (all_of_first IsMessage (f.delivered ++ messages) b.rest (subst AreMessages b.whole theirs.1))
+    All-behind IsMessage f.delivered messages (all_of_first IsMessage (f.delivered ++ messages) b.rest (subst AreMessages b.whole theirs.1))
 
 -- ---- the deliveries
 

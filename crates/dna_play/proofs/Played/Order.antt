@@ -17,7 +17,7 @@ use Rattle.dna_play.specs.Player.{End}
 use Rattle.dna_play.specs.Stepped.{Stepped}
 use Rattle.dna_play.specs.Receipt.{complete, delivered_by, delivered_now}
 use Rattle.dna_links.proofs.Tables.Outcomes.{looked}
-use Rattle.dna_play.proofs.Once.Orderly.{higher, highest, AddressesRise, starts}
+use Rattle.dna_play.proofs.Once.Orderly.{higher, highest, highest-join, AddressesRise, starts, starts-join}
 
 -- these records start so often, and give their addresses in order, from this one on to that one
 pub record InOrder (least count : ℕ) (records : List Record) (most : ℕ) : Type 0 where
@@ -31,14 +31,6 @@ rise_join : (least : ℕ) (first later : List LinkEventValue) → AddressesRise 
     AddressesRise least (first ++ later)
 rise_join least [] later x y = y
 rise_join least (event ∷ first) later x y = (x.0, rise_join (higher least (given_address event)) first later x.1 y)
-
-highest-join : (least : ℕ) (first later : List LinkEventValue) → highest least (first ++ later) ≡ highest (highest least first) later
-highest-join least [] later = refl
-highest-join least (event ∷ first) later = highest-join (higher least (given_address event)) first later
-
-starts-join : (first later : List Record) → starts (first ++ later) ≡ starts first + starts later
-starts-join [] later = omega arith
-starts-join (r ∷ first) later = let e = starts-join first later in omega arith
 
 pub order_join : (least between most count more : ℕ) (first later : List Record) → InOrder least count first between →
     InOrder between more later most → InOrder least (count + more) (first ++ later) most

@@ -1,5 +1,5 @@
 -- What a node has sent by records that have lines can stand in a line: each unit on the line has no more bytes than one may hold.
-use Rattle.std.proofs.Common.{◌≡◌, ℕ, Some, List, [], ◌∷◌, ◌++◌, length, subst, ◌⊎◌, inl, inr}
+use Rattle.std.proofs.Common.{◌≡◌, ℕ, Some, List, [], ◌∷◌, ◌++◌}
 use Rattle.std.specs.Prelude.{slice_get}
 use Rattle.std.specs.List.{AllByRecursion}
 use Rattle.two_nodes.specs.Nodes.{World, Run, Done, OfA, OfB}
@@ -10,8 +10,8 @@ use Rattle.capture.specs.Range.{IsRecord}
 use Rattle.dna_node.specs.Rules.{judged}
 use Rattle.dna_node.specs.Layers.{LayersTruth, LayersNode, LayersUnit, first_sent, sends_again}
 use Rattle.dna_node.specs.LayersPair.{layers_pair}
-use Rattle.two_nodes.proofs.NumberedSteps.{at_pushed}
 use Rattle.dna_node.proofs.OnTop.{sent_by, OnTop, ByStation, ByLinks, Again, First, Receipt, Counted, Unheard, follows}
+use Rattle.dna_links.proofs.Runs.Sides.{all_pushed}
 use Rattle.dna_play.proofs.Played.Steps.{PlayHalf}
 
 -- each unit that was sent has a line
@@ -26,12 +26,8 @@ one_more_lined : (sent : List LayersUnit) (bytes : List ℕ) (m : MessageValue) 
       message = m;
       known = known;
     } ∷ []) k ≡ Some unit → IsRecord (Sent unit.bytes)
-one_more_lined sent bytes m known all line k unit at = go (at_pushed sent (record { bytes = bytes; message = m; known = known }) unit k at)
-  where
-    go : (slice_get sent k ≡ Some unit) ⊎ ((k ≡ length sent) × (record { bytes = bytes; message = m; known = known } ≡ unit)) →
-        IsRecord (Sent unit.bytes)
-    go (inl there) = all k unit there
-    go (inr e) = subst (λ (x : LayersUnit). IsRecord (Sent x.bytes)) e.1 line
+one_more_lined sent bytes m known all line =
+    all_pushed (λ k unit. IsRecord (Sent unit.bytes)) sent (record { bytes = bytes; message = m; known = known }) line all
 
 lined_left : (own other h : PlayHalf) (r : Record) → OnTop judged own other r h → IsRecord r → AreSentLined own → AreSentLined h
 lined_left own other h r (ByStation event) line all = all

@@ -10,7 +10,8 @@ use Rattle.dna_play.specs.Play.{plays}
 use Rattle.dna_play.specs.KeptPlayed.{is_of_line}
 use Rattle.dna_play.proofs.Played.Order.{InOrder, nothing_in_order, up_more}
 use Rattle.dna_play.proofs.Played.Steps.{PlayHalf, MakesAll, Nothing, First, one_more}
-use Rattle.dna_play.proofs.Played.Walk.{Comes, Silent, Makes, Delivers, AllOf, each, off_line, plays_comes}
+use Rattle.dna_play.proofs.Played.Cases.{AllOf, each}
+use Rattle.dna_play.proofs.Played.Walk.{Comes, Silent, Makes, Delivers, off_line, plays_comes}
 
 abbrev pub Good : (own other : PlayHalf) → Result Stepped Stop → Type 0
 Good own other = AllOf (λ stepped. MakesAll other own stepped.records stepped.end.half)

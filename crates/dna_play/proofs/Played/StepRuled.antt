@@ -1,11 +1,11 @@
 -- A step of a script is bad only where its rule says so, and full only where the addresses of its end are used up.
-use Rattle.std.proofs.Common.{◌≡◌, ℕ, ◌+◌, ◌<◌, ◌≤◌, Bool, true, false, ◌&&◌, cond, nat_lt, ltb-true, ltb-false, lt-ltb, le-leb, leb-true, Option}
-use Rattle.std.proofs.Common.{Some, None, List, [], ◌∷◌, length, Result, Ok, Err, refl, sym, ap, ap₂, ◌∙◌, subst, arith}
+use Rattle.std.proofs.Common.{◌≡◌, ℕ, ◌+◌, ◌<◌, ◌≤◌, Bool, true, false, ◌&&◌, nat_lt, ltb-true, lt-ltb, le-leb, leb-true, Option}
+use Rattle.std.proofs.Common.{Some, None, List, length, Result, Ok, refl, sym, ap, ap₂, ◌∙◌, subst, arith}
 use Rattle.std.specs.Prelude.{slice_get, slice_index, nat_le}
 use Rattle.ddcmp_msg.specs.Reading.{reading}
 use Rattle.std.proofs.lemmas.Bool.{and_parts}
 use Rattle.std.proofs.lemmas.Option.{same_Some}
-use Rattle.capture.specs.declared.limit.TheConstants.{MAX_HINT, MAX_LINK}
+use Rattle.capture.specs.declared.limit.TheConstants.{MAX_LINK}
 use Rattle.capture.specs.declared.event.Event.{Event}
 use Rattle.capture.specs.declared.event.Event.TheVariants as events
 use Rattle.capture.specs.declared.record.Record.{Record}
@@ -16,11 +16,10 @@ use Rattle.dna_station.specs.declared.state.State.{State}
 use Rattle.dna_station.specs.declared.state.State.TheVariants.{Halted, Istrt, Astrt}
 use Rattle.dna_station.specs.declared.state.State.TheVariants as states
 use Rattle.dna_links.specs.declared.port.Phase.{Phase}
-use Rattle.dna_links.specs.declared.port.Phase.TheVariants.{Calling, Confirming, Running, Disconnecting}
-use Rattle.dna_links.specs.declared.port.LinkTest.{LinkTest}
+use Rattle.dna_links.specs.declared.port.Phase.TheVariants.{Running}
 use Rattle.dna_links.specs.declared.port.LinkTest.TheVariants.{LiveAt, CalledBy}
 use Rattle.dna_links.specs.LookUps.{is_live, is_called, is_at}
-use Rattle.dna_links.specs.Links.{LinkOf, number_of, with_link}
+use Rattle.dna_links.specs.Links.{LinkOf, number_of}
 use Rattle.dna_links.specs.User as of_links
 use Rattle.dna_links.specs.TrueFlow.{TrueFlow, true_flows}
 use Rattle.dna_links.specs.TrueLinks.{Links}
@@ -33,31 +32,34 @@ use Rattle.dna_play.specs.Owed.{OwesStrt, timer_debt}
 use Rattle.dna_play.specs.LinkOwed.{LinkOwed, LinkDebt, Owes, InitiateTurn, ConfirmTurn, DisconnectTurn, retried}
 use Rattle.dna_play.specs.NextSent.{Choice, choice, link_choice}
 use Rattle.dna_play.specs.Player.{End, makes, station_of, links_of, variables_of, link_ends_of}
-use Rattle.dna_play.specs.Stepped.{Stop, BadStep, Full, Stepped, made, silent, owing_more, links_owing_more}
-use Rattle.dna_play.specs.Receipt.{comes, on_unit, is_damage, damaged, passing, heard, hears}
+use Rattle.dna_play.specs.Stepped.{Stop, Stepped, made, owing_more, links_owing_more}
+use Rattle.dna_play.specs.Receipt.{comes, on_unit, is_damage, damaged, heard, hears}
 use Rattle.dna_play.specs.Play.{by_user, with_address, giving, timed, retrying, sends, sends_choice, no_more, plays}
 use Rattle.dna_play.specs.StepRule.{HasUnit, HasNext, IsHurt, IsOneOf, HasLink, IsCalled, Asks, gives_address, IsFull, GoesByRule}
+use Rattle.dna_play.proofs.Played.Cases.{made_case, link_case, giving_case, unit_case, test_case}
 use Rattle.dna_play.proofs.Played.PlayLines.{line_tested}
 use Rattle.dna_play.proofs.Played.Steps.{PlayHalf}
-use Rattle.dna_play.proofs.Played.Facts.{Facts, Later}
-use Rattle.dna_links.proofs.Tables.Outcomes.{UserDid, HandsIn, Closes, IsFound, looked, user_did}
+use Rattle.dna_play.proofs.Played.Facts.{Facts}
+use Rattle.dna_links.proofs.Tables.Outcomes.{UserDid, HandsIn, Closes, IsFound, user_did}
 use Rattle.dna_links.proofs.Runs.Reads.{at_is}
 use Rattle.dna_play.proofs.Links.Pays.{some_found}
 use Rattle.dna_play.proofs.Ends.Sends.{IsSound, send_goes}
-use Rattle.dna_play.proofs.Ends.Stage.{Stage, Known, sound_of}
+use Rattle.dna_play.proofs.Ends.Stage.{Known, sound_of}
 use Rattle.dna_play.proofs.Ends.User.{start_made, start_makes, halt_makes, link_event_made}
 use Rattle.dna_play.proofs.Ends.StepStages.{facts_now}
-use Rattle.dna_play.proofs.Ends.ComesMade.{unit_made_to, damage_made_to}
+use Rattle.dna_play.proofs.Stored.Now.{KeptNow}
+use Rattle.dna_play.proofs.Stored.Receipts.{unit_made_to, damage_made_to}
 use Rattle.dna_play.proofs.Ends.NoiseStage.{is_noise, noise_made}
-use Rattle.dna_play.proofs.Links.Phases.{takes_is, takes_when, connected_is, connected_when, retries_live, IsRetried, retried_is, called_is}
+use Rattle.dna_play.proofs.Links.Phases.{Takes, Connected, Retried, takes_is, takes_when, connected_is, connected_when, retries_live, IsRetried}
+use Rattle.dna_play.proofs.Links.Phases.{retried_is, called_is}
 use Rattle.dna_play.proofs.Links.Made.{event_made, open_line, accept_line, reject_line, close_line, is_there, live_found, open_taken, accept_taken}
 use Rattle.dna_play.proofs.Links.Made.{reject_taken, in_taken, close_taken}
 
 -- ---- one step
 
-module _ (own other : End) (h : Stage own) (theirs : Stage other) (later : Later own other) (few : own.passed ≤ MAX_HINT) where
+module _ (own other : End) (now : KeptNow own other) where
   facts : Facts own other
-  facts = facts_now own other h theirs later
+  facts = facts_now own other now.stage now.theirs now.later
 
   known : Known own other
   known = facts.known
@@ -78,22 +80,23 @@ module _ (own other : End) (h : Stage own) (theirs : Stage other) (later : Later
   made_ruled step result asks room m = subst (Rules step) (sym m.1) (asks, room)
 
   -- a record that is made exactly where the rule says so
-  record_ruled : (step : StepValue) (r : Record) (more : End → End) (e : End) → ¬ (IsFull own step) → (o : Option PlayHalf) →
-      ((half : PlayHalf) → o ≡ Some half → Asks own other.half step) → (o ≡ None → ¬ (Asks own other.half step)) → Rules step (made e r more o)
-  record_ruled step r more e room None may never = never refl
-  record_ruled step r more e room (Some half) may never = (may half refl, room)
+  record_ruled : (step : StepValue) (r : Record) (more : End → End) → gives_address step ≡ false →
+      ((half : PlayHalf) → makes own.half other.half r ≡ Some half → Asks own other.half step) →
+      (Asks own other.half step → (half : PlayHalf) × (makes own.half other.half r ≡ Some half)) →
+      Rules step (made own r more (makes own.half other.half r))
+  record_ruled step r more no_address may goes = made_case (Rules step) own r more (makes own.half other.half r)
+      (λ none asks. let e = sym none ∙ (goes asks).1 in cc) (λ half is. (may half is, never_full step no_address))
 
   -- ---- the station
 
-  start_ruled : Rules Start (by_user own other.half events.Start (owing_more (Some OwesStrt)))
-  start_ruled = record_ruled Start (User events.Start) (owing_more (Some OwesStrt)) own (never_full Start refl)
-      (makes own.half other.half (User events.Start))
-      (λ half e. (start_made own.half other.half half e).0)
-      (λ none asks. let e = sym none ∙ (start_makes own.half other.half asks).1 in cc)
+  start_ruled : Rules Start (plays own other.half Start)
+  unfolding plays
+  start_ruled = record_ruled Start (User events.Start) (owing_more (Some OwesStrt)) refl
+      (λ half e. (start_made own.half other.half half e).0) (λ asks. start_makes own.half other.half asks)
 
-  halt_ruled : Rules Halt (by_user own other.half events.Halt no_more)
-  halt_ruled = record_ruled Halt (User events.Halt) no_more own (never_full Halt refl) (makes own.half other.half (User events.Halt))
-      (λ half e. tt) (λ none asks. let e = sym none ∙ (halt_makes own.half other.half).1 in cc)
+  halt_ruled : Rules Halt (plays own other.half Halt)
+  unfolding plays
+  halt_ruled = record_ruled Halt (User events.Halt) no_more refl (λ half e. tt) (λ asks. halt_makes own.half other.half)
 
   timer_ruled : Rules Timer (timed own (timer_debt (variables_of own.half).state (variables_of own.half)))
   timer_ruled = go (station_of own.half).state refl
@@ -105,7 +108,7 @@ module _ (own other : End) (h : Stage own) (theirs : Stage other) (later : Later
       go states.Running is = (λ halted. let e = sym is ∙ halted in cc, never_full Timer refl)
 
   sound : IsSound own
-  sound = sound_of own other h theirs known
+  sound = sound_of own other now.stage now.theirs known
 
   send_ruled : Rules Send (sends own other.half)
   send_ruled = go (choice (variables_of own.half) own.owed (link_choice own.links_owed.confirms (link_ends_of own))) refl
@@ -120,30 +123,29 @@ module _ (own other : End) (h : Stage own) (theirs : Stage other) (later : Later
 
   -- ---- the line
 
-  on_ruled : (step : StepValue) (next : List ℕ → Result Stepped Stop) → (slice_get other.half.sent own.passed ≡ None → ¬ (Asks own other.half step)) →
-      ((unit : LayersUnit) → slice_get other.half.sent own.passed ≡ Some unit → Rules step (next unit.bytes)) →
-      Rules step (on_unit (slice_get other.half.sent own.passed) next)
-  on_ruled step next none some = go (slice_get other.half.sent own.passed) refl
-    where
-      go : (o : Option LayersUnit) → slice_get other.half.sent own.passed ≡ o → Rules step (on_unit o next)
-      go None e = none e
-      go (Some unit) e = some unit e
-
   nothing_next : slice_get other.half.sent own.passed ≡ None → HasNext own other.half → ⊥
   nothing_next none asks = let e = sym none ∙ asks.1 in cc
 
-  deliver_ruled : Rules Deliver (on_unit (slice_get other.half.sent own.passed) (λ bytes. comes own other.half true bytes))
-  deliver_ruled = on_ruled Deliver (λ bytes. comes own other.half true bytes) nothing_next
-      (λ unit there. made_ruled Deliver (comes own other.half true unit.bytes) (unit, there) (never_full Deliver refl)
-      (unit_made_to own other h theirs later facts few unit there true))
+  -- the unit that is next comes, with a buffer or without one
+  next_ruled : (step : StepValue) (next : List ℕ → Result Stepped Stop) → (Asks own other.half step → HasNext own other.half) →
+      ((unit : LayersUnit) → slice_get other.half.sent own.passed ≡ Some unit → Rules step (next unit.bytes)) →
+      Rules step (on_unit (slice_get other.half.sent own.passed) next)
+  next_ruled step next asked some = unit_case (Rules step) (slice_get other.half.sent own.passed) next
+      (λ none asks. nothing_next none (asked asks)) some
 
-  refuse_ruled : Rules Refuse (on_unit (slice_get other.half.sent own.passed) (λ bytes. comes own other.half false bytes))
-  refuse_ruled = on_ruled Refuse (λ bytes. comes own other.half false bytes) nothing_next
-      (λ unit there. made_ruled Refuse (comes own other.half false unit.bytes) (unit, there) (never_full Refuse refl)
-      (unit_made_to own other h theirs later facts few unit there false))
+  deliver_ruled : Rules Deliver (plays own other.half Deliver)
+  unfolding plays
+  deliver_ruled = next_ruled Deliver _ (λ asks. asks) (λ unit there. made_ruled Deliver (comes own other.half true unit.bytes) (unit, there)
+      (never_full Deliver refl) (unit_made_to own other now unit there true))
 
-  lose_ruled : Rules Lose (on_unit (slice_get other.half.sent own.passed) (λ bytes. silent (passing own)))
-  lose_ruled = on_ruled Lose (λ bytes. silent (passing own)) nothing_next (λ unit there. ((unit, there), never_full Lose refl))
+  refuse_ruled : Rules Refuse (plays own other.half Refuse)
+  unfolding plays
+  refuse_ruled = next_ruled Refuse _ (λ asks. asks) (λ unit there. made_ruled Refuse (comes own other.half false unit.bytes) (unit, there)
+      (never_full Refuse refl) (unit_made_to own other now unit there false))
+
+  lose_ruled : Rules Lose (plays own other.half Lose)
+  unfolding plays
+  lose_ruled = next_ruled Lose _ (λ asks. asks) (λ unit there. ((unit, there), never_full Lose refl))
 
   hurt_of : (place value : ℕ) (unit : LayersUnit) → is_damage place value unit.bytes ≡ true → IsHurt place value unit
   hurt_of place value unit is =
@@ -156,12 +158,12 @@ module _ (own other : End) (h : Stage own) (theirs : Stage other) (later : Later
       ap₂ (λ (b c : Bool). b && c) (lt-ltb place (length unit.bytes) hurt.inside)
       (ap₂ (λ (b c : Bool). b && c) (le-leb 1 value hurt.least) (le-leb value 255 hurt.most))
 
-  damage_ruled : (place value : ℕ) → Rules (Damage place value)
-      (on_unit (slice_get other.half.sent own.passed) (λ bytes. cond (is_damage place value bytes)
-      (comes own other.half true (damaged place value bytes)) (Err BadStep)))
-  damage_ruled place value = on_ruled (Damage place value) (λ bytes. cond (is_damage place value bytes)
-      (comes own other.half true (damaged place value bytes)) (Err BadStep))
-      (λ none asks. nothing_next none (asks.0, asks.1)) (λ unit there. go unit there (is_damage place value unit.bytes) refl)
+  damage_ruled : (place value : ℕ) → Rules (Damage place value) (plays own other.half (Damage place value))
+  unfolding plays
+  damage_ruled place value = next_ruled (Damage place value) _ (λ asks. (asks.0, asks.1)) (λ unit there.
+      test_case (Rules (Damage place value)) (is_damage place value unit.bytes) _ (λ whole asks. undamaged unit there whole asks) (λ is.
+      made_ruled (Damage place value) (comes own other.half true (damaged place value unit.bytes)) (unit, there, hurt_of place value unit is)
+      (never_full (Damage place value) refl) (damage_made_to own other now unit there place value is)))
     where
       undamaged : (unit : LayersUnit) → slice_get other.half.sent own.passed ≡ Some unit → is_damage place value unit.bytes ≡ false →
           Asks own other.half (Damage place value) → ⊥
@@ -169,41 +171,28 @@ module _ (own other : End) (h : Stage own) (theirs : Stage other) (later : Later
           let same : asks.0 ≡ unit = same_Some asks.0 unit (sym asks.1 ∙ there) in
           let e = sym (is_hurt place value unit (subst (IsHurt place value) same asks.2)) ∙ whole in cc
 
-      go : (unit : LayersUnit) → slice_get other.half.sent own.passed ≡ Some unit → (b : Bool) → is_damage place value unit.bytes ≡ b →
-          Rules (Damage place value) (cond b (comes own other.half true (damaged place value unit.bytes)) (Err BadStep))
-      go unit there true is = made_ruled (Damage place value) (comes own other.half true (damaged place value unit.bytes))
-          (unit, there, hurt_of place value unit is)
-          (never_full (Damage place value) refl) (damage_made_to own other h theirs later facts few unit there place value is)
-      go unit there false is = λ asks. undamaged unit there is asks
-
   noise_ruled : (bytes : List ℕ) → has_line (recorded.Noise bytes) ≡ true → Rules (Noise bytes) (hears own other.half bytes)
-  noise_ruled bytes lined = record_ruled (Noise bytes) (recorded.Noise bytes) (heard own (reading bytes)) own (never_full (Noise bytes) refl)
-      (makes own.half other.half (recorded.Noise bytes))
-      (λ half e. is_noise own.half other.half bytes half e)
-      (λ none asks. let e = sym none ∙ (noise_made own.half other.half bytes lined asks).1 in cc)
+  noise_ruled bytes lined = record_ruled (Noise bytes) (recorded.Noise bytes) (heard own (reading bytes)) refl
+      (λ half e. is_noise own.half other.half bytes half e) (λ asks. noise_made own.half other.half bytes lined asks)
 
   -- ---- addresses
 
   giving_ruled : (step : StepValue) (debt : LinkDebt) (event : ℕ → Event) → gives_address step ≡ true → Asks own other.half step →
       (own.addresses < MAX_LINK → (half : PlayHalf) × (makes own.half other.half (User (event (own.addresses + 1))) ≡ Some half)) →
       Rules step (giving own (λ end address. by_user end other.half (event address) (links_owing_more debt)))
-  giving_ruled step debt event gives asks all = go (nat_lt own.addresses MAX_LINK) refl
-    where
-      go : (b : Bool) → nat_lt own.addresses MAX_LINK ≡ b →
-          Rules step (cond b (by_user (with_address own (own.addresses + 1)) other.half (event (own.addresses + 1)) (links_owing_more debt))
-          (Err Full))
-      go true e =
-          let less = ltb-true own.addresses MAX_LINK e in let m = all less in
-          made_ruled step (by_user (with_address own (own.addresses + 1)) other.half (event (own.addresses + 1)) (links_owing_more debt)) asks
-          (λ full. let used = full.used in omega arith)
-          (_, ap (made (with_address own (own.addresses + 1)) (User (event (own.addresses + 1))) (links_owing_more debt)) m.1)
-      go false e = (asks, record { gives = gives; used = ltb-false own.addresses MAX_LINK e })
+  giving_ruled step debt event gives asks all = giving_case (Rules step) own
+      (λ end address. by_user end other.half (event address) (links_owing_more debt))
+      (λ used. (asks, record { gives = gives; used = used })) (λ less.
+      let m = all less in
+      made_ruled step (by_user (with_address own (own.addresses + 1)) other.half (event (own.addresses + 1)) (links_owing_more debt)) asks
+      (λ full. let used = full.used in omega arith)
+      (_, ap (made (with_address own (own.addresses + 1)) (User (event (own.addresses + 1))) (links_owing_more debt)) m.1))
 
   next_address : own.addresses < MAX_LINK → IsLink (own.addresses + 1)
   next_address less = record { least = omega arith; most = omega arith }
 
-  open_ruled : Rules Open (giving own (λ end address. by_user end other.half (events.Open address)
-      (links_owing_more (Owes (length s.links) InitiateTurn))))
+  open_ruled : Rules Open (plays own other.half Open)
+  unfolding plays
   open_ruled = giving_ruled Open (Owes (length s.links) InitiateTurn) (λ address. events.Open address) refl tt (λ less.
       let address = own.addresses + 1 in
       event_made own.half other.half (events.Open address) (of_links.Open address) refl (open_line address (next_address less))
@@ -221,19 +210,9 @@ module _ (own other : End) (h : Stage own) (theirs : Stage other) (later : Later
       (is_there asks.link.port.far partner asks.far))
       (λ number link found. let e = sym none ∙ found.found in cc)
 
-  link_ruled : (step : StepValue) (test : LinkTest) (next : ℕ → LinkOf TrueFlow → Result Stepped Stop) →
-      (number_of test s ≡ None → ¬ (Asks own other.half step)) →
-      ((number : ℕ) (link : LinkOf TrueFlow) → IsFound test s number link → Rules step (next number link)) →
-      Rules step (with_link test s (Err BadStep) next)
-  link_ruled step test next none some = looked test s (Err BadStep) next (with_link test s (Err BadStep) next) refl
-      (λ missing e. subst (Rules step) e (none missing)) (λ number link found e. subst (Rules step) e (some number link found))
-
-  accept_ruled : (partner : ℕ) → IsLink partner → Rules (Accept partner) (with_link (CalledBy partner) s (Err BadStep)
-      (λ number link. giving own (λ end address. by_user end other.half (events.Accept partner address)
-      (links_owing_more (Owes number ConfirmTurn)))))
-  accept_ruled partner far = link_ruled (Accept partner) (CalledBy partner)
-      (λ number link. giving own (λ end address. by_user end other.half (events.Accept partner address) (links_owing_more (Owes number ConfirmTurn))))
-      (nobody_calls partner) (λ number link found.
+  accept_ruled : (partner : ℕ) → IsLink partner → Rules (Accept partner) (plays own other.half (Accept partner))
+  unfolding plays
+  accept_ruled partner far = link_case (Rules (Accept partner)) (CalledBy partner) s _ (nobody_calls partner) (λ number link found.
       giving_ruled (Accept partner) (Owes number ConfirmTurn) (λ address. events.Accept partner address) refl (called_from partner number link found)
       (λ less.
       let address = own.addresses + 1 in
@@ -241,13 +220,9 @@ module _ (own other : End) (h : Stage own) (theirs : Stage other) (later : Later
       (accept_line partner address far (next_address less))
       (accept_taken s (links_of other.half).links own.addresses known.addressed partner address number link found (omega arith))))
 
-  reject_ruled : (partner : ℕ) → IsLink partner → Rules (Reject partner) (with_link (CalledBy partner) s (Err BadStep)
-      (λ number link. giving own (λ end address. by_user end other.half (events.Reject partner address)
-      (links_owing_more (Owes number DisconnectTurn)))))
-  reject_ruled partner far = link_ruled (Reject partner) (CalledBy partner)
-      (λ number link. giving own (λ end address. by_user end other.half (events.Reject partner address)
-      (links_owing_more (Owes number DisconnectTurn))))
-      (nobody_calls partner) (λ number link found.
+  reject_ruled : (partner : ℕ) → IsLink partner → Rules (Reject partner) (plays own other.half (Reject partner))
+  unfolding plays
+  reject_ruled partner far = link_case (Rules (Reject partner)) (CalledBy partner) s _ (nobody_calls partner) (λ number link found.
       giving_ruled (Reject partner) (Owes number DisconnectTurn) (λ address. events.Reject partner address) refl
       (called_from partner number link found) (λ less.
       let address = own.addresses + 1 in
@@ -289,52 +264,42 @@ module _ (own other : End) (h : Stage own) (theirs : Stage other) (later : Later
 
   in_ruled : (address : ℕ) (message : List ℕ) → has_line (User (events.In address message)) ≡ true →
       Rules (In address message) (by_user own other.half (events.In address message) no_more)
-  in_ruled address message lined = record_ruled (In address message) (User (events.In address message)) no_more own
-      (never_full (In address message) refl)
-      (makes own.half other.half (User (events.In address message)))
+  in_ruled address message lined = record_ruled (In address message) (User (events.In address message)) no_more refl
       (λ half e. let m = link_event_made own.half other.half half (events.In address message) (of_links.In address message) refl e in
       handed m.left (user_did true_flows s m.left (of_links.In address message) m.does_it))
-      (λ none l.
+      (λ l.
       let may = takes_when l.link.port.phase l.phase in
-      let t = in_taken s address message l.number l.link (there_live address (Calling ∷ Confirming ∷ Running ∷ []) l may.1) may.0 in
-      let e = sym none ∙ (event_made own.half other.half (events.In address message) (of_links.In address message) refl lined t).1 in cc)
+      event_made own.half other.half (events.In address message) (of_links.In address message) refl lined
+      (in_taken s address message l.number l.link (there_live address Takes l may.1) may.0))
     where
-      handed : (left : Links) → UserDid true_flows s (of_links.In address message) left → HasLink own address (Calling ∷ Confirming ∷ Running ∷ [])
-      handed left (HandsIn a m number link found may) = has_link address number link (Calling ∷ Confirming ∷ Running ∷ []) found
-          (takes_is link.port.phase may)
+      handed : (left : Links) → UserDid true_flows s (of_links.In address message) left → HasLink own address Takes
+      handed left (HandsIn a m number link found may) = has_link address number link Takes found (takes_is link.port.phase may)
 
-  close_ruled : (address : ℕ) → IsLink address → Rules (Close address) (with_link (LiveAt address) s (Err BadStep)
-      (λ number found. by_user own other.half (events.Close address) (links_owing_more (Owes number DisconnectTurn))))
-  close_ruled address linked = link_ruled (Close address) (LiveAt address) (λ number found. by_user own other.half (events.Close address)
-      (links_owing_more (Owes number DisconnectTurn)))
-      (λ none l. none_live address (Confirming ∷ Running ∷ []) none (λ phase p. (connected_when phase p).1) l)
-      (λ number link found. record_ruled (Close address) (User (events.Close address)) (links_owing_more (Owes number DisconnectTurn)) own
-      (never_full (Close address) refl)
-      (makes own.half other.half (User (events.Close address)))
+  close_ruled : (address : ℕ) → IsLink address → Rules (Close address) (plays own other.half (Close address))
+  unfolding plays
+  close_ruled address linked = link_case (Rules (Close address)) (LiveAt address) s _
+      (λ none l. none_live address Connected none (λ phase p. (connected_when phase p).1) l)
+      (λ number link found. record_ruled (Close address) (User (events.Close address)) (links_owing_more (Owes number DisconnectTurn)) refl
       (λ half e. let m = link_event_made own.half other.half half (events.Close address) (of_links.Close address) refl e in
       closed m.left (user_did true_flows s m.left (of_links.Close address) m.does_it))
-      (λ none l.
-      let may = connected_when link.port.phase (same_phase address number link (Confirming ∷ Running ∷ []) found l) in
-      let t = close_taken s address number link found may.0 in
-      let e = sym none ∙ (event_made own.half other.half (events.Close address) (of_links.Close address) refl (close_line address linked) t).1 in cc))
+      (λ l.
+      let may = connected_when link.port.phase (same_phase address number link Connected found l) in
+      event_made own.half other.half (events.Close address) (of_links.Close address) refl (close_line address linked)
+      (close_taken s address number link found may.0)))
     where
-      closed : (left : Links) → UserDid true_flows s (of_links.Close address) left → HasLink own address (Confirming ∷ Running ∷ [])
-      closed left (Closes a number link found may) = has_link address number link (Confirming ∷ Running ∷ []) found (connected_is link.port.phase may)
+      closed : (left : Links) → UserDid true_flows s (of_links.Close address) left → HasLink own address Connected
+      closed left (Closes a number link found may) = has_link address number link Connected found (connected_is link.port.phase may)
 
-  retry_ruled : (address : ℕ) → Rules (Retry address) (with_link (LiveAt address) s (Err BadStep)
-      (λ number found. retrying own number (retried found.port.phase)))
-  retry_ruled address = link_ruled (Retry address) (LiveAt address) (λ number found. retrying own number (retried found.port.phase))
-      (λ none l. none_live address (Calling ∷ Confirming ∷ Disconnecting ∷ Running ∷ []) none retries_live l)
+  retry_ruled : (address : ℕ) → Rules (Retry address) (plays own other.half (Retry address))
+  unfolding plays
+  retry_ruled address = link_case (Rules (Retry address)) (LiveAt address) s _
+      (λ none l. none_live address Retried none retries_live l)
       (λ number link found. go number link found (retried link.port.phase) (retried_is link.port.phase))
     where
       go : (number : ℕ) (link : LinkOf TrueFlow) → IsFound (LiveAt address) s number link → (o : Option (LinkOwed → LinkOwed)) →
           IsRetried link.port.phase o → Rules (Retry address) (retrying own number o)
-      go number link found None never = λ l. never (same_phase address number link (Calling ∷ Confirming ∷ Disconnecting ∷ Running ∷ []) found l)
-      go number link found (Some change) may = (
-        has_link address number link
-            (Calling ∷ Confirming ∷ Disconnecting ∷ Running ∷ []) found may,
-        never_full (Retry address) refl,
-      )
+      go number link found None never = λ l. never (same_phase address number link Retried found l)
+      go number link found (Some change) may = (has_link address number link Retried found may, never_full (Retry address) refl)
 
   -- ---- the steps
 

@@ -1,23 +1,17 @@
 -- How what a step of a script makes comes about: the one walk over all kinds of step. What holds of each way to come about holds of every step.
-use Rattle.std.proofs.Common.{◌≡◌, ℕ, ◌+◌, ◌≤◌, Bool, true, false, cond, nat_lt, Option, Some, None, List, [], ◌∷◌, ◌++◌, length, Result, Ok, Err}
+use Rattle.std.proofs.Common.{◌≡◌, ℕ, ◌+◌, ◌≤◌, Bool, false, Option, Some, None, List, [], ◌∷◌, ◌++◌, length, Result}
 use Rattle.std.proofs.Common.{refl, sym, subst, arith, length-set}
 use Rattle.std.specs.Prelude.{slice_get, if◌then◌else◌}
 use Rattle.std.proofs.lemmas.Option.{slice_get_within}
 use Rattle.ddcmp_msg.specs.Message.{MessageValue}
 use Rattle.ddcmp_msg.specs.Reading.{ReadingValue, reading}
 use Rattle.ddcmp_msg.specs.Spelling.{spelling}
-use Rattle.dna_packet.specs.Nsp.{NspValue}
 use Rattle.capture.specs.declared.event.Event.{Event}
 use Rattle.capture.specs.declared.event.Event.TheVariants as events
-use Rattle.capture.specs.declared.limit.TheConstants.{MAX_LINK}
 use Rattle.capture.specs.declared.record.Record.{Record}
 use Rattle.capture.specs.declared.record.Record.TheVariants.{Sent, Received, User}
 use Rattle.capture.specs.declared.record.Record.TheVariants as recorded
-use Rattle.dna_links.specs.declared.port.LinkTest.{LinkTest}
 use Rattle.dna_links.specs.declared.port.LinkTest.TheVariants.{LiveAt, CalledBy}
-use Rattle.dna_links.specs.Links.{LinkOf, with_link}
-use Rattle.dna_links.specs.TrueFlow.{TrueFlow}
-use Rattle.dna_node.specs.Layers.{LayersUnit}
 use Rattle.dna_play.specs.Script.{StepValue, Start, Halt, Timer, Send, Deliver, Refuse, Lose, Damage, Noise, Open, Accept, Reject, In, Close, Retry}
 use Rattle.dna_play.specs.PlayRun.{starts_now}
 use Rattle.dna_play.specs.Owed.{Debt, OwesStrt, timer_debt}
@@ -27,13 +21,13 @@ use Rattle.dna_play.specs.NextSent.{Choice, SendNew, LinkChoice, Confirms, OfLin
 use Rattle.dna_play.specs.NextSent.{without_turn, after_link_choice, choice, link_choice}
 use Rattle.dna_play.specs.Compose.{message_of}
 use Rattle.dna_play.specs.Player.{End, makes, links_of, variables_of, link_ends_of, after_record}
-use Rattle.dna_play.specs.Stepped.{Stop, BadStep, Full, Stepped, made, silent, owing_more, links_owing_more}
-use Rattle.dna_play.specs.Receipt.{with_half, gets_all, delivered_now, then_gets, carried, carried_debt, after_receipt, receives, can_keep, comes}
+use Rattle.dna_play.specs.Stepped.{Stop, Stepped, made, owing_more, links_owing_more}
+use Rattle.dna_play.specs.Receipt.{carried, carried_debt, after_receipt, receives, can_keep}
 use Rattle.dna_play.specs.Receipt.{passing, on_unit, is_damage, damaged, heard}
 use Rattle.dna_play.specs.Play.{by_user, with_address, giving, timed, retrying, after_sending, sends_message, sends_choice, no_more, plays}
 use Rattle.dna_play.specs.KeptPlayed.{is_of_line}
-use Rattle.dna_links.proofs.Tables.Outcomes.{looked}
-use Rattle.dna_play.proofs.Played.Order.{InOrder, AreUps, now_ups, quiet}
+use Rattle.dna_play.proofs.Played.Cases.{made_case, link_case, giving_case, unit_case, test_case, AllOf, then_each}
+use Rattle.dna_play.proofs.Played.Order.{InOrder, quiet}
 use Rattle.dna_play.proofs.Played.Steps.{PlayHalf}
 
 -- ---- what is owed
@@ -127,15 +121,6 @@ pub data Comes (own : End) (other : PlayHalf) (starts units : ℕ) : Stepped →
       makes so_far.end.half other (User (events.Up address message)) ≡ Some half → Comes own other starts units
       (record { end = after_record so_far.end half; records = so_far.records ++ User (events.Up address message) ∷ [] })
 
--- this holds of what is left, if anything is made
-abbrev pub AllOf : (Stepped → Type 0) → Result Stepped Stop → Type 0
-AllOf P (Ok stepped) = P stepped
-AllOf P (Err stop) = Unit {0}
-
-pub each : {P Q : Stepped → Type 0} → ((stepped : Stepped) → P stepped → Q stepped) → (result : Result Stepped Stop) → AllOf P result → AllOf Q result
-each more (Ok stepped) p = more stepped p
-each more (Err stop) p = tt
-
 -- ---- the walk
 
 module _ (own : End) (other : PlayHalf) (starts units : ℕ) where
@@ -143,36 +128,9 @@ module _ (own : End) (other : PlayHalf) (starts units : ℕ) where
   Come = AllOf (Comes own other starts units)
 
   made_comes : (e : End) (r : Record) (more : End → End) → Begins own starts e r → Adds more units → WereSent own other units →
-      (o : Option PlayHalf) → makes own.half other r ≡ o → Come (made e r more o)
-  made_comes e r more begins adds sent None is = tt
-  made_comes e r more begins adds sent (Some half) is = Makes e r more half begins adds sent is
-
-  got_comes : (address : ℕ) (message : List ℕ) (later : List Event) (so_far : Stepped) → Comes own other starts units so_far →
-      ((next : Stepped) → Comes own other starts units next → Come (gets_all later other next)) →
-      (o : Option PlayHalf) → makes so_far.end.half other (User (events.Up address message)) ≡ o →
-      Come (with_half o (λ half. gets_all later other
-      (record { end = after_record so_far.end half; records = so_far.records ++ User (events.Up address message) ∷ [] })))
-  got_comes address message later so_far c all None is = tt
-  got_comes address message later so_far c all (Some half) is =
-      all (record { end = after_record so_far.end half; records = so_far.records ++ User (events.Up address message) ∷ [] })
-      (Delivers so_far address message half c is)
-
-  gets_comes : (list : List Event) → AreUps list → (so_far : Stepped) → Comes own other starts units so_far → Come (gets_all list other so_far)
-  gets_comes [] ups so_far c = c
-  gets_comes (events.Up address message ∷ later) ups so_far c =
-      got_comes address message later so_far c (gets_comes later ups) (makes so_far.end.half other (User (events.Up address message))) refl
-  gets_comes (event ∷ later) ups so_far c = absurd ups
-
-  then_comes : (message : Option NspValue) (result : Result Stepped Stop) → Come result → Come (then_gets other message result)
-  then_comes message (Err stop) c = tt
-  then_comes message (Ok so_far) c =
-      gets_comes (delivered_now (links_of so_far.end.half) message) (now_ups (links_of so_far.end.half) message) so_far c
-
-  link_comes : (test : LinkTest) (next : ℕ → LinkOf TrueFlow → Result Stepped Stop) →
-      ((number : ℕ) (link : LinkOf TrueFlow) → Come (next number link)) → Come (with_link test (links_of own.half) (Err BadStep) next)
-  link_comes test next all =
-      looked test (links_of own.half) (Err BadStep) next (with_link test (links_of own.half) (Err BadStep) next) refl
-      (λ none e. subst Come e tt) (λ number link found e. subst Come e (all number link))
+      Come (made e r more (makes own.half other r))
+  made_comes e r more begins adds sent = made_case Come e r more (makes own.half other r) (λ none. tt)
+      (λ half is. Makes e r more half begins adds sent is)
 
 module _ (own : End) (other : PlayHalf) where
   -- ---- nothing passes
@@ -183,25 +141,19 @@ module _ (own : End) (other : PlayHalf) where
   user_comes : (starts : ℕ) (event : Event) (more : End → End) → InOrder own.addresses starts (User event ∷ []) own.addresses → Adds more 0 →
       AllOf (Comes own other starts 0) (by_user own other event more)
   user_comes starts event more order adds = made_comes own other starts 0 own (User event) more (record { half = refl; passed = refl; order = order })
-      adds none_sent (makes own.half other (User event)) refl
+      adds none_sent
 
   given_comes : (debt : LinkDebt) (event : ℕ → Event) → InOrder own.addresses 0 (User (event (own.addresses + 1)) ∷ []) (own.addresses + 1) →
       AllOf (Comes own other 0 0) (giving own (λ end address. by_user end other (event address) (links_owing_more debt)))
-  given_comes debt event order = go (nat_lt own.addresses MAX_LINK)
-    where
-      r : Record
-      r = User (event (own.addresses + 1))
-
-      go : (b : Bool) → AllOf (Comes own other 0 0) (cond b (by_user (with_address own (own.addresses + 1)) other (event (own.addresses + 1))
-          (links_owing_more debt)) (Err Full))
-      go true = made_comes own other 0 0 (with_address own (own.addresses + 1)) r (links_owing_more debt)
-          (record { half = refl; passed = refl; order = order }) (adds_link_debt debt) none_sent (makes own.half other r) refl
-      go false = tt
+  given_comes debt event order = giving_case (AllOf (Comes own other 0 0)) own
+      (λ end address. by_user end other (event address) (links_owing_more debt)) (λ full. tt) (λ left.
+      made_comes own other 0 0 (with_address own (own.addresses + 1)) (User (event (own.addresses + 1))) (links_owing_more debt)
+      (record { half = refl; passed = refl; order = order }) (adds_link_debt debt) none_sent)
 
   message_comes : (next : Choice) (o : Option MessageValue) → AllOf (Comes own other 0 0) (sends_message own other next o)
   message_comes next None = tt
   message_comes next (Some m) = let r = Sent (spelling m) in made_comes own other 0 0 own r (after_sending next)
-      (record { half = refl; passed = refl; order = quiet own r refl refl }) (adds_sending next) none_sent (makes own.half other r) refl
+      (record { half = refl; passed = refl; order = quiet own r refl refl }) (adds_sending next) none_sent
 
   choice_comes : (o : Option Choice) → AllOf (Comes own other 0 0) (sends_choice own other o)
   choice_comes None = tt
@@ -225,17 +177,14 @@ module _ (own : End) (other : PlayHalf) where
   receives_comes : WereSent own other 1 → (bytes : List ℕ) (read : ReadingValue) (kept : Bool) →
       AllOf (Comes own other 0 1) (receives own other bytes read kept)
   receives_comes sent bytes read kept = let r = Received own.passed kept bytes in
-      then_comes own other 0 1 (carried kept read) _ (made_comes own other 0 1 own r (after_receipt own read kept)
-      (record { half = refl; passed = refl; order = quiet own r refl refl }) (adds_receipt own read kept) sent (makes own.half other r) refl)
+      then_each other (Comes own other 0 1) (λ so_far address message half c is. Delivers so_far address message half c is) (carried kept read) _
+      (made_comes own other 0 1 own r (after_receipt own read kept)
+      (record { half = refl; passed = refl; order = quiet own r refl refl }) (adds_receipt own read kept) sent)
 
   unit_comes : (next : List ℕ → Result Stepped Stop) → (WereSent own other 1 → (bytes : List ℕ) → AllOf (Comes own other 0 1) (next bytes)) →
-      (o : Option LayersUnit) → slice_get other.sent own.passed ≡ o → AllOf (Comes own other 0 1) (on_unit o next)
-  unit_comes next all None e = tt
-  unit_comes next all (Some unit) e = let l = slice_get_within other.sent own.passed unit e in all (λ few. omega arith) unit.bytes
-
-  damage_comes : WereSent own other 1 → (b : Bool) (bytes : List ℕ) → AllOf (Comes own other 0 1) (cond b (comes own other true bytes) (Err BadStep))
-  damage_comes sent true bytes = receives_comes sent bytes (reading bytes) (can_keep own (reading bytes))
-  damage_comes sent false bytes = tt
+      AllOf (Comes own other 0 1) (on_unit (slice_get other.sent own.passed) next)
+  unit_comes next all = unit_case (AllOf (Comes own other 0 1)) (slice_get other.sent own.passed) next (λ none. tt) (λ unit there.
+      let l = slice_get_within other.sent own.passed unit there in all (λ few. omega arith) unit.bytes)
 
   -- ---- the steps
 
@@ -246,33 +195,27 @@ module _ (own : End) (other : PlayHalf) where
   plays_comes Halt = user_comes 0 events.Halt no_more (record { counted = refl; rise = tt; top = refl }) (adds_owed no_more (λ e. refl))
   plays_comes Timer = timed_comes (timer_debt (variables_of own.half).state (variables_of own.half))
   plays_comes Send = choice_comes (choice (variables_of own.half) own.owed (link_choice own.links_owed.confirms (link_ends_of own)))
-  plays_comes Deliver = unit_comes (λ bytes. comes own other true bytes)
-      (λ sent bytes. receives_comes sent bytes (reading bytes) (can_keep own (reading bytes))) (slice_get other.sent own.passed) refl
-  plays_comes Refuse = unit_comes (λ bytes. comes own other false bytes)
-      (λ sent bytes. receives_comes sent bytes (reading bytes) false) (slice_get other.sent own.passed) refl
-  plays_comes Lose = unit_comes (λ bytes. silent (passing own)) (λ sent bytes. Silent passing
-      (record { half = λ e. refl; addresses = λ e. refl; owed = λ e. refl; passed = λ e. refl }) sent refl) (slice_get other.sent own.passed) refl
-  plays_comes (Damage place value) =
-      unit_comes (λ bytes. cond (is_damage place value bytes) (comes own other true (damaged place value bytes)) (Err BadStep))
-      (λ sent bytes. damage_comes sent (is_damage place value bytes) (damaged place value bytes)) (slice_get other.sent own.passed) refl
+  plays_comes Deliver = unit_comes _ (λ sent bytes. receives_comes sent bytes (reading bytes) (can_keep own (reading bytes)))
+  plays_comes Refuse = unit_comes _ (λ sent bytes. receives_comes sent bytes (reading bytes) false)
+  plays_comes Lose = unit_comes _ (λ sent bytes. Silent passing
+      (record { half = λ e. refl; addresses = λ e. refl; owed = λ e. refl; passed = λ e. refl }) sent refl)
+  plays_comes (Damage place value) = unit_comes _ (λ sent bytes.
+      test_case (AllOf (Comes own other 0 1)) (is_damage place value bytes) _ (λ whole. tt) (λ is.
+      let hurt = damaged place value bytes in receives_comes sent hurt (reading hurt) (can_keep own (reading hurt))))
   plays_comes (Noise bytes) = let r = recorded.Noise bytes in made_comes own other 0 0 own r (heard own (reading bytes))
       (record { half = refl; passed = refl; order = quiet own r refl refl }) (adds_owed (heard own (reading bytes)) (λ e. refl)) none_sent
-      (makes own.half other r) refl
   plays_comes Open = given_comes (Owes (length (links_of own.half).links) InitiateTurn) (λ address. events.Open address)
       (record { counted = refl; rise = (omega arith, tt); top = refl })
-  plays_comes (Accept partner) = link_comes own other 0 0 (CalledBy partner)
-      (λ number link. giving own (λ end address. by_user end other (events.Accept partner address) (links_owing_more (Owes number ConfirmTurn))))
-      (λ number link. given_comes (Owes number ConfirmTurn) (λ address. events.Accept partner address)
+  plays_comes (Accept partner) = link_case (AllOf (Comes own other 0 0)) (CalledBy partner) (links_of own.half) _ (λ none. tt)
+      (λ number link found. given_comes (Owes number ConfirmTurn) (λ address. events.Accept partner address)
       (record { counted = refl; rise = (omega arith, tt); top = refl }))
-  plays_comes (Reject partner) = link_comes own other 0 0 (CalledBy partner)
-      (λ number link. giving own (λ end address. by_user end other (events.Reject partner address) (links_owing_more (Owes number DisconnectTurn))))
-      (λ number link. given_comes (Owes number DisconnectTurn) (λ address. events.Reject partner address)
+  plays_comes (Reject partner) = link_case (AllOf (Comes own other 0 0)) (CalledBy partner) (links_of own.half) _ (λ none. tt)
+      (λ number link found. given_comes (Owes number DisconnectTurn) (λ address. events.Reject partner address)
       (record { counted = refl; rise = (omega arith, tt); top = refl }))
   plays_comes (In link message) =
       user_comes 0 (events.In link message) no_more (record { counted = refl; rise = (tt, tt); top = refl }) (adds_owed no_more (λ e. refl))
-  plays_comes (Close link) = link_comes own other 0 0 (LiveAt link)
-      (λ number found. by_user own other (events.Close link) (links_owing_more (Owes number DisconnectTurn)))
-      (λ number found. user_comes 0 (events.Close link) (links_owing_more (Owes number DisconnectTurn))
+  plays_comes (Close address) = link_case (AllOf (Comes own other 0 0)) (LiveAt address) (links_of own.half) _ (λ none. tt)
+      (λ number link found. user_comes 0 (events.Close address) (links_owing_more (Owes number DisconnectTurn))
       (record { counted = refl; rise = (tt, tt); top = refl }) (adds_link_debt (Owes number DisconnectTurn)))
-  plays_comes (Retry link) = link_comes own other 0 0 (LiveAt link) (λ number found. retrying own number (retried found.port.phase))
-      (λ number found. retrying_comes number (retried found.port.phase))
+  plays_comes (Retry address) = link_case (AllOf (Comes own other 0 0)) (LiveAt address) (links_of own.half) _ (λ none. tt)
+      (λ number link found. retrying_comes number (retried link.port.phase))

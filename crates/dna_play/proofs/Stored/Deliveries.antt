@@ -10,6 +10,7 @@ use Rattle.capture.specs.declared.record.Record.TheVariants.{User}
 use Rattle.dna_links.specs.LookUps.{is_at}
 use Rattle.dna_links.specs.Pieces.{Piece, Whole, with_piece, next_message, in_whole_messages}
 use Rattle.dna_links.specs.Links.{LinkOf, changed, with_flow}
+use Rattle.dna_links.specs.User as of_links
 use Rattle.dna_links.specs.TrueFlow.{TrueFlow}
 use Rattle.dna_links.specs.TrueLinks.{Links}
 use Rattle.dna_play.specs.Owed.{Owed, all_acknowledged}
@@ -21,7 +22,8 @@ use Rattle.dna_play.specs.KeptPlay.{ups}
 use Rattle.dna_play.proofs.Played.Steps.{PlayHalf}
 use Rattle.dna_links.proofs.Cut.Ended.{Splits, splits}
 use Rattle.dna_links.proofs.Runs.Sides.{set_same}
-use Rattle.dna_play.proofs.Ends.UpsFollow.{delivering, one_delivered, AllLined, up_made}
+use Rattle.dna_play.proofs.Links.Made.{event_makes}
+use Rattle.dna_play.proofs.Ends.UpsFollow.{delivering, one_delivered, AllLined}
 use Rattle.dna_play.proofs.Ends.Stage.{with_left}
 use Rattle.dna_play.proofs.Stored.LiveLists.{set_back}
 use Rattle.dna_play.proofs.Stored.LiveEnds.{Counted, with_owed, still_same, left_set}
@@ -130,7 +132,7 @@ gets_made other address number (message ∷ later) e records l o lined there own
     let still : Counted left.links e.links_owed = counted ∙ sym (length-set s.links number k) in
     ap (λ (o : Option PlayHalf). with_half o (λ half. gets_all (map (λ (message : List ℕ). events.Up address message) later) other
     (record { end = after_record e half; records = records ++ up_record address message ∷ [] })))
-    (up_made e.half other address message left lined.0 d.does)
+    (event_makes e.half other (events.Up address message) (of_links.Up address message) left refl lined.0 d.does)
     ∙ ap (λ (x : End). gets_all (map (λ (message : List ℕ). events.Up address message) later) other (record { end = x; records = more }))
     (up_end e number l k o there owes counted rep refl refl)
     ∙ gets_made other address number later (with_links e left) more k o lined.1 (set_same s.links number l k there) owns

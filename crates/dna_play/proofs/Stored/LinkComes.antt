@@ -1,5 +1,5 @@
 -- What a message that comes, other than a segment, makes of the links of an end of the player, and of what they owe, is the same of those that live.
-use Rattle.std.proofs.Common.{◌≡◌, ℕ, Bool, true, false, cond, Option, Some, None, List, length, Result, Ok, refl, sym, ap, ◌∙◌, subst}
+use Rattle.std.proofs.Common.{◌≡◌, ℕ, Bool, true, false, cond, Some, List, length, Result, Ok, refl, sym, ap, ◌∙◌, subst}
 use Rattle.std.specs.Prelude.{slice_get}
 use Rattle.dna_packet.specs.Nsp.{NspValue, DataSegment, LinkService, DataAck, OtherDataAck, ConnectAck, NoOperation, ConnectInitiate, ConnectConfirm}
 use Rattle.dna_packet.specs.Nsp.{DisconnectInitiate, DisconnectConfirm}
@@ -10,7 +10,7 @@ use Rattle.dna_links.specs.declared.port.Phase.TheVariants.{Calling, Called, Con
 use Rattle.dna_links.specs.declared.port.LinkTest.{LinkTest}
 use Rattle.dna_links.specs.declared.port.LinkTest.TheVariants.{TheLink, LiveTo, CallingAt, ActedOn}
 use Rattle.dna_links.specs.LookUps.{is_running}
-use Rattle.dna_links.specs.Links.{LinkOf, LinkTruth, check, at_number, number_of, with_link, begun, changed, in_phase, with_flow, ended}
+use Rattle.dna_links.specs.Links.{LinkOf, LinkTruth, check, with_link, begun, changed, in_phase, with_flow, ended}
 use Rattle.dna_links.specs.Arriving.{PartnerRule, is_for, is_of_pair, called, confirmed, ends_link, running, acted_on, message_arrived}
 use Rattle.dna_links.specs.TrueFlow.{TrueFlow, Numbers, takes_acks, true_flows}
 use Rattle.dna_links.specs.WireFlow.{LinkVariables, WireFlow, acknowledged_by_all}
@@ -25,7 +25,7 @@ use Rattle.dna_play.specs.KeptLinks as keeping
 use Rattle.dna_links.proofs.Cut.FlowArriving.{takes_acks_same}
 use Rattle.dna_links.proofs.Tables.Outcomes.{IsFound, looked, checked}
 use Rattle.dna_play.proofs.Once.Addresses.{LinkList}
-use Rattle.dna_play.proofs.Links.Pays.{with_found}
+use Rattle.dna_play.proofs.Links.Pays.{with_found, without_found}
 use Rattle.dna_play.proofs.Links.Stage.{left_links}
 use Rattle.dna_play.proofs.Stored.LiveLists.{set_back}
 use Rattle.dna_play.proofs.Stored.LiveEnds.{end_of, Counted, left_same, still_in_phase}
@@ -65,10 +65,6 @@ module _ (rule : PartnerRule) (s : Links) (owed : LinksOwed) (counted : Counted 
     where
       same_links : (all : Links) → ◌≡◌ {A = Result Links LinkRefusal} (Ok all) (Ok left) → all ≡ left
       same_links all e = cc
-
-  no_link : {R : Type 0} (test : LinkTest) (otherwise : R) (next : ℕ → LinkOf TrueFlow → R) → number_of test s ≡ None →
-      with_link test s otherwise next ≡ otherwise
-  no_link test otherwise next none = ap (λ (o : Option ℕ). at_number s.links o otherwise next) none
 
   -- a look-up that comes to the same in any case
   either_way : (test : LinkTest) (debt : LinkDebt) → debt ≡ with_link test s debt (λ n l. debt)
@@ -120,7 +116,7 @@ module _ (rule : PartnerRule) (s : Links) (owed : LinksOwed) (counted : Counted 
       (λ number link. repeated_call_debt number link.port.phase) (keeping.begun (keeping.called src) live)
       (λ at link. keeping.changed at (keeping.called_again link.port.phase link) live)
       (λ none. leaves (begun new s) (Owes (length s.links) ConnectAckTurn) (keeping.begun (keeping.called src) live)
-      (sym (no_link (LiveTo src) (Ok (begun new s)) (λ number link. Ok s) none) ∙ e)
+      (sym (without_found s (LiveTo src) (Ok (begun new s)) (λ number link. Ok s) none) ∙ e)
       (record_begun s.links owed counted new (with_turn ConnectAckTurn true) refl))
       (λ n l o found owes. leaves s (repeated_call_debt n l.port.phase)
       (keeping.changed (place n) (keeping.called_again l.port.phase (end_of l o)) live)
@@ -155,7 +151,7 @@ module _ (rule : PartnerRule) (s : Links) (owed : LinksOwed) (counted : Counted 
       (λ number link. Owes number DataAckTurn)
       (keeping.with_end (TheLink dst src) live live (λ at link. keeping.changed at (keeping.confirmed_again (is_running link.port.phase) link) live))
       (λ at link. keeping.changed at (keeping.confirmed src link) live)
-      (λ none. again_kept dst src (sym (no_link (CallingAt dst) (Ok s) goes_on none) ∙ e)) acted
+      (λ none. again_kept dst src (sym (without_found s (CallingAt dst) (Ok s) goes_on none) ∙ e)) acted
     where
       goes_on : ℕ → LinkOf TrueFlow → Result Links LinkRefusal
       goes_on number link = check (rule (is_for number truth.tag)) CrossedLink
@@ -193,7 +189,7 @@ module _ (rule : PartnerRule) (s : Links) (owed : LinksOwed) (counted : Counted 
         (with_link (CallingAt dst) s none_owes (λ number link. owes_then)) (λ number link. owes_then)
         (keeping.with_end (CallingAt dst) live none_kept (λ at link. then_owes (keeping.ended at live)))
         (λ at link. then_owes (keeping.ended at live))
-        (λ none. calling_ends (ap Ok (sym (no_link (TheLink dst src) calling over none)) ∙ e))
+        (λ none. calling_ends (ap Ok (sym (without_found s (TheLink dst src) calling over none)) ∙ e))
         (λ n l o found owes. one_ends n l o (TheLink dst src) (the_link_lives dst src) found owes
         (ap Ok (sym (with_found s (TheLink dst src) n l calling over found)) ∙ e))
       where
@@ -208,7 +204,7 @@ module _ (rule : PartnerRule) (s : Links) (owed : LinksOwed) (counted : Counted 
             ≡ keeping.with_end (CallingAt dst) live none_kept (λ at link. then_owes (keeping.ended at live))
         calling_ends e = look_kept (CallingAt dst) (calling_at_lives dst) s owed counted after none_owes (λ number link. owes_then) none_kept
             (λ at link. then_owes (keeping.ended at live))
-            (λ none. leaves s none_owes none_kept (ap Ok (sym (no_link (CallingAt dst) s over none)) ∙ e) same_none)
+            (λ none. leaves s none_owes none_kept (ap Ok (sym (without_found s (CallingAt dst) s over none)) ∙ e) same_none)
             (λ n l o found owes. one_ends n l o (CallingAt dst) (calling_at_lives dst) found owes
             (ap Ok (sym (with_found s (CallingAt dst) n l s over found)) ∙ e))
 
@@ -222,7 +218,7 @@ module _ (rule : PartnerRule) (s : Links) (owed : LinksOwed) (counted : Counted 
       ap after (either_way (ActedOn own far) NoDebt)
       ∙ look_kept (ActedOn own far) (acted_on_lives own far) s owed counted after NoDebt (λ number link. NoDebt) live
       (λ at link. keeping.changed at (change link) live)
-      (λ none. leaves s NoDebt live (sym (no_link (ActedOn own far) (Ok s) goes_on none) ∙ e) stay) acted
+      (λ none. leaves s NoDebt live (sym (without_found s (ActedOn own far) (Ok s) goes_on none) ∙ e) stay) acted
     where
       goes_on : ℕ → LinkOf TrueFlow → Result Links LinkRefusal
       goes_on number link = check (rule (is_of_pair number link.partner truth.tag)) CrossedLink

@@ -4,7 +4,6 @@ use Rattle.std.proofs.Common.{◌≡◌, ℕ, Bool, true, false, Option, Some, N
 use Rattle.std.specs.Prelude.{slice_get, slice_set}
 use Rattle.std.proofs.lemmas.Bool.{and_parts}
 use Rattle.dna_links.specs.declared.port.Phase.{Phase}
-use Rattle.dna_links.specs.declared.port.Phase.TheVariants.{Calling, Called, Confirming, Running, Disconnecting, Ended}
 use Rattle.dna_links.specs.declared.port.Port.{Port}
 use Rattle.dna_links.specs.declared.port.LinkTest.{LinkTest}
 use Rattle.dna_links.specs.declared.port.LinkTest.TheVariants.{LiveAt, TheLink, LiveTo, CallingAt, CalledBy, ActedOn}
@@ -18,6 +17,7 @@ use Rattle.dna_play.specs.NextSent.{LinkEnd, link_ends}
 use Rattle.dna_play.specs.Kept.{KeptLinks, live_ends}
 use Rattle.dna_play.specs.KeptLinks.{place_of, on_end, at_place, with_end}
 use Rattle.dna_play.specs.KeptLinks as keeping
+use Rattle.dna_play.proofs.Links.Phases.{connected_is, connected_when, called_is, calling_is}
 use Rattle.dna_play.proofs.Once.Addresses.{LinkList}
 use Rattle.dna_play.proofs.Links.Stage.{left_links}
 use Rattle.dna_links.proofs.Tables.Outcomes.{IsFound, looked}
@@ -37,29 +37,8 @@ is_live_end l = is_live l.port.phase
 abbrev pub NeedsLife : LinkTest → Type 0
 NeedsLife test = (port : Port) → passes test port ≡ true → is_live port.phase ≡ true
 
-called_lives : (phase : Phase) → is_called phase ≡ true → is_live phase ≡ true
-called_lives Called e = refl
-called_lives Calling e = absurd cc
-called_lives Confirming e = absurd cc
-called_lives Running e = absurd cc
-called_lives Disconnecting e = absurd cc
-called_lives Ended e = absurd cc
-
-calling_lives : (phase : Phase) → is_calling phase ≡ true → is_live phase ≡ true
-calling_lives Calling e = refl
-calling_lives Called e = absurd cc
-calling_lives Confirming e = absurd cc
-calling_lives Running e = absurd cc
-calling_lives Disconnecting e = absurd cc
-calling_lives Ended e = absurd cc
-
 connected_lives : (phase : Phase) → is_connected phase ≡ true → is_live phase ≡ true
-connected_lives Confirming e = refl
-connected_lives Running e = refl
-connected_lives Calling e = absurd cc
-connected_lives Called e = absurd cc
-connected_lives Disconnecting e = absurd cc
-connected_lives Ended e = absurd cc
+connected_lives phase e = (connected_when phase (connected_is phase e)).1
 
 pub live_at_lives : (own : ℕ) → NeedsLife (LiveAt own)
 live_at_lives own port e = (and_parts (is_live port.phase) (is_at port.own own) e).0
@@ -71,10 +50,10 @@ pub live_to_lives : (far : ℕ) → NeedsLife (LiveTo far)
 live_to_lives far port e = (and_parts (is_live port.phase) (is_at port.far far) e).0
 
 pub calling_at_lives : (own : ℕ) → NeedsLife (CallingAt own)
-calling_at_lives own port e = calling_lives port.phase (and_parts (is_calling port.phase) (is_at port.own own) e).0
+calling_at_lives own port e = ap is_live (calling_is port.phase (and_parts (is_calling port.phase) (is_at port.own own) e).0)
 
 pub called_by_lives : (far : ℕ) → NeedsLife (CalledBy far)
-called_by_lives far port e = called_lives port.phase (and_parts (is_called port.phase) (is_at port.far far) e).0
+called_by_lives far port e = ap is_live (called_is port.phase (and_parts (is_called port.phase) (is_at port.far far) e).0)
 
 pub acted_on_lives : (own far : ℕ) → NeedsLife (ActedOn own far)
 acted_on_lives own far port e = connected_lives port.phase (and_parts (is_connected port.phase) (has_both port own far) e).0

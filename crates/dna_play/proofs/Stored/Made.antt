@@ -29,6 +29,7 @@ use Rattle.dna_play.specs.KeptPlay.{KeptStepped, kept_plays, with_links}
 use Rattle.dna_play.specs.KeptPlay as keeping
 use Rattle.dna_play.specs.KeptStation as kept_station
 use Rattle.dna_play.specs.KeptRun.{bytes_of, kept_stepped, IsKept}
+use Rattle.dna_play.proofs.Played.Cases.{made_case}
 use Rattle.dna_play.proofs.Played.Steps.{PlayHalf}
 use Rattle.dna_links.proofs.Tables.Outcomes.{UserDid, user_did}
 use Rattle.dna_play.proofs.Ends.Stage.{Known, with_left}
@@ -151,13 +152,11 @@ module _ (own other : End) (now : KeptNow own other) where
   -- it can't be made
   pub refused_kept : (event : Event) (value : LinkEventValue) (more : End → End) → link_event event ≡ Some value →
       ((left : Links) → UserDid true_flows s value left → ⊥) → kept_stepped own (by_user own other.half event more) ≡ Err BadStep
-  refused_kept event value more is never = go (makes own.half other.half (User event)) refl
-    where
-      go : (o : Option PlayHalf) → makes own.half other.half (User event) ≡ o → kept_stepped own (made own (User event) more o) ≡ Err BadStep
-      go None e = refl
-      go (Some half) e =
-          let m = link_event_made own.half other.half half event value is e in
-          absurd (never m.left (user_did true_flows s m.left value m.does_it))
+  refused_kept event value more is never =
+      made_case (λ (result : Result Stepped Stop). kept_stepped own result ≡ Err BadStep) own (User event) more
+      (makes own.half other.half (User event)) (λ none. refl)
+      (λ half e. let m = link_event_made own.half other.half half event value is e in
+      absurd (never m.left (user_did true_flows s m.left value m.does_it)))
 
   -- with the next address
   pub giving_kept : (next : End → ℕ → Result Stepped Stop) (then_next : KeptEnd → ℕ → Result KeptStepped Stop) →

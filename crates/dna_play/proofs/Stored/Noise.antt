@@ -1,5 +1,5 @@
 -- Bytes that nobody sent: the same of an end of the player and of what its node keeps.
-use Rattle.std.proofs.Common.{◌≡◌, ℕ, Bool, true, false, Option, Some, None, List, [], ◌∷◌, length, Result, Ok, Err, refl, sym, ap, ap₂, ◌∙◌, inl}
+use Rattle.std.proofs.Common.{◌≡◌, ℕ, Bool, true, Option, Some, List, [], ◌∷◌, length, Result, Ok, Err, refl, sym, ap, ap₂, ◌∙◌, inl}
 use Rattle.std.proofs.Common.{inr}
 use Rattle.std.specs.Prelude.{nat_le}
 use Rattle.std.proofs.lemmas.Bool.{and_parts}
@@ -8,27 +8,28 @@ use Rattle.ddcmp_msg.specs.Reading.{ReadingValue, reading}
 use Rattle.ddcmp_msg.specs.Reading as read_as
 use Rattle.capture.specs.declared.limit.TheConstants.{MAX_UNIT}
 use Rattle.capture.specs.declared.record.Record.TheVariants as recorded
-use Rattle.dna_station.specs.Book.{ArrivalValue, HeaderBad, DataBad}
-use Rattle.dna_node.specs.Layers.{LayersTruth}
+use Rattle.dna_station.specs.Book.{HeaderBad, DataBad}
 use Rattle.dna_play.specs.HasLine.{numbers_fit, are_bytes, has_line}
 use Rattle.dna_play.specs.Script.{Noise}
-use Rattle.dna_play.specs.Player.{End, makes, station_of, links_of, variables_of, after_record}
-use Rattle.dna_play.specs.Stepped.{Stop, BadStep, made}
+use Rattle.dna_play.specs.Player.{End, makes, station_of, links_of, after_record}
+use Rattle.dna_play.specs.Stepped.{Stop, BadStep, made, Stepped}
 use Rattle.dna_play.specs.Receipt.{heard, hears}
 use Rattle.dna_play.specs.Play.{plays}
 use Rattle.dna_play.specs.StepRule.{IsNoise}
 use Rattle.dna_play.specs.Kept.{KeptStation, KeptLinks, kept}
-use Rattle.dna_play.specs.KeptStation as of_station
 use Rattle.dna_play.specs.KeptPlay.{KeptStepped, kept_plays}
 use Rattle.dna_play.specs.KeptPlay as keeping
 use Rattle.dna_play.specs.KeptRun.{kept_stepped, IsKept}
+use Rattle.dna_play.proofs.Played.Cases.{made_case}
 use Rattle.dna_play.proofs.Played.Steps.{PlayHalf}
-use Rattle.dna_play.proofs.Ends.NoiseStage.{damage_left, header_heard, data_heard, is_noise, left_makes}
+use Rattle.dna_play.proofs.Played.Runs.{line_makes}
+use Rattle.dna_play.proofs.Ends.DamagedUnits.{ShownDamage, OfHeader, OfData, read_of}
+use Rattle.dna_play.proofs.Ends.NoiseStage.{damage_left, damage_heard, is_noise}
 use Rattle.dna_play.proofs.Stored.Timers.{none_behind}
 use Rattle.dna_play.proofs.Stored.LiveEnds.{left_same}
 use Rattle.dna_play.proofs.Stored.LiveLinks.{kept_links}
 use Rattle.dna_play.proofs.Stored.Now.{KeptNow}
-use Rattle.dna_play.proofs.Stored.Stations.{header_bad_came, data_bad_came}
+use Rattle.dna_play.proofs.Stored.Stations.{damage_came}
 
 module _ (own other : End) (now : KeptNow own other) (bytes : List ℕ) (lined : has_line (recorded.Noise bytes) ≡ true) where
   few_bytes : nat_le (length bytes) MAX_UNIT ≡ true
@@ -38,18 +39,12 @@ module _ (own other : End) (now : KeptNow own other) (bytes : List ℕ) (lined :
   links_stay = ap (kept_links (links_of own.half).links) (left_same (links_of own.half).links own.links_owed now.counted)
 
   -- the end after damage, as its node keeps it
-  heard_by : (r : ReadingValue) (arrival : ArrivalValue LayersTruth) →
-      record {
-        variables = variables_of (damage_left own.half other.half arrival);
-        owed =
-            (heard own r (after_record own (damage_left own.half other.half arrival))).owed;
-      }
-      ≡ of_station.after_arrival r false (kept own).station →
-      kept_stepped own (made own (recorded.Noise bytes) (heard own r) (Some (damage_left own.half other.half arrival))) ≡ keeping.heard (kept own)
-      bytes r
-  heard_by r arrival same =
+  heard_by : (d : ShownDamage) →
+      kept_stepped own (made own (recorded.Noise bytes) (heard own (read_of d)) (Some (damage_left own.half other.half d)))
+      ≡ keeping.heard (kept own) bytes (read_of d)
+  heard_by d =
       ap (λ (sent : List (List ℕ)). Ok (record {
-        end = kept (heard own r (after_record own (damage_left own.half other.half arrival)));
+        end = kept (heard own (read_of d) (after_record own (damage_left own.half other.half d)));
         sent = sent;
         records = recorded.Noise bytes ∷ [];
       })) (none_behind own.half.sent)
@@ -57,7 +52,7 @@ module _ (own other : End) (now : KeptNow own other) (bytes : List ℕ) (lined :
         end = record (kept own) { station = station; links = links };
         sent = [];
         records = recorded.Noise bytes ∷ [];
-      })) same links_stay
+      })) (damage_came (station_of own.half) own.owed d) links_stay
 
   -- bytes that have a line
   told : (r : ReadingValue) → keeping.hears_as (kept own) bytes r ≡ keeping.hears (kept own) bytes r
@@ -66,39 +61,26 @@ module _ (own other : End) (now : KeptNow own other) (bytes : List ℕ) (lined :
   abbrev KeptAs : Result KeptStepped Stop → Type 0
   KeptAs result = kept_stepped own (hears own other.half bytes) ≡ result
 
-  as_heard : (r : ReadingValue) (arrival : ArrivalValue LayersTruth) → reading bytes ≡ r →
-      makes own.half other.half (recorded.Noise bytes) ≡ Some (damage_left own.half other.half arrival) →
-      record {
-        variables = variables_of (damage_left own.half other.half arrival);
-        owed =
-            (heard own r (after_record own (damage_left own.half other.half arrival))).owed;
-      }
-      ≡ of_station.after_arrival r false (kept own).station → KeptAs (keeping.heard (kept own) bytes r)
-  as_heard r arrival e is same =
-      ap₂ (λ (x : ReadingValue) (o : Option PlayHalf). kept_stepped own (made own (recorded.Noise bytes) (heard own x) o)) e is ∙
-      heard_by r arrival same
+  as_heard : (d : ShownDamage) → reading bytes ≡ read_of d → KeptAs (keeping.heard (kept own) bytes (read_of d))
+  as_heard d e =
+      ap₂ (λ (x : ReadingValue) (o : Option PlayHalf). kept_stepped own (made own (recorded.Noise bytes) (heard own x) o)) e
+      (line_makes own.half other.half (recorded.Noise bytes) (damage_left own.half other.half d) lined
+      (damage_heard own.half other.half d bytes e))
+      ∙ heard_by d
 
   not_made : (IsNoise bytes → ⊥) → kept_stepped own (hears own other.half bytes) ≡ Err BadStep
-  not_made never = go (makes own.half other.half (recorded.Noise bytes)) refl
-    where
-      go : (o : Option PlayHalf) → makes own.half other.half (recorded.Noise bytes) ≡ o →
-          kept_stepped own (made own (recorded.Noise bytes) (heard own (reading bytes)) o) ≡ Err BadStep
-      go None e = refl
-      go (Some half) e = absurd (never (is_noise own.half other.half bytes half e))
+  not_made never =
+      made_case (λ (result : Result Stepped Stop). kept_stepped own result ≡ Err BadStep) own (recorded.Noise bytes) (heard own (reading bytes))
+      (makes own.half other.half (recorded.Noise bytes)) (λ none. refl)
+      (λ half e. absurd (never (is_noise own.half other.half bytes half e)))
 
   sound_never : (m : MessageValue) → reading bytes ≡ read_as.Sound m → IsNoise bytes → ⊥
   sound_never m e (inl f) = let g = sym e ∙ f in cc
   sound_never m e (inr f) = let g = sym e ∙ f in cc
 
   by_reading : (r : ReadingValue) → reading bytes ≡ r → KeptAs (keeping.hears (kept own) bytes r)
-  by_reading read_as.HeaderBad e =
-      as_heard read_as.HeaderBad HeaderBad e
-      (left_makes own.half other.half bytes (damage_left own.half other.half HeaderBad) lined (header_heard own.half other.half bytes e))
-      (header_bad_came (station_of own.half) own.owed) ∙ told read_as.HeaderBad
-  by_reading read_as.DataBad e =
-      as_heard read_as.DataBad DataBad e
-      (left_makes own.half other.half bytes (damage_left own.half other.half DataBad) lined (data_heard own.half other.half bytes e))
-      (data_bad_came (station_of own.half) own.owed) ∙ told read_as.DataBad
+  by_reading read_as.HeaderBad e = as_heard OfHeader e ∙ told read_as.HeaderBad
+  by_reading read_as.DataBad e = as_heard OfData e ∙ told read_as.DataBad
   by_reading (read_as.Sound m) e = not_made (sound_never m e) ∙ told (read_as.Sound m)
   by_reading (read_as.Malformed departure) e = not_made never ∙ told (read_as.Malformed departure)
     where

@@ -1,12 +1,11 @@
 -- A step at one end of both: what the nodes keep, and what is on both lines, goes along.
 use Rattle.std.proofs.Common.{◌≡◌, ℕ, ◌+◌, ◌≤◌, Bool, true, false, cond, List, ◌++◌, length, drop, Result, Ok, Err, refl, sym, ap, ap₂, ◌∙◌, subst}
-use Rattle.std.proofs.Common.{arith, length-append}
+use Rattle.std.proofs.Common.{arith}
 use Rattle.std.proofs.lemmas.List.{map-append, drop-drop, drop-append-le, drop_at, length-map}
 use Rattle.wire_base.specs.declared.side.Side.{Side}
 use Rattle.wire_base.specs.declared.side.Side.TheVariants.{A, B}
 use Rattle.dna_node.specs.Layers.{LayersUnit}
-use Rattle.dna_play.specs.Script.{StepValue, ScriptStep}
-use Rattle.dna_play.specs.Player.{links_of}
+use Rattle.dna_play.specs.Script.{StepValue, ScriptStep, Script}
 use Rattle.dna_play.specs.Stepped.{Stop, Stepped}
 use Rattle.dna_play.specs.Play.{plays}
 use Rattle.dna_play.specs.Played.{Played, with_a, with_b, plays_at, plays_step}
@@ -14,12 +13,11 @@ use Rattle.dna_play.specs.KeptPlay.{KeptStepped, kept_plays}
 use Rattle.dna_play.specs.KeptPlayed.{KeptMade, KeptPlayed, is_of_line, left_by, kept_with_a, kept_with_b, kept_plays_at, kept_plays_step}
 use Rattle.dna_play.specs.KeptPlayed.{with_records}
 use Rattle.dna_play.specs.KeptRun.{bytes_of, kept_stepped, IsKept, kept_pair, kept_played}
-use Rattle.dna_play.proofs.Played.Known.{exchanged_ends}
+use Rattle.dna_play.proofs.Played.Reached.{exchanged_ends, own_end, other_end, Reached, exchanged}
 use Rattle.dna_play.proofs.Played.StepMakes.{Good, plays_good}
-use Rattle.dna_play.proofs.Played.Walk.{AllOf, off_line}
-use Rattle.dna_play.proofs.Stored.LiveEnds.{Counted}
+use Rattle.dna_play.proofs.Played.Walk.{off_line}
 use Rattle.dna_play.proofs.Played.SentGrows.{Grows, all_grows}
-use Rattle.dna_play.proofs.Stored.Left.{AllLeave, plays_leaves, plays_there}
+use Rattle.dna_play.proofs.Stored.Left.{AllLeave, plays_leaves, IsTidy, tidy_of_a}
 
 -- ---- the lines
 
@@ -45,55 +43,6 @@ line_grows passed before after few grows =
     ap (drop passed) all ∙ drop-append-le passed first more (omega arith)
     ∙ ap (λ (rest : List (List ℕ)). drop passed first ++ rest) (sym (ap (drop (length before)) all ∙ drop_at first more (length before) counted))
 
--- ---- what holds of both ends besides
-
-pub record AreTidy (so_far : Played) : Type 0 where
-  pub counted_a : Counted (links_of so_far.a.half).links so_far.a.links_owed
-  pub counted_b : Counted (links_of so_far.b.half).links so_far.b.links_owed
-  pub passed_a : so_far.a.passed ≤ length so_far.b.half.sent
-  pub passed_b : so_far.b.passed ≤ length so_far.a.half.sent
-
-abbrev pub TidyNext : Result Played Stop → Type 0
-TidyNext (Ok next) = AreTidy next
-TidyNext (Err stop) = Unit {0}
-
-longer : (before after : List LayersUnit) (n : ℕ) → Grows before after → n ≤ length before → n ≤ length after
-longer before after n grows few = let e = ap (λ (sent : List LayersUnit). length sent) grows.is in let l = length-append before grows.more in
-    omega arith
-
-tidy_a : (so_far : Played) → AreTidy so_far → (step : StepValue) → TidyNext (with_a so_far (plays so_far.a so_far.b.half step))
-tidy_a so_far h step = go (plays so_far.a so_far.b.half step) (plays_leaves so_far.a so_far.b.half h.counted_a step)
-    (plays_there so_far.a so_far.b.half h.passed_a step) (plays_good so_far.a so_far.b.half step)
-  where
-    go : (result : Result Stepped Stop) → AllLeave (so_far.a.passed + off_line step) result →
-        AllOf (λ stepped. so_far.a.passed + off_line step ≤ length so_far.b.half.sent) result → Good so_far.a.half so_far.b.half result →
-        TidyNext (with_a so_far result)
-    go (Ok made) leaves there good =
-        let passed = leaves.passed in
-        record {
-          counted_a = leaves.counted;
-          counted_b = h.counted_b;
-          passed_a = omega arith;
-          passed_b = longer so_far.a.half.sent made.end.half.sent so_far.b.passed (all_grows so_far.b.half good) h.passed_b;
-        }
-    go (Err stop) leaves there good = tt
-
--- with the sides exchanged
-tidy_on : {so_far : Played} → AreTidy so_far → AreTidy (exchanged_ends so_far)
-tidy_on h = record { counted_a = h.counted_b; counted_b = h.counted_a; passed_a = h.passed_b; passed_b = h.passed_a }
-
-tidy_at : (so_far : Played) → AreTidy so_far → (side : Side) (step : StepValue) → TidyNext (plays_at so_far side step)
-tidy_at so_far h A step = tidy_a so_far h step
-tidy_at so_far h B step = back (plays so_far.b so_far.a.half step) (tidy_a (exchanged_ends so_far) (tidy_on h) step)
-  where
-    back : (result : Result Stepped Stop) → TidyNext (with_a (exchanged_ends so_far) result) → TidyNext (with_b so_far result)
-    back (Ok made) tidy = tidy_on tidy
-    back (Err stop) tidy = tt
-
-pub step_tidy : (so_far : Played) → AreTidy so_far → (step : ScriptStep) → TidyNext (plays_step so_far step)
-unfolding plays_step
-step_tidy so_far h step = tidy_at so_far h step.side step.step
-
 -- ---- both ends after a step
 
 -- the step leaves the same of what the nodes keep, or stops for the same reason
@@ -103,12 +52,12 @@ GoesAlong so_far side (Err stop) (Err other) = stop ≡ other
 GoesAlong so_far side (Ok next) (Err other) = ⊥
 GoesAlong so_far side (Err stop) (Ok made) = ⊥
 
-along_a : (so_far : Played) → AreTidy so_far → (step : StepValue) → IsKept so_far.a so_far.b.half step →
+along_a : (so_far : Played) → IsTidy so_far.a so_far.b → IsTidy so_far.b so_far.a → (step : StepValue) → IsKept so_far.a so_far.b.half step →
     GoesAlong so_far A (plays_at so_far A step) (kept_plays_at (kept_pair so_far) A step)
-along_a so_far h step same =
+along_a so_far own other step same =
     subst (λ (k : Result KeptStepped Stop). GoesAlong so_far A (with_a so_far (plays so_far.a so_far.b.half step))
     (kept_with_a (kept_pair so_far) step k)) same
-    (go (plays so_far.a so_far.b.half step) (plays_leaves so_far.a so_far.b.half h.counted_a step) (plays_good so_far.a so_far.b.half step))
+    (go (plays so_far.a so_far.b.half step) (plays_leaves so_far.a so_far.b.half own.counted step) (plays_good so_far.a so_far.b.half step))
   where
     go : (result : Result Stepped Stop) → AllLeave (so_far.a.passed + off_line step) result → Good so_far.a.half so_far.b.half result →
         GoesAlong so_far A (with_a so_far result) (kept_with_a (kept_pair so_far) step (kept_stepped so_far.a result))
@@ -116,7 +65,7 @@ along_a so_far h step same =
         let next : Played = record so_far { a = made.end; of_a = so_far.of_a ++ made.records } in
         ap₂ (λ (to_a to_b : List (List ℕ)). record (kept_played next) { pair = record (kept_pair next) { to_a = to_a; to_b = to_b } })
         (ap (λ (n : ℕ). drop n (bytes_of so_far.b.half.sent)) leaves.passed ∙ line_left step so_far.a.passed (bytes_of so_far.b.half.sent))
-        (line_grows so_far.b.passed so_far.a.half.sent made.end.half.sent h.passed_b (all_grows so_far.b.half good))
+        (line_grows so_far.b.passed so_far.a.half.sent made.end.half.sent other.passed (all_grows so_far.b.half good))
     go (Err stop) leaves good = refl
 
 abbrev exchanged_kept : KeptPlayed → KeptPlayed
@@ -126,10 +75,10 @@ exchanged_kept so_far = record {
   of_b = so_far.of_a;
 }
 
-along_b : (so_far : Played) → AreTidy so_far → (step : StepValue) → IsKept so_far.b so_far.a.half step →
+along_b : (so_far : Played) → IsTidy so_far.b so_far.a → IsTidy so_far.a so_far.b → (step : StepValue) → IsKept so_far.b so_far.a.half step →
     GoesAlong so_far B (plays_at so_far B step) (kept_plays_at (kept_pair so_far) B step)
-along_b so_far h step same = back (plays so_far.b so_far.a.half step) (kept_plays (kept_pair so_far).b (kept_pair so_far).to_b step)
-    (along_a (exchanged_ends so_far) (tidy_on h) step same)
+along_b so_far own other step same = back (plays so_far.b so_far.a.half step) (kept_plays (kept_pair so_far).b (kept_pair so_far).to_b step)
+    (along_a (exchanged_ends so_far) own other step same)
   where
     back : (result : Result Stepped Stop) (k : Result KeptStepped Stop) → GoesAlong (exchanged_ends so_far) A (with_a (exchanged_ends so_far) result)
         (kept_with_a (kept_pair (exchanged_ends so_far)) step k) → GoesAlong so_far B (with_b so_far result) (kept_with_b (kept_pair so_far) step k)
@@ -140,15 +89,15 @@ along_b so_far h step same = back (plays so_far.b so_far.a.half step) (kept_play
 
 -- the step is the same of the end that it is of
 abbrev pub kept_at : Played → Side → StepValue → Type 0
-kept_at so_far A step = IsKept so_far.a so_far.b.half step
-kept_at so_far B step = IsKept so_far.b so_far.a.half step
+kept_at so_far side step = IsKept (own_end side so_far) (other_end side so_far).half step
 
-pub step_along : (so_far : Played) → AreTidy so_far → (step : ScriptStep) → kept_at so_far step.side step.step →
+pub step_along : {script : Script} {steps count_a count_b : ℕ} {later : List ScriptStep} (so_far : Played) →
+    Reached script steps count_a count_b later so_far → (step : ScriptStep) → kept_at so_far step.side step.step →
     GoesAlong so_far step.side (plays_step so_far step) (kept_plays_step (kept_pair so_far) step)
 unfolding plays_step kept_plays_step
-step_along so_far h step same = go step.side same
+step_along so_far r step same = go step.side same
   where
     go : (side : Side) → kept_at so_far side step.step →
         GoesAlong so_far side (plays_at so_far side step.step) (kept_plays_at (kept_pair so_far) side step.step)
-    go A same = along_a so_far h step.step same
-    go B same = along_b so_far h step.step same
+    go A same = along_a so_far (tidy_of_a r) (tidy_of_a (exchanged r)) step.step same
+    go B same = along_b so_far (tidy_of_a (exchanged r)) (tidy_of_a r) step.step same

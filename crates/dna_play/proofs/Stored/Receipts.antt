@@ -1,9 +1,8 @@
 -- What comes to an end of the player is the same of what its node keeps: a unit as it was sent, with a buffer or without one, or damaged; with what
 -- its user gets then.
 use Rattle.std.proofs.Common.{◌≡◌, ℕ, ◌+◌, Bool, true, false, ◌&&◌, cond, Option, Some, None, List, [], ◌∷◌, length, drop, Result, Ok, Err, refl, sym}
-use Rattle.std.proofs.Common.{ap, ap₂, ◌∙◌, subst, le-leb, ◌⊎◌, inl, inr}
+use Rattle.std.proofs.Common.{ap, ap₂, ◌∙◌, subst, le-leb}
 use Rattle.std.specs.Prelude.{slice_get}
-use Rattle.two_nodes.specs.Nodes.{Made, advance}
 use Rattle.ddcmp_msg.specs.Reading.{ReadingValue, reading}
 use Rattle.ddcmp_msg.specs.Reading as read_as
 use Rattle.dna_packet.specs.Nsp.{NspValue}
@@ -30,16 +29,16 @@ use Rattle.dna_node.specs.LayersPair.{side_of}
 use Rattle.dna_node.specs.Layers.{LayersTruth, LayersUnit}
 use Rattle.dna_play.specs.Owed.{Debt, arrival_debt, can_take, with_debt}
 use Rattle.dna_play.specs.Script.{Deliver, Refuse, Damage}
-use Rattle.dna_play.specs.Player.{End, end_step, makes, links_of, station_of, after_record}
+use Rattle.dna_play.specs.Player.{End, makes, links_of, station_of, after_record}
 use Rattle.dna_play.specs.Player as player
 use Rattle.dna_play.specs.Stepped.{Stop, BadStep, Stepped, made}
-use Rattle.dna_play.specs.Receipt.{carried_in, carried, after_receipt, then_gets, on_unit, is_damage, damaged}
+use Rattle.dna_play.specs.Receipt.{carried_in, carried, after_receipt, then_gets, is_damage, damaged}
 use Rattle.dna_play.specs.Receipt as receiving
 use Rattle.dna_play.specs.Play.{plays}
 use Rattle.dna_play.specs.Kept.{KeptStation, KeptLinks, kept}
 use Rattle.dna_play.specs.KeptStation as of_station
 use Rattle.dna_play.specs.KeptLinks.{Delivering}
-use Rattle.dna_play.specs.KeptPlay.{KeptStepped, kept_plays, arrived, up_address, ups, all_short, came_as}
+use Rattle.dna_play.specs.KeptPlay.{KeptStepped, kept_plays, arrived, up_address, ups, came_as}
 use Rattle.dna_play.specs.KeptPlay as keeping
 use Rattle.dna_play.specs.KeptRun.{bytes_of, kept_stepped, IsKept}
 use Rattle.dna_station.proofs.Cut.Arriving.{arrival_refusal_same}
@@ -52,18 +51,20 @@ use Rattle.dna_play.proofs.Played.Steps.{PlayHalf, Nothing, First}
 use Rattle.dna_play.proofs.Played.Order.{quiet}
 use Rattle.dna_play.proofs.Played.Facts.{Facts}
 use Rattle.dna_play.proofs.Once.Checked.{meets_it}
-use Rattle.dna_play.proofs.Ends.DamagedUnits.{Damaged, damage_is_seen}
-use Rattle.dna_play.proofs.Ends.ReceiptMakes.{came_left, header_made, data_made, taken_is_data, within, unit_made}
+use Rattle.dna_play.proofs.Ends.DamagedUnits.{Damaged, damage_is_seen, ShownDamage, OfHeader, OfData, read_of, arrival_of, damage_of}
+use Rattle.dna_play.proofs.Ends.ReceiptMakes.{came_left, damage_made, taken_is_data, within, unit_made}
 use Rattle.dna_play.proofs.Ends.ReceiptStage.{unit_stage}
 use Rattle.dna_play.proofs.Ends.StationStage.{cut_of, left_owed}
 use Rattle.dna_play.proofs.Ends.Stage.{Stage}
 use Rattle.dna_play.proofs.Ends.ComesStage.{from_here, can_be, are_bytes_of}
-use Rattle.dna_play.proofs.Ends.ComesMade.{made_is, unit_line, damaged_line}
+use Rattle.dna_play.proofs.Played.Runs.{line_makes}
+use Rattle.dna_play.proofs.Ends.ComesLined.{unit_line, damaged_line}
 use Rattle.dna_play.proofs.Ends.StepStages.{facts_now}
-use Rattle.dna_play.proofs.Stored.Timers.{none_behind, kept_on, next_on_line}
+use Rattle.dna_play.proofs.Stored.Timers.{none_behind, on_line}
 use Rattle.dna_play.proofs.Stored.LiveLinks.{record_same}
 use Rattle.dna_play.proofs.Stored.Now.{KeptNow}
-use Rattle.dna_play.proofs.Stored.Stations.{station_with, sound_came, header_bad_came, data_bad_came, can_keep_same}
+use Rattle.dna_play.proofs.Stored.Stations.{station_with, sound_came, damage_came, can_keep_same}
+use Rattle.dna_play.proofs.Stored.Deliveries.{with_links}
 use Rattle.dna_play.proofs.Stored.Segments.{left_half, left_end, Got, nothing_got, message_got}
 
 module _ (own other : End) (now : KeptNow own other) where
@@ -87,34 +88,49 @@ module _ (own other : End) (now : KeptNow own other) where
 
   -- ---- a receipt that is made, with what the user gets
 
-  module _ (bytes : List ℕ) (read : ReadingValue) (is_kept : Bool) where
+  -- it is received: the node makes it, the user gets what is whole then, and the station is the same of what the node keeps
+  record IsReceived (bytes : List ℕ) (read : ReadingValue) (is_kept : Bool) : Type 0 where
+    left : Station
+    links : Links
+    makes_it : makes own.half other.half (Received own.passed is_kept bytes) ≡ Some (left_half own left links)
+    after : station_with (cut_of left).variables (with_debt (arrival_debt k read is_kept) (left_owed station left own.owed))
+        ≡ of_station.after_arrival read is_kept (kept own).station
+    got : Got own other.half now.counted ordered (Received own.passed is_kept bytes ∷ []) left (arrival_debt k read is_kept)
+        (left_end own left (arrival_debt k read is_kept) (carried is_kept read) links) (carried is_kept read)
+
+  module _ (bytes : List ℕ) (read : ReadingValue) (is_kept : Bool) (x : IsReceived bytes read is_kept) where
     abbrev r : Record
     r = Received own.passed is_kept bytes
 
-    abbrev debt : Option Debt
-    debt = arrival_debt k read is_kept
+    abbrev delivering : Delivering
+    delivering = arrived (carried is_kept read) live
 
-    abbrev step : Delivering → KeptStation → KeptLinks → List (List ℕ) → Result KeptStepped Stop
-    step d after links units = Ok (record {
+    -- what is made of it
+    abbrev received : Stepped
+    received = record {
+      end = with_links (left_end own x.left (arrival_debt k read is_kept) (carried is_kept read) x.links) x.got.final;
+      records = r ∷ ups (up_address (carried is_kept read)) delivering.messages;
+    }
+
+    is_made : receiving.receives own other.half bytes read is_kept ≡ Ok received
+    is_made =
+        ap (λ (o : Option PlayHalf). then_gets other.half (carried is_kept read) (made own r (after_receipt own read is_kept) o)) x.makes_it
+        ∙ x.got.gets
+
+    abbrev step : KeptStation → KeptLinks → List (List ℕ) → Result KeptStepped Stop
+    step after links units = Ok (record {
       end = record (kept own) { station = after; links = links; passed = own.passed + 1 };
       sent = units;
-      records = r ∷ ups (up_address (carried is_kept read)) d.messages;
+      records = r ∷ ups (up_address (carried is_kept read)) delivering.messages;
     })
 
-    made_kept : (left : Station) (links : Links) → makes own.half other.half r ≡ Some (left_half own left links) →
-        station_with (cut_of left).variables (with_debt debt (left_owed station left own.owed)) ≡ of_station.after_arrival read is_kept
-        (kept own).station →
-        Got own other.half now.counted ordered (r ∷ []) left debt (left_end own left debt (carried is_kept read) links) (carried is_kept read) →
-        kept_stepped own (receiving.receives own other.half bytes read is_kept) ≡ keeping.receives (kept own) bytes read is_kept
-    made_kept left links makes_it after got =
-        let delivering = arrived (carried is_kept read) live in
-        ap (λ (o : Option PlayHalf). kept_stepped own (then_gets other.half (carried is_kept read) (made own r (after_receipt own read is_kept) o)))
-        makes_it
-        ∙ ap (kept_stepped own) got.gets
-        ∙ ap₂ (λ (x : KeptStation) (y : KeptLinks). step delivering x y (drop (length own.half.sent) (bytes_of own.half.sent))) after got.links
-        ∙ ap (step delivering (of_station.after_arrival read is_kept (kept own).station) delivering.links) (none_behind own.half.sent)
-        ∙ sym (ap (λ (b : Bool). cond b (step delivering (of_station.after_arrival read is_kept (kept own).station) delivering.links [])
-        (Err BadStep)) got.short)
+    made_kept : kept_stepped own (receiving.receives own other.half bytes read is_kept) ≡ keeping.receives (kept own) bytes read is_kept
+    made_kept =
+        ap (kept_stepped own) is_made
+        ∙ ap₂ (λ (x : KeptStation) (y : KeptLinks). step x y (drop (length own.half.sent) (bytes_of own.half.sent))) x.after x.got.links
+        ∙ ap (step (of_station.after_arrival read is_kept (kept own).station) delivering.links) (none_behind own.half.sent)
+        ∙ sym (ap (λ (b : Bool). cond b (step (of_station.after_arrival read is_kept (kept own).station) delivering.links []) (Err BadStep))
+        x.got.short)
         ∙ sym (ap (λ (b : Bool). cond b
         (came_as (kept own) r (of_station.after_arrival read is_kept (kept own).station) (up_address (carried is_kept read)) delivering)
         (Err BadStep))
@@ -131,7 +147,7 @@ module _ (own other : End) (now : KeptNow own other) where
 
     is_within : IsWithin station unit.message unit.known.station
     is_within = within own.half other.half own.passed unit there now.stage.ahead facts.known.ready facts.known.bounded
-        (from_here own other now.later now.stage now.theirs facts unit there)
+        from
 
     -- the judge takes it too
     judged_takes : can_take k unit.message ≡ true → arrival_refusal judged.periods station (Sound unit.message unit.known.station) true ≡ None
@@ -206,21 +222,41 @@ module _ (own other : End) (now : KeptNow own other) where
     IsSame is_kept read =
         kept_stepped own (receiving.receives own other.half unit.bytes read is_kept) ≡ keeping.receives (kept own) unit.bytes read is_kept
 
-    unit_kept : (buffer : Bool) → kept_stepped own (receiving.comes own other.half buffer unit.bytes) ≡ keeping.comes (kept own) buffer unit.bytes
-    unit_kept buffer =
+    unit_received : (buffer : Bool) →
+        IsReceived unit.bytes (read_as.Sound unit.message) (buffer && receiving.can_keep own (reading unit.bytes))
+    unit_received buffer =
         let is_kept = buffer && receiving.can_keep own (reading unit.bytes) in
         let can = can_be own other now.later now.stage now.theirs facts unit there buffer in
         let u = unit_made own.half other.half own.passed unit there now.stage.ahead facts.known.ready facts.known.bounded
-        (from_here own other now.later now.stage now.theirs facts unit there) is_kept can in
-        let line = unit_line own other now.stage now.theirs now.later facts now.few unit there is_kept in
-        let makes_it = made_is own.half other.half unit.bytes own.passed is_kept (left_half own (left is_kept) u.links) line u.makes_it in
+        from is_kept can in
+        let line = unit_line own other facts now.few unit there is_kept in
+        let makes_it = line_makes own.half other.half (Received own.passed is_kept unit.bytes) (left_half own (left is_kept) u.links) line
+        u.makes_it in
         let after = now.later (after_record own (left_half own (left is_kept) u.links)) (first is_kept) (First makes_it Nothing)
         (quiet own (Received own.passed is_kept unit.bytes) refl refl) in
-        subst (IsSame is_kept) (sym told)
-        (made_kept unit.bytes (read_as.Sound unit.message) is_kept (left is_kept) u.links makes_it
-        (sound_came station own.owed facts.known.bounded.ordered unit.message unit.known.station is_kept is_within)
-        (got_of is_kept can u.links u.met_as after (stage_left is_kept can u.links) (met_as_read is_kept can)))
+        record {
+          left = left is_kept;
+          links = u.links;
+          makes_it = makes_it;
+          after = sound_came station own.owed facts.known.bounded.ordered unit.message unit.known.station is_kept is_within;
+          got = got_of is_kept can u.links u.met_as after (stage_left is_kept can u.links) (met_as_read is_kept can);
+        }
+
+    unit_kept : (buffer : Bool) → kept_stepped own (receiving.comes own other.half buffer unit.bytes) ≡ keeping.comes (kept own) buffer unit.bytes
+    unit_kept buffer =
+        let is_kept = buffer && receiving.can_keep own (reading unit.bytes) in
+        subst (IsSame is_kept) (sym told) (made_kept unit.bytes (read_as.Sound unit.message) is_kept (unit_received buffer))
         ∙ ap (λ (b : Bool). keeping.receives (kept own) unit.bytes (reading unit.bytes) (buffer && b)) (can_keep_same own (reading unit.bytes))
+
+    -- so it is no bad step
+    pub unit_made_to : (buffer : Bool) → (stepped : Stepped) × (receiving.comes own other.half buffer unit.bytes ≡ Ok stepped)
+    unit_made_to buffer =
+        let is_kept = buffer && receiving.can_keep own (reading unit.bytes) in
+        let x = unit_received buffer in (
+          received unit.bytes (read_as.Sound unit.message) is_kept x,
+          ap (λ (read : ReadingValue). receiving.receives own other.half unit.bytes read is_kept) told
+              ∙ is_made unit.bytes (read_as.Sound unit.message) is_kept x,
+        )
 
     -- ---- it comes damaged
 
@@ -231,59 +267,58 @@ module _ (own other : End) (now : KeptNow own other) where
       differs : Damaged place value unit.bytes
       differs = damage_is_seen unit.message unit.bytes place value (are_bytes_of own other now.later now.stage now.theirs facts unit there) told is
 
-      bad_kept : (read : ReadingValue) (arrival : ArrivalValue LayersTruth) (after : Station) → carried false read ≡ None →
-          advance end_step own.half other.half (Received own.passed false hurt) ≡ Made (left_half own after s) →
-          station_with (cut_of after).variables (with_debt (arrival_debt k read false) (left_owed station after own.owed)) ≡ of_station.after_arrival
-          read false (kept own).station →
-          kept_stepped own (receiving.receives own other.half hurt read false) ≡ keeping.receives (kept own) hurt read false
-      bad_kept read arrival after none makes_it same =
-          let line = damaged_line own other now.stage now.theirs now.later facts now.few unit there place value is in
-          made_kept hurt read false after s (made_is own.half other.half hurt own.passed false (left_half own after s) line makes_it) same
-          (nothing_got own other.half now.counted ordered (Received own.passed false hurt ∷ []) after (arrival_debt k read false)
-          (left_end own after (arrival_debt k read false) None s) None live refl refl (record_same s.links own.links_owed now.counted))
+      bad_received : (d : ShownDamage) → reading hurt ≡ read_of d → IsReceived hurt (read_of d) false
+      bad_received d e =
+          let after = after_arrival station (arrival_of d) false in
+          let line = damaged_line own other facts now.few unit there place value is in
+          let makes_it = damage_made own.half other.half own.passed unit there now.stage.ahead d hurt differs.differs e in
+          record {
+            left = after;
+            links = s;
+            makes_it = line_makes own.half other.half (Received own.passed false hurt) (left_half own after s) line makes_it;
+            after = damage_came station own.owed d;
+            got = nothing_got own other.half now.counted ordered (Received own.passed false hurt ∷ []) after (arrival_debt k (read_of d) false)
+                (left_end own after (arrival_debt k (read_of d) false) None s) None live refl refl
+                (record_same s.links own.links_owed now.counted);
+          }
 
-      abbrev HurtSame : ReadingValue → Type 0
-      HurtSame read = kept_stepped own (receiving.receives own other.half hurt read (true && receiving.can_keep own read))
-          ≡ keeping.receives (kept own) hurt read (true && of_station.can_keep read (kept own).station)
+      -- it is made, and is the same of both
+      record HurtSame (read : ReadingValue) : Type 0 where
+        same : kept_stepped own (receiving.receives own other.half hurt read (true && receiving.can_keep own read))
+            ≡ keeping.receives (kept own) hurt read (true && of_station.can_keep read (kept own).station)
+        made_to : (stepped : Stepped) × (receiving.receives own other.half hurt read (true && receiving.can_keep own read) ≡ Ok stepped)
 
-      damage_same : kept_stepped own (receiving.comes own other.half true hurt) ≡ keeping.comes (kept own) true hurt
-      damage_same = go differs.shows
-        where
-          go : (reading hurt ≡ read_as.HeaderBad) ⊎ (reading hurt ≡ read_as.DataBad) → HurtSame (reading hurt)
-          go (inl e) = subst HurtSame (sym e) (bad_kept read_as.HeaderBad HeaderBad (after_arrival station HeaderBad false) refl
-              (header_made own.half other.half own.passed unit there now.stage.ahead hurt differs.differs e) (header_bad_came station own.owed))
-          go (inr e) = subst HurtSame (sym e) (bad_kept read_as.DataBad DataBad (after_arrival station DataBad false) refl
-              (data_made own.half other.half own.passed unit there now.stage.ahead hurt differs.differs e) (data_bad_came station own.owed))
+      hurt_same : (d : ShownDamage) → IsReceived hurt (read_of d) false → HurtSame (read_of d)
+      hurt_same OfHeader x =
+          record { same = made_kept hurt read_as.HeaderBad false x; made_to = (_, is_made hurt read_as.HeaderBad false x) }
+      hurt_same OfData x = record { same = made_kept hurt read_as.DataBad false x; made_to = (_, is_made hurt read_as.DataBad false x) }
+
+      damage_comes : HurtSame (reading hurt)
+      damage_comes = let d = damage_of hurt differs.shows in subst HurtSame (sym d.1) (hurt_same d.0 (bad_received d.0 d.1))
+
+      pub damage_made_to : (stepped : Stepped) × (receiving.comes own other.half true hurt ≡ Ok stepped)
+      damage_made_to = damage_comes.made_to
 
   -- ---- the steps
 
-  -- the next unit on the line
-  on_line : (next : List ℕ → Result Stepped Stop) (then_next : List ℕ → Result KeptStepped Stop) →
-      ((unit : LayersUnit) → slice_get other.half.sent own.passed ≡ Some unit → kept_stepped own (next unit.bytes) ≡ then_next unit.bytes) →
-      kept_stepped own (on_unit (slice_get other.half.sent own.passed) next) ≡ keeping.with_next (drop own.passed (bytes_of other.half.sent))
-      then_next
-  on_line next then_next same = go (slice_get other.half.sent own.passed) refl ∙ sym (next_on_line own.passed other.half.sent then_next)
-    where
-      go : (o : Option LayersUnit) → slice_get other.half.sent own.passed ≡ o → kept_stepped own (on_unit o next) ≡ kept_on o then_next
-      go None there = refl
-      go (Some unit) there = same unit there
-
   pub deliver_kept : IsKept own other.half Deliver
   unfolding plays kept_plays
-  deliver_kept = on_line (receiving.comes own other.half true) (keeping.comes (kept own) true) (λ unit there. unit_kept unit there true)
+  deliver_kept = on_line own other.half (receiving.comes own other.half true) (keeping.comes (kept own) true)
+      (λ unit there. unit_kept unit there true)
 
   pub refuse_kept : IsKept own other.half Refuse
   unfolding plays kept_plays
-  refuse_kept = on_line (receiving.comes own other.half false) (keeping.comes (kept own) false) (λ unit there. unit_kept unit there false)
+  refuse_kept = on_line own other.half (receiving.comes own other.half false) (keeping.comes (kept own) false)
+      (λ unit there. unit_kept unit there false)
 
   pub damage_kept : (place value : ℕ) → IsKept own other.half (Damage place value)
   unfolding plays kept_plays
-  damage_kept place value = on_line
+  damage_kept place value = on_line own other.half
       (λ bytes. cond (is_damage place value bytes) (receiving.comes own other.half true (damaged place value bytes)) (Err BadStep))
       (keeping.comes_damaged (kept own) place value) (λ unit there. go unit there (is_damage place value unit.bytes) refl)
     where
       go : (unit : LayersUnit) → slice_get other.half.sent own.passed ≡ Some unit → (b : Bool) → is_damage place value unit.bytes ≡ b →
           kept_stepped own (cond b (receiving.comes own other.half true (damaged place value unit.bytes)) (Err BadStep))
           ≡ cond b (keeping.comes (kept own) true (damaged place value unit.bytes)) (Err BadStep)
-      go unit there true is = damage_same unit there place value is
+      go unit there true is = (damage_comes unit there place value is).same
       go unit there false is = refl

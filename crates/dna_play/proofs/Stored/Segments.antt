@@ -35,7 +35,7 @@ use Rattle.dna_play.specs.Player as player
 use Rattle.dna_play.specs.Stepped.{owing_more, links_owing_more}
 use Rattle.dna_play.specs.Receipt.{complete, delivered_by, delivered_now, carried_debt, gets_all, passing}
 use Rattle.dna_play.specs.Kept.{KeptLinks, kept}
-use Rattle.dna_play.specs.KeptLinks.{Delivering, delivering_none, delivering_at, took_segment, arrives, message_came, with_end}
+use Rattle.dna_play.specs.KeptLinks.{Delivering, delivering_none, delivering_at, took_segment, arrives, message_came}
 use Rattle.dna_play.specs.KeptLinks as of_links
 use Rattle.dna_play.specs.KeptPlay.{arrived, up_address, ups, all_short}
 use Rattle.dna_play.proofs.Played.Steps.{PlayHalf}
@@ -46,7 +46,7 @@ use Rattle.dna_links.proofs.Runs.Sides.{set_same}
 use Rattle.dna_play.proofs.Links.Pays.{found_at, with_found}
 use Rattle.dna_play.proofs.Links.Stage.{left_links}
 use Rattle.dna_play.proofs.Ends.UpsFollow.{AllLined}
-use Rattle.dna_play.proofs.Ends.Receives.{AreDistinct, IsLined}
+use Rattle.dna_play.proofs.Ends.UpsFollow.{AreDistinct, IsLined}
 use Rattle.dna_play.proofs.Stored.LiveEnds.{end_of, Counted, with_owed, owed_beside, left_changed}
 use Rattle.dna_play.proofs.Stored.LiveLinks.{kept_links, place_among, acted_on_lives, live_set, record_same, end_missing, end_found}
 use Rattle.dna_play.proofs.Stored.LinkComes.{NoSegment, message_kept, acted_end}

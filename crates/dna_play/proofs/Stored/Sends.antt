@@ -18,7 +18,7 @@ use Rattle.dna_links.specs.TrueLinks.{Links}
 use Rattle.dna_station.specs.WireStation.{StationVariables}
 use Rattle.dna_node.specs.Layers.{LayersUnit}
 use Rattle.dna_play.specs.Script.{Send}
-use Rattle.dna_play.specs.LinkOwed.{LinkOwed, LinksOwed, EndConfirm, Turn}
+use Rattle.dna_play.specs.LinkOwed.{LinkOwed, LinksOwed, EndConfirm, Turn, ConnectAckTurn}
 use Rattle.dna_play.specs.NextSent.{LinkEnd, LinkChoice, Confirms, OfLink, turn_of, link_choice, without_turn, after_link_choice}
 use Rattle.dna_play.specs.NextSent.{Choice, SendNew, choice, after_choice}
 use Rattle.dna_play.specs.Compose.{link_message, message_at, turn_message, message_of}
@@ -28,7 +28,7 @@ use Rattle.dna_play.specs.Stepped.{Stop, made}
 use Rattle.dna_play.specs.Play.{after_sending, sends_message, sends_choice, sends, plays}
 use Rattle.dna_play.specs.Kept.{KeptStation, KeptLinks, kept, live_ends}
 use Rattle.dna_play.specs.KeptStation as of_station
-use Rattle.dna_play.specs.KeptLinks.{gave_by, turn_sent, sent_at}
+use Rattle.dna_play.specs.KeptLinks.{sent_at}
 use Rattle.dna_play.specs.KeptLinks as of_links
 use Rattle.dna_play.specs.KeptPlay.{KeptStepped, kept_plays}
 use Rattle.dna_play.specs.KeptPlay as keeping
@@ -36,7 +36,7 @@ use Rattle.dna_play.specs.KeptRun.{bytes_of, kept_stepped, IsKept}
 use Rattle.dna_play.proofs.Played.Steps.{PlayHalf}
 use Rattle.dna_play.proofs.Played.Facts.{Facts}
 use Rattle.dna_links.proofs.Tables.Outcomes.{checked}
-use Rattle.dna_play.proofs.Links.Pays.{OwedFits, IsDue, DueConnectAck, DueInitiate, DueConfirm, DueDisconnect, DueDataAck, DueSegment, turn_due}
+use Rattle.dna_play.proofs.Links.Pays.{phase_of, OwedFits, IsDue, DueFlag, DueSegment, turn_due}
 use Rattle.dna_play.proofs.Links.Pays.{running_is}
 use Rattle.dna_play.proofs.Links.Choices.{IsChosen, end_at, first_chosen}
 use Rattle.dna_play.proofs.Links.Stage.{left_links}
@@ -53,13 +53,13 @@ use Rattle.dna_play.proofs.Stored.Turns.{TurnMade, confirm_stays, turn_made}
 
 -- ---- what a turn says of its link
 
+phase_lives : (turn : Turn) → is_live (phase_of turn) ≡ true
+phase_lives ConnectAckTurn = refl
+phase_lives turn = refl
+
 -- only a link that lives has one
 due_lives : (l : LinkOf TrueFlow) (o : LinkOwed) → OwedFits l o → (turn : Turn) → IsDue (end_of l o) turn → is_live l.port.phase ≡ true
-due_lives l o fits turn (DueConnectAck owed) = ap is_live (fits.connect_ack owed)
-due_lives l o fits turn (DueInitiate owed) = ap is_live (fits.initiate owed)
-due_lives l o fits turn (DueConfirm owed) = ap is_live (fits.confirm owed)
-due_lives l o fits turn (DueDisconnect owed) = ap is_live (fits.disconnect owed)
-due_lives l o fits turn (DueDataAck owed) = ap is_live (fits.data_ack owed)
+due_lives l o fits turn (DueFlag owed) = ap is_live (fits.turns turn owed) ∙ phase_lives turn
 due_lives l o fits turn (DueSegment running due) = ap is_live (running_is l.port.phase running)
 
 -- ---- the bytes of the unit

@@ -20,6 +20,7 @@ use Rattle.dna_play.specs.Receipt as receiving
 use Rattle.dna_play.specs.Player.{End}
 use Rattle.dna_play.specs.Kept.{KeptStation, kept}
 use Rattle.dna_play.specs.KeptStation as keeping
+use Rattle.dna_play.proofs.Ends.DamagedUnits.{ShownDamage, OfHeader, OfData, read_of, arrival_of}
 use Rattle.dna_play.proofs.Ends.StationStage.{cut_of, left_owed, sent_kept, came_kept}
 
 -- the station variables, and what is owed
@@ -75,16 +76,12 @@ module _ (s : Station) (owed : Owed) where
   counted true causes = refl
   counted false causes = refl
 
-  pub header_bad_came : station_with (cut_of (after_arrival s HeaderBad false)).variables
-      (with_debt (arrival_debt (cut_of s).variables read_as.HeaderBad false) (left_owed s (after_arrival s HeaderBad false) owed))
-      ≡ keeping.after_arrival read_as.HeaderBad false (kept_station s owed)
-  header_bad_came = left_as (after_arrival s HeaderBad false) (cut_of s).variables (arrival_debt (cut_of s).variables read_as.HeaderBad false)
+  pub damage_came : (d : ShownDamage) → station_with (cut_of (after_arrival s (arrival_of d) false)).variables
+      (with_debt (arrival_debt (cut_of s).variables (read_of d) false) (left_owed s (after_arrival s (arrival_of d) false) owed))
+      ≡ keeping.after_arrival (read_of d) false (kept_station s owed)
+  damage_came OfHeader = left_as (after_arrival s HeaderBad false) (cut_of s).variables (arrival_debt (cut_of s).variables read_as.HeaderBad false)
       (counted (counts_damage s.state) (with_cause HeaderCheck s.causes))
-
-  pub data_bad_came : station_with (cut_of (after_arrival s DataBad false)).variables
-      (with_debt (arrival_debt (cut_of s).variables read_as.DataBad false) (left_owed s (after_arrival s DataBad false) owed))
-      ≡ keeping.after_arrival read_as.DataBad false (kept_station s owed)
-  data_bad_came = left_as (after_arrival s DataBad false) (cut_of s).variables (arrival_debt (cut_of s).variables read_as.DataBad false)
+  damage_came OfData = left_as (after_arrival s DataBad false) (cut_of s).variables (arrival_debt (cut_of s).variables read_as.DataBad false)
       (counted (counts_damage s.state) (with_cause DataCheck s.causes))
 
 -- whether the packet of what came can be taken

@@ -1,24 +1,15 @@
 -- Each step of a script is the same of what the nodes of the ends keep.
-use Rattle.std.proofs.Common.{ℕ, ◌<◌, ◌≤◌, length, arith}
+use Rattle.std.proofs.Common.{ℕ, ◌<◌, ◌≤◌, length}
 use Rattle.std.specs.Prelude.{slice_index}
-use Rattle.wire_base.specs.declared.side.Side.{Side}
-use Rattle.wire_base.specs.declared.side.Side.TheVariants.{A, B}
-use Rattle.capture.specs.Range.{IsNode}
 use Rattle.capture.specs.declared.event.Event.TheVariants as events
 use Rattle.capture.specs.declared.record.Record.TheVariants.{User}
 use Rattle.capture.specs.declared.record.Record.TheVariants as recorded
-use Rattle.dna_play.specs.Script.{StepValue, ScriptStep, Script, Start, Halt, Timer, Send, Deliver, Refuse, Lose, Damage, Noise, Open, Accept, Reject}
+use Rattle.dna_play.specs.Script.{StepValue, ScriptStep, Start, Halt, Timer, Send, Deliver, Refuse, Lose, Damage, Noise, Open, Accept, Reject}
 use Rattle.dna_play.specs.Script.{In, Close, Retry}
-use Rattle.dna_play.specs.ScriptText.{MAX_STEPS, IsStep, NumbersFit, step_bytes, most_bytes}
-use Rattle.dna_play.specs.Player.{End, links_of}
-use Rattle.dna_play.specs.Played.{Played}
+use Rattle.dna_play.specs.ScriptText.{IsStep, NumbersFit, step_bytes, most_bytes}
+use Rattle.dna_play.specs.Player.{End}
 use Rattle.dna_play.specs.KeptRun.{IsKept}
-use Rattle.dna_play.proofs.Ends.Stage.{Stage}
 use Rattle.dna_play.proofs.Played.PlayLines.{line_tested}
-use Rattle.dna_play.proofs.Played.Facts.{Later, Going, later_a, later_b}
-use Rattle.dna_play.proofs.Played.Stages.{Stages}
-use Rattle.dna_play.proofs.Stored.LiveEnds.{Counted}
-use Rattle.dna_play.proofs.Stored.Pairs.{AreTidy, kept_at}
 use Rattle.dna_play.proofs.Stored.Timers.{timer_kept, lose_kept}
 use Rattle.dna_play.proofs.Stored.Now.{KeptNow}
 use Rattle.dna_play.proofs.Stored.Made.{start_kept, halt_kept}
@@ -56,19 +47,3 @@ module _ (own other : End) (now : KeptNow own other) where
 
   pub step_kept : (step : ScriptStep) → IsStep step → IsKept own other.half step.step
   step_kept step fits = value_kept step.step fits.spelling.numbers fits.spelling.bytes fits.short
-
--- ---- behind so many steps, at either end
-
-module _ (script : Script) (node_a : IsNode script.node_a) (node_b : IsNode script.node_b) (so_far : Played) (going : Going script so_far) (steps : ℕ)
-    (stages : Stages so_far steps) (tidy : AreTidy so_far) (few : steps ≤ MAX_STEPS) (step : ScriptStep) (fits : IsStep step) where
-  kept_of_end : (own other : End) → Stage own → Stage other → Later own other → own.passed ≤ steps →
-      Counted (links_of own.half).links own.links_owed → IsKept own other.half step.step
-  kept_of_end own other stage theirs later passed counted =
-      step_kept own other (record { stage = stage; theirs = theirs; later = later; few = omega arith; counted = counted }) step fits
-
-  pub kept_next : kept_at so_far step.side step.step
-  kept_next = go step.side
-    where
-      go : (side : Side) → kept_at so_far side step.step
-      go A = kept_of_end so_far.a so_far.b stages.of_a stages.of_b (later_a script node_a node_b so_far going) stages.passed_a tidy.counted_a
-      go B = kept_of_end so_far.b so_far.a stages.of_b stages.of_a (later_b script node_a node_b so_far going) stages.passed_b tidy.counted_b

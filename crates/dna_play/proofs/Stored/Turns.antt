@@ -29,7 +29,7 @@ use Rattle.dna_play.specs.KeptLinks.{gave, gave_by}
 use Rattle.dna_play.proofs.Links.FlowDid.{SegmentDid, GivesIt, GivesAgain, segment_did, acks_did}
 use Rattle.dna_links.proofs.Tables.Outcomes.{looked, checked}
 use Rattle.dna_links.proofs.Runs.Reads.{at_is}
-use Rattle.dna_play.proofs.Links.Pays.{fits_in, Fits, OwedFits, IsDue, DueDataAck, DueSegment, known_at, running_is}
+use Rattle.dna_play.proofs.Links.Pays.{fits_in, Fits, OwedFits, IsDue, DueFlag, DueSegment, known_at, running_is}
 use Rattle.dna_play.proofs.Once.Addresses.{LinkList, OwnsIn}
 use Rattle.dna_play.proofs.Stored.LiveLists.{set_back}
 use Rattle.dna_play.proofs.Stored.LiveEnds.{end_of}
@@ -201,10 +201,10 @@ module _ (s : Links) (made : Sent TrueFlow Numbers) (n : ℕ) (l : LinkOf TrueFl
     turn_made ConfirmTurn due e = unmoved ConfirmTurn refl (phase_stays s made (TheLink (address l.port.own) (address l.port.far)) is_confirming e)
     turn_made DisconnectTurn due e =
         unmoved DisconnectTurn refl (phase_stays s made (TheLink (address l.port.own) (address l.port.far)) is_disconnecting e)
-    turn_made DataAckTurn (DueDataAck owed) e =
+    turn_made DataAckTurn (DueFlag owed) e =
         let words = ack_of (variables_of l).received ∷ [] in
         let r = run_made s made (λ link. sends_acks words link.flow) (address l.port.own) (address l.port.far) n l there
-        (run_owns shape (owes.data_ack owed)) distinct e in
+        (run_owns shape (owes.turns DataAckTurn owed)) distinct e in
         let d = acks_did l.flow words r.sent r.is in
         record {
           left = with_flow r.sent.flow l;
@@ -213,6 +213,7 @@ module _ (s : Links) (made : Sent TrueFlow Numbers) (n : ℕ) (l : LinkOf TrueFl
           acknowledged = ap (λ (g : TrueFlow). g.acknowledged) d.1;
           is = ap (λ (g : TrueFlow). end_of (with_flow g l) o) d.1;
         }
+    turn_made SegmentTurn (DueFlag owed) e = absurd cc
     turn_made SegmentTurn (DueSegment running due) e =
         let again = slice_get (variables_of l).outstanding o.ahead in
         let segment = segment_with (end_of l o) (piece_to_send again l.flow.unsent) in
