@@ -19,4 +19,6 @@ pub mod RangeLaws
 pub mod LackLaws
 pub mod TextLaws
 pub mod SoFarLaws
+pub mod ListedText
+pub mod ListedSoFar
 pub mod ConvertLaws

@@ -1,6 +1,7 @@
 pub mod Text
 pub mod Range
 pub mod Departing
+pub mod Listed
 pub mod Reading
 pub mod Lines
 pub mod Faulty

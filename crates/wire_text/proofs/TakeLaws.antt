@@ -7,7 +7,8 @@ use Rattle.capture.specs.Departing.{first_line, IsWhole}
 use Rattle.capture.proofs.LineLaws.{if_known}
 use Rattle.capture.proofs.TakeLaws.{line_is, whole-append}
 use Rattle.wire_text.specs.declared.limit.TheConstants.{MAX_PIECES}
-use Rattle.wire_text.specs.WireText.{WordsDepart, PieceDeparts, HeadWordsDepart, WireHeadDeparts}
+use Rattle.capture.specs.Listed.{IsNoHead}
+use Rattle.wire_text.specs.WireText.{WordsDepart, PieceDeparts, WireHeadDeparts, wire_form}
 use Rattle.wire_text.specs.inner.Reading.{IsNoPiece, head_at}
 use Rattle.wire_text.proofs.HeadLaws.{head_again}
 
@@ -29,9 +30,9 @@ pub no_head : (unread : List ℕ) (len : ℕ) (before after : Option (List ℕ))
     → head_at (take len unread) ≡ None → IfSome before (WireHeadDeparts Syntax)
 no_head unread len before after whole e kept read =
     let none : head_at (first_line unread) ≡ None = ap head_at (sym (line_is unread len whole e)) ∙ read in
-    let departs : HeadWordsDepart (first_line unread) =
+    let departs : IsNoHead wire_form (first_line unread) =
     λ node_a node_b p q spelled. absurd
     (let some : None ≡ Some (node_a, node_b) = sym none ∙ ap head_at spelled ∙ head_again node_a node_b p q in cc) in
     if_known before after unread (WireHeadDeparts Syntax) kept (λ rest.
     let same = whole-append unread rest whole in
-    inr (same.0, subst HeadWordsDepart (sym same.1) departs))
+    inr (same.0, subst (IsNoHead wire_form) (sym same.1) departs))
