@@ -10,9 +10,10 @@ use Rattle.capture.specs.Range.{IsNode}
 use Rattle.capture.specs.Departing.{first_line, has_lf, LineDeparts}
 use Rattle.capture.specs.Listed.{ListForm, item_line, list_head, ItemDeparts, IsNoHead, ListHeadDeparts}
 use Rattle.capture.proofs.PartLaws.{HasNo}
+use Rattle.capture.proofs.ListedHead.{AreFirstWords, head_lacks, head_short, same_head}
 use Rattle.capture.proofs.TextLaws.{ended_first, same_ended, line_some, line_once, whole_or_not}
 
--- what lines and heads have to keep
+-- what lines and the first words of a head have to keep
 pub record AreLinesOf {Item : Type 0} (form : ListForm Item) : Type 0 where
   pub lacks : (item : Item) → form.HasLine item → HasNo 10 (form.line item)
   pub short : (item : Item) → form.HasLine item → length (form.line item) ≤ MAX_LINE
@@ -20,9 +21,7 @@ pub record AreLinesOf {Item : Type 0} (form : ListForm Item) : Type 0 where
   -- the words of a line fit, and depart in one way at most
   pub fit : (kind : Departure) (item : Item) → form.HasLine item → form.WordsDepart kind (form.line item) → ⊥
   pub once : (line : List ℕ) (a b : Departure) → form.WordsDepart a line → form.WordsDepart b line → a ≡ b
-  pub head_lacks : (node_a node_b : ℕ) → IsNode node_a → IsNode node_b → HasNo 10 (list_head form node_a node_b)
-  pub head_short : (node_a node_b : ℕ) → IsNode node_a → IsNode node_b → length (list_head form node_a node_b) ≤ MAX_LINE
-  pub same_head : (a b a' b' : ℕ) → IsNode a → IsNode b → IsNode a' → IsNode b' → list_head form a b ≡ list_head form a' b' → (a ≡ a') × (b ≡ b')
+  pub first : AreFirstWords form.first_words
 
 module _ {Item : Type 0} (form : ListForm Item) (lines : AreLinesOf form) where
   -- ---- lines
@@ -36,8 +35,8 @@ module _ {Item : Type 0} (form : ListForm Item) (lines : AreLinesOf form) where
   pub one_head : (a b a' b' : ℕ) (x y : List ℕ) → IsNode a → IsNode b → IsNode a' → IsNode b' →
       ended (list_head form a b) ++ x ≡ ended (list_head form a' b') ++ y → (a ≡ a') × (b ≡ b') × (x ≡ y)
   one_head a b a' b' x y p q p' q' e =
-      let same = same_ended (list_head form a b) (list_head form a' b') x y (lines.head_lacks a b p q) (lines.head_lacks a' b' p' q') e in
-      let nodes = lines.same_head a b a' b' p q p' q' same.0 in
+      let same = same_ended (list_head form a b) (list_head form a' b') x y (head_lacks form a b lines.first p q) (head_lacks form a' b' lines.first p' q') e in
+      let nodes = same_head form a b a' b' p q p' q' same.0 in
       (nodes.0, nodes.1, same.1)
 
   -- ---- lists of items
@@ -90,16 +89,16 @@ module _ {Item : Type 0} (form : ListForm Item) (lines : AreLinesOf form) where
       ListHeadDeparts form kind (ended (list_head form node_a node_b) ++ rest) → ⊥
   no_head_departure TooMany node_a node_b rest p q d = d
   no_head_departure TooLong node_a node_b rest p q d =
-      let first = ended_first (list_head form node_a node_b) rest (lines.head_lacks node_a node_b p q) in
-      let short = lines.head_short node_a node_b p q in
+      let first = ended_first (list_head form node_a node_b) rest (head_lacks form node_a node_b lines.first p q) in
+      let short = head_short form node_a node_b lines.first p q in
       omega (arith, ap length first.0)
   no_head_departure Syntax node_a node_b rest p q (inl d) =
-      let first = ended_first (list_head form node_a node_b) rest (lines.head_lacks node_a node_b p q) in
+      let first = ended_first (list_head form node_a node_b) rest (head_lacks form node_a node_b lines.first p q) in
       let open_line = d.1 in
       let ended_line = first.1 in
       cc
   no_head_departure Syntax node_a node_b rest p q (inr d) =
-      let first = ended_first (list_head form node_a node_b) rest (lines.head_lacks node_a node_b p q) in
+      let first = ended_first (list_head form node_a node_b) rest (head_lacks form node_a node_b lines.first p q) in
       let none : IsNoHead form (list_head form node_a node_b) = subst (IsNoHead form) first.0 d.1 in
       none node_a node_b p q refl
 

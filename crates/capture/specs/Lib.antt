@@ -3,6 +3,7 @@ pub mod Range
 pub mod Departing
 pub mod Listed
 pub mod Reading
+pub mod Sided
 pub mod Lines
 pub mod Faulty
 pub mod Reader

@@ -1,6 +1,6 @@
 -- A text that lists items: a head with the addresses of two nodes, and a line for each item. How it is spelled, which lists have a text, and how a
 -- text departs from it, over what a line says.
-use Rattle.std.specs.Prelude.{◌≡◌, ℕ, ◌<◌, ◌≤◌, ◌⊎◌, false, List, ◌++◌, length, Option}
+use Rattle.std.specs.Prelude.{◌≡◌, ℕ, ◌<◌, ◌≤◌, ◌⊎◌, false, List, ◌++◌, length, Option, option_and_then}
 use Rattle.std.specs.List.{flat_map, AllByRecursion}
 use Rattle.std.specs.Io.KnownBytes.{Consumes}
 use Rattle.capture.specs.declared.limit.TheConstants.{MAX_LINE}
@@ -8,6 +8,7 @@ use Rattle.capture.specs.declared.fault.Departure.{Departure}
 use Rattle.capture.specs.declared.fault.Departure.TheVariants.{Syntax, TooLong, TooMany}
 use Rattle.capture.specs.Text.{address_text, spaced, ended}
 use Rattle.capture.specs.Range.{IsNode}
+use Rattle.capture.specs.Reading.{after, nodes_at}
 use Rattle.capture.specs.Departing.{first_line, has_lf, IsWhole, LineDeparts}
 
 -- the addresses of both nodes, and the items in their order
@@ -22,6 +23,10 @@ pub record IsBeginningOf {Item : Type 0} (begun all : Listed Item) : Type 0 wher
   pub node_b : all.node_b ≡ begun.node_b
   pub more : List Item
   pub items : all.items ≡ begun.items ++ more
+
+-- the addresses that a line names behind these first words of a head
+unfoldable pub list_head_at : (first_words line : List ℕ) → Option (ℕ × ℕ)
+list_head_at first_words line = option_and_then nodes_at (after first_words line)
 
 -- What such a text says
 pub record ListForm (Item : Type 0) : Type 1 where

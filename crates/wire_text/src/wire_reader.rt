@@ -10,8 +10,8 @@ ghost use Rattle.wire_text.specs.Reader.{Advances, Opens};
 ghost use Rattle.wire_text.specs.inner.Fields.{TakesPiece, pieced_in};
 
 use crate::limit::{MAX_PIECE, MAX_PIECES};
-use crate::words::{head_of, piece_into};
-use capture::{CaptureFault, Departure, LineFault, LineReader, Phase};
+use crate::words::piece_into;
+use capture::{CaptureFault, Departure, LineFault, LineReader, Phase, list_head_of};
 use std::alloc::Global;
 use std::io::Read;
 use std::marker::Model;
@@ -112,7 +112,7 @@ impl WireReader {
             return Err(CaptureFault::OutOfMemory);
         };
         match lines.next(1, reader) {
-            Ok(Some(len)) => match head_of(lines.line(len)) {
+            Ok(Some(len)) => match list_head_of(lines.line(len), b"ddwire 1 ") {
                 Some((node_a, node_b)) => {
                     lines.skip(len);
                     let Ok(room) = vec![in alloc; 0u8; MAX_PIECE] else {
