@@ -7,7 +7,7 @@ use Rattle.std.proofs.KnownBytes.{Consumes-trans}
 use Rattle.capture.specs.declared.fault.Departure.{Departure}
 use Rattle.capture.specs.Text.{ended}
 use Rattle.capture.specs.Range.{IsNode}
-use Rattle.capture.specs.Listed.{Listed, ListForm, IsBeginningOf, item_line, list_head, list_text, IsList, BeginsWithList, IsListSoFar, ItemDeparts}
+use Rattle.capture.specs.Listed.{Listed, ListForm, IsBeginningOf, item_line, list_head, list_text, BeginsWithList, IsListSoFar, ItemDeparts}
 use Rattle.capture.specs.Listed.{ListHeadDeparts}
 use Rattle.capture.proofs.SoFarLaws.{All-push, All-behind}
 use Rattle.capture.proofs.ListedText.{AreLinesOf, one_line, one_head, begun_lines, nothing_more, no_departure, no_end_departure, no_head_departure}

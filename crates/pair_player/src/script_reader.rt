@@ -16,8 +16,8 @@ use crate::entry::LineEntry;
 use crate::fault::ScriptFault;
 use crate::limit::MAX_STEPS;
 use crate::step::ScriptStep;
-use crate::words::{head_of, line_into};
-use capture::{Departure, LineFault, LineReader, MAX_MESSAGE, Phase};
+use crate::words::line_into;
+use capture::{Departure, LineFault, LineReader, MAX_MESSAGE, Phase, list_head_of};
 use std::alloc::Global;
 use std::io::Read;
 use std::marker::Model;
@@ -105,7 +105,7 @@ impl ScriptReader {
             return Err(ScriptFault::OutOfMemory);
         };
         match lines.next(1, reader) {
-            Ok(Some(len)) => match head_of(lines.line(len)) {
+            Ok(Some(len)) => match list_head_of(lines.line(len), b"ddplay 1 ") {
                 Some((node_a, node_b)) => {
                     lines.skip(len);
                     let Ok(room) = vec![in alloc; 0u8; MAX_MESSAGE] else {

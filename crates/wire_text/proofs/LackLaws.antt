@@ -1,15 +1,12 @@
 -- No LF stands in the words of a line, and they are no longer than a line may be.
-use Rattle.std.proofs.Common.{ℕ, ◌≤◌, length, refl, arith, lit<}
-use Rattle.std.specs.Prelude.{codes}
-use Rattle.wire_base.specs.declared.side.Side.{Side}
-use Rattle.wire_base.specs.declared.side.Side.TheVariants.{A, B}
+use Rattle.std.proofs.Common.{◌≤◌, length, arith, lit<}
 use Rattle.wire_base.specs.Side.{side_letter}
 use Rattle.capture.specs.declared.limit.TheConstants.{MAX_LINE}
 use Rattle.capture.specs.Text.{bytes_text}
 use Rattle.capture.proofs.PartLaws.{HasNo}
 use Rattle.capture.proofs.BytesLaws.{bytes_lack}
 use Rattle.capture.proofs.SidedLaws.{letter_lacks, letter_short}
-use Rattle.capture.proofs.LackLaws.{lacks, spaced_lacks, bytes_short, spaced_short}
+use Rattle.capture.proofs.LackLaws.{spaced_lacks, bytes_short, spaced_short}
 use Rattle.wire_text.specs.declared.limit.TheConstants.{MAX_PIECE}
 use Rattle.wire_text.specs.WireText.{Piece, piece_text, HasSpelling, IsPiece}
 

@@ -1,7 +1,6 @@
 -- A piece's line: what is read is its one spelling, and its spelling is read.
-use Rattle.std.proofs.Common.{◌≡◌, ℕ, ◌*◌, ◌≤◌, List, [], ◌∷◌, ◌++◌, length, get_or, Option, Some, None, Result, Ok, Err, refl, sym, ap}
+use Rattle.std.proofs.Common.{◌≡◌, ℕ, ◌*◌, ◌≤◌, List, [], ◌∷◌, length, get_or, Some, None, Result, Ok, Err, refl, sym, ap}
 use Rattle.std.proofs.Common.{subst, ◌∙◌, arith}
-use Rattle.std.specs.Prelude.{codes}
 use Rattle.std.proofs.lemmas.Bool.{le-leb}
 use Rattle.std.proofs.lemmas.List.{length-append}
 use Rattle.std.proofs.lemmas.Option.{same_Some}
@@ -16,7 +15,7 @@ use Rattle.capture.specs.Text.{bytes_text, spaced}
 use Rattle.capture.specs.Reading.{any_bytes_at, bytes_at}
 use Rattle.capture.specs.Sided.{side_at}
 use Rattle.capture.proofs.BytesLaws.{IsBytesOf, IsLongOf, any_bytes_again, bytes_again, bytes_shows, limited}
-use Rattle.capture.proofs.SidedLaws.{side_again, side_takes}
+use Rattle.capture.proofs.SidedLaws.{side_again}
 use Rattle.capture.proofs.Shown.{Shows}
 use Rattle.wire_text.specs.declared.limit.TheConstants.{MAX_PIECE}
 use Rattle.wire_text.specs.WireText.{Piece, HasSpelling, piece_text}

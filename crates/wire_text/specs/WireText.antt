@@ -6,7 +6,7 @@ use Rattle.wire_base.specs.Side.{side_letter}
 use Rattle.capture.specs.declared.fault.Departure.{Departure}
 use Rattle.capture.specs.declared.fault.Departure.TheVariants.{Syntax, TooLong, TooMany}
 use Rattle.capture.specs.Text.{bytes_text, spaced}
-use Rattle.capture.specs.Listed.{Listed, ListForm, list_head, item_line, list_text, IsList, BeginsWithList, ItemDeparts, ListHeadDeparts}
+use Rattle.capture.specs.Listed.{Listed, ListForm, list_head, item_line, BeginsWithList, ItemDeparts, ListHeadDeparts}
 use Rattle.wire_text.specs.declared.limit.TheConstants.{MAX_PIECE, MAX_PIECES}
 
 -- ---- pieces
@@ -67,13 +67,6 @@ wire_head node_a node_b = list_head wire_form node_a node_b
 
 abbrev pub piece_line : Piece → List ℕ
 piece_line piece = item_line wire_form piece
-
-abbrev pub wire_text : Wire → List ℕ
-wire_text wire = list_text wire_form (listed wire)
-
--- addresses and pieces that a text may hold
-abbrev pub IsWire : Wire → Type 0
-IsWire wire = IsList wire_form (listed wire)
 
 -- the text begins with these pieces, and goes on with these bytes
 abbrev pub BeginsWithWire : (text : List ℕ) (wire : Wire) (rest : List ℕ) → Type 0
