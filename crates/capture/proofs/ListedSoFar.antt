@@ -30,17 +30,17 @@ module _ {Item : Type 0} (form : ListForm Item) where
 
   -- the head was read
   pub opened : (text come : Option (List ℕ)) (node_a node_b : ℕ) → IsNode node_a → IsNode node_b →
-      Consumes text come (ended (list_head form node_a node_b)) → IsListSoFar form text (list_of node_a node_b []) come
+      Consumes text come (ended (list_head form.first_words node_a node_b)) → IsListSoFar form text (list_of node_a node_b []) come
   opened text come node_a node_b a b head = record {
     fits = record { node_a = a; node_b = b; each = tt; few = omega arith };
-    begins = subst (Consumes text come) (sym (append-nil (ended (list_head form node_a node_b)))) head;
+    begins = subst (Consumes text come) (sym (append-nil (ended (list_head form.first_words node_a node_b)))) head;
   }
 
   pub one_more : (text before after : Option (List ℕ)) (list : Listed Item) (item : Item) → IsListSoFar form text list before →
       length list.items < form.most → form.HasLine item → Consumes before after (item_line form item) →
       IsListSoFar form text (record list { items = list.items ++ item ∷ [] }) after
   one_more text before after list item h few has_line consumes =
-      let head = ended (list_head form list.node_a list.node_b) in
+      let head = ended (list_head form.first_words list.node_a list.node_b) in
       let lines = flat_map (item_line form) list.items in
       let read : (head ++ lines) ++ item_line form item ≡ head ++ flat_map (item_line form) (list.items ++ item ∷ []) =
       append_assoc head lines (item_line form item) ∙ ap (λ bytes. head ++ bytes) (sym (lines-push list.items item)) in
@@ -79,8 +79,8 @@ module _ {Item : Type 0} (form : ListForm Item) (lines : AreLinesOf form) where
       let lines_p = flat_map (item_line form) p.items in
       let lines_q = flat_map (item_line form) q.items in
       one_head form lines p.node_a p.node_b q.node_a q.node_b (lines_p ++ rest) (lines_q ++ rest') h.fits.node_a h.fits.node_b k.fits.node_a
-      k.fits.node_b (sym (append_assoc (ended (list_head form p.node_a p.node_b)) lines_p rest) ∙ sym h.spelled ∙ k.spelled ∙
-      append_assoc (ended (list_head form q.node_a q.node_b)) lines_q rest')
+      k.fits.node_b (sym (append_assoc (ended (list_head form.first_words p.node_a p.node_b)) lines_p rest) ∙ sym h.spelled ∙ k.spelled ∙
+      append_assoc (ended (list_head form.first_words q.node_a q.node_b)) lines_q rest')
 
   split : (bytes rest : List ℕ) (begun all : Listed Item) → BeginsWithList form bytes all [] → BeginsWithList form bytes begun rest →
       IsSplit form begun all rest
@@ -120,12 +120,12 @@ module _ {Item : Type 0} (form : ListForm Item) (lines : AreLinesOf form) where
           no_departure form lines kind item (flat_map (item_line form) more) (length begun.items) each.0 (omega arith) d
 
   pub head_stands : (bytes rest : List ℕ) (begun : Listed Item) (kind : Departure) → BeginsWithList form bytes begun rest →
-      ListHeadDeparts form kind bytes → ⊥
+      ListHeadDeparts form.first_words kind bytes → ⊥
   head_stands bytes rest begun kind h departs =
-      let head = ended (list_head form begun.node_a begun.node_b) in
+      let head = ended (list_head form.first_words begun.node_a begun.node_b) in
       let later = flat_map (item_line form) begun.items in
       no_head_departure form lines kind begun.node_a begun.node_b (later ++ rest) h.fits.node_a h.fits.node_b
-      (subst (ListHeadDeparts form kind) (h.spelled ∙ append_assoc head later rest) departs)
+      (subst (ListHeadDeparts form.first_words kind) (h.spelled ∙ append_assoc head later rest) departs)
 
   -- ---- behind what a text departs
 

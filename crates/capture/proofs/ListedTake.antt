@@ -20,16 +20,16 @@ module _ {Item : Type 0} (form : ListForm Item) where
       let same = whole-append unread rest whole in
       inr (omega arith, same.0, subst (form.WordsDepart kind) (line_is unread len whole e ∙ sym same.1) departs))
 
-  -- the line that was found is no head
-  pub no_head : (unread : List ℕ) (len : ℕ) (before after : Option (List ℕ)) → IsWhole unread → len ≡ length (first_line unread) →
-      Keeps before (prepend_known unread after)
-      → list_head_at form.first_words (take len unread) ≡ None → IfSome before (ListHeadDeparts form Syntax)
-  no_head unread len before after whole e kept read =
-      let none : list_head_at form.first_words (first_line unread) ≡ None =
-      ap (list_head_at form.first_words) (sym (line_is unread len whole e)) ∙ read in
-      let departs : IsNoHead form (first_line unread) =
-      λ node_a node_b p q spelled. absurd
-      (let some : None ≡ Some (node_a, node_b) = sym none ∙ ap (list_head_at form.first_words) spelled ∙ head_again form node_a node_b p q in cc) in
-      if_known before after unread (ListHeadDeparts form Syntax) kept (λ rest.
-      let same = whole-append unread rest whole in
-      inr (same.0, subst (IsNoHead form) (sym same.1) departs))
+-- the line that was found is no head
+pub no_head : (first_words unread : List ℕ) (len : ℕ) (before after : Option (List ℕ)) → IsWhole unread → len ≡ length (first_line unread) →
+    Keeps before (prepend_known unread after)
+    → list_head_at first_words (take len unread) ≡ None → IfSome before (ListHeadDeparts first_words Syntax)
+no_head first_words unread len before after whole e kept read =
+    let none : list_head_at first_words (first_line unread) ≡ None =
+    ap (list_head_at first_words) (sym (line_is unread len whole e)) ∙ read in
+    let departs : IsNoHead first_words (first_line unread) =
+    λ node_a node_b p q spelled. absurd
+    (let some : None ≡ Some (node_a, node_b) = sym none ∙ ap (list_head_at first_words) spelled ∙ head_again first_words node_a node_b p q in cc) in
+    if_known before after unread (ListHeadDeparts first_words Syntax) kept (λ rest.
+    let same = whole-append unread rest whole in
+    inr (same.0, subst (IsNoHead first_words) (sym same.1) departs))

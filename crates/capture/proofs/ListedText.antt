@@ -33,10 +33,10 @@ module _ {Item : Type 0} (form : ListForm Item) (lines : AreLinesOf form) where
 
   -- both heads name the same nodes, and what follows is the same
   pub one_head : (a b a' b' : ℕ) (x y : List ℕ) → IsNode a → IsNode b → IsNode a' → IsNode b' →
-      ended (list_head form a b) ++ x ≡ ended (list_head form a' b') ++ y → (a ≡ a') × (b ≡ b') × (x ≡ y)
+      ended (list_head form.first_words a b) ++ x ≡ ended (list_head form.first_words a' b') ++ y → (a ≡ a') × (b ≡ b') × (x ≡ y)
   one_head a b a' b' x y p q p' q' e =
-      let same = same_ended (list_head form a b) (list_head form a' b') x y (head_lacks form a b lines.first p q) (head_lacks form a' b' lines.first p' q') e in
-      let nodes = same_head form a b a' b' p q p' q' same.0 in
+      let same = same_ended (list_head form.first_words a b) (list_head form.first_words a' b') x y (head_lacks form.first_words a b lines.first p q) (head_lacks form.first_words a' b' lines.first p' q') e in
+      let nodes = same_head form.first_words a b a' b' p q p' q' same.0 in
       (nodes.0, nodes.1, same.1)
 
   -- ---- lists of items
@@ -86,20 +86,20 @@ module _ {Item : Type 0} (form : ListForm Item) (lines : AreLinesOf form) where
 
   -- where a head's line comes first, nothing departs
   pub no_head_departure : (kind : Departure) (node_a node_b : ℕ) (rest : List ℕ) → IsNode node_a → IsNode node_b →
-      ListHeadDeparts form kind (ended (list_head form node_a node_b) ++ rest) → ⊥
+      ListHeadDeparts form.first_words kind (ended (list_head form.first_words node_a node_b) ++ rest) → ⊥
   no_head_departure TooMany node_a node_b rest p q d = d
   no_head_departure TooLong node_a node_b rest p q d =
-      let first = ended_first (list_head form node_a node_b) rest (head_lacks form node_a node_b lines.first p q) in
-      let short = head_short form node_a node_b lines.first p q in
+      let first = ended_first (list_head form.first_words node_a node_b) rest (head_lacks form.first_words node_a node_b lines.first p q) in
+      let short = head_short form.first_words node_a node_b lines.first p q in
       omega (arith, ap length first.0)
   no_head_departure Syntax node_a node_b rest p q (inl d) =
-      let first = ended_first (list_head form node_a node_b) rest (head_lacks form node_a node_b lines.first p q) in
+      let first = ended_first (list_head form.first_words node_a node_b) rest (head_lacks form.first_words node_a node_b lines.first p q) in
       let open_line = d.1 in
       let ended_line = first.1 in
       cc
   no_head_departure Syntax node_a node_b rest p q (inr d) =
-      let first = ended_first (list_head form node_a node_b) rest (head_lacks form node_a node_b lines.first p q) in
-      let none : IsNoHead form (list_head form node_a node_b) = subst (IsNoHead form) first.0 d.1 in
+      let first = ended_first (list_head form.first_words node_a node_b) rest (head_lacks form.first_words node_a node_b lines.first p q) in
+      let none : IsNoHead form.first_words (list_head form.first_words node_a node_b) = subst (IsNoHead form.first_words) first.0 d.1 in
       none node_a node_b p q refl
 
   -- ---- one departure
@@ -110,7 +110,7 @@ module _ {Item : Type 0} (form : ListForm Item) (lines : AreLinesOf form) where
   departs_once items bytes a b (inl p) (inr q) = absurd (whole_or_not form.most items bytes a p q.0 q.1)
   departs_once items bytes a b (inr p) (inl q) = absurd (whole_or_not form.most items bytes b q p.0 p.1)
 
-  pub head_departs_once : (bytes : List ℕ) (a b : Departure) → ListHeadDeparts form a bytes → ListHeadDeparts form b bytes → a ≡ b
+  pub head_departs_once : (bytes : List ℕ) (a b : Departure) → ListHeadDeparts form.first_words a bytes → ListHeadDeparts form.first_words b bytes → a ≡ b
   head_departs_once bytes Syntax Syntax p q = refl
   head_departs_once bytes TooLong TooLong p q = refl
   head_departs_once bytes TooMany b p q = absurd p

@@ -3,7 +3,6 @@
 ghost use Rattle.std.specs.Prelude.{◌≡◌, ◌≤◌, length, Bool, true, false, IfOk, IfSome};
 ghost use Rattle.capture.specs.Reading.{Gives, hint_at, nodes_at, receipt_at, record_at, head_at};
 ghost use Rattle.capture.specs.Range.{FormFits, IsNode};
-ghost use Rattle.capture.specs.Listed.{list_head_at};
 ghost use Rattle.capture.specs.declared.limit.TheConstants.{MAX_MARK, MAX_MESSAGE};
 ghost use Rattle.std.specs.Option.{option_map};
 ghost use Rattle.capture.specs.Entries.{parted, told};
@@ -159,8 +158,9 @@ pub fn line_into(
     Ok((entry, len))
 }
 
+/// The addresses of two nodes, as a head spells them behind its first words.
 #[tactic(auto, unfolding(crate::specs::Reading::nodes_at))]
-fn nodes_of(text: &[u8]) -> Option<(u16, u16)>
+pub(crate) fn nodes_of(text: &[u8]) -> Option<(u16, u16)>
     ensures { result ≡ nodes_at text.now }
 {
     let (own, peer) = cut_at(text, b' ')?;
@@ -183,12 +183,4 @@ pub fn head_of(line: &[u8]) -> Option<(Format, u16, u16)>
         return Some((Format::Two, own, peer));
     }
     None
-}
-
-/// The addresses of both nodes, as the head of a text with these first words spells them; the line is given without its LF. Takes no memory.
-#[tactic(auto, unfolding(crate::specs::Listed::list_head_at))]
-pub fn list_head_of(line: &[u8], first_words: &[u8]) -> Option<(u16, u16)>
-    ensures { result ≡ list_head_at first_words.now line.now }
-{
-    nodes_of(after(line, first_words)?)
 }

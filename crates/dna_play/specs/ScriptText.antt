@@ -102,7 +102,7 @@ listed script = record { node_a = script.node_a; node_b = script.node_b; items =
 
 -- the head, without its LF
 abbrev pub script_head : (node_a node_b : ℕ) → List ℕ
-script_head node_a node_b = list_head script_form node_a node_b
+script_head node_a node_b = list_head script_form.first_words node_a node_b
 
 abbrev pub script_line : ScriptStep → List ℕ
 script_line step = item_line script_form step
@@ -124,4 +124,4 @@ StepDeparts steps kind bytes = ItemDeparts script_form steps kind bytes
 
 -- The first line of a text departs from a head
 abbrev pub ScriptHeadDeparts : Departure → List ℕ → Type 0
-ScriptHeadDeparts kind text = ListHeadDeparts script_form kind text
+ScriptHeadDeparts kind text = ListHeadDeparts script_form.first_words kind text

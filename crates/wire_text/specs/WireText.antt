@@ -63,7 +63,7 @@ listed wire = record { node_a = wire.node_a; node_b = wire.node_b; items = wire.
 
 -- the head, without its LF
 abbrev pub wire_head : (node_a node_b : ℕ) → List ℕ
-wire_head node_a node_b = list_head wire_form node_a node_b
+wire_head node_a node_b = list_head wire_form.first_words node_a node_b
 
 abbrev pub piece_line : Piece → List ℕ
 piece_line piece = item_line wire_form piece
@@ -81,4 +81,4 @@ PieceDeparts pieces kind bytes = ItemDeparts wire_form pieces kind bytes
 
 -- The first line of a text departs from a head
 abbrev pub WireHeadDeparts : Departure → List ℕ → Type 0
-WireHeadDeparts kind text = ListHeadDeparts wire_form kind text
+WireHeadDeparts kind text = ListHeadDeparts wire_form.first_words kind text
