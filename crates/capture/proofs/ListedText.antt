@@ -35,7 +35,9 @@ module _ {Item : Type 0} (form : ListForm Item) (lines : AreLinesOf form) where
   pub one_head : (a b a' b' : ℕ) (x y : List ℕ) → IsNode a → IsNode b → IsNode a' → IsNode b' →
       ended (list_head form.first_words a b) ++ x ≡ ended (list_head form.first_words a' b') ++ y → (a ≡ a') × (b ≡ b') × (x ≡ y)
   one_head a b a' b' x y p q p' q' e =
-      let same = same_ended (list_head form.first_words a b) (list_head form.first_words a' b') x y (head_lacks form.first_words a b lines.first p q) (head_lacks form.first_words a' b' lines.first p' q') e in
+      let head = list_head form.first_words in
+      let none = head_lacks form.first_words a b lines.first p q in
+      let same = same_ended (head a b) (head a' b') x y none (head_lacks form.first_words a' b' lines.first p' q') e in
       let nodes = same_head form.first_words a b a' b' p q p' q' same.0 in
       (nodes.0, nodes.1, same.1)
 
@@ -110,7 +112,8 @@ module _ {Item : Type 0} (form : ListForm Item) (lines : AreLinesOf form) where
   departs_once items bytes a b (inl p) (inr q) = absurd (whole_or_not form.most items bytes a p q.0 q.1)
   departs_once items bytes a b (inr p) (inl q) = absurd (whole_or_not form.most items bytes b q p.0 p.1)
 
-  pub head_departs_once : (bytes : List ℕ) (a b : Departure) → ListHeadDeparts form.first_words a bytes → ListHeadDeparts form.first_words b bytes → a ≡ b
+  pub head_departs_once : (bytes : List ℕ) (a b : Departure) → ListHeadDeparts form.first_words a bytes →
+      ListHeadDeparts form.first_words b bytes → a ≡ b
   head_departs_once bytes Syntax Syntax p q = refl
   head_departs_once bytes TooLong TooLong p q = refl
   head_departs_once bytes TooMany b p q = absurd p

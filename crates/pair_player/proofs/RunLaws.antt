@@ -49,7 +49,8 @@ once_throughout bytes script is_text once r h = go r.come h.read
     go : (come : Option (List ℕ)) → IsReadSoFar (Some bytes) r.script come → StartsOnce r.script.steps
     go None read = absurd read.begins
     go (Some rest) read =
-        let begun = goes_on script_form lines bytes rest (listed r.script) (listed script) is_text (record { fits = read.fits; spelled = read.begins }) in
+        let begun = goes_on script_form lines bytes rest (listed r.script) (listed script) is_text
+        (record { fits = read.fits; spelled = read.begins }) in
         once_begun r.script.steps begun.more script.steps begun.items once
 
 -- ---- true numbers

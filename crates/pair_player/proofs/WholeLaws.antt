@@ -62,11 +62,13 @@ module _ (bytes : List ℕ) (script : Script) (played : KeptPlayed) (is_text : I
       IfSome come (StepDeparts (length r.script.steps) kind) → ⊥
   nowhere kind line r None read departs = absurd read.begins
   nowhere kind line r (Some rest) read departs =
-      departs_nowhere script_form lines bytes rest (listed r.script) (listed script) kind is_text (record { fits = read.fits; spelled = read.begins }) departs
+      departs_nowhere script_form lines bytes rest (listed r.script) (listed script) kind is_text
+      (record { fits = read.fits; spelled = read.begins }) departs
 
   begun_of : (begun : Script) (come : Option (List ℕ)) → IsReadSoFar (Some bytes) begun come → IsBeginningOf begun script
   begun_of begun None read = absurd read.begins
-  begun_of begun (Some rest) read = goes_on script_form lines bytes rest (listed begun) (listed script) is_text (record { fits = read.fits; spelled = read.begins })
+  begun_of begun (Some rest) read =
+      goes_on script_form lines bytes rest (listed begun) (listed script) is_text (record { fits = read.fits; spelled = read.begins })
 
   not_stopped : (stop : Stop) (line : ℕ) (r : Reached) → HasPlayed (Some bytes) r → StopsBehind stop line r → ⊥
   not_stopped stop line r h s =
@@ -88,7 +90,8 @@ module _ (bytes : List ℕ) (script : Script) (played : KeptPlayed) (is_text : I
       let r : Reached = h.0 in
       let same : r.script ≡ script = one_script bytes r.script script (whole script_form bytes r.come (listed r.script) h.1.read h.3.end) is_text in
       (h.3.steps_are ∙ ap (λ (x : Script). length x.steps) same, same_written old new r h.2 same (same_reached r h.1 same))
-  whole_played old new (Err (faults.Departs kind line)) (inl h) = absurd (head_stands script_form lines bytes [] (listed script) kind is_text h.0.departs)
+  whole_played old new (Err (faults.Departs kind line)) (inl h) =
+      absurd (head_stands script_form lines bytes [] (listed script) kind is_text h.0.departs)
   whole_played old new (Err (faults.Departs kind line)) (inr h) = absurd (nowhere kind line h.0 h.0.come h.1.read h.3.departs)
   whole_played old new (Err (faults.BadStep line)) h = absurd (not_stopped BadStep line h.0 h.1 h.3)
   whole_played old new (Err (faults.Full line)) h = absurd (not_stopped Full line h.0 h.1 h.3)

@@ -31,5 +31,6 @@ returns-in-None-clause-takes g c =
     let left = g.R.Read.remaining (tally_lent c.next.new.reader) in
     let none = subst IsNoPiece c.line.ensures (c.in-None.ensures.none refl) in
     let departs =
-    item_departs wire_form Syntax c.next.new.self.unread c.in-Ok-Some.len c.args.lines.now.taken _ left (omega arith) head found.1 found.2 found.3 none in
+    item_departs wire_form Syntax c.next.new.self.unread c.in-Ok-Some.len c.args.lines.now.taken _ left (omega arith) head found.1 found.2
+    found.3 none in
     ((rw c.taken-number.ensures refl, departs), same)
