@@ -10,12 +10,12 @@ use Rattle.capture.proofs.PartLaws.{after_takes, cut_takes, cut_again, map_some}
 use Rattle.capture.proofs.AddressLaws.{and_then, address_takes, address_again, address_lacks}
 
 -- two addresses that were read
-record AreNodesOf (text : List ℕ) (nodes : ℕ × ℕ) : Type 0 where
-  spelled : text ≡ spaced (address_text nodes.0) (address_text nodes.1)
-  own_fits : IsNode nodes.0
-  peer_fits : IsNode nodes.1
+pub record AreNodesOf (text : List ℕ) (nodes : ℕ × ℕ) : Type 0 where
+  pub spelled : text ≡ spaced (address_text nodes.0) (address_text nodes.1)
+  pub own_fits : IsNode nodes.0
+  pub peer_fits : IsNode nodes.1
 
-nodes_take : (text : List ℕ) (nodes : ℕ × ℕ) → nodes_at text ≡ Some nodes → AreNodesOf text nodes
+pub nodes_take : (text : List ℕ) (nodes : ℕ × ℕ) → nodes_at text ≡ Some nodes → AreNodesOf text nodes
 unfolding nodes_at
 nodes_take text nodes e =
     let b = and_then (cut_at 32 text) _ nodes e in
@@ -30,7 +30,7 @@ nodes_take text nodes e =
     from_parts x y p q cut f s same =
         rw (← same) (record { spelled = cut ∙ rw (f.0, s.0) refl; own_fits = f.1; peer_fits = s.1 })
 
-nodes_again : (own peer : ℕ) → IsNode own → IsNode peer → nodes_at (spaced (address_text own) (address_text peer)) ≡ Some (own, peer)
+pub nodes_again : (own peer : ℕ) → IsNode own → IsNode peer → nodes_at (spaced (address_text own) (address_text peer)) ≡ Some (own, peer)
 unfolding nodes_at
 nodes_again own peer p q =
     rw (cut_again 32 (address_text own) (address_text peer) (address_lacks 32 own (lit< tt) p), address_again own p, address_again peer q) refl

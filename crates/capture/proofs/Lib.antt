@@ -17,6 +17,11 @@ pub mod SeekLaws
 pub mod TakeLaws
 pub mod RangeLaws
 pub mod LackLaws
+pub mod SidedLaws
 pub mod TextLaws
 pub mod SoFarLaws
+pub mod ListedHead
+pub mod ListedTake
+pub mod ListedText
+pub mod ListedSoFar
 pub mod ConvertLaws

@@ -1,7 +1,9 @@
 pub mod Text
 pub mod Range
 pub mod Departing
+pub mod Listed
 pub mod Reading
+pub mod Sided
 pub mod Lines
 pub mod Faulty
 pub mod Reader

@@ -65,7 +65,7 @@ pub enum LineFault {
     Read,
 }
 
-/// Why a reader of a capture gives no head or no record. Lines are counted from 1.
+/// Why a reader of a capture, or of another text of lines, gives no head or no next line. Lines are counted from 1.
 #[derive(Clone, Copy, Debug, PartialEq, Eq, Error)]
 pub enum CaptureFault {
     /// The line departs from the format in this way.
@@ -74,7 +74,7 @@ pub enum CaptureFault {
     /// The reader failed in this call.
     #[error("read failed")]
     Read,
-    /// There was no memory for the record, or for the reader's block.
+    /// There was no memory for the record, or for the reader's block or its room.
     #[error("out of memory")]
     OutOfMemory,
     /// An earlier call answered a fault.

@@ -158,8 +158,9 @@ pub fn line_into(
     Ok((entry, len))
 }
 
+/// The addresses of two nodes, as a head spells them behind its first words.
 #[tactic(auto, unfolding(crate::specs::Reading::nodes_at))]
-fn nodes_of(text: &[u8]) -> Option<(u16, u16)>
+pub(crate) fn nodes_of(text: &[u8]) -> Option<(u16, u16)>
     ensures { result ≡ nodes_at text.now }
 {
     let (own, peer) = cut_at(text, b' ')?;

@@ -1,15 +1,14 @@
 -- The text of a script, and how a text departs from it. Lines, numbers, addresses and BYTES are those of a capture.
-use Rattle.std.specs.Prelude.{◌≡◌, ℕ, ◌<◌, ◌≤◌, ◌⊎◌, false, List, [], ◌++◌, codes, length}
+use Rattle.std.specs.Prelude.{◌≡◌, ℕ, ◌≤◌, List, [], ◌++◌, codes, length}
 use Rattle.std.specs.Fmt.{decimal}
-use Rattle.std.specs.List.{flat_map, AllByRecursion}
 use Rattle.ddcmp_msg.specs.Message.{IsBytes}
 use Rattle.wire_base.specs.Side.{side_letter}
-use Rattle.capture.specs.declared.limit.TheConstants.{MAX_HINT, MAX_UNIT, MAX_MESSAGE, MAX_LINE}
+use Rattle.capture.specs.declared.limit.TheConstants.{MAX_HINT, MAX_UNIT, MAX_MESSAGE}
 use Rattle.capture.specs.declared.fault.Departure.{Departure}
 use Rattle.capture.specs.declared.fault.Departure.TheVariants.{Syntax, TooLong, TooMany}
-use Rattle.capture.specs.Text.{bytes_text, address_text, spaced, ended}
-use Rattle.capture.specs.Range.{IsLink, IsNode}
-use Rattle.capture.specs.Departing.{first_line, has_lf, IsWhole, LineDeparts}
+use Rattle.capture.specs.Text.{bytes_text, spaced}
+use Rattle.capture.specs.Range.{IsLink}
+use Rattle.capture.specs.Listed.{Listed, ListForm, list_head, item_line, IsList, BeginsWithList, ItemDeparts, ListHeadDeparts}
 use Rattle.dna_play.specs.Script.{StepValue, ScriptStep, Script, Start, Halt, Timer, Send, Deliver, Refuse, Lose, Damage, Noise, Open, Accept, Reject}
 use Rattle.dna_play.specs.Script.{In, Close, Retry}
 
@@ -17,7 +16,7 @@ use Rattle.dna_play.specs.Script.{In, Close, Retry}
 abbrev pub MAX_STEPS : ℕ
 MAX_STEPS = 100000000
 
--- ---- the text
+-- ---- steps
 
 -- the line behind the letter of its side
 abbrev pub step_text : StepValue → List ℕ
@@ -40,16 +39,6 @@ step_text (Retry link) = codes "retry " ++ decimal link
 -- a step's line, without its LF
 abbrev pub line_text : ScriptStep → List ℕ
 line_text step = spaced (side_letter step.side) (step_text step.step)
-
--- the head, without its LF
-abbrev pub script_head : (node_a node_b : ℕ) → List ℕ
-script_head node_a node_b = codes "ddplay 1 " ++ spaced (address_text node_a) (address_text node_b)
-
-abbrev pub script_line : ScriptStep → List ℕ
-script_line step = ended (line_text step)
-
-abbrev pub script_text : Script → List ℕ
-script_text script = ended (script_head script.node_a script.node_b) ++ flat_map script_line script.steps
 
 -- ---- the ranges
 
@@ -88,21 +77,6 @@ pub record IsStep (step : ScriptStep) : Type 0 where
   pub spelling : HasSpelling step
   pub short : IsShort step
 
--- addresses and steps that a text may hold
-pub record IsScript (script : Script) : Type 0 where
-  pub node_a : IsNode script.node_a
-  pub node_b : IsNode script.node_b
-  pub each : AllByRecursion IsStep script.steps
-  pub few : length script.steps ≤ MAX_STEPS
-
--- the text begins with this script, and goes on with these bytes
-pub record BeginsWithScript (text : List ℕ) (script : Script) (rest : List ℕ) : Type 0 where
-  pub fits : IsScript script
-  pub spelled : text ≡ script_text script ++ rest
-
-abbrev pub IsScriptText : Script → List ℕ → Type 0
-IsScriptText script text = BeginsWithScript text script []
-
 -- ---- departures
 
 -- The words of a line depart: they are no step's, of any length of BYTES; or they are a step's but for too long a BYTES
@@ -111,15 +85,43 @@ WordsDepart TooMany line = ⊥
 WordsDepart TooLong line = (step : ScriptStep) × HasSpelling step × ¬ (IsShort step) × (line ≡ line_text step)
 WordsDepart Syntax line = (step : ScriptStep) → HasSpelling step → line ≡ line_text step → ⊥
 
+-- ---- the text
+
+abbrev pub script_form : ListForm ScriptStep
+script_form = record {
+  first_words = codes "ddplay 1 ";
+  line = line_text;
+  HasLine = IsStep;
+  most = MAX_STEPS;
+  WordsDepart = WordsDepart;
+}
+
+-- its steps are the items
+abbrev pub listed : Script → Listed ScriptStep
+listed script = record { node_a = script.node_a; node_b = script.node_b; items = script.steps }
+
+-- the head, without its LF
+abbrev pub script_head : (node_a node_b : ℕ) → List ℕ
+script_head node_a node_b = list_head script_form.first_words node_a node_b
+
+abbrev pub script_line : ScriptStep → List ℕ
+script_line step = item_line script_form step
+
+-- addresses and steps that a text may hold
+abbrev pub IsScript : Script → Type 0
+IsScript script = IsList script_form (listed script)
+
+-- the text begins with this script, and goes on with these bytes
+abbrev pub BeginsWithScript : (text : List ℕ) (script : Script) (rest : List ℕ) → Type 0
+BeginsWithScript text script rest = BeginsWithList script_form text (listed script) rest
+
+abbrev pub IsScriptText : Script → List ℕ → Type 0
+IsScriptText script text = BeginsWithScript text script []
+
 -- The first line of what is to come departs, after this many steps
 abbrev pub StepDeparts : ℕ → Departure → List ℕ → Type 0
-StepDeparts steps kind bytes = LineDeparts MAX_STEPS steps kind bytes ⊎ ((steps < MAX_STEPS) × IsWhole bytes × WordsDepart kind (first_line bytes))
+StepDeparts steps kind bytes = ItemDeparts script_form steps kind bytes
 
--- The first line of a text departs from a head: it is too long; or without its LF, as in a text with no line; or no head's
-abbrev pub HeadWordsDepart : List ℕ → Type 0
-HeadWordsDepart line = (node_a node_b : ℕ) → IsNode node_a → IsNode node_b → line ≡ script_head node_a node_b → ⊥
-
+-- The first line of a text departs from a head
 abbrev pub ScriptHeadDeparts : Departure → List ℕ → Type 0
-ScriptHeadDeparts TooMany text = ⊥
-ScriptHeadDeparts TooLong text = MAX_LINE < length (first_line text)
-ScriptHeadDeparts Syntax text = ((length (first_line text) ≤ MAX_LINE) × (has_lf text ≡ false)) ⊎ (IsWhole text × HeadWordsDepart (first_line text))
+ScriptHeadDeparts kind text = ListHeadDeparts script_form.first_words kind text

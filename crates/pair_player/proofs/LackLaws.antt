@@ -4,20 +4,17 @@ use Rattle.std.specs.Prelude.{codes}
 use Rattle.std.specs.Fmt.{decimal}
 use Rattle.std.proofs.lemmas.Fmt.{length-decimal-le}
 use Rattle.ddcmp_msg.specs.Message.{IsBytes}
-use Rattle.wire_base.specs.declared.side.Side.{Side}
-use Rattle.wire_base.specs.declared.side.Side.TheVariants.{A, B}
 use Rattle.wire_base.specs.Side.{side_letter}
 use Rattle.capture.specs.declared.limit.TheConstants.{MAX_HINT, MAX_LINE, MAX_UNIT, MAX_MESSAGE}
-use Rattle.capture.specs.Text.{spaced, bytes_text, address_text}
-use Rattle.capture.specs.Range.{IsNode}
+use Rattle.capture.specs.Text.{spaced, bytes_text}
 use Rattle.capture.proofs.PartLaws.{HasNo, HasNo-append}
 use Rattle.capture.proofs.NumberLaws.{decimal_lacks}
-use Rattle.capture.proofs.AddressLaws.{address_lacks}
 use Rattle.capture.proofs.BytesLaws.{bytes_lack}
-use Rattle.capture.proofs.LackLaws.{lacks, spaced_lacks, link_lacks, link_short, bytes_short, spaced_short, address_short}
+use Rattle.capture.proofs.LackLaws.{lacks, spaced_lacks, link_lacks, link_short, bytes_short, spaced_short}
+use Rattle.capture.proofs.SidedLaws.{letter_lacks, letter_short}
 use Rattle.dna_play.specs.Script.{StepValue, ScriptStep, Start, Halt, Timer, Send, Deliver, Refuse, Lose, Damage, Noise, Open, Accept, Reject, In}
 use Rattle.dna_play.specs.Script.{Close, Retry}
-use Rattle.dna_play.specs.ScriptText.{step_text, line_text, script_head, NumbersFit, step_bytes, most_bytes, HasSpelling, IsStep}
+use Rattle.dna_play.specs.ScriptText.{step_text, line_text, NumbersFit, step_bytes, most_bytes, HasSpelling, IsStep}
 
 -- ---- no LF
 
@@ -44,17 +41,8 @@ step_lacks (In link message) h fits = HasNo-append 10 (codes "in ") (spaced (dec
 step_lacks (Close link) h fits = HasNo-append 10 (codes "close ") (decimal link) (lacks 10 (codes "close ") refl) (link_lacks link h)
 step_lacks (Retry link) h fits = HasNo-append 10 (codes "retry ") (decimal link) (lacks 10 (codes "retry ") refl) (link_lacks link h)
 
-letter_lacks : (side : Side) → HasNo 10 (side_letter side)
-letter_lacks A = lacks 10 (codes "a") refl
-letter_lacks B = lacks 10 (codes "b") refl
-
 pub line_lacks : (line : ScriptStep) → HasSpelling line → HasNo 10 (line_text line)
 line_lacks line h = spaced_lacks (side_letter line.side) (step_text line.step) (letter_lacks line.side) (step_lacks line.step h.numbers h.bytes)
-
-pub head_lacks : (node_a node_b : ℕ) → IsNode node_a → IsNode node_b → HasNo 10 (script_head node_a node_b)
-head_lacks node_a node_b p q =
-    HasNo-append 10 (codes "ddplay 1 ") (spaced (address_text node_a) (address_text node_b)) (lacks 10 (codes "ddplay 1 ") refl)
-    (spaced_lacks (address_text node_a) (address_text node_b) (address_lacks 10 node_a (lit< tt) p) (address_lacks 10 node_b (lit< tt) q))
 
 -- ---- lengths
 
@@ -81,14 +69,6 @@ step_short (In link message) h short =
 step_short (Close link) h short = let n = link_short link h in omega arith
 step_short (Retry link) h short = let n = link_short link h in omega arith
 
-letter_short : (side : Side) → length (side_letter side) ≤ 1
-letter_short A = omega arith
-letter_short B = omega arith
-
 pub line_short : (line : ScriptStep) → IsStep line → length (line_text line) ≤ MAX_LINE
 line_short line h = spaced_short (side_letter line.side) (step_text line.step) 1 131079 (letter_short line.side)
     (step_short line.step h.spelling.numbers h.short)
-
-pub head_short : (node_a node_b : ℕ) → IsNode node_a → IsNode node_b → length (script_head node_a node_b) ≤ MAX_LINE
-head_short node_a node_b p q =
-    let n = spaced_short (address_text node_a) (address_text node_b) 7 7 (address_short node_a p) (address_short node_b q) in omega arith

@@ -1,6 +1,5 @@
 pub mod StepLaws
 pub mod LineWords
-pub mod HeadLaws
 pub mod TakeLaws
 pub mod LackLaws
 pub mod TextLaws

@@ -1,20 +1,18 @@
 -- The line of a step: what is read is its one spelling, and its spelling is read.
-use Rattle.std.proofs.Common.{◌≡◌, ℕ, ◌<◌, Bool, true, false, cond, leb, List, ◌++◌, length, Option, Some, None, Result, Ok, Err, refl, sym, ap}
+use Rattle.std.proofs.Common.{◌≡◌, ℕ, ◌<◌, Bool, true, false, cond, leb, List, length, Result, Ok, Err, sym, ap}
 use Rattle.std.proofs.Common.{subst, ◌∙◌, arith}
-use Rattle.std.specs.Prelude.{codes, IfSome}
 use Rattle.wire_base.specs.declared.side.Side.{Side}
-use Rattle.wire_base.specs.declared.side.Side.TheVariants.{A, B}
 use Rattle.wire_base.specs.Side.{side_letter}
 use Rattle.capture.specs.declared.fault.Departure.{Departure}
 use Rattle.capture.specs.declared.fault.Departure.TheVariants.{Syntax, TooLong, TooMany}
 use Rattle.capture.specs.Text.{spaced}
-use Rattle.capture.specs.Reading.{after, or_else}
-use Rattle.capture.proofs.PartLaws.{after_takes}
+use Rattle.capture.specs.Sided.{side_at}
+use Rattle.capture.proofs.SidedLaws.{side_again, side_takes}
 use Rattle.capture.proofs.BytesLaws.{limited, limited_then}
 use Rattle.capture.proofs.Shown.{Shows, shows_map, shows_must}
 use Rattle.dna_play.specs.Script.{StepValue, ScriptStep}
 use Rattle.dna_play.specs.ScriptText.{step_text, line_text, step_bytes, most_bytes, HasSpelling, IsStep, WordsDepart}
-use Rattle.pair_player.specs.inner.Reading.{side_at, step_at, line_at}
+use Rattle.pair_player.specs.inner.Reading.{step_at, line_at}
 use Rattle.pair_player.proofs.StepLaws.{IsStepOf, IsLongStepOf, step_shows, step_again}
 
 abbrev pub at_side : Side → StepValue → ScriptStep
@@ -26,35 +24,6 @@ IsLineOf text line = (text ≡ line_text line) × IsStep line
 
 abbrev IsLongLineOf : List ℕ → ScriptStep → Type 0
 IsLongLineOf text line = (text ≡ line_text line) × HasSpelling line × (most_bytes line.step < length (step_bytes line.step))
-
--- ---- the letter
-
--- what was read is behind the letter of its side
-abbrev IsSided : List ℕ → Option (Side × List ℕ) → Type 0
-IsSided text o = IfSome o (λ parts. text ≡ spaced (side_letter parts.0) parts.1)
-
-b_shows : (text : List ℕ) (o : Option (List ℕ)) → ((rest : List ℕ) → o ≡ Some rest → text ≡ codes "b " ++ rest)
-    → IsSided text (or_else o (λ rest. Some (B, rest)) None)
-b_shows text None h = tt
-b_shows text (Some rest) h = h rest refl
-
-a_shows : (text : List ℕ) (o : Option (List ℕ)) (other : Option (Side × List ℕ)) → ((rest : List ℕ) → o ≡ Some rest → text ≡ codes "a " ++ rest)
-    → IsSided text other → IsSided text (or_else o (λ rest. Some (A, rest)) other)
-a_shows text None other h rest_shows = rest_shows
-a_shows text (Some rest) other h rest_shows = h rest refl
-
-side_shows : (text : List ℕ) → IsSided text (side_at text)
-unfolding side_at
-side_shows text = a_shows text (after (codes "a ") text) _ (after_takes (codes "a ") text)
-    (b_shows text (after (codes "b ") text) (after_takes (codes "b ") text))
-
-side_takes : (text : List ℕ) (parts : Side × List ℕ) → side_at text ≡ Some parts → text ≡ spaced (side_letter parts.0) parts.1
-side_takes text parts e = subst (IsSided text) e (side_shows text)
-
-side_again : (side : Side) (rest : List ℕ) → side_at (spaced (side_letter side) rest) ≡ Some (side, rest)
-unfolding side_at
-side_again A rest = refl
-side_again B rest = refl
 
 -- ---- the line
 

@@ -19,15 +19,17 @@ use Rattle.dna_play.specs.KeptPlayed.{with_records}
 use Rattle.dna_play.specs.Stepped.{Stop, BadStep, Full}
 use Rattle.pair_player.specs.declared.fault.PlayFault.{PlayFault}
 use Rattle.pair_player.specs.declared.fault.PlayFault.TheVariants as faults
-use Rattle.pair_player.specs.declared.fault.ScriptFault.{ScriptFault}
-use Rattle.pair_player.specs.declared.fault.ScriptFault.TheVariants as of_script
+use Rattle.capture.specs.declared.fault.CaptureFault.{CaptureFault}
+use Rattle.capture.specs.declared.fault.CaptureFault.TheVariants as of_script
 use Rattle.player_end.specs.declared.fault.StepFault.{StepFault}
 use Rattle.player_end.specs.declared.fault.StepFault.TheVariants as stops
 use Rattle.pair_player.specs.declared.played.Played.{Played}
 use Rattle.pair_player.specs.inner.Beginning.{IsBegun, fault_of, fault_at}
 use Rattle.pair_player.specs.Playing.{DepartsBehind, EndsBehind, HasPlayed, HasWritten, Held, Plays, PlaysWholeLines, Reached, RefusedBehind}
 use Rattle.pair_player.specs.Playing.{StopsBehind, held, text_a, text_b}
-use Rattle.pair_player.specs.Reader.{Advances, FaultShows, ScriptState, WhereReadFails}
+use Rattle.capture.specs.Faulty.{is_read_fault}
+use Rattle.capture.specs.Reader.{FaultShows, WhereReadFails}
+use Rattle.pair_player.specs.Reader.{Advances, ScriptState}
 use Rattle.pair_player.specs.SoFar.{no_steps, with_step}
 use Rattle.player_end.specs.Stepping.{StopMeans}
 use Rattle.pair_player.specs.inner.Making.{PutsLines, Standing, Steps, StopsStep, standing}
@@ -251,14 +253,14 @@ module _ (text : Option (List ℕ)) (old : Held) (p : Place) (h : IsUnderWay tex
   at_end lines after advances = record { end = subst IsAtEnd (sym h.come_is) advances.0; steps_are = sym h.count }
 
   -- its next line is not known
-  pub at_fault : (lines : ScriptState) (after : Option (List ℕ)) (fault : ScriptFault) → Advances p.lines lines p.come after (Err fault) →
+  pub at_fault : (lines : ScriptState) (after : Option (List ℕ)) (fault : CaptureFault) → Advances p.lines lines p.come after (Err fault) →
       (fault ≡ of_script.OutOfMemory → ⊥) → Meant h.reached (Err (fault_of fault))
   at_fault lines after fault advances memory = by_fault fault advances.0 memory
     where
       same : p.lines.steps ≡ length h.reached.script.steps
       same = h.counted ∙ sym h.count
 
-      by_fault : (fault : ScriptFault) → FaultShows (StepDeparts p.lines.steps) (p.lines.steps + 2) p.come fault →
+      by_fault : (fault : CaptureFault) → FaultShows (StepDeparts p.lines.steps) (p.lines.steps + 2) p.come fault →
           (fault ≡ of_script.OutOfMemory → ⊥) → Meant h.reached (Err (fault_of fault))
       by_fault (of_script.Departs kind line) shows memory = record {
         departs = subst (λ (x : Option (List ℕ)). IfSome x (StepDeparts (length h.reached.script.steps) kind)) (sym h.come_is)
@@ -330,7 +332,7 @@ lines_stopped text left old new line stops.OutOfMemory = tt
 
 module _ (text left : Option (List ℕ)) (old : Held) (p : Place) (h : IsUnderWay text old p) where
   -- its next line is not known
-  pub lines_at_fault : (lines : ScriptState) (fault : ScriptFault) (answer : Result Played PlayFault) (n m : ℕ) (new : Outlet × Outlet) →
+  pub lines_at_fault : (lines : ScriptState) (fault : CaptureFault) (answer : Result Played PlayFault) (n m : ℕ) (new : Outlet × Outlet) →
       Advances p.lines lines p.come (to_come lines.unread left) (Err fault)
       → EndsAll (Err (fault_of fault)) (outlet p.a p.now.a n, outlet p.b p.now.b m) new answer →
       PlaysWholeLines text left old (held new.0.held new.1.held) answer
@@ -338,8 +340,8 @@ module _ (text left : Option (List ℕ)) (old : Held) (p : Place) (h : IsUnderWa
   lines_at_fault lines fault answer n m new advances (inl all) =
       subst (PlaysWholeLines text left old (held new.0.held new.1.held)) (sym all.4) (by_fault fault advances.0 advances.4)
     where
-      by_fault : (fault : ScriptFault) → FaultShows (StepDeparts p.lines.steps) (p.lines.steps + 2) p.come fault →
-          WhereReadFails (IsCut lines.unread p.come (to_come lines.unread left)) fault
+      by_fault : (fault : CaptureFault) → FaultShows (StepDeparts p.lines.steps) (p.lines.steps + 2) p.come fault →
+          WhereReadFails (is_read_fault fault) (IsCut lines.unread p.come (to_come lines.unread left))
           → PlaysWholeLines text left old (held new.0.held new.1.held) (Err (fault_of fault))
       by_fault (of_script.Departs kind line) shows cut = tt
       by_fault of_script.Read shows cut = inr (

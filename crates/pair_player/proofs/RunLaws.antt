@@ -8,9 +8,10 @@ use Rattle.capture.specs.declared.limit.TheConstants.{MAX_RECORDS}
 use Rattle.capture.specs.declared.record.Record.{Record}
 use Rattle.capture.specs.Range.{IsNode, IsRecord, IsText}
 use Rattle.capture.specs.Text.{capture_text}
+use Rattle.capture.proofs.ListedSoFar.{goes_on}
 use Rattle.dna_node.specs.LayersPair.{IsLayersRun}
 use Rattle.dna_play.specs.Script.{ScriptStep, Script}
-use Rattle.dna_play.specs.ScriptText.{IsScriptText}
+use Rattle.dna_play.specs.ScriptText.{IsScriptText, script_form, listed}
 use Rattle.dna_play.specs.Played.{Played, Stopped, head_a, head_b, play}
 use Rattle.dna_play.specs.PlayRun.{StartsOnce, starts_of}
 use Rattle.dna_play.specs.KeptPlayed.{KeptPlayed}
@@ -24,7 +25,7 @@ use Rattle.pair_player.specs.Runs.{AreARun, AreTexts, IsOfTruth, StartsOnceThrou
 use Rattle.pair_player.specs.SoFar.{IsReadSoFar}
 use Rattle.pair_player.proofs.FitPlays.{played_lines}
 use Rattle.pair_player.proofs.PlayLaws.{same_Ok}
-use Rattle.pair_player.proofs.SoFarLaws.{goes_on}
+use Rattle.pair_player.proofs.TextLaws.{lines}
 use Rattle.pair_player.proofs.WholeLaws.{whole_played}
 
 -- ---- starts
@@ -48,8 +49,9 @@ once_throughout bytes script is_text once r h = go r.come h.read
     go : (come : Option (List ℕ)) → IsReadSoFar (Some bytes) r.script come → StartsOnce r.script.steps
     go None read = absurd read.begins
     go (Some rest) read =
-        let begun = goes_on bytes rest r.script script is_text (record { fits = read.fits; spelled = read.begins }) in
-        once_begun r.script.steps begun.more script.steps begun.steps once
+        let begun = goes_on script_form lines bytes rest (listed r.script) (listed script) is_text
+        (record { fits = read.fits; spelled = read.begins }) in
+        once_begun r.script.steps begun.more script.steps begun.items once
 
 -- ---- true numbers
 

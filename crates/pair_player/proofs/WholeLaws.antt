@@ -2,10 +2,11 @@
 use Rattle.std.proofs.Common.{◌≡◌, ℕ, ◌+◌, inl, inr, List, [], ◌∷◌, ◌++◌, length, Option, Some, None, Result, Ok, Err, sym, ap, ◌∙◌}
 use Rattle.std.specs.Option.{IfSome}
 use Rattle.capture.specs.declared.fault.Departure.{Departure}
+use Rattle.capture.proofs.ListedSoFar.{departs_nowhere, goes_on, head_stands, whole}
 use Rattle.dna_play.specs.KeptPlayed.{KeptMade, KeptPlayed, KeptStopped, if_made, kept_not_begun, kept_play, kept_plays_all, kept_plays_step}
 use Rattle.dna_play.specs.KeptPlayed.{new_pair, with_records}
 use Rattle.dna_play.specs.Script.{ScriptStep, Script}
-use Rattle.dna_play.specs.ScriptText.{IsScriptText, StepDeparts}
+use Rattle.dna_play.specs.ScriptText.{IsScriptText, StepDeparts, script_form, listed}
 use Rattle.dna_play.specs.Stepped.{Stop, BadStep, Full}
 use Rattle.pair_player.specs.declared.fault.PlayFault.TheVariants as faults
 use Rattle.pair_player.specs.declared.fault.PlayFault.{PlayFault}
@@ -13,7 +14,8 @@ use Rattle.pair_player.specs.declared.played.Played.{Played}
 use Rattle.pair_player.specs.Playing.{AnswersWhole, HasPlayed, HasWritten, Held, Plays, Reached, StopsBehind}
 use Rattle.pair_player.specs.SoFar.{IsBeginningOf, IsReadSoFar, with_step}
 use Rattle.pair_player.proofs.PlayLaws.{same_Ok}
-use Rattle.pair_player.proofs.SoFarLaws.{departs_nowhere, goes_on, head_stands, one_more, one_script, whole}
+use Rattle.pair_player.proofs.SoFarLaws.{one_more, one_script}
+use Rattle.pair_player.proofs.TextLaws.{lines}
 
 -- ---- where a step stops, no more are made
 
@@ -60,18 +62,20 @@ module _ (bytes : List ℕ) (script : Script) (played : KeptPlayed) (is_text : I
       IfSome come (StepDeparts (length r.script.steps) kind) → ⊥
   nowhere kind line r None read departs = absurd read.begins
   nowhere kind line r (Some rest) read departs =
-      departs_nowhere bytes rest r.script script kind is_text (record { fits = read.fits; spelled = read.begins }) departs
+      departs_nowhere script_form lines bytes rest (listed r.script) (listed script) kind is_text
+      (record { fits = read.fits; spelled = read.begins }) departs
 
   begun_of : (begun : Script) (come : Option (List ℕ)) → IsReadSoFar (Some bytes) begun come → IsBeginningOf begun script
   begun_of begun None read = absurd read.begins
-  begun_of begun (Some rest) read = goes_on bytes rest begun script is_text (record { fits = read.fits; spelled = read.begins })
+  begun_of begun (Some rest) read =
+      goes_on script_form lines bytes rest (listed begun) (listed script) is_text (record { fits = read.fits; spelled = read.begins })
 
   not_stopped : (stop : Stop) (line : ℕ) (r : Reached) → HasPlayed (Some bytes) r → StopsBehind stop line r → ⊥
   not_stopped stop line r h s =
       let begun = begun_of (with_step r.script s.step) s.later (one_more (Some bytes) r.come s.later r.script s.step h.read s.few s.fits s.spelled) in
       stops_behind 0 (kept_not_begun r.script) r.played played r.script.steps s.step begun.more stop h.made s.stops
       (sym (same_play script.node_a r.script.node_a script.node_b r.script.node_b script.steps ((r.script.steps ++ s.step ∷ []) ++ begun.more)
-      begun.node_a begun.node_b begun.steps) ∙ made)
+      begun.node_a begun.node_b begun.items) ∙ made)
 
   same_reached : (r : Reached) → HasPlayed (Some bytes) r → r.script ≡ script → r.played ≡ played
   same_reached r h same = same_Ok r.played played (sym h.made ∙ ap kept_play same ∙ made)
@@ -84,9 +88,10 @@ module _ (bytes : List ℕ) (script : Script) (played : KeptPlayed) (is_text : I
       AnswersWhole (record { script = script; played = played; come = Some [] }) old new answer
   whole_played old new (Ok answer) h =
       let r : Reached = h.0 in
-      let same : r.script ≡ script = one_script bytes r.script script (whole bytes r.come r.script h.1.read h.3.end) is_text in
+      let same : r.script ≡ script = one_script bytes r.script script (whole script_form bytes r.come (listed r.script) h.1.read h.3.end) is_text in
       (h.3.steps_are ∙ ap (λ (x : Script). length x.steps) same, same_written old new r h.2 same (same_reached r h.1 same))
-  whole_played old new (Err (faults.Departs kind line)) (inl h) = absurd (head_stands bytes [] script kind is_text h.0.departs)
+  whole_played old new (Err (faults.Departs kind line)) (inl h) =
+      absurd (head_stands script_form lines bytes [] (listed script) kind is_text h.0.departs)
   whole_played old new (Err (faults.Departs kind line)) (inr h) = absurd (nowhere kind line h.0 h.0.come h.1.read h.3.departs)
   whole_played old new (Err (faults.BadStep line)) h = absurd (not_stopped BadStep line h.0 h.1 h.3)
   whole_played old new (Err (faults.Full line)) h = absurd (not_stopped Full line h.0 h.1 h.3)

@@ -1,13 +1,13 @@
 -- A text of a script as far as it was read.
-use Rattle.std.specs.Prelude.{◌≡◌, ℕ, List, [], ◌∷◌, ◌++◌, Option}
-use Rattle.std.specs.Io.KnownBytes.{Consumes}
+use Rattle.std.specs.Prelude.{ℕ, List, [], ◌∷◌, ◌++◌, Option}
+use Rattle.capture.specs.Listed.{IsListSoFar}
+use Rattle.capture.specs.Listed.{IsBeginningOf as IsListBeginning}
 use Rattle.dna_play.specs.Script.{ScriptStep, Script}
-use Rattle.dna_play.specs.ScriptText.{IsScript, script_text}
+use Rattle.dna_play.specs.ScriptText.{script_form, listed}
 
 -- The text begins with this script, and goes on with what is to come, where the reader tells its bytes.
-pub record IsReadSoFar (text : Option (List ℕ)) (script : Script) (come : Option (List ℕ)) : Type 0 where
-  pub fits : IsScript script
-  pub begins : Consumes text come (script_text script)
+abbrev pub IsReadSoFar : (text : Option (List ℕ)) (script : Script) (come : Option (List ℕ)) → Type 0
+IsReadSoFar text script come = IsListSoFar script_form text (listed script) come
 
 -- the script of a head alone
 abbrev pub no_steps : (node_a node_b : ℕ) → Script
@@ -18,8 +18,5 @@ abbrev pub with_step : Script → ScriptStep → Script
 with_step script step = record script { steps = script.steps ++ step ∷ [] }
 
 -- the second script begins as the first, and may have more steps
-pub record IsBeginningOf (begun all : Script) : Type 0 where
-  pub node_a : all.node_a ≡ begun.node_a
-  pub node_b : all.node_b ≡ begun.node_b
-  pub more : List ScriptStep
-  pub steps : all.steps ≡ begun.steps ++ more
+abbrev pub IsBeginningOf : (begun all : Script) → Type 0
+IsBeginningOf begun all = IsListBeginning (listed begun) (listed all)

@@ -19,7 +19,7 @@ mod texts;
 mod words;
 
 pub use ends::Ends;
-pub use fault::{PlayFault, ScriptFault};
+pub use fault::PlayFault;
 pub use laws::{known_script, one_script, one_script_departure, played_whole, script_read_on};
 pub use limit::MAX_STEPS;
 pub use played::Played;

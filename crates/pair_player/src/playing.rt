@@ -13,11 +13,12 @@ ghost use Rattle.pair_player.specs.inner.Making.{StepsOrStops, standing};
 ghost use Rattle.pair_player.specs.inner.Waiting.{EndsAll, outlet};
 
 use crate::ends::Ends;
-use crate::fault::{PlayFault, ScriptFault};
+use crate::fault::PlayFault;
 use crate::limit::MAX_STEPS;
 use crate::played::Played;
 use crate::script_reader::ScriptReader;
 use crate::texts::Texts;
+use capture::CaptureFault;
 use player_end::StepFault;
 use std::alloc::Global;
 use std::io::{Read, Write};
@@ -168,13 +169,13 @@ fn end<A: Write, B: Write>(
 }
 
 // A fault of the script's reader, which did not fail before.
-fn play_fault(fault: ScriptFault) -> PlayFault
+fn play_fault(fault: CaptureFault) -> PlayFault
     ensures { result ≡ fault_of fault }
 {
     match fault {
-        ScriptFault::Departs { kind, line } => PlayFault::Departs { kind, line },
-        ScriptFault::Read | ScriptFault::Failed => PlayFault::Read,
-        ScriptFault::OutOfMemory => PlayFault::OutOfMemory,
+        CaptureFault::Departs { kind, line } => PlayFault::Departs { kind, line },
+        CaptureFault::Read | CaptureFault::Failed => PlayFault::Read,
+        CaptureFault::OutOfMemory => PlayFault::OutOfMemory,
     }
 }
 

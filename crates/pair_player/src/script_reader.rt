@@ -4,30 +4,22 @@ ghost use Rattle.std.specs.Prelude.{◌≡◌, ◌≤◌, ◌+◌, length, false
 ghost use Rattle.std.specs.Option.{option_map};
 ghost use Rattle.wire_base.specs.Tally.{tally_faults, tally_lent};
 ghost use Rattle.capture.specs.declared.limit.TheConstants.{MAX_MESSAGE};
-ghost use Rattle.capture.specs.Faulty.{CountsReads};
+ghost use Rattle.capture.specs.Faulty.{CountsReads, is_failed_read};
 ghost use Rattle.capture.specs.Lines.{to_come};
 ghost use Rattle.pair_player.specs.declared.limit.TheConstants.{MAX_STEPS};
 ghost use Rattle.pair_player.specs.inner.Entries.{stepped_in};
-ghost use Rattle.pair_player.specs.Faulty.{is_failed_read};
 ghost use Rattle.pair_player.specs.Reader.{Advances, Opens, TakesStep};
 ghost use Rattle.pair_player.specs.Step.{view_of_line};
 
 use crate::entry::LineEntry;
-use crate::fault::ScriptFault;
 use crate::limit::MAX_STEPS;
 use crate::step::ScriptStep;
-use crate::words::{head_of, line_into};
-use capture::{Departure, LineFault, LineReader, MAX_MESSAGE, Phase};
+use crate::words::line_into;
+use capture::{CaptureFault, LineFault, LineReader, MAX_MESSAGE, Phase, open_list};
 use std::alloc::Global;
 use std::io::Read;
 use std::marker::Model;
 use wire_base::Tally;
-
-// A first line that is no head.
-const NO_HEAD: ScriptFault = ScriptFault::Departs {
-    kind: Departure::Syntax,
-    line: 1,
-};
 
 /// Reads the head of a script and then its steps, one a call, from a reader that each call is lent, the same throughout.
 ///
@@ -63,7 +55,7 @@ fn take_line<R: Read>(
     lines: &mut LineReader,
     room: &mut [u8],
     reader: &mut Tally<R>,
-) -> Result<Option<(LineEntry, usize)>, ScriptFault>
+) -> Result<Option<(LineEntry, usize)>, CaptureFault>
     requires head { 1 ≤ lines.old.taken }
     requires few { lines.old.taken ≤ MAX_STEPS + 1 }
     requires room { length room.old ≡ MAX_MESSAGE }
@@ -72,7 +64,7 @@ fn take_line<R: Read>(
         (to_come lines.new.unread (R.remaining (tally_lent reader.new))) (stepped_in room.new result) }
     ensures room { length room.new ≡ MAX_MESSAGE }
     ensures len { IfOk result (λ taken. IfSome taken (λ line. line.1 ≤ MAX_MESSAGE)) }
-    ensures memory { result ≡ Err ScriptFault.OutOfMemory → ⊥ }
+    ensures memory { result ≡ Err CaptureFault.OutOfMemory → ⊥ }
     ensures reads { CountsReads (is_failed_read result) (tally_faults reader.old) (tally_faults reader.new) }
 {
     let number = lines.taken() + 1;
@@ -82,11 +74,11 @@ fn take_line<R: Read>(
                 lines.skip(len);
                 Ok(Some(line))
             }
-            Err(kind) => Err(ScriptFault::Departs { kind, line: number }),
+            Err(kind) => Err(CaptureFault::Departs { kind, line: number }),
         },
         Ok(None) => Ok(None),
-        Err(LineFault::Departs(kind)) => Err(ScriptFault::Departs { kind, line: number }),
-        Err(LineFault::Read) => Err(ScriptFault::Read),
+        Err(LineFault::Departs(kind)) => Err(CaptureFault::Departs { kind, line: number }),
+        Err(LineFault::Read) => Err(CaptureFault::Read),
     }
 }
 
@@ -97,35 +89,26 @@ impl ScriptReader {
     /// `Syntax` where the first line has no LF, as in an empty text, or is no head; `Read` where a call of the reader failed, and at
     /// any other answer its count of them stands; `OutOfMemory` where there is no memory for the reader's block or for its room for
     /// a message.
-    pub fn open<R: Read>(alloc: Global, reader: &mut Tally<R>) -> Result<ScriptReader, ScriptFault>
+    pub fn open<R: Read>(alloc: Global, reader: &mut Tally<R>) -> Result<ScriptReader, CaptureFault>
         ensures opens { Opens (R.remaining (tally_lent reader.old)) (R.remaining (tally_lent reader.new)) result }
         ensures reads { CountsReads (is_failed_read result) (tally_faults reader.old) (tally_faults reader.new) }
     {
-        let Ok(mut lines) = LineReader::new(alloc) else {
-            return Err(ScriptFault::OutOfMemory);
-        };
-        match lines.next(1, reader) {
-            Ok(Some(len)) => match head_of(lines.line(len)) {
-                Some((node_a, node_b)) => {
-                    lines.skip(len);
-                    let Ok(room) = vec![in alloc; 0u8; MAX_MESSAGE] else {
-                        return Err(ScriptFault::OutOfMemory);
-                    };
-                    Ok(ScriptReader {
-                        lines,
-                        node_a,
-                        node_b,
-                        phase: Phase::Reading,
-                        line: None,
-                        room,
-                        len: 0,
-                    })
-                }
-                None => Err(NO_HEAD),
-            },
-            Ok(None) => Err(NO_HEAD),
-            Err(LineFault::Departs(kind)) => Err(ScriptFault::Departs { kind, line: 1 }),
-            Err(LineFault::Read) => Err(ScriptFault::Read),
+        match open_list(alloc, b"ddplay 1 ", reader) {
+            Ok((lines, node_a, node_b)) => {
+                let Ok(room) = vec![in alloc; 0u8; MAX_MESSAGE] else {
+                    return Err(CaptureFault::OutOfMemory);
+                };
+                Ok(ScriptReader {
+                    lines,
+                    node_a,
+                    node_b,
+                    phase: Phase::Reading,
+                    line: None,
+                    room,
+                    len: 0,
+                })
+            }
+            Err(fault) => Err(fault),
         }
     }
 
@@ -159,20 +142,20 @@ impl ScriptReader {
     /// no LF; `Syntax` where it is no step's; `TooLong` where it is one but for a message of more than 65,535 bytes, or noise of more
     /// than 16,393. `Read` comes where a call of the reader failed; at any other answer its count of them stands as it stood.
     #[inline(always)]
-    pub fn advance<R: Read>(&mut self, reader: &mut Tally<R>) -> Result<bool, ScriptFault>
+    pub fn advance<R: Read>(&mut self, reader: &mut Tally<R>) -> Result<bool, CaptureFault>
         ensures advances { self.old.phase ≡ Phase.Reading → Advances self.old self.new
             (to_come self.old.unread (R.remaining (tally_lent reader.old)))
             (to_come self.new.unread (R.remaining (tally_lent reader.new))) result }
         ensures ended { self.old.phase ≡ Phase.Ended → (result ≡ Ok false) × (self.new ≡ self.old) }
-        ensures failed { self.old.phase ≡ Phase.Failed → (result ≡ Err ScriptFault.Failed) × (self.new ≡ self.old) }
+        ensures failed { self.old.phase ≡ Phase.Failed → (result ≡ Err CaptureFault.Failed) × (self.new ≡ self.old) }
         ensures head { (self.new.node_a ≡ self.old.node_a) × (self.new.node_b ≡ self.old.node_b) }
-        ensures memory { result ≡ Err ScriptFault.OutOfMemory → ⊥ }
+        ensures memory { result ≡ Err CaptureFault.OutOfMemory → ⊥ }
         ensures reads { CountsReads (is_failed_read result) (tally_faults reader.old) (tally_faults reader.new) }
     {
         match self.phase {
             Phase::Reading => {}
             Phase::Ended => return Ok(false),
-            Phase::Failed => return Err(ScriptFault::Failed),
+            Phase::Failed => return Err(CaptureFault::Failed),
         }
         match take_line(&mut self.lines, &mut self.room, reader) {
             Ok(Some((line, len))) => {

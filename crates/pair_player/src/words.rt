@@ -1,17 +1,16 @@
-//! Reading the words of a step's line, and of the head.
+//! Reading the words of a step's line.
 
 ghost use Rattle.std.specs.Prelude.{◌≡◌, ◌≤◌, length, IfOk};
 ghost use Rattle.std.specs.Option.{option_map};
 ghost use Rattle.capture.specs.Reading.{must};
 ghost use Rattle.capture.specs.declared.limit.TheConstants.{MAX_MESSAGE};
 ghost use Rattle.pair_player.specs.inner.Entries.{parted, plain, told};
-ghost use Rattle.pair_player.specs.inner.Reading.{damage_at, head_at, line_at, link_step_at, plain_at, side_at, step_at};
+ghost use Rattle.pair_player.specs.inner.Reading.{damage_at, line_at, link_step_at, plain_at, step_at};
 
 use crate::entry::{LineEntry, StepEntry};
 use capture::{
-    Departure, MAX_HINT, address_of, after, bytes_into, cut_at, link_of, message_of, number_of,
+    Departure, MAX_HINT, after, bytes_into, cut_at, link_of, message_of, number_of, side_of,
 };
-use wire_base::Side;
 
 // A step of one word.
 #[tactic(auto, unfolding(crate::specs::inner::Reading::plain_at))]
@@ -102,20 +101,6 @@ fn entry_of(text: &[u8]) -> Option<(StepEntry, Option<&[u8]>)>
     Some((entry, None))
 }
 
-// The side of a step, and what stands behind its letter and a space.
-#[tactic(auto, unfolding(crate::specs::inner::Reading::side_at))]
-fn side_of(line: &[u8]) -> Option<(Side, &[u8])>
-    ensures { option_map (λ parts. (parts.0, parts.1.now)) result ≡ side_at line.now }
-{
-    if let Some(rest) = after(line, b"a ") {
-        return Some((Side::A, rest));
-    }
-    if let Some(rest) = after(line, b"b ") {
-        return Some((Side::B, rest));
-    }
-    None
-}
-
 /// Reads the line's step in two parts: its entry, and its message or noise, which is written to the front of the room, with how many
 /// bytes it has. The line is given without its LF.
 ///
@@ -138,16 +123,4 @@ pub fn line_into(line: &[u8], room: &mut [u8]) -> Result<(LineEntry, usize), Dep
     };
     let len = bytes_into(digits, step.most(), room)?;
     Ok((LineEntry { side, step }, len))
-}
-
-/// The addresses of node a and node b, as the head spells them; the line is given without its LF. Takes no memory.
-#[tactic(auto, unfolding(crate::specs::inner::Reading::head_at))]
-pub fn head_of(line: &[u8]) -> Option<(u16, u16)>
-    ensures { result ≡ head_at line.now }
-{
-    let rest = after(line, b"ddplay 1 ")?;
-    let (node_a, node_b) = cut_at(rest, b' ')?;
-    let node_a = address_of(node_a)?;
-    let node_b = address_of(node_b)?;
-    Some((node_a, node_b))
 }

@@ -1,7 +1,6 @@
 -- A piece's line: what is read is its one spelling, and its spelling is read.
-use Rattle.std.proofs.Common.{◌≡◌, ℕ, ◌*◌, ◌≤◌, List, [], ◌∷◌, ◌++◌, length, get_or, Option, Some, None, Result, Ok, Err, refl, sym, ap}
+use Rattle.std.proofs.Common.{◌≡◌, ℕ, ◌*◌, ◌≤◌, List, [], ◌∷◌, length, get_or, Some, None, Result, Ok, Err, refl, sym, ap}
 use Rattle.std.proofs.Common.{subst, ◌∙◌, arith}
-use Rattle.std.specs.Prelude.{codes}
 use Rattle.std.proofs.lemmas.Bool.{le-leb}
 use Rattle.std.proofs.lemmas.List.{length-append}
 use Rattle.std.proofs.lemmas.Option.{same_Some}
@@ -13,43 +12,17 @@ use Rattle.wire_base.specs.Side.{side_letter}
 use Rattle.capture.specs.declared.limit.TheConstants.{MAX_LINE}
 use Rattle.capture.specs.declared.fault.Departure.{Departure}
 use Rattle.capture.specs.Text.{bytes_text, spaced}
-use Rattle.capture.specs.Reading.{after, any_bytes_at, bytes_at, or_else}
-use Rattle.capture.proofs.PartLaws.{after_takes}
+use Rattle.capture.specs.Reading.{any_bytes_at, bytes_at}
+use Rattle.capture.specs.Sided.{side_at}
 use Rattle.capture.proofs.BytesLaws.{IsBytesOf, IsLongOf, any_bytes_again, bytes_again, bytes_shows, limited}
+use Rattle.capture.proofs.SidedLaws.{side_again}
 use Rattle.capture.proofs.Shown.{Shows}
 use Rattle.wire_text.specs.declared.limit.TheConstants.{MAX_PIECE}
 use Rattle.wire_text.specs.WireText.{Piece, HasSpelling, piece_text}
 use Rattle.wire_text.specs.Reader.{piece}
-use Rattle.wire_text.specs.inner.Reading.{IsNoPiece, IsPieceOf, side_at}
+use Rattle.wire_text.specs.inner.Reading.{IsNoPiece, IsPieceOf}
 
 -- ---- the side
-
-abbrev IsSided : List ℕ → Option (Side × List ℕ) → Type 0
-IsSided text None = Unit {0}
-IsSided text (Some parts) = text ≡ spaced (side_letter parts.0) parts.1
-
-b_shows : (text : List ℕ) (o : Option (List ℕ)) → ((rest : List ℕ) → o ≡ Some rest → text ≡ codes "b " ++ rest)
-    → IsSided text (or_else o (λ rest. Some (B, rest)) None)
-b_shows text None h = tt
-b_shows text (Some rest) h = h rest refl
-
-a_shows : (text : List ℕ) (o : Option (List ℕ)) (other : Option (Side × List ℕ)) → ((rest : List ℕ) → o ≡ Some rest → text ≡ codes "a " ++ rest)
-    → IsSided text other → IsSided text (or_else o (λ rest. Some (A, rest)) other)
-a_shows text None other h rest_shows = rest_shows
-a_shows text (Some rest) other h rest_shows = h rest refl
-
-side_shows : (text : List ℕ) → IsSided text (side_at text)
-unfolding side_at
-side_shows text = a_shows text (after (codes "a ") text) _ (after_takes (codes "a ") text)
-    (b_shows text (after (codes "b ") text) (after_takes (codes "b ") text))
-
-pub side_takes : (text : List ℕ) (parts : Side × List ℕ) → side_at text ≡ Some parts → text ≡ spaced (side_letter parts.0) parts.1
-side_takes text parts e = subst (IsSided text) e (side_shows text)
-
-pub side_again : (side : Side) (rest : List ℕ) → side_at (spaced (side_letter side) rest) ≡ Some (side, rest)
-unfolding side_at
-side_again A rest = refl
-side_again B rest = refl
 
 -- one letter, and the same behind it
 spaced_back : (s t : Side) (x y : List ℕ) → spaced (side_letter s) x ≡ spaced (side_letter t) y → x ≡ y

@@ -10,18 +10,12 @@ ghost use Rattle.wire_text.specs.Reader.{Advances, Opens};
 ghost use Rattle.wire_text.specs.inner.Fields.{TakesPiece, pieced_in};
 
 use crate::limit::{MAX_PIECE, MAX_PIECES};
-use crate::words::{head_of, piece_into};
-use capture::{CaptureFault, Departure, LineFault, LineReader, Phase};
+use crate::words::piece_into;
+use capture::{CaptureFault, Departure, LineFault, LineReader, Phase, open_list};
 use std::alloc::Global;
 use std::io::Read;
 use std::marker::Model;
 use wire_base::{Side, Tally};
-
-// A first line that is no head.
-const NO_HEAD: CaptureFault = CaptureFault::Departs {
-    kind: Departure::Syntax,
-    line: 1,
-};
 
 /// Reads the head of a text of what passed and then its pieces, one a call, from a reader that each call is lent, the same throughout.
 ///
@@ -108,30 +102,21 @@ impl WireReader {
             (IsCutBehind (R.remaining (tally_lent reader.old)) (R.remaining (tally_lent reader.new))) }
         ensures reads { CountsReads (is_failed_read result) (tally_faults reader.old) (tally_faults reader.new) }
     {
-        let Ok(mut lines) = LineReader::new(alloc) else {
-            return Err(CaptureFault::OutOfMemory);
-        };
-        match lines.next(1, reader) {
-            Ok(Some(len)) => match head_of(lines.line(len)) {
-                Some((node_a, node_b)) => {
-                    lines.skip(len);
-                    let Ok(room) = vec![in alloc; 0u8; MAX_PIECE] else {
-                        return Err(CaptureFault::OutOfMemory);
-                    };
-                    Ok(WireReader {
-                        lines,
-                        node_a,
-                        node_b,
-                        phase: Phase::Reading,
-                        room,
-                        len: 0,
-                    })
-                }
-                None => Err(NO_HEAD),
-            },
-            Ok(None) => Err(NO_HEAD),
-            Err(LineFault::Departs(kind)) => Err(CaptureFault::Departs { kind, line: 1 }),
-            Err(LineFault::Read) => Err(CaptureFault::Read),
+        match open_list(alloc, b"ddwire 1 ", reader) {
+            Ok((lines, node_a, node_b)) => {
+                let Ok(room) = vec![in alloc; 0u8; MAX_PIECE] else {
+                    return Err(CaptureFault::OutOfMemory);
+                };
+                Ok(WireReader {
+                    lines,
+                    node_a,
+                    node_b,
+                    phase: Phase::Reading,
+                    room,
+                    len: 0,
+                })
+            }
+            Err(fault) => Err(fault),
         }
     }
 

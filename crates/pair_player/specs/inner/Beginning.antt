@@ -6,8 +6,8 @@ use Rattle.capture.specs.Text.{head_line}
 use Rattle.dna_play.specs.KeptPlayed.{new_pair}
 use Rattle.pair_player.specs.declared.fault.PlayFault.{PlayFault}
 use Rattle.pair_player.specs.declared.fault.PlayFault.TheVariants as faults
-use Rattle.pair_player.specs.declared.fault.ScriptFault.{ScriptFault}
-use Rattle.pair_player.specs.declared.fault.ScriptFault.TheVariants as of_script
+use Rattle.capture.specs.declared.fault.CaptureFault.{CaptureFault}
+use Rattle.capture.specs.declared.fault.CaptureFault.TheVariants as of_script
 use Rattle.player_end.specs.declared.fault.StepFault.{StepFault}
 use Rattle.player_end.specs.declared.fault.StepFault.TheVariants as stops
 use Rattle.pair_player.specs.inner.Making.{Standing}
@@ -17,7 +17,7 @@ use Rattle.pair_player.specs.Reader.{Opens, ScriptState}
 -- ---- faults
 
 -- a fault of the script's reader; one that failed before is not read again
-abbrev pub fault_of : ScriptFault → PlayFault
+abbrev pub fault_of : CaptureFault → PlayFault
 fault_of (of_script.Departs kind line) = faults.Departs kind line
 fault_of of_script.Read = faults.Read
 fault_of of_script.OutOfMemory = faults.OutOfMemory

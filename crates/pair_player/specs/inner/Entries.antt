@@ -9,7 +9,7 @@ use Rattle.dna_play.specs.ScriptText.{most_bytes}
 use Rattle.pair_player.specs.declared.entry.StepEntry.{StepEntry}
 use Rattle.pair_player.specs.declared.entry.StepEntry.TheVariants as entries
 use Rattle.pair_player.specs.declared.entry.LineEntry.{LineEntry}
-use Rattle.pair_player.specs.declared.fault.ScriptFault.{ScriptFault}
+use Rattle.capture.specs.declared.fault.CaptureFault.{CaptureFault}
 
 -- the step of an entry and the noise or message beside it
 abbrev pub step_with : StepEntry → List ℕ → StepValue
@@ -48,7 +48,7 @@ parted room (Ok (line, len)) = Ok (line_with line (take len room))
 parted room (Err fault) = Err fault
 
 -- the same of a line that may be the end
-abbrev pub stepped_in : List ℕ → Result (Option (LineEntry × ℕ)) ScriptFault → Result (Option ScriptStep) ScriptFault
+abbrev pub stepped_in : List ℕ → Result (Option (LineEntry × ℕ)) CaptureFault → Result (Option ScriptStep) CaptureFault
 stepped_in room (Ok (Some (line, len))) = Ok (Some (line_with line (take len room)))
 stepped_in room (Ok None) = Ok None
 stepped_in room (Err fault) = Err fault

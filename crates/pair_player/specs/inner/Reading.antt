@@ -1,12 +1,11 @@
 -- Reading the words of a script's line from left to right, with the first departure that is met.
-use Rattle.std.specs.Prelude.{ℕ, if◌then◌else◌, List, codes, Option, Some, None, option_and_then, Result, Ok, Err}
+use Rattle.std.specs.Prelude.{ℕ, if◌then◌else◌, List, codes, Option, Some, None, Result, Ok, Err}
 use Rattle.std.specs.Str.{bytes_eq}
-use Rattle.wire_base.specs.declared.side.Side.{Side}
-use Rattle.wire_base.specs.declared.side.Side.TheVariants.{A, B}
 use Rattle.capture.specs.declared.limit.TheConstants.{MAX_HINT, MAX_LINK, MAX_UNIT}
 use Rattle.capture.specs.declared.fault.Departure.{Departure}
 use Rattle.capture.specs.declared.fault.Departure.TheVariants.{Syntax}
-use Rattle.capture.specs.Reading.{◌>>=◌, must, after, cut_at, or_else, number_at, positive_at, address_at, bytes_at, message_at}
+use Rattle.capture.specs.Reading.{◌>>=◌, must, after, cut_at, or_else, number_at, positive_at, bytes_at, message_at}
+use Rattle.capture.specs.Sided.{side_at}
 use Rattle.dna_play.specs.Script.{StepValue, ScriptStep, Start, Halt, Timer, Send, Deliver, Refuse, Lose, Damage, Noise, Open, Accept, Reject, In}
 use Rattle.dna_play.specs.Script.{Close, Retry}
 
@@ -49,24 +48,9 @@ step_at text =
     (or_else (after (codes "damage ") text) (λ rest. damage_at rest >>= λ m. Ok (Damage m.0 m.1))
     (link_step_at text))))
 
--- the side of a step, and what stands behind its letter
-unfoldable pub side_at : List ℕ → Option (Side × List ℕ)
-side_at line =
-    or_else (after (codes "a ") line) (λ rest. Some (A, rest))
-    (or_else (after (codes "b ") line) (λ rest. Some (B, rest))
-    None)
-
 -- a step's line
 unfoldable pub line_at : List ℕ → Result ScriptStep Departure
 line_at line = do
   parts ← must (side_at line)
   step ← step_at parts.1
   Ok (record { side = parts.0; step = step })
-
--- the head
-unfoldable pub head_at : List ℕ → Option (ℕ × ℕ)
-head_at text = option_and_then (λ rest.
-    option_and_then (λ parts.
-    option_and_then (λ node_a.
-    option_and_then (λ node_b. Some (node_a, node_b))
-    (address_at parts.1)) (address_at parts.0)) (cut_at 32 rest)) (after (codes "ddplay 1 ") text)

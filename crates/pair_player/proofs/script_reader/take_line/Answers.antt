@@ -1,10 +1,11 @@
 use Rattle.std.proofs.Common.{take, ap, sym, refl, ◌∙◌, arith}
 use Rattle.wire_base.specs.Tally.{tally_lent}
 use Rattle.capture.proofs.TakeLaws.{line_consumed}
+use Rattle.capture.proofs.ListedTake.{item_departs}
+use Rattle.dna_play.specs.ScriptText.{script_form}
 use Rattle.pair_player.specs.inner.Entries.{line_with}
 use Rattle.pair_player.specs.inner.Reading.{line_at}
-use Rattle.pair_player.proofs.LineWords.{line_ok}
-use Rattle.pair_player.proofs.TakeLaws.{step_departs}
+use Rattle.pair_player.proofs.LineWords.{line_ok, words_depart}
 use Rattle.pair_player.proofs.script_reader.take_line.Goals as goal
 
 pub returns-in-Ok-clause-takes : goal.returns-in-Ok-clause-takes
@@ -31,6 +32,6 @@ returns-in-Err-clause-takes g c =
     let read = rw c.line.ensures at c.in-Err.ensures.step in
     let left = g.R.Read.remaining (tally_lent c.next.new.reader) in
     let departs =
-    step_departs c.in-Err.kind c.next.new.self.unread c.in-Ok-Some.len c.args.lines.now.taken _ left (omega arith) head found.1 found.2 found.3
-    read in
+    item_departs script_form c.in-Err.kind c.next.new.self.unread c.in-Ok-Some.len c.args.lines.now.taken _ left (omega arith) head found.1 found.2
+    found.3 (words_depart c.in-Err.kind _ read) in
     ((rw c.taken-number.ensures refl, departs), same, tt)

@@ -1,8 +1,10 @@
 use Rattle.std.proofs.Common.{sym, refl, subst, ◌∙◌, arith}
 use Rattle.wire_base.specs.Tally.{tally_lent}
+use Rattle.capture.specs.declared.fault.Departure.TheVariants.{Syntax}
 use Rattle.capture.proofs.TakeLaws.{line_consumed}
+use Rattle.capture.proofs.ListedTake.{item_departs}
+use Rattle.wire_text.specs.WireText.{wire_form}
 use Rattle.wire_text.specs.inner.Reading.{IsNoPiece}
-use Rattle.wire_text.proofs.TakeLaws.{piece_departs}
 use Rattle.wire_text.proofs.wire_reader.take_piece.Goals as goal
 
 pub returns-in-Some-clause-takes : goal.returns-in-Some-clause-takes
@@ -29,5 +31,6 @@ returns-in-None-clause-takes g c =
     let left = g.R.Read.remaining (tally_lent c.next.new.reader) in
     let none = subst IsNoPiece c.line.ensures (c.in-None.ensures.none refl) in
     let departs =
-    piece_departs c.next.new.self.unread c.in-Ok-Some.len c.args.lines.now.taken _ left (omega arith) head found.1 found.2 found.3 none in
+    item_departs wire_form Syntax c.next.new.self.unread c.in-Ok-Some.len c.args.lines.now.taken _ left (omega arith) head found.1 found.2
+    found.3 none in
     ((rw c.taken-number.ensures refl, departs), same)

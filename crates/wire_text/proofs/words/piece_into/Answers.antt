@@ -1,6 +1,7 @@
 use Rattle.std.proofs.Common.{◌≤◌, ℕ, length, take, Ok, Err, sym, ap, arith}
 use Rattle.std.proofs.lemmas.List.{length-take}
-use Rattle.wire_text.proofs.PieceLaws.{side_takes, piece_read, no_side, no_piece}
+use Rattle.capture.proofs.SidedLaws.{side_takes}
+use Rattle.wire_text.proofs.PieceLaws.{piece_read, no_side, no_piece}
 use Rattle.wire_text.proofs.words.piece_into.Goals as goal
 
 pub returns-in_default-clause-none : goal.returns-in_default-clause-none
