@@ -2,6 +2,7 @@
 use Rattle.std.proofs.Common.{ℕ, inl, inr, List, [], Option, Some, None, Result, Ok, Err, sym, subst, arith}
 use Rattle.std.specs.Io.KnownBytes.{Appends}
 use Rattle.wire_base.specs.declared.side.Side.TheVariants.{A, B}
+use Rattle.capture.specs.declared.fault.Departure.{Departure}
 use Rattle.capture.specs.Range.{IsText}
 use Rattle.capture.proofs.SoFarLaws.{departs_nowhere, head_stands}
 use Rattle.pair_judge.specs.declared.fault.JudgeFault.TheVariants as judge
@@ -61,3 +62,8 @@ module _ (text : Option (List ℕ)) (written : Held) (answer : Answer) (judged :
   answered (Err Read) plays has = absurd has
   answered (Err (Write side)) plays has = absurd has
   answered (Err OutOfMemory) plays has = absurd has
+
+-- ---- a row: where the head of a script departs, no capture is there
+
+no_captures_of_a_bad_head : (kind : Departure) → HasCaptures (Err (Departs kind 1)) → ⊥
+no_captures_of_a_bad_head kind has = absurd (omega (arith, has))

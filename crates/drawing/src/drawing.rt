@@ -24,7 +24,7 @@ use std::alloc::{AllocError, Global};
 use std::io::{Read, Seek, Write};
 use wire_base::{Side, Tally, write_whole};
 
-/// The rows of a pair, with both ends where its verdict is given.
+/// The rows of a pair, with both ends as `judge_told` shows them: which record of each is ahead, and how many were made.
 #[derive(Drop)]
 pub struct DrawnPair {
     pub ends: JudgedEnds,
@@ -67,7 +67,7 @@ pub fn draw_to<A: Read + Seek, B: Read + Seek, O: Write>(
     }
 }
 
-/// The rows of this range, with both ends where the verdict is given. `Err`: as for `draw_to`.
+/// The rows of this range, with both ends as `judge_told` shows them. `Err`: there is no verdict, memory was wanting, or a read failed.
 pub fn drawing_of<A: Read + Seek, B: Read + Seek>(
     alloc: Global,
     a: &mut A,

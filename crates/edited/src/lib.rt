@@ -21,6 +21,3 @@ pub use mistake::{Mistake, MistakeOf};
 pub use near::candidates;
 pub use reader::EditedReader;
 pub use row::{Damage, Due, Refused, Row, Stretch};
-
-#[cfg(test)]
-mod tests;

@@ -70,7 +70,7 @@ path.cross { stroke: #ff7b72; }
 }
 ";
 
-// A head of an arrow: its name and its class, its width and its height, where its point is, whether it turns with the arrow, and its lines.
+// A head of an arrow: its name and its class, the box that its lines are in, where its point is in that, its width and height, and its lines.
 struct Head {
     name: &'static str,
     view: &'static str,

@@ -25,12 +25,13 @@ use Rattle.pair_judge.specs.declared.fault.TextFault.TheVariants.{Departs, Read}
 use Rattle.pair_judge.specs.declared.reason.Reason.{Reason}
 use Rattle.pair_judge.specs.declared.reason.Reason.TheVariants as reasons
 use Rattle.pair_judge.specs.inner.Answer.{answer_of, verdict_of}
+use Rattle.pair_judge.specs.inner.Delivering.{DeliversInOrder}
 use Rattle.pair_judge.specs.Heads.{head_of}
 use Rattle.pair_judge.specs.Finding.{EndsFor, EndsWhere, IsCounted, IsFinding, IsFoundIn, IsFindingBehind, of_side}
 use Rattle.pair_judge.specs.Faulty.{IsFaultyText, IsJudgeFault}
 use Rattle.pair_judge.specs.Reason.{reason_of}
 use Rattle.pair_judge.specs.Refusal.{AreRefused, IsRefusal, OffendsFor, WholeCapture}
-use Rattle.pair_judge.specs.Judged.{AcceptsOrFails, AreARun, IfTold, IsAcceptance, IsExact, IsRefusalWhere}
+use Rattle.pair_judge.specs.Judged.{AcceptsOrFails, AreARun, IfTold, IsAcceptance, IsAnswer, IsExact, IsFaultyWhere, IsRefusalWhere}
 use Rattle.pair_judge.proofs.Found.{at_heads}
 
 -- the laws of whole texts
@@ -52,15 +53,6 @@ read_whole laws bytes read from is =
     (subst (λ (b : Behind). IsReadSoFar (Some bytes) (so_far read.form read.own read.peer read.records b)) is from)
 
 module _ (nodes : NodeKind) where
-  -- the laws of what was delivered in a run
-  pub record RunLaws : Type 0 where
-    pub of_a : (head_a head_b : Head) (w : World (KindNode nodes) (KindUnit nodes)) (of_a of_b : List Record) →
-        Run (kind_pair nodes) (kind_start nodes head_a head_b) of_a
-        of_b w → nodes.Delivered w.a.state.station w.b.state.station of_a of_b
-    pub of_b : (head_a head_b : Head) (w : World (KindNode nodes) (KindUnit nodes)) (of_a of_b : List Record) →
-        Run (kind_pair nodes) (kind_start nodes head_a head_b) of_a
-        of_b w → nodes.Delivered w.b.state.station w.a.state.station of_b of_a
-
   -- ---- of two known texts of captures
 
   same_head : (head : Head) (read : ReadSoFar) → head.own ≡ read.own → head.peer ≡ read.peer → head ≡ head_of read
@@ -133,7 +125,7 @@ module _ (nodes : NodeKind) where
       by_rest (ToCome bytes) = ([], sym (append-nil read.records))
       by_rest TheEnd = refl
 
-  module _ (laws : WholeLaws) (runs : RunLaws) (bytes_a bytes_b : List ℕ) (read_a read_b : ReadSoFar) (from_a : IsReadSoFar (Some bytes_a) read_a)
+  module _ (laws : WholeLaws) (runs : DeliversInOrder nodes) (bytes_a bytes_b : List ℕ) (read_a read_b : ReadSoFar) (from_a : IsReadSoFar (Some bytes_a) read_a)
       (from_b : IsReadSoFar (Some bytes_b) read_b) where
     are_a_run : (summary : Summary) → read_a.behind ≡ TheEnd → read_b.behind ≡ TheEnd → IsCounted nodes (head_of read_a) (head_of read_b)
         read_a.records
@@ -160,7 +152,7 @@ module _ (nodes : NodeKind) where
     accepted_by findings.Accepted summary ends counts = are_a_run summary ends.0 ends.1 (counts refl)
     accepted_by (findings.Refused side place cause) summary ends counts = tt
 
-  pub accepted_of_found : (laws : WholeLaws) (runs : RunLaws) (text_a text_b : Option (List ℕ)) (found : Found) →
+  pub accepted_of_found : (laws : WholeLaws) (runs : DeliversInOrder nodes) (text_a text_b : Option (List ℕ)) (found : Found) →
       IsFoundIn nodes text_a text_b found →
       IfTold text_a text_b (λ bytes_a bytes_b. IsAcceptance nodes bytes_a bytes_b (Ok (verdict_of found)))
   accepted_of_found laws runs None text_b found f = tt
@@ -215,6 +207,36 @@ module _ (nodes : NodeKind) where
   pub refused_of_found : (text_a text_b : Option (List ℕ)) (found : Found) → IsFoundIn nodes text_a text_b found →
       IsRefusalWhere nodes text_a text_b (Ok (verdict_of found))
   refused_of_found text_a text_b found f = refused_by text_a text_b f.read_a f.read_b f.from_a f.from_b found.finding found.summary f.finding f.ends
+
+  -- ---- an answer
+
+  pub answer_of_found : (laws : WholeLaws) (runs : DeliversInOrder nodes) (text_a text_b : Option (List ℕ)) (found : Found) →
+      IsFoundIn nodes text_a text_b found → IsAnswer nodes text_a text_b (Ok (verdict_of found))
+  answer_of_found laws runs text_a text_b found f = record {
+    exact = exact_of_found laws text_a text_b found f;
+    accepted = accepted_of_found laws runs text_a text_b found f;
+    refused = refused_of_found text_a text_b found f;
+    faulty = tt;
+  }
+
+  pub answer_of_fault : (laws : WholeLaws) (text_a text_b : Option (List ℕ)) (fault : JudgeFault) → IsJudgeFault nodes text_a text_b fault →
+      IsAnswer nodes text_a text_b (Err fault)
+  answer_of_fault laws text_a text_b fault f = record {
+    exact = exact_of_fault laws text_a text_b fault f;
+    accepted = not_accepted text_a text_b;
+    refused = tt;
+    faulty = faulty_by fault f;
+  }
+    where
+      not_accepted : (text_a text_b : Option (List ℕ)) → IfTold text_a text_b (λ bytes_a bytes_b. IsAcceptance nodes bytes_a bytes_b (Err fault))
+      not_accepted None text_b = tt
+      not_accepted (Some bytes_a) None = tt
+      not_accepted (Some bytes_a) (Some bytes_b) = tt
+
+      faulty_by : (fault : JudgeFault) → IsJudgeFault nodes text_a text_b fault → IsFaultyWhere nodes text_a text_b (Err fault)
+      faulty_by (Capture side (Departs kind line)) f = f
+      faulty_by (Capture side Read) f = tt
+      faulty_by OutOfMemory f = tt
 
   -- ---- of two whole captures
 

@@ -11,7 +11,7 @@ use Rattle.dna_node.specs.declared.finding.Cause.{Cause}
 use Rattle.dna_node.specs.declared.finding.Cause.TheVariants.{Step, NoSuchUnit, NoOrder}
 use Rattle.dna_node.specs.declared.finding.Finding.{Finding}
 use Rattle.dna_node.specs.declared.finding.Finding.TheVariants.{Accepted, Refused}
-use Rattle.pair_judge.specs.Finding.{IsFinding}
+use Rattle.pair_judge.specs.Finding.{EndsWhere, IsFinding}
 use Rattle.pair_judge.specs.Order.{MadeRecord}
 use Rattle.pair_judge.specs.declared.course.Ahead.{Ahead}
 use Rattle.pair_judge.specs.declared.course.Ahead.TheVariants.{Unread, Waits, Ended}
@@ -108,27 +108,38 @@ module _ (top : JudgeTop) where
         (subst (λ (of_a : List Record). IsFinding top.kind head_a head_b of_a all_b finding) (sym ea)
         (subst (λ (of_b : List Record). IsFinding top.kind head_a head_b xs of_b finding) (sym eb) v))
 
+    -- a refusal, where the captures that go on behind what was read are these
+    refused_so : (side : Side) (cause : Cause) → IsRead a → IsRead b →
+        EndsWhere (Refused side place cause) (read_of a).behind (read_of b).behind →
+        IfLeft top.leaves (StopsFor top a b (Refused side place cause)) →
+        ((all_a all_b : List Record) → GoesOn (read_of a) all_a → GoesOn (read_of b) all_b →
+        (xs : List Record) × (ys : List Record) × (all_a ≡ xs) × (all_b ≡ ys) × IsFinding top.kind head_a head_b xs ys (Refused side place cause)) →
+        IsFound top a b (Refused side place cause)
+    refused_so side cause read_a read_b ends stops law = record {
+      made_a = a.made;
+      made_b = b.made;
+      read_a = read_a;
+      read_b = read_b;
+      is_finding = λ all_a all_b goes_a goes_b.
+          let f = law all_a all_b goes_a goes_b in
+          finding_at all_a all_b f.0 f.1 (Refused side place cause) f.2 f.3 f.4;
+      ends = ends;
+      same_a = refl;
+      same_b = refl;
+      stops = stops;
+      counts = λ e. cc;
+    }
+
     -- a's next record is refused
     pub a_fails : (refusal : StepRefusal) (r : Record) → IsRead a → IsWaiting a.course.capture.bytes a.course.ahead r → IsRead b →
         IfLeft top.leaves (StopsFor top a b (Refused A place (Step refusal))) →
         ((rest_a rest_b : List Record) → IsFinding top.kind head_a head_b (a.made ++ r ∷ rest_a) (b.made ++ rest_b) (Refused A place (Step
         refusal))) →
         IsFound top a b (Refused A place (Step refusal))
-    a_fails refusal r read_a ahead_a read_b stops law = record {
-      made_a = a.made;
-      made_b = b.made;
-      read_a = read_a;
-      read_b = read_b;
-      is_finding = λ all_a all_b goes_a goes_b.
-          let x = goes_waits a a.made all_a r ahead_a goes_a in
-          let y = goes_any b b.made all_b goes_b in
-          finding_at all_a all_b (a.made ++ r ∷ x.0) (b.made ++ y.0) (Refused A place (Step refusal)) x.1 y.1 (law x.0 y.0);
-      ends = tt;
-      same_a = refl;
-      same_b = refl;
-      stops = stops;
-      counts = λ e. cc;
-    }
+    a_fails refusal r read_a ahead_a read_b stops law = refused_so A (Step refusal) read_a read_b tt stops (λ all_a all_b goes_a goes_b.
+        let x = goes_waits a a.made all_a r ahead_a goes_a in
+        let y = goes_any b b.made all_b goes_b in
+        (a.made ++ r ∷ x.0, b.made ++ y.0, x.1, y.1, law x.0 y.0))
 
     -- b's next record is refused, and a waits
     pub b_fails_behind : (refusal : StepRefusal) (p r : Record) → IsRead a → IsRead b → IsWaiting b.course.capture.bytes b.course.ahead r →
@@ -136,41 +147,21 @@ module _ (top : JudgeTop) where
         → ((rest_a rest_b : List Record) → IsFinding top.kind head_a head_b (a.made ++ p ∷ rest_a) (b.made ++ r ∷ rest_b) (Refused B place (Step
         refusal))) →
         IsFound top a b (Refused B place (Step refusal))
-    b_fails_behind refusal p r read_a read_b ahead_b stops ahead_a law = record {
-      made_a = a.made;
-      made_b = b.made;
-      read_a = read_a;
-      read_b = read_b;
-      is_finding = λ all_a all_b goes_a goes_b.
-          let x = goes_waits a a.made all_a p ahead_a goes_a in
-          let y = goes_waits b b.made all_b r ahead_b goes_b in
-          finding_at all_a all_b (a.made ++ p ∷ x.0) (b.made ++ r ∷ y.0) (Refused B place (Step refusal)) x.1 y.1 (law x.0 y.0);
-      ends = tt;
-      same_a = refl;
-      same_b = refl;
-      stops = stops;
-      counts = λ e. cc;
-    }
+    b_fails_behind refusal p r read_a read_b ahead_b stops ahead_a law = refused_so B (Step refusal) read_a read_b tt stops
+        (λ all_a all_b goes_a goes_b.
+        let x = goes_waits a a.made all_a p ahead_a goes_a in
+        let y = goes_waits b b.made all_b r ahead_b goes_b in
+        (a.made ++ p ∷ x.0, b.made ++ r ∷ y.0, x.1, y.1, law x.0 y.0))
 
     -- or a has ended
     pub b_fails_last : (refusal : StepRefusal) (r : Record) → IsRead a → IsRead b → IsWaiting b.course.capture.bytes b.course.ahead r →
         IfLeft top.leaves (StopsFor top a b (Refused B place (Step refusal))) → a.course.ahead ≡ Ended
         → ((rest_b : List Record) → IsFinding top.kind head_a head_b a.made (b.made ++ r ∷ rest_b) (Refused B place (Step refusal))) →
         IsFound top a b (Refused B place (Step refusal))
-    b_fails_last refusal r read_a read_b ahead_b stops ended law = record {
-      made_a = a.made;
-      made_b = b.made;
-      read_a = read_a;
-      read_b = read_b;
-      is_finding = λ all_a all_b goes_a goes_b.
-          let y = goes_waits b b.made all_b r ahead_b goes_b in
-          finding_at all_a all_b a.made (b.made ++ r ∷ y.0) (Refused B place (Step refusal)) (goes_ended a a.made all_a ended goes_a) y.1 (law y.0);
-      ends = tt;
-      same_a = refl;
-      same_b = refl;
-      stops = stops;
-      counts = λ e. cc;
-    }
+    b_fails_last refusal r read_a read_b ahead_b stops ended law = refused_so B (Step refusal) read_a read_b tt stops
+        (λ all_a all_b goes_a goes_b.
+        let y = goes_waits b b.made all_b r ahead_b goes_b in
+        (a.made, b.made ++ r ∷ y.0, goes_ended a a.made all_a ended goes_a, y.1, law y.0))
 
     -- whichever it is, where a's course was this one before its line was released
     pub b_fails : (refusal : StepRefusal) (r : Record) (waits : Bool) (own : Course) (incoming : Line) → own.capture ≡ a.course.capture →
@@ -193,61 +184,30 @@ module _ (top : JudgeTop) where
         IfLeft top.leaves (StopsFor top a b (Refused A place NoOrder)) →
         ((rest_a rest_b : List Record) → IsFinding top.kind head_a head_b (a.made ++ r ∷ rest_a) (b.made ++ s ∷ rest_b) (Refused A place NoOrder)) →
         IsFound top a b (Refused A place NoOrder)
-    both_wait r s read_a read_b ahead_a ahead_b stops law = record {
-      made_a = a.made;
-      made_b = b.made;
-      read_a = read_a;
-      read_b = read_b;
-      is_finding = λ all_a all_b goes_a goes_b.
-          let x = goes_waits a a.made all_a r ahead_a goes_a in
-          let y = goes_waits b b.made all_b s ahead_b goes_b in
-          finding_at all_a all_b (a.made ++ r ∷ x.0) (b.made ++ s ∷ y.0) (Refused A place NoOrder) x.1 y.1 (law x.0 y.0);
-      ends = tt;
-      same_a = refl;
-      same_b = refl;
-      stops = stops;
-      counts = λ e. cc;
-    }
+    both_wait r s read_a read_b ahead_a ahead_b stops law = refused_so A NoOrder read_a read_b tt stops (λ all_a all_b goes_a goes_b.
+        let x = goes_waits a a.made all_a r ahead_a goes_a in
+        let y = goes_waits b b.made all_b s ahead_b goes_b in
+        (a.made ++ r ∷ x.0, b.made ++ s ∷ y.0, x.1, y.1, law x.0 y.0))
 
     -- a waits and b has ended
     pub a_waits : (r : Record) → IsRead a → IsRead b → IsWaiting a.course.capture.bytes a.course.ahead r → b.course.ahead ≡ Ended →
         IfLeft top.leaves (StopsFor top a b (Refused A place NoSuchUnit)) →
         ((rest_a : List Record) → IsFinding top.kind head_a head_b (a.made ++ r ∷ rest_a) b.made (Refused A place NoSuchUnit)) →
         IsFound top a b (Refused A place NoSuchUnit)
-    a_waits r read_a read_b ahead_a ahead_b stops law = record {
-      made_a = a.made;
-      made_b = b.made;
-      read_a = read_a;
-      read_b = read_b;
-      is_finding = λ all_a all_b goes_a goes_b.
-          let x = goes_waits a a.made all_a r ahead_a goes_a in
-          finding_at all_a all_b (a.made ++ r ∷ x.0) b.made (Refused A place NoSuchUnit) x.1 (goes_ended b b.made all_b ahead_b goes_b) (law x.0);
-      ends = at_the_end b.course.ahead b.come ahead_b;
-      same_a = refl;
-      same_b = refl;
-      stops = stops;
-      counts = λ e. cc;
-    }
+    a_waits r read_a read_b ahead_a ahead_b stops law = refused_so A NoSuchUnit read_a read_b (at_the_end b.course.ahead b.come ahead_b) stops
+        (λ all_a all_b goes_a goes_b.
+        let x = goes_waits a a.made all_a r ahead_a goes_a in
+        (a.made ++ r ∷ x.0, b.made, x.1, goes_ended b b.made all_b ahead_b goes_b, law x.0))
 
     -- b waits and a has ended
     pub b_waits : (r : Record) → IsRead a → IsRead b → a.course.ahead ≡ Ended → IsWaiting b.course.capture.bytes b.course.ahead r →
         IfLeft top.leaves (StopsFor top a b (Refused B place NoSuchUnit)) →
         ((rest_b : List Record) → IsFinding top.kind head_a head_b a.made (b.made ++ r ∷ rest_b) (Refused B place NoSuchUnit)) →
         IsFound top a b (Refused B place NoSuchUnit)
-    b_waits r read_a read_b ahead_a ahead_b stops law = record {
-      made_a = a.made;
-      made_b = b.made;
-      read_a = read_a;
-      read_b = read_b;
-      is_finding = λ all_a all_b goes_a goes_b.
-          let y = goes_waits b b.made all_b r ahead_b goes_b in
-          finding_at all_a all_b a.made (b.made ++ r ∷ y.0) (Refused B place NoSuchUnit) (goes_ended a a.made all_a ahead_a goes_a) y.1 (law y.0);
-      ends = at_the_end a.course.ahead a.come ahead_a;
-      same_a = refl;
-      same_b = refl;
-      stops = stops;
-      counts = λ e. cc;
-    }
+    b_waits r read_a read_b ahead_a ahead_b stops law = refused_so B NoSuchUnit read_a read_b (at_the_end a.course.ahead a.come ahead_a) stops
+        (λ all_a all_b goes_a goes_b.
+        let y = goes_waits b b.made all_b r ahead_b goes_b in
+        (a.made, b.made ++ r ∷ y.0, goes_ended a a.made all_a ahead_a goes_a, y.1, law y.0))
 
   -- both have ended
   module _ (a b : Track) {order : List MadeRecord} (reached : HasReached top order a.course.end b.course.end a.made b.made)

@@ -1,5 +1,5 @@
 -- What becomes of a record on true numbers, from what is seen of it; and how many links are seen.
-use Rattle.std.proofs.Common.{◌≡◌, List, length, refl, sym, ap, ◌∙◌}
+use Rattle.std.proofs.Common.{◌≡◌, Bool, List, length, refl, sym, ap, ◌∙◌}
 use Rattle.std.proofs.lemmas.List.{length-map}
 use Rattle.two_nodes.specs.Nodes.{Outcome, advance}
 use Rattle.two_nodes.specs.Nodes.Outcome.{Made, Waits, Refused}
@@ -12,7 +12,7 @@ use Rattle.dna_links.specs.CutLinks.{cut_link}
 use Rattle.dna_node.specs.LayersPair.{layers_pair}
 use Rattle.dna_node.specs.Seen.{IsSeenLayers}
 use Rattle.pair_judge.specs.inner.Reached.{IsShown}
-use Rattle.pair_judge.specs.inner.Tops.{links_on_top, links_on_top_left}
+use Rattle.pair_judge.specs.inner.Tops.{links_on_top_that}
 use Rattle.pair_judge.specs.inner.Wire.{JudgeWorld}
 
 module _ {S U T V : Type 0} (cut : Cut S U T V) where
@@ -28,24 +28,9 @@ module _ {S U T V : Type 0} (cut : Cut S U T V) where
   waits_there (Refused reason) e = absurd (cc)
 
 -- what the wire nodes over both layers show, whatever a refused step leaves
-pub shown_left : (head_a head_b : Head) (w : JudgeWorld) (of_a of_b : List Record) → IsShown links_on_top head_a head_b w of_a of_b →
-    IsShown links_on_top_left head_a head_b w of_a of_b
-shown_left head_a head_b w of_a of_b s = record {
-  world = s.world;
-  run = s.run;
-  refused_a = s.refused_a;
-  refused_b = s.refused_b;
-  waits_a = s.waits_a;
-  waits_b = s.waits_b;
-  links_a = s.links_a;
-  links_b = s.links_b;
-  shows_a = record { station = s.shows_a.station; front = s.shows_a.front; sent = s.shows_a.sent };
-  shows_b = record { station = s.shows_b.station; front = s.shows_b.front; sent = s.shows_b.sent };
-}
-
-pub shown : (head_a head_b : Head) (w : JudgeWorld) (of_a of_b : List Record) → IsSeenLayers head_a head_b w of_a of_b →
-    IsShown links_on_top head_a head_b w of_a of_b
-shown head_a head_b w of_a of_b s = record {
+pub shown : (leaves : Bool) (head_a head_b : Head) (w : JudgeWorld) (of_a of_b : List Record) → IsSeenLayers head_a head_b w of_a of_b →
+    IsShown (links_on_top_that leaves) head_a head_b w of_a of_b
+shown leaves head_a head_b w of_a of_b s = record {
   world = s.world;
   run = s.run;
   refused_a = λ r refusal is. refused_there layers_seen (advance layers_pair.node_a s.world.a s.world.b r) refusal (sym (s.same_a r) ∙ is);

@@ -16,6 +16,7 @@ pub mod Reached
 pub mod Opened
 pub mod Ends
 pub mod Answer
+pub mod Delivering
 pub mod LoneEnd
 pub mod Stopped
 pub mod EndStopped

@@ -7,12 +7,14 @@ ghost use Rattle.wire_base.specs.declared.side.Side.{Side};
 ghost use Rattle.capture.specs.Faulty.{CountsReads};
 ghost use Rattle.capture.specs.Lines.{to_come};
 ghost use Rattle.dna_node.specs.Kind.{both_layers, stations_alone};
-ghost use Rattle.pair_judge.specs.inner.Answer.{verdict_of};
+ghost use Rattle.pair_judge.specs.Ends.{verdict_in};
 ghost use Rattle.pair_judge.specs.Faulty.{IsJudgeFault, is_failed_read_of};
-ghost use Rattle.pair_judge.specs.Finding.{IsFoundIn, of_side};
-ghost use Rattle.pair_judge.specs.Judged.{IfTold, IsAcceptance, IsExact, IsFaultyWhere, IsRefusalWhere};
+ghost use Rattle.pair_judge.specs.Finding.{of_side};
+ghost use Rattle.pair_judge.specs.Judged.{IfTold, IsAcceptance, IsAnswer, IsExact, IsFaultyWhere, IsRefusalWhere};
+ghost use Rattle.pair_judge.specs.Watched.{WasTold, only};
+ghost use Rattle.pair_judge.specs.inner.Answer.{verdict_of};
 ghost use Rattle.pair_judge.specs.inner.Opened.{OpensAt};
-ghost use Rattle.pair_judge.specs.inner.Stopped.{IsStoppedIn};
+ghost use Rattle.pair_judge.specs.inner.Stopped.{AreShownIn, IsStoppedIn, ends_of};
 
 mod told;
 mod with_ends;
@@ -20,18 +22,19 @@ mod with_ends;
 use crate::course::{Ahead, Course};
 use crate::end::End;
 use crate::fault::JudgeFault;
-use crate::layers::Layers;
+use crate::judged_ends::{JudgedEnds, ends_with};
+use crate::layers::{Layers, LinksOnTop, NothingOnTop};
 use crate::line::Line;
 use crate::observer::{Nobody, Observer, Way};
 use crate::reason::Reason;
 use crate::stopped::Stopped;
 use crate::summary::{SideSummary, Summary};
-use crate::top::{LinksOnTop, NothingOnTop, Top};
+use crate::top::Top;
 use crate::turn::{side_fault, turn};
 use crate::verdict::Verdict;
 use capture::{CaptureReader, MAX_RECORDS, text_read_on, whole_text};
-use dna_node::{Finding, layers_deliver_in_order, layers_run_as_stations};
-use dna_station::{Head, captures_deliver_in_order};
+use dna_node::Finding;
+use dna_station::Head;
 use std::alloc::Global;
 use std::io::Read;
 pub use told::{judge_line_told, judge_told};
@@ -86,12 +89,8 @@ pub fn judge<R: Read, S: Read>(
     ensures reads_a { CountsReads (is_failed_read_of Side.A result) (tally_faults a.old) (tally_faults a.new) }
     ensures reads_b { CountsReads (is_failed_read_of Side.B result) (tally_faults b.old) (tally_faults b.new) }
 {
-    whole_text();
-    captures_deliver_in_order();
-    layers_run_as_stations();
-    layers_deliver_in_order();
-    match find::<LinksOnTop, R, S>(alloc, a, b) {
-        Ok(found) => Ok(verdict(found)),
+    match decide::<LinksOnTop, Nobody, R, S>(alloc, a, b, Nobody) {
+        Ok(watched) => Ok(watched.ends.verdict()),
         Err(fault) => Err(fault),
     }
 }
@@ -119,12 +118,54 @@ pub fn judge_line<R: Read, S: Read>(
     ensures reads_a { CountsReads (is_failed_read_of Side.A result) (tally_faults a.old) (tally_faults a.new) }
     ensures reads_b { CountsReads (is_failed_read_of Side.B result) (tally_faults b.old) (tally_faults b.new) }
 {
-    whole_text();
-    captures_deliver_in_order();
-    match find::<NothingOnTop, R, S>(alloc, a, b) {
-        Ok(of_line) => Ok(verdict(of_line)),
+    match decide::<NothingOnTop, Nobody, R, S>(alloc, a, b, Nobody) {
+        Ok(of_line) => Ok(of_line.ends.verdict()),
         Err(fault) => Err(fault),
     }
+}
+
+// Decides of both texts while this one looks on, with both ends as they are then. It reads and fails as `judge` does.
+fn decide<T: Top, O: Observer, R: Read, S: Read>(
+    alloc: Global,
+    a: &mut Tally<R>,
+    b: &mut Tally<S>,
+    observer: O,
+) -> Result<Watched<O>, JudgeFault>
+    requires { O.told observer [] }
+    ensures answer { IsAnswer T.top.kind (R.remaining (tally_lent a.old)) (S.remaining (tally_lent b.old))
+        (verdict_in (only result (λ watched. watched.ends))) }
+    ensures shown { IfOk result (λ watched.
+        AreShownIn T.top (R.remaining (tally_lent a.old)) (S.remaining (tally_lent b.old)) (O.told watched.observer) watched.ends) }
+    ensures told { IfOk result (λ watched.
+        WasTold T.top.kind (R.remaining (tally_lent a.old)) (S.remaining (tally_lent b.old)) watched.ends (O.told watched.observer)) }
+    ensures reads_a { CountsReads (is_failed_read_of Side.A result) (tally_faults a.old) (tally_faults a.new) }
+    ensures reads_b { CountsReads (is_failed_read_of Side.B result) (tally_faults b.old) (tally_faults b.new) }
+{
+    whole_text();
+    T::shows();
+    T::delivers();
+    match stop::<T, O, R, S>(alloc, a, b, observer) {
+        Ok((stopped, observer)) => Ok(Watched {
+            ends: with_verdict::<T>(stopped),
+            observer,
+        }),
+        Err(fault) => Err(fault),
+    }
+}
+
+// Both sides with what is answered of their finding.
+fn with_verdict<T: Top>(stopped: Stopped) -> JudgedEnds
+    ensures { result ≡ ends_of T.top stopped }
+{
+    let summary = Summary {
+        a: stopped.a.end.summary::<T>(),
+        b: stopped.b.end.summary::<T>(),
+    };
+    let found = Found {
+        finding: stopped.finding,
+        summary,
+    };
+    ends_with(verdict(found), stopped)
 }
 
 // What is answered of a finding.
@@ -141,32 +182,7 @@ fn verdict(found: Found) -> Verdict
     }
 }
 
-// Finds whether the two texts are a run, and if not, where and why. It reads and fails as `judge` does.
-fn find<T: Top, R: Read, S: Read>(
-    alloc: Global,
-    a: &mut Tally<R>,
-    b: &mut Tally<S>,
-) -> Result<Found, JudgeFault>
-    ensures found { IfOk result (IsFoundIn T.top.kind (R.remaining (tally_lent a.old)) (S.remaining (tally_lent b.old))) }
-    ensures fault { IfErr result (IsJudgeFault T.top.kind (R.remaining (tally_lent a.old)) (S.remaining (tally_lent b.old))) }
-    ensures reads_a { CountsReads (is_failed_read_of Side.A result) (tally_faults a.old) (tally_faults a.new) }
-    ensures reads_b { CountsReads (is_failed_read_of Side.B result) (tally_faults b.old) (tally_faults b.new) }
-{
-    let (stopped, _) = match stop::<T, Nobody, R, S>(alloc, a, b, Nobody) {
-        Ok(stopped) => stopped,
-        Err(fault) => return Err(fault),
-    };
-    let summary = Summary {
-        a: stopped.a.end.summary::<T>(),
-        b: stopped.b.end.summary::<T>(),
-    };
-    Ok(Found {
-        finding: stopped.finding,
-        summary,
-    })
-}
-
-// Finds the same while this one looks on, and keeps both sides as they are then.
+// Finds whether the two texts are a run, and if not, where and why, while this one looks on, and keeps both sides as they are then.
 fn stop<T: Top, O: Observer, R: Read, S: Read>(
     alloc: Global,
     a: &mut Tally<R>,

@@ -12,12 +12,13 @@ ghost use Rattle.pair_judge.specs.inner.EndStopped.{IsEndStopped};
 
 use crate::course::Ahead;
 use crate::end_verdict::EndVerdict;
+use crate::layers::{LinksOnTop, LinksOnTopLeft, NothingOnTop};
 use crate::lone_end::{LoneEnd, MadeAlone};
 use crate::observer::{Nobody, Observer};
 use crate::reason::Reason;
 use crate::side_end::SideEnd;
 use crate::stopped_end::StoppedEnd;
-use crate::top::{LinksOnTop, LinksOnTopLeft, NothingOnTop, Top};
+use crate::top::Top;
 use capture::{CaptureFault, CaptureReader, MAX_RECORDS, text_read_on, whole_text};
 use dna_node::Cause;
 use dna_station::Head;
@@ -147,36 +148,28 @@ fn stop_end<T: Top, O: Observer, R: Read>(
                     Err(AllocError) => return Err(CaptureFault::OutOfMemory),
                 },
                 Ok(MadeAlone::Fails { accused, refusal }) => {
-                    let verdict = EndVerdict::Refused {
-                        place: number,
-                        accused,
-                        reason: Reason::of_cause(Cause::Step(refusal)),
-                    };
-                    let ahead = Ahead::Waits(entry);
-                    return Ok((
-                        StoppedEnd {
-                            verdict,
-                            capture,
-                            end,
-                            ahead,
+                    let stopped = StoppedEnd {
+                        verdict: EndVerdict::Refused {
+                            place: number,
+                            accused,
+                            reason: Reason::of_cause(Cause::Step(refusal)),
                         },
-                        observer,
-                    ));
+                        capture,
+                        end,
+                        ahead: Ahead::Waits(entry),
+                    };
+                    return Ok((stopped, observer));
                 }
                 Err(_) => return Err(CaptureFault::OutOfMemory),
             },
             Ok(None) => {
-                let verdict = EndVerdict::Passed(end.summary::<T>());
-                let ahead = Ahead::Ended;
-                return Ok((
-                    StoppedEnd {
-                        verdict,
-                        capture,
-                        end,
-                        ahead,
-                    },
-                    observer,
-                ));
+                let stopped = StoppedEnd {
+                    verdict: EndVerdict::Passed(end.summary::<T>()),
+                    capture,
+                    end,
+                    ahead: Ahead::Ended,
+                };
+                return Ok((stopped, observer));
             }
             Err(fault) => return Err(fault),
         }

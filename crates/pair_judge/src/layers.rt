@@ -9,15 +9,18 @@ mod alone;
 mod arriving;
 mod failing;
 mod left;
+mod linked;
 mod one_end;
 mod one_end_left;
 mod sending;
 mod shown;
 mod user;
 
+pub use alone::NothingOnTop;
 use ddcmp_station::HeldPacket;
 use dna_links::LinkTag;
 use dna_station::Head;
+pub use linked::{LinksOnTop, LinksOnTopLeft};
 use nsp_link::Piece;
 pub use sending::packet_of;
 use std::alloc::{AllocError, Global};

@@ -1,4 +1,4 @@
-//! What stands on top of the stations that the judge runs: their links, or nothing.
+//! What stands on top of the stations that the judge runs: their links (`layers/linked`), or nothing (`layers/alone`).
 
 ghost use Rattle.std.specs.Prelude.{◌≡◌, ◌+◌, ◌^◌, ◌<◌, ◌≤◌, Ok, Err, List, None, Some, IsOk, OnOk, OnErr, IfOk, IfErr};
 ghost use Rattle.two_nodes.specs.Nodes.{Run};
@@ -16,13 +16,13 @@ ghost use Rattle.dna_links.specs.User.{view as link_view};
 ghost use Rattle.dna_node.specs.Alone.{unknown_tag};
 ghost use Rattle.dna_node.specs.WireLayers.{WireLayers, of_no_link, wire_layers_start};
 ghost use Rattle.pair_judge.specs.Events.{event_of_station, event_of_links};
+ghost use Rattle.pair_judge.specs.inner.Delivering.{DeliversInOrder};
 ghost use Rattle.pair_judge.specs.inner.Memory.{IfNoMemory, MayEnter, MayKeep};
 ghost use Rattle.pair_judge.specs.inner.Reached.{IsShown};
 ghost use Rattle.pair_judge.specs.inner.Receipts.{is_damage};
 ghost use Rattle.pair_judge.specs.inner.Steps.{IfRefused, with_link};
 ghost use Rattle.pair_judge.specs.inner.Unit.{tags_of};
 ghost use Rattle.pair_judge.specs.inner.Wire.{EndsAlike, IfLeft, JudgeTop, JudgeWorld, judge_hears, judge_pair};
-ghost use Rattle.pair_judge.specs.inner.Tops.{links_on_top, links_on_top_left, nothing_on_top};
 
 use crate::held_link::HeldLink;
 use crate::layers::Layers;
@@ -30,9 +30,7 @@ use crate::step_fault::StepFault;
 use crate::unit_tag::UnitTag;
 use ddcmp_msg::Message;
 use ddcmp_station::{Arrival, StationEvent};
-use dna_links::LinkTag;
-use dna_node::wire_layers_see_right;
-use dna_station::{StepRefusal, wire_nodes_see_right};
+use dna_station::StepRefusal;
 use nsp_link::LinkEvent;
 
 /// What a judge's stations have on top. It is chosen when the program is made, so that no record asks which it is.
@@ -114,6 +112,10 @@ pub trait Top {
         ensures { (head_a head_b : Head) (w : JudgeWorld) (of_a of_b : List Record)
             → Run (judge_pair top) (wire_layers_start head_a head_b) of_a of_b w → IsShown top head_a head_b w of_a of_b };
 
+    /// What a run of nodes of the kind delivers, as a function that does nothing.
+    fn delivers()
+        ensures { DeliversInOrder top.kind };
+
     /// What one end alone shares with a side of a pair, and what it shows of an end of its kind, as a function that does nothing.
     fn shows_alone()
         ensures user { (s : WireLayers) (event : Event) → top.alone.machine.user s event ≡ top.machine.user s event }
@@ -121,191 +123,4 @@ pub trait Top {
         ensures hears { (s : WireLayers) (read : ReadingValue) → noise_comes top.alone.machine s (damage read) ≡ judge_hears top s read }
         ensures unknown { top.alone.unknown ≡ unknown_tag }
         ensures ends { (head : Head) (records : List Record) → EndsAlike top head records };
-}
-
-/// The links of each side, on both layers.
-pub struct LinksOnTop;
-
-impl Top for LinksOnTop {
-    ghost top = { links_on_top };
-
-    #[inline(always)]
-    fn start_or_halt(layers: &mut Layers, event: StationEvent) -> Result<(), StepRefusal> {
-        layers.start_or_halt(event)
-    }
-
-    #[inline(always)]
-    fn at_links(layers: &mut Layers, event: LinkEvent) -> Result<(), StepFault> {
-        layers.at_links(event)
-    }
-
-    #[inline(always)]
-    fn sent(layers: &mut Layers, message: &Message) -> Result<UnitTag, StepFault> {
-        layers.sent(message)
-    }
-
-    #[inline(always)]
-    fn arrived(
-        layers: &mut Layers,
-        arrival: Arrival,
-        link: &HeldLink,
-        kept: bool,
-    ) -> Result<(), StepFault> {
-        layers.arrived(arrival, link, kept)
-    }
-
-    fn arrived_unknown(layers: &mut Layers, arrival: Arrival, kept: bool) -> Result<(), StepFault> {
-        layers.arrived_unknown(arrival, kept)
-    }
-
-    fn may_arrive_unknown(
-        layers: &Layers,
-        arrival: Arrival,
-        kept: bool,
-    ) -> Result<(), StepRefusal> {
-        layers.may_arrive_unknown(arrival, kept)
-    }
-
-    fn wrong_unit(layers: &Layers, message: &Message) -> Option<StepRefusal> {
-        layers.wrong_unit(message)
-    }
-
-    fn wrong_taken(layers: &Layers, message: &Message) -> Option<StepRefusal> {
-        layers.wrong_taken(message)
-    }
-
-    fn links_begun(layers: &Layers) -> u64 {
-        layers.links_begun()
-    }
-
-    fn shows() {
-        wire_layers_see_right();
-    }
-
-    fn shows_alone() {}
-}
-
-/// The links of each side, on both layers, which a step that is refused leaves as they were: what the links say of a packet is asked before
-/// the station makes its step. For those who look at both ends where a record is refused.
-pub struct LinksOnTopLeft;
-
-impl Top for LinksOnTopLeft {
-    ghost top = { links_on_top_left };
-
-    #[inline(always)]
-    fn start_or_halt(layers: &mut Layers, event: StationEvent) -> Result<(), StepRefusal> {
-        layers.start_or_halt(event)
-    }
-
-    #[inline(always)]
-    fn at_links(layers: &mut Layers, event: LinkEvent) -> Result<(), StepFault> {
-        layers.at_links(event)
-    }
-
-    #[inline(always)]
-    fn sent(layers: &mut Layers, message: &Message) -> Result<UnitTag, StepFault> {
-        layers.sent_or_left(message)
-    }
-
-    #[inline(always)]
-    fn arrived(
-        layers: &mut Layers,
-        arrival: Arrival,
-        link: &HeldLink,
-        kept: bool,
-    ) -> Result<(), StepFault> {
-        layers.arrived_or_left(arrival, link, kept)
-    }
-
-    fn arrived_unknown(layers: &mut Layers, arrival: Arrival, kept: bool) -> Result<(), StepFault> {
-        layers.arrived_unknown_or_left(arrival, kept)
-    }
-
-    fn may_arrive_unknown(
-        layers: &Layers,
-        arrival: Arrival,
-        kept: bool,
-    ) -> Result<(), StepRefusal> {
-        layers.may_arrive_unknown(arrival, kept)
-    }
-
-    fn wrong_unit(layers: &Layers, message: &Message) -> Option<StepRefusal> {
-        layers.wrong_unit(message)
-    }
-
-    fn wrong_taken(layers: &Layers, message: &Message) -> Option<StepRefusal> {
-        layers.wrong_taken(message)
-    }
-
-    fn links_begun(layers: &Layers) -> u64 {
-        layers.links_begun()
-    }
-
-    fn shows() {
-        wire_layers_see_right();
-    }
-
-    fn shows_alone() {}
-}
-
-/// Nothing: packets are any bytes, and what the links' user does is not judged.
-pub struct NothingOnTop;
-
-impl Top for NothingOnTop {
-    ghost top = { nothing_on_top };
-
-    #[inline(always)]
-    fn start_or_halt(layers: &mut Layers, event: StationEvent) -> Result<(), StepRefusal> {
-        layers.start_or_halt_alone(event)
-    }
-
-    #[inline(always)]
-    fn at_links(_layers: &mut Layers, _event: LinkEvent) -> Result<(), StepFault> {
-        Ok(())
-    }
-
-    #[inline(always)]
-    fn sent(layers: &mut Layers, message: &Message) -> Result<UnitTag, StepFault> {
-        layers.sent_alone(message)
-    }
-
-    #[inline(always)]
-    fn arrived(
-        layers: &mut Layers,
-        arrival: Arrival,
-        link: &HeldLink,
-        kept: bool,
-    ) -> Result<(), StepFault> {
-        layers.arrived_alone(arrival, link, kept)
-    }
-
-    fn arrived_unknown(layers: &mut Layers, arrival: Arrival, kept: bool) -> Result<(), StepFault> {
-        layers.arrived_unknown_alone(arrival, kept)
-    }
-
-    fn may_arrive_unknown(
-        layers: &Layers,
-        arrival: Arrival,
-        kept: bool,
-    ) -> Result<(), StepRefusal> {
-        layers.may_arrive_unknown_alone(arrival, kept)
-    }
-
-    fn wrong_unit(layers: &Layers, message: &Message) -> Option<StepRefusal> {
-        layers.wrong_answer(message)
-    }
-
-    fn wrong_taken(_layers: &Layers, _message: &Message) -> Option<StepRefusal> {
-        None
-    }
-
-    fn links_begun(_layers: &Layers) -> u64 {
-        0
-    }
-
-    fn shows() {
-        wire_nodes_see_right::<LinkTag>();
-    }
-
-    fn shows_alone() {}
 }

@@ -90,19 +90,16 @@ fn turn_of_b<T: Top, O: Observer, S: Read>(
     requires may_read { MayRead b.old }
     requires room { HasRoom b.old.end }
     ensures turn { IfOk (turned result way.new.ending) (λ turn.
-        (order : List MadeRecord) (text_a text_b come_a : Option (List ℕ)) (made_a made_b : List Record) →
-        IsUnderWay T.top order (along text_a a.old come_a made_a)
-        (along text_b b.old (to_come b.old.capture.unread (S.remaining (tally_lent reader_b.old))) made_b) →
-        IsStopped T.top a_waits a.old b.old.end.line →
-        TurnIs T.top order (TellsNext O.told way.old.observer way.new.observer) turn (along text_a a.new come_a made_a)
-        (along text_b b.new (to_come b.new.capture.unread (S.remaining (tally_lent reader_b.new))) made_b)) }
+        (order : List MadeRecord) (text_a text_b come_a : Option (List ℕ)) (made_a made_b : List Record) → IsUnderWay T.top order
+        (along text_a a.old come_a made_a) (along text_b b.old (to_come b.old.capture.unread (S.remaining (tally_lent reader_b.old))) made_b) →
+        IsStopped T.top a_waits a.old b.old.end.line → TurnIs T.top order (TellsNext O.told way.old.observer way.new.observer) turn
+        (along text_a a.new come_a made_a) (along text_b b.new (to_come b.new.capture.unread (S.remaining (tally_lent reader_b.new))) made_b)) }
     ensures same { (a.new.capture ≡ a.old.capture) × (a.new.ahead ≡ a.old.ahead) }
     ensures same_observer { IfOk (turned result way.new.ending) (λ turn. IfEnds turn (way.new.observer ≡ way.old.observer)) }
     ensures may_read { IfOk (turned result way.new.ending) (λ _. MayRead b.new) }
     ensures fault { IfErr (turned result way.new.ending) (λ fault.
-        (order : List MadeRecord) (text_a text_b come_a : Option (List ℕ)) (made_a made_b : List Record) →
-        IsUnderWay T.top order (along text_a a.old come_a made_a)
-        (along text_b b.old (to_come b.old.capture.unread (S.remaining (tally_lent reader_b.old))) made_b) →
+        (order : List MadeRecord) (text_a text_b come_a : Option (List ℕ)) (made_a made_b : List Record) → IsUnderWay T.top order
+        (along text_a a.old come_a made_a) (along text_b b.old (to_come b.old.capture.unread (S.remaining (tally_lent reader_b.old))) made_b) →
         IsJudgeFault T.top.kind text_a text_b fault) }
     ensures reads { CountsReads (is_failed_read_of Side.B (turned result way.new.ending)) (tally_faults reader_b.old) (tally_faults reader_b.new) }
     ensures other { is_failed_read_of Side.A (turned result way.new.ending) ≡ false }

@@ -88,3 +88,31 @@ fn no_row_is_drawn_where_the_named_record_is_not_told(rt: HostRuntime) -> Result
     assert_eq!(rt; ladder.drawn(rt.alloc())?.len(), 0);
     Ok(())
 }
+
+// Unit 0 is sent before the first row, and unit 1 behind it.
+#[test]
+fn a_receipt_stands_beside_no_later_unit(rt: HostRuntime) -> Result<(), AllocError> {
+    let from = Keep::From {
+        side: Side::B,
+        line: 2,
+    };
+    let mut ladder = Ladder::new(rt.alloc(), from, 4)?;
+    ladder.made(Side::A, Entry::Start, &[])?;
+    ladder.made(Side::A, Entry::Sent, &STRT)?;
+    ladder.made(Side::B, Entry::Start, &[])?;
+    for hint in 0..2 {
+        ladder.made(Side::B, Entry::Received { kept: false, hint }, &STRT)?;
+        ladder.made(Side::A, Entry::Sent, &STRT)?;
+    }
+    let lines = [
+        "                      |                                  | start          2",
+        "                      |....... STRT of a line 3 ........>|                3",
+        "     4                |---------- again STRT ----------->|                4",
+    ];
+    let drawn = ladder.drawn(rt.alloc())?;
+    for index in 0..lines.len() {
+        let text = line(rt.alloc(), &drawn, index)?;
+        assert_eq!(rt; text.as_str(), lines[index]);
+    }
+    Ok(())
+}

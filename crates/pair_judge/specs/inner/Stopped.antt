@@ -1,5 +1,5 @@
 -- Both sides where the judge stops.
-use Rattle.std.specs.Prelude.{ℕ, List, Option}
+use Rattle.std.specs.Prelude.{◌≡◌, ℕ, List, Option}
 use Rattle.capture.specs.declared.record.Record.{Record}
 use Rattle.pair_judge.specs.declared.judging.Found.{Found}
 use Rattle.pair_judge.specs.declared.stopped.Stopped.{Stopped}
@@ -36,3 +36,9 @@ module _ (top : JudgeTop) where
     pub in_order : IsInOrder top order (along text_a s.a come_a made_a) (along text_b s.b come_b made_b)
     pub told : tells order
     pub stops : IfLeft top.leaves (StopsFor top (along text_a s.a come_a made_a) (along text_b s.b come_b made_b) s.finding)
+
+  -- both ends are shown as they are at such a stop
+  pub record AreShownIn (text_a text_b : Option (List ℕ)) (tells : List MadeRecord → Type 0) (ends : ShownEnds) : Type 0 where
+    pub stopped : Stopped
+    pub is_stopped : IsStoppedIn text_a text_b tells stopped
+    pub shown : ends ≡ ends_of stopped

@@ -26,20 +26,20 @@ use Rattle.pair_judge.specs.inner.Wire.{JudgeTop}
 abbrev pub layers_run : Machine WireLayers LayersTag
 layers_run = wire_layers_machine judged
 
-abbrev pub links_on_top : JudgeTop
-links_on_top = record {
+-- Where `leaves` holds, a step that is refused leaves both layers as they were
+abbrev pub links_on_top_that : (leaves : Bool) → JudgeTop
+links_on_top_that leaves = record {
   kind = both_layers;
   machine = layers_run;
   links = λ (s : WireLayers). length s.links.links;
   alone = layers_end;
   end = layers_alone;
-  leaves = false;
+  leaves = leaves;
   Shows = λ (w : WireLayers) (s : Layers). w ≡ cut_layers s;
 }
 
--- the same, where a step that is refused leaves both layers as they were
 abbrev pub links_on_top_left : JudgeTop
-links_on_top_left = record links_on_top { leaves = true }
+links_on_top_left = links_on_top_that true
 
 -- ---- nothing: the links stay as they were before any record
 

@@ -1,6 +1,6 @@
 //! The judge of both layers, or of the line, with one who is told of each record on the way to its verdict.
 
-ghost use Rattle.std.specs.Prelude.{◌≡◌, IfOk, []};
+ghost use Rattle.std.specs.Prelude.{IfOk, []};
 ghost use Rattle.wire_base.specs.Tally.{tally_faults, tally_lent};
 ghost use Rattle.wire_base.specs.declared.side.Side.{Side};
 ghost use Rattle.capture.specs.Faulty.{CountsReads};
@@ -10,14 +10,11 @@ ghost use Rattle.pair_judge.specs.Faulty.{is_failed_read_of};
 ghost use Rattle.pair_judge.specs.Judged.{IfTold, IsAcceptance, IsExact, IsFaultyWhere, IsRefusalWhere};
 ghost use Rattle.pair_judge.specs.Watched.{WasTold, only};
 
-use super::stop;
-use super::with_ends::{Watched, with_verdict};
+use super::decide;
+use super::with_ends::Watched;
 use crate::fault::JudgeFault;
 use crate::observer::Observer;
-use crate::top::{LinksOnTop, NothingOnTop, Top};
-use capture::whole_text;
-use dna_node::{layers_deliver_in_order, layers_run_as_stations};
-use dna_station::captures_deliver_in_order;
+use crate::layers::{LinksOnTop, NothingOnTop};
 use std::alloc::Global;
 use std::io::Read;
 use wire_base::Tally;
@@ -50,18 +47,7 @@ pub fn judge_told<O: Observer, R: Read, S: Read>(
     ensures reads_a { CountsReads (is_failed_read_of Side.A result) (tally_faults a.old) (tally_faults a.new) }
     ensures reads_b { CountsReads (is_failed_read_of Side.B result) (tally_faults b.old) (tally_faults b.new) }
 {
-    whole_text();
-    captures_deliver_in_order();
-    layers_run_as_stations();
-    layers_deliver_in_order();
-    LinksOnTop::shows();
-    match stop::<LinksOnTop, O, R, S>(alloc, a, b, observer) {
-        Ok((stopped, observer)) => Ok(Watched {
-            ends: with_verdict::<LinksOnTop>(stopped),
-            observer,
-        }),
-        Err(fault) => Err(fault),
-    }
+    decide::<LinksOnTop, O, R, S>(alloc, a, b, observer)
 }
 
 /// Decides the same as `judge_line`, of whose answer all that is said there holds of this verdict, while an observer is told of each record that is
@@ -88,14 +74,5 @@ pub fn judge_line_told<O: Observer, R: Read, S: Read>(
     ensures reads_a { CountsReads (is_failed_read_of Side.A result) (tally_faults a.old) (tally_faults a.new) }
     ensures reads_b { CountsReads (is_failed_read_of Side.B result) (tally_faults b.old) (tally_faults b.new) }
 {
-    whole_text();
-    captures_deliver_in_order();
-    NothingOnTop::shows();
-    match stop::<NothingOnTop, O, R, S>(alloc, a, b, observer) {
-        Ok((stopped, observer)) => Ok(Watched {
-            ends: with_verdict::<NothingOnTop>(stopped),
-            observer,
-        }),
-        Err(fault) => Err(fault),
-    }
+    decide::<NothingOnTop, O, R, S>(alloc, a, b, observer)
 }

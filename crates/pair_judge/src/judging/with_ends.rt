@@ -1,6 +1,6 @@
 //! The judge with both ends as they are where it gives its verdict, and with one who is told of each record on the way there.
 
-ghost use Rattle.std.specs.Prelude.{◌≡◌, IfOk, []};
+ghost use Rattle.std.specs.Prelude.{IfOk, []};
 ghost use Rattle.wire_base.specs.Tally.{tally_faults, tally_lent};
 ghost use Rattle.wire_base.specs.declared.side.Side.{Side};
 ghost use Rattle.capture.specs.Faulty.{CountsReads};
@@ -9,20 +9,17 @@ ghost use Rattle.pair_judge.specs.Ends.{StandsFor, verdict_in};
 ghost use Rattle.pair_judge.specs.Faulty.{is_failed_read_of};
 ghost use Rattle.pair_judge.specs.Judged.{IfTold, IsAcceptance, IsExact, IsFaultyWhere, IsRefusalWhere};
 ghost use Rattle.pair_judge.specs.Watched.{WasTold, only};
-ghost use Rattle.pair_judge.specs.inner.Stopped.{ends_of};
 
-use super::{Found, stop, verdict};
+use super::decide;
 use crate::fault::JudgeFault;
-use crate::judged_ends::{JudgedEnds, ends_with};
+use crate::judged_ends::JudgedEnds;
 use crate::observer::{Nobody, Observer};
-use crate::stopped::Stopped;
-use crate::summary::Summary;
-use crate::top::{LinksOnTopLeft, Top};
-use capture::whole_text;
+use crate::layers::LinksOnTopLeft;
+use crate::top::Top;
 use ddcmp_station::view_shows_truth;
 use dna_links::LinkTag;
-use dna_node::{layers_deliver_in_order, layers_run_as_stations};
-use dna_station::{captures_deliver_in_order, numbers_within_bounds};
+use dna_node::layers_run_as_stations;
+use dna_station::numbers_within_bounds;
 use std::alloc::Global;
 use std::io::Read;
 use wire_base::Tally;
@@ -90,33 +87,9 @@ pub fn judge_watched<O: Observer, R: Read, S: Read>(
     ensures reads_a { CountsReads (is_failed_read_of Side.A result) (tally_faults a.old) (tally_faults a.new) }
     ensures reads_b { CountsReads (is_failed_read_of Side.B result) (tally_faults b.old) (tally_faults b.new) }
 {
-    whole_text();
-    captures_deliver_in_order();
     layers_run_as_stations();
-    layers_deliver_in_order();
     numbers_within_bounds();
     view_shows_truth::<LinkTag>();
     LinksOnTopLeft::shows();
-    match stop::<LinksOnTopLeft, O, R, S>(alloc, a, b, observer) {
-        Ok((stopped, observer)) => Ok(Watched {
-            ends: with_verdict::<LinksOnTopLeft>(stopped),
-            observer,
-        }),
-        Err(fault) => Err(fault),
-    }
-}
-
-// Both sides with what is answered of their finding.
-pub(super) fn with_verdict<T: Top>(stopped: Stopped) -> JudgedEnds
-    ensures { result ≡ ends_of T.top stopped }
-{
-    let summary = Summary {
-        a: stopped.a.end.summary::<T>(),
-        b: stopped.b.end.summary::<T>(),
-    };
-    let found = Found {
-        finding: stopped.finding,
-        summary,
-    };
-    ends_with(verdict(found), stopped)
+    decide::<LinksOnTopLeft, O, R, S>(alloc, a, b, observer)
 }

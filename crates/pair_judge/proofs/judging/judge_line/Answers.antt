@@ -1,44 +1,7 @@
-use Rattle.std.proofs.Common.{sym, subst, Ok}
-use Rattle.wire_base.specs.Tally.{tally_lent}
-use Rattle.pair_judge.specs.declared.verdict.Verdict.{Verdict}
-use Rattle.dna_node.specs.Kind.{stations_alone}
-use Rattle.pair_judge.specs.Judged.{IfTold, IsAcceptance, IsExact, IsRefusalWhere}
-use Rattle.pair_judge.proofs.Clauses.{RunLaws, WholeLaws, accepted_of_found, exact_of_fault, exact_of_found, refused_of_found}
 use Rattle.pair_judge.proofs.judging.judge_line.Goals as goal
 
 pub returns-in-Ok-clause-exact : goal.returns-in-Ok-clause-exact
-returns-in-Ok-clause-exact g c =
-    let w = c.whole_text.ensures in
-    let laws : WholeLaws = record { ended = w.ended; goes_on = w.goes_on; departs_nowhere = w.departs_nowhere; head_stands = w.head_stands } in
-    let text_a = g.R.Read.remaining (tally_lent c.args.a.now) in
-    let text_b = g.S.Read.remaining (tally_lent c.args.b.now) in
-    subst (λ (v : Verdict). IfTold text_a text_b (λ bytes_a bytes_b. IsExact stations_alone bytes_a bytes_b (Ok v))) (sym c.verdict.ensures)
-    (exact_of_found stations_alone laws text_a text_b c.in-Ok.of_line c.in-Ok.ensures.found)
+returns-in-Ok-clause-exact g c = rw c.verdict.ensures c.in-Ok.ensures.answer.exact
 
 pub returns-in-Ok-clause-accepted : goal.returns-in-Ok-clause-accepted
-returns-in-Ok-clause-accepted g c =
-    let w = c.whole_text.ensures in
-    let laws : WholeLaws = record { ended = w.ended; goes_on = w.goes_on; departs_nowhere = w.departs_nowhere; head_stands = w.head_stands } in
-    let d = c.captures_deliver_in_order.ensures in
-    let runs : RunLaws stations_alone = record {
-      of_a = λ head_a head_b w of_a of_b run. d.a_delivers head_a head_b w of_a of_b run;
-      of_b = λ head_a head_b w of_a of_b run. d.b_delivers head_a head_b w of_a of_b run;
-    } in
-    let text_a = g.R.Read.remaining (tally_lent c.args.a.now) in
-    let text_b = g.S.Read.remaining (tally_lent c.args.b.now) in
-    subst (λ (v : Verdict). IfTold text_a text_b (λ bytes_a bytes_b. IsAcceptance stations_alone bytes_a bytes_b (Ok v))) (sym c.verdict.ensures)
-    (accepted_of_found stations_alone laws runs text_a text_b c.in-Ok.of_line c.in-Ok.ensures.found)
-
-pub returns-in-Ok-clause-refused : goal.returns-in-Ok-clause-refused
-returns-in-Ok-clause-refused g c =
-    let text_a = g.R.Read.remaining (tally_lent c.args.a.now) in
-    let text_b = g.S.Read.remaining (tally_lent c.args.b.now) in
-    subst (λ (v : Verdict). IsRefusalWhere stations_alone text_a text_b (Ok v)) (sym c.verdict.ensures)
-    (refused_of_found stations_alone text_a text_b c.in-Ok.of_line c.in-Ok.ensures.found)
-
-pub returns-in-Err-clause-exact : goal.returns-in-Err-clause-exact
-returns-in-Err-clause-exact g c =
-    let w = c.whole_text.ensures in
-    let laws : WholeLaws = record { ended = w.ended; goes_on = w.goes_on; departs_nowhere = w.departs_nowhere; head_stands = w.head_stands } in
-    exact_of_fault stations_alone laws (g.R.Read.remaining (tally_lent c.args.a.now)) (g.S.Read.remaining (tally_lent c.args.b.now)) c.in-Err.fault
-    c.in-Err.ensures.fault
+returns-in-Ok-clause-accepted g c = rw c.verdict.ensures c.in-Ok.ensures.answer.accepted

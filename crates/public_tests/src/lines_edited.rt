@@ -1,11 +1,7 @@
 //! A text with changes, and the likeliest edit of a small pair.
 
-use crate::candidates;
-use crate::change::Change;
-use crate::edits::Edit;
-use crate::reader::EditedReader;
-use crate::row::{Refused, Row, Stretch};
 use capture::{Entry, HintForm};
+use edited::{Change, Edit, EditedReader, Refused, Row, Stretch, candidates};
 use std::alloc::{AllocError, Global};
 use std::io::{self, Read};
 use wire_base::Side;

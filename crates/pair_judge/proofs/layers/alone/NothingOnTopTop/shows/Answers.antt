@@ -1,5 +1,5 @@
 use Rattle.pair_judge.proofs.Alone.{run_of_stations, shown_alone}
-use Rattle.pair_judge.proofs.top.NothingOnTopTop.shows.Goals as goal
+use Rattle.pair_judge.proofs.layers.alone.NothingOnTopTop.shows.Goals as goal
 
 pub returns : goal.returns
 returns c = λ head_a head_b w of_a of_b run. shown_alone head_a head_b w of_a of_b
