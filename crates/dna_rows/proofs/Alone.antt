@@ -15,7 +15,7 @@ use Rattle.dna_node.specs.Alone.{Accused, ThisEnd, OtherEnd, EndingAlone, Passed
 use Rattle.dna_rows.proofs.Units.{control, STRT, STACK, ACK, NAK, REP, data_of, from_a, from_b, CI, DI, DATA_ACK, ack, nak, other_ack, SEGMENT}
 use Rattle.dna_rows.proofs.Units.{carries}
 use Rattle.dna_rows.proofs.Captures.{started, confirmed_a}
-use Rattle.dna_rows.proofs.Verdicts.{head_1}
+use Rattle.dna_rows.proofs.Courses.{head_1}
 
 -- ---- how a row ends
 
