@@ -1,7 +1,23 @@
 -- The bytes in the rows: units, packets and messages as the standards spell them, field by field. The block checks alone are computed, by their
 -- definition. Numbers and addresses are below 256.
-use Rattle.std.proofs.Common.{ℕ, ◌+◌, ◌/◌, ◌%◌, List, [], ◌∷◌, ◌++◌, length}
-use Rattle.wire_base.specs.BlockCheck.{check_of, word_bytes}
+use Rattle.std.proofs.Common.{ℕ, ◌+◌, ◌-◌, ◌*◌, ◌/◌, ◌%◌, List, [], ◌∷◌, ◌++◌, length}
+use Rattle.std.specs.Prelude.{nat_lt, if◌then◌else◌}
+use Rattle.wire_base.specs.BlockCheck.{is_good, check_of, word_bytes, after_byte, shift}
+use Rattle.ddcmp_msg.specs.Reading.{reading}
+
+-- what a row's computation opens: how a unit is read, and the block check
+unfoldable pub computing : Unit {0}
+unfolding reading is_good check_of after_byte shift
+computing = tt
+
+-- bytes in hexadecimal, as a capture has them
+abbrev digit : ℕ → ℕ
+digit code = if nat_lt code 0x61 then code - 0x30 else code - 0x57
+
+abbrev pub hex : List ℕ → List ℕ
+hex [] = []
+hex (high ∷ []) = []
+hex (high ∷ low ∷ rest) = (16 * digit high + digit low) ∷ hex rest
 
 -- ---- units
 
@@ -37,6 +53,10 @@ data_with flags num resp packet = checked (0x81 ∷ (length packet % 256) ∷ (f
 abbrev pub data_of : (num resp : ℕ) → List ℕ → List ℕ
 data_of num resp packet = data_with 0 num resp packet
 
+-- the packet is the byte 5
+abbrev pub DATA : (num resp : ℕ) → List ℕ
+DATA num resp = data_of num resp (5 ∷ [])
+
 -- ---- packets: RTFLG, destination, source, FORWARD. Those of one odd byte in the rows are Routing's own, and nothing to the links
 
 -- what stands behind RTFLG in a packet of node 1.1 for node 1.2, up to the message
@@ -49,6 +69,13 @@ from_a message = 2 ∷ behind_a message
 -- of node 1.2 for node 1.1
 abbrev pub from_b : List ℕ → List ℕ
 from_b message = 2 ∷ 1 ∷ 4 ∷ 2 ∷ 4 ∷ 0 ∷ message
+
+-- a data message with such a packet of a, and of b
+abbrev pub data_a : (num resp : ℕ) → List ℕ → List ℕ
+data_a num resp message = data_of num resp (from_a message)
+
+abbrev pub data_b : (num resp : ℕ) → List ℕ → List ℕ
+data_b num resp message = data_of num resp (from_b message)
 
 -- ---- NSP messages
 

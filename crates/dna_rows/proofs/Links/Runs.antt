@@ -138,16 +138,6 @@ lost_at_a_restart =
     ∷ b (Does (Up 2 letters))
     ∷ []
 
-it_is_a_run : shown 0 0 (run_of lost_at_a_restart) ≡ Some (record { up = (letters ∷ []) ∷ []; in_at_a = letters ∷ []; up_at_b = letters ∷ [] })
-it_is_a_run = refl
-
--- a packet is not kept twice, nor behind a later one
-kept_twice : shown 0 0 (run_of (lost_at_a_restart ++ b (Kept 5) ∷ [])) ≡ None
-kept_twice = refl
-
-kept_late : shown 0 0 (run_of (lost_at_a_restart ++ b (Kept 3) ∷ [])) ≡ None
-kept_late = refl
-
 -- the link ends, and both addresses are given again
 abbrev given_again : List Step
 given_again =
@@ -169,10 +159,15 @@ given_again =
     ∷ b (Does (Up 2 (0x78 ∷ [])))
     ∷ []
 
-first_link : shown 0 0 (run_of given_again) ≡ Some
-    (record { up = (letters ∷ []) ∷ ((0x78 ∷ []) ∷ []) ∷ []; in_at_a = letters ∷ []; up_at_b = letters ∷ [] })
-first_link = refl
+record Rows : Type 0 where
+  it_is_a_run : shown 0 0 (run_of lost_at_a_restart) ≡ Some (record { up = (letters ∷ []) ∷ []; in_at_a = letters ∷ []; up_at_b = letters ∷ [] })
+  -- a packet is not kept twice, nor behind a later one
+  kept_twice : shown 0 0 (run_of (lost_at_a_restart ++ b (Kept 5) ∷ [])) ≡ None
+  kept_late : shown 0 0 (run_of (lost_at_a_restart ++ b (Kept 3) ∷ [])) ≡ None
+  first_link : shown 0 0 (run_of given_again) ≡ Some
+      (record { up = (letters ∷ []) ∷ ((0x78 ∷ []) ∷ []) ∷ []; in_at_a = letters ∷ []; up_at_b = letters ∷ [] })
+  second_link : shown 3 2 (run_of given_again) ≡ Some
+      (record { up = (letters ∷ []) ∷ ((0x78 ∷ []) ∷ []) ∷ []; in_at_a = (0x78 ∷ []) ∷ []; up_at_b = (0x78 ∷ []) ∷ [] })
 
-second_link : shown 3 2 (run_of given_again) ≡ Some
-    (record { up = (letters ∷ []) ∷ ((0x78 ∷ []) ∷ []) ∷ []; in_at_a = (0x78 ∷ []) ∷ []; up_at_b = (0x78 ∷ []) ∷ [] })
-second_link = refl
+computed : Rows
+computed = search

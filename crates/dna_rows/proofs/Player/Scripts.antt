@@ -1,20 +1,12 @@
 -- Longer scripts of the player, and their captures.
-use Rattle.std.proofs.Common.{List, [], ◌∷◌, refl}
-use Rattle.std.specs.Prelude.{replicate}
-use Rattle.std.specs.Prelude.{codes}
-use Rattle.wire_base.specs.BlockCheck.{is_good, check_of, after_byte, shift}
-use Rattle.ddcmp_msg.specs.Reading.{reading}
-use Rattle.ddcmp_msg.specs.Spelling.{spelling}
+use Rattle.std.proofs.Common.{List, [], ◌∷◌}
+use Rattle.std.specs.Prelude.{replicate, codes}
 use Rattle.capture.specs.declared.record.Record.{Record}
 use Rattle.capture.specs.declared.record.Record.TheVariants.{User}
 use Rattle.capture.specs.declared.event.Event.TheVariants as event
 use Rattle.dna_play.specs.Script.{ScriptStep, Start, Timer, Send, Deliver, Refuse, Lose, Damage, Open, Accept, Reject, In, Close, Retry}
-use Rattle.dna_play.specs.Player.{end_step}
-use Rattle.dna_play.specs.Play.{plays}
-use Rattle.dna_play.specs.Played.{plays_step}
-use Rattle.dna_play.specs.KeptPlay.{kept_plays}
-use Rattle.dna_play.specs.KeptPlayed.{kept_plays_step}
-use Rattle.dna_rows.proofs.Player.Steps.{a, b, s, r, k, hex, IsPlayedBetween, Captures}
+use Rattle.dna_rows.proofs.Units.{hex}
+use Rattle.dna_rows.proofs.Scripts.{a, b, s, r, k, PlaysBetween, Captures, playing}
 
 -- Units are lost and damaged, and both stations ask and repeat
 abbrev lossy : List ScriptStep
@@ -56,10 +48,6 @@ lossy_b =
     k 6 (codes "810d0003030102e002010402040048010001002a00abf2") ∷ User (event.In 2 (hex (codes "f0539f"))) ∷
     s (codes "810f000304017910020204010400180000030001020002ec7a") ∷ []
 
-lossy_is_played : IsPlayedBetween 0x0402 0x0401 lossy (Captures lossy_a lossy_b)
-unfolding reading spelling is_good check_of after_byte shift end_step plays plays_step kept_plays kept_plays_step
-lossy_is_played = (refl, refl)
-
 -- A link opened from b, and messages to both users
 abbrev delivered : List ScriptStep
 delivered =
@@ -92,10 +80,6 @@ delivered_b =
     s (codes "810d0003030102e002020401040004010001000180cd6d") ∷
     k 4 (codes "810d0003040100d0020104020400600100010002001df0") ∷ User (event.Up 1 []) ∷ []
 
-delivered_is_played : IsPlayedBetween 0x0402 0x0401 delivered (Captures delivered_a delivered_b)
-unfolding reading spelling is_good check_of after_byte shift end_step plays plays_step kept_plays kept_plays_step
-delivered_is_played = (refl, refl)
-
 -- Node 62.1023 beside 1.1: packets for which there is no buffer, and damaged ones
 abbrev far_node : List ScriptStep
 far_node =
@@ -120,10 +104,6 @@ far_node_b =
     k 2 (codes "810f00010101db80020104fffb00180000010001020002775a") ∷ User (event.In 3 (hex (codes "4534df141b09"))) ∷
     User (event.In 2 (hex (codes "0f"))) ∷ s (codes "810f00010201db7002fffb0104001800000200010200024568") ∷
     User (event.In 2 []) ∷ User (event.In 2 (hex (codes "5e3407"))) ∷ []
-
-far_node_is_played : IsPlayedBetween 0xfbff 0x0401 far_node (Captures far_node_a far_node_b)
-unfolding reading spelling is_good check_of after_byte shift end_step plays plays_step kept_plays kept_plays_step
-far_node_is_played = (refl, refl)
 
 -- Several links: accepted, rejected, closed from either side, their segments acknowledged and repeated
 abbrev several_links : List ScriptStep
@@ -232,6 +212,12 @@ several_links_b =
     s (codes "810e000f11018a4302010402040060030003000300243bd2") ∷ User (event.In 3 (hex (codes "49"))) ∷
     User (event.In 3 []) ∷ []
 
-several_links_is_played : IsPlayedBetween 0x0401 0x0402 several_links (Captures several_links_a several_links_b)
-unfolding reading spelling is_good check_of after_byte shift end_step plays plays_step kept_plays kept_plays_step
-several_links_is_played = (refl, refl)
+record Rows : Type 0 where
+  lossy_is_played : PlaysBetween 0x0402 0x0401 lossy (Captures lossy_a lossy_b)
+  delivered_is_played : PlaysBetween 0x0402 0x0401 delivered (Captures delivered_a delivered_b)
+  far_node_is_played : PlaysBetween 0xfbff 0x0401 far_node (Captures far_node_a far_node_b)
+  several_links_is_played : PlaysBetween 0x0401 0x0402 several_links (Captures several_links_a several_links_b)
+
+computed : Rows
+unfolding playing
+computed = search

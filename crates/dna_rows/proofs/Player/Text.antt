@@ -8,7 +8,7 @@ use Rattle.capture.proofs.NumberLaws.{number_takes}
 use Rattle.capture.proofs.AddressLaws.{address_takes}
 use Rattle.dna_play.specs.Script.{Start, Halt, Timer, Send, Deliver, Refuse, Lose, Damage, Noise, Open, Accept, Reject, In, Close, Retry}
 use Rattle.dna_play.specs.ScriptText.{line_text, script_head}
-use Rattle.dna_rows.proofs.Player.Steps.{a, b}
+use Rattle.dna_rows.proofs.Scripts.{a, b}
 
 -- a number as it is spelled
 numeral : (text : List ℕ) (n : ℕ) → number_at 99999 text ≡ Some n → decimal n ≡ text
