@@ -64,7 +64,6 @@ record Rows : Type 0 where
   -- ---- packets: one of Routing's own, which is nothing to the links; one that no circuit carries; one with a message that can't be read
 
   -- ---- (8): RESP is among A to N, in RUNNING alone
-
   all_of_N : Passes (gave_two ++ Received 1 false (ACK 0) ∷ Received 2 false (ACK 1) ∷ Received 3 false (ACK 2) ∷ [])
   above_N : Refuses 5 OtherEnd (OfStation WrongResponse) (gave_two ++ Received 1 false (ACK 3) ∷ [])
   below_A : Refuses 6 OtherEnd (OfStation WrongResponse) (gave_two ++ Received 1 false (ACK 2) ∷ Received 2 false (ACK 1) ∷ [])
@@ -79,12 +78,10 @@ record Rows : Type 0 where
       (Received 0 false (ACK 9) ∷ User Start ∷ Received 1 false (ACK 9) ∷ Received 2 false STRT ∷ Received 3 false (NAK 2 9) ∷
       Received 4 false (data_of 1 9 plain) ∷ [])
   -- ---- (1): good checks and no message, in every state; damage is nobody's
-
   no_such_type : Refuses 0 OtherEnd NotAMessage (Received 0 false (control 9 0 0 0) ∷ [])
   damaged : Passes (Received 0 false (5 ∷ 1 ∷ 0 ∷ 0 ∷ 0 ∷ 1 ∷ 0 ∷ 0 ∷ []) ∷ [])
   damage_is_not_kept : Refuses 0 ThisEnd (OfStation WrongKeep) (Received 0 true (5 ∷ 1 ∷ 0 ∷ 0 ∷ 0 ∷ 1 ∷ 0 ∷ 0 ∷ []) ∷ [])
   -- ---- (15) and (17): packets that can't be read, kept or not, in every state
-
   packet_of_no_circuit : Refuses 0 OtherEnd BadPacket (Received 0 false (data_of 1 0 bad) ∷ [])
   kept_packet_of_no_circuit : Refuses 3 OtherEnd BadPacket (started ++ Received 1 true (data_of 1 0 bad) ∷ [])
   packet_without_a_message : Refuses 3 OtherEnd BadNsp (started ++ Received 1 false (data_of 9 0 no_message) ∷ [])
@@ -94,14 +91,12 @@ record Rows : Type 0 where
   response_before_packet : Refuses 3 OtherEnd (OfStation WrongResponse) (started ++ Received 1 false (data_of 1 1 bad) ∷ [])
   packet_before_keeping : Refuses 3 OtherEnd BadPacket (started ++ Received 1 true (data_of 9 0 bad) ∷ [])
   -- ---- (16): between other nodes, of a packet that is taken alone
-
   taken_from_another_node : Refuses 3 OtherEnd (OfLinks WrongNode) (started ++ Received 1 true (data_of 1 0 (from_another (CI 1))) ∷ [])
   not_taken_from_another_node : Passes
       (started ++ Received 1 false (data_of 1 0 (from_another (CI 1))) ∷ Received 2 true (data_of 1 0 plain) ∷
       Received 3 false (data_of 1 0 (from_another (CI 1))) ∷ [])
   keeping_before_nodes : Refuses 3 ThisEnd (OfStation WrongKeep) (started ++ Received 1 true (data_of 9 0 (from_another (CI 1))) ∷ [])
   -- ---- (21): acknowledgements of what the link has given, of a packet that is taken. Link 1 is in RUN and has given two segments
-
   all_given : Passes (gave_segments ++ words 2 (ack 0) ∷ words 3 (ack 1 ++ nak 2) ∷ words 4 (ack 1) ∷ words 5 (other_ack 200 ++ ack 2) ∷ [])
   above_given : Refuses 10 OtherEnd (OfLinks WrongAck) (gave_segments ++ words 2 (ack 3) ∷ [])
   nak_above_given : Refuses 10 OtherEnd (OfLinks WrongAck) (gave_segments ++ words 2 (nak 3) ∷ [])
@@ -115,16 +110,13 @@ record Rows : Type 0 where
       (gave_segments ++ Received 2 false (data_b 2 1 (DATA_ACK 1 2 (ack 3))) ∷ Received 3 true (data_b 2 1 (DATA_ACK 1 9 (ack 3))) ∷
       Received 4 true (data_b 3 1 (DI 1 2)) ∷ Received 5 true (data_b 4 1 (DATA_ACK 1 2 (ack 3))) ∷ [])
   -- ---- what is this end's own
-
   hint_goes_back : Refuses 4 ThisEnd HintOrder (started ++ Received 5 false (ACK 0) ∷ Received 5 false (ACK 9) ∷ [])
   nothing_to_keep : Refuses 3 ThisEnd (OfStation WrongKeep) (started ++ Received 1 true (ACK 0) ∷ [])
   ACK_in_HALTED : Refuses 0 ThisEnd (OfStation WrongState) (Sent (ACK 0) ∷ [])
   bytes_that_are_no_message : Refuses 0 ThisEnd NotAMessage (Sent (control 9 0 0 0) ∷ [])
   -- ---- what is left out: no unit and no period is known of the other end, and no link
-
   whatever_the_other_end_sent : Passes (User Start ∷ Sent STRT ∷ Received 7 false STACK ∷ Received 9 true (data_of 1 0 plain) ∷ [])
   -- ---- its station alone
-
   -- packets that no node could read, sent and kept: a packet is any bytes
   any_packet : StationPasses
       (started ++ Sent (data_of 1 0 bad) ∷ Received 1 true (data_of 1 1 bad) ∷ Received 2 true (data_of 2 1 no_message) ∷

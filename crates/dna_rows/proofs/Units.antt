@@ -101,6 +101,13 @@ CI_AGAIN src = between 0x68 0 src ++ connects 1 2 512
 abbrev pub CC : (dst src segsize : ℕ) → List ℕ
 CC dst src segsize = between 0x28 dst src ++ connects 1 2 segsize
 
+-- with SEGSIZE 2: a CI that is sent again, and a CC with one byte of user data
+abbrev pub CI_AGAIN_2 : (src : ℕ) → List ℕ
+CI_AGAIN_2 src = between 0x68 0 src ++ connects 1 2 2
+
+abbrev pub CC_2 : (dst src : ℕ) → List ℕ
+CC_2 dst src = CC dst src 2 ++ 0 ∷ []
+
 abbrev pub CONNECT_ACK : (dst : ℕ) → List ℕ
 CONNECT_ACK dst = 0x24 ∷ dst ∷ 0 ∷ []
 
@@ -111,6 +118,9 @@ DI dst src = between 0x38 dst src ++ 0 ∷ 0 ∷ 0 ∷ []
 abbrev pub DC : (dst src reason : ℕ) → List ℕ
 DC dst src reason = between 0x48 dst src ++ word reason
 
+abbrev pub DC_42 : (dst src : ℕ) → List ℕ
+DC_42 dst src = DC dst src 42
+
 abbrev pub LINK_SERVICE : (dst src : ℕ) → List ℕ
 LINK_SERVICE dst src = between 0x10 dst src
 
@@ -120,7 +130,10 @@ INTERRUPT dst src = between 0x30 dst src
 abbrev pub OTHER_ACK : (dst src : ℕ) → List ℕ
 OTHER_ACK dst src = between 0x14 dst src
 
--- acknowledgement words: ACK, NAK, and the ACK of the other subchannel
+abbrev pub NO_OPERATION : List ℕ
+NO_OPERATION = 0x08 ∷ []
+
+-- acknowledgement words: ACK, NAK, and those of the other subchannel
 abbrev pub ack : (number : ℕ) → List ℕ
 ack number = number ∷ 0x80 ∷ []
 
@@ -129,6 +142,9 @@ nak number = number ∷ 0x90 ∷ []
 
 abbrev pub other_ack : (number : ℕ) → List ℕ
 other_ack number = number ∷ 0xa0 ∷ []
+
+abbrev pub other_nak : (number : ℕ) → List ℕ
+other_nak number = number ∷ 0xb0 ∷ []
 
 -- a data ack with these words; a segment: its flag byte (0x20 begins a message, 0x40 ends one), words, number and data
 abbrev pub DATA_ACK : (dst src : ℕ) → List ℕ → List ℕ

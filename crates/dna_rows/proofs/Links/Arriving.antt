@@ -4,8 +4,8 @@ use Rattle.dna_links.specs.declared.tag.LinkTag.{LinkTag}
 use Rattle.dna_station.specs.declared.link_refusal.LinkRefusal.TheVariants.{WrongNode, NoLink, SegmentTooLong, CrossedLink}
 use Rattle.dna_links.specs.User.{Open, Accept, Reject, In, Up, Close}
 use Rattle.dna_links.specs.Arriving.{of_anyone}
-use Rattle.dna_rows.proofs.Links.Messages.{CI, CI_AGAIN, CI_AGAIN_OF_2, CC, CONNECT_ACK, DI, DC, LINK_SERVICE, INTERRUPT, OTHER_ACK, NO_OPERATION}
-use Rattle.dna_rows.proofs.Links.Messages.{DATA_ACK, ack, SEGMENT, carries}
+use Rattle.dna_rows.proofs.Units.{CI, CI_AGAIN, CI_AGAIN_2, CC_2, CONNECT_ACK, DI, DC_42, LINK_SERVICE, INTERRUPT, OTHER_ACK, NO_OPERATION, DATA_ACK}
+use Rattle.dna_rows.proofs.Units.{ack, SEGMENT, carries}
 use Rattle.dna_rows.proofs.Links.Steps.{Act, A, B, NODE_A, NODE_B, Does, Sends, Comes, ComesAs, Gets, AllMade, LastRefused, ChangesNothing, HasTag}
 use Rattle.dna_rows.proofs.Links.OneLink.{opened, connected}
 use Rattle.dna_rows.proofs.Links.User.{called, closed, ended, ended_at_b}
@@ -25,8 +25,8 @@ OTHER_NODE = 0x0403
 
 -- a's first link is over before its call is accepted; the call of its second one is a repeat to b, whose CC is for the first
 abbrev called_by_a_later_link : List Act
-called_by_a_later_link = called ++ Sends B (DC 1 7) ∷ Comes A 0 ∷ Does A (Open 1) ∷ Sends A (CI 1) ∷ Comes B 1 ∷ Does B (Accept 1 2) ∷
-    Sends B (CC 1 2) ∷ []
+called_by_a_later_link = called ++ Sends B (DC_42 1 7) ∷ Comes A 0 ∷ Does A (Open 1) ∷ Sends A (CI 1) ∷ Comes B 1 ∷ Does B (Accept 1 2) ∷
+    Sends B (CC_2 1 2) ∷ []
 
 -- b is in Confirming, a in RUN
 abbrev confirming : List Act
@@ -35,19 +35,8 @@ confirming = opened ++ Comes A 0 ∷ Does A (In 1 (5 ∷ [])) ∷ []
 -- The call of a's link 0 is accepted, and its DC ends that link of b; the same call, sent again, is accepted at the same address: b's link 1 is
 -- its partner, and a has confirmed the first one
 abbrev accepted_anew : List Act
-accepted_anew =
-    Does A (Open 1)
-    ∷ Sends A (CI 1)
-    ∷ Sends A (DC 2 1)
-    ∷ Sends A (CI_AGAIN 1)
-    ∷ Comes B 0
-    ∷ Does B (Accept 1 2)
-    ∷ Sends B (CC 1 2)
-    ∷ Comes A 0
-    ∷ Comes B 1
-    ∷ Comes B 2
-    ∷ Does B (Accept 1 2)
-    ∷ []
+accepted_anew = Does A (Open 1) ∷ Sends A (CI 1) ∷ Sends A (DC_42 2 1) ∷ Sends A (CI_AGAIN 1) ∷ Comes B 0 ∷ Does B (Accept 1 2) ∷ Sends B (CC_2 1 2) ∷
+    Comes A 0 ∷ Comes B 1 ∷ Comes B 2 ∷ Does B (Accept 1 2) ∷ []
 
 record Rows : Type 0 where
   -- ---- the two nodes, else 16; before any other check, and of every message
@@ -56,7 +45,7 @@ record Rows : Type 0 where
   no_operation_from_another_node : LastRefused WrongNode (Gets B OTHER_NODE NODE_B NO_OPERATION of_none ∷ [])
   connect_ack_to_another_node : LastRefused WrongNode (Does A (Open 1) ∷ Gets A NODE_B OTHER_NODE (CONNECT_ACK 1) of_none ∷ [])
   -- 16, and 25 fits too
-  node_before_partner : LastRefused WrongNode (Does A (Open 1) ∷ Gets A OTHER_NODE NODE_A (CC 1 2) of_none ∷ [])
+  node_before_partner : LastRefused WrongNode (Does A (Open 1) ∷ Gets A OTHER_NODE NODE_A (CC_2 1 2) of_none ∷ [])
   -- ---- CI: a live link with that far address: a repeat; else a new link
   called_once : AllMade (called ++ Sends B (CONNECT_ACK 1) ∷ [])
   -- again in Called, in Confirming, in RUN and while closing
@@ -67,7 +56,7 @@ record Rows : Type 0 where
   called_again_while_closing : ChangesNothing B (connected ++ Does B (Close 2) ∷ []) (Gets B NODE_A NODE_B (CI_AGAIN 1) without_partner ∷ [])
   -- neither the partner nor SEGSIZE is a repeat's
   called_again_by_another_link : ChangesNothing B called (Gets B NODE_A NODE_B (CI 1) (record { link = Some 1; partner = None }) ∷ [])
-  called_again_with_another_segsize : ChangesNothing B called (Gets B NODE_A NODE_B (CI_AGAIN_OF_2 1) without_partner ∷ [])
+  called_again_with_another_segsize : ChangesNothing B called (Gets B NODE_A NODE_B (CI_AGAIN_2 1) without_partner ∷ [])
   called_again_by_a_later_link : LastRefused CrossedLink (called_by_a_later_link ++ Comes A 1 ∷ [])
   -- the first CI is lost
   called_first_by_68 : AllMade (Does A (Open 1) ∷ Sends A (CI 1) ∷ Sends A (CI_AGAIN 1) ∷ Comes B 1 ∷ Does B (Accept 1 2) ∷ [])
@@ -93,26 +82,26 @@ record Rows : Type 0 where
   confirmation_without_a_partner : LastRefused CrossedLink (opened ++ ComesAs A 0 without_partner ∷ [])
   confirmation_of_no_link : LastRefused CrossedLink (opened ++ ComesAs A 0 (record { link = None; partner = Some 0 }) ∷ [])
   -- it comes twice; from whom is not asked then
-  confirmed_again : ChangesNothing A connected (Gets A NODE_B NODE_A (CC 1 2) of_none ∷ [])
-  confirmed_while_closing : ChangesNothing A closed (Gets A NODE_B NODE_A (CC 1 2) of_the_pair ∷ [])
-  confirmed_after_the_end : ChangesNothing A ended (Gets A NODE_B NODE_A (CC 1 2) of_the_pair ∷ [])
-  confirmed_at_another_address : ChangesNothing A called (Gets A NODE_B NODE_A (CC 3 2) of_the_pair ∷ [])
+  confirmed_again : ChangesNothing A connected (Gets A NODE_B NODE_A (CC_2 1 2) of_none ∷ [])
+  confirmed_while_closing : ChangesNothing A closed (Gets A NODE_B NODE_A (CC_2 1 2) of_the_pair ∷ [])
+  confirmed_after_the_end : ChangesNothing A ended (Gets A NODE_B NODE_A (CC_2 1 2) of_the_pair ∷ [])
+  confirmed_at_another_address : ChangesNothing A called (Gets A NODE_B NODE_A (CC_2 3 2) of_the_pair ∷ [])
   -- ---- DI, DC: the link, or the one in Calling, is ended; whoever the sender is
   disconnected_in_run : LastRefused NoLink (ended_at_b ++ Sends B (DI 1 2) ∷ [])
   disconnected_by_anyone : LastRefused NoLink (connected ++ Gets B NODE_A NODE_B (DI 2 1) of_none ∷ Sends B (DATA_ACK 1 2 (ack 0)) ∷ [])
-  disconnected_in_confirming : LastRefused NoLink (opened ++ Gets B NODE_A NODE_B (DI 2 1) of_the_pair ∷ Sends B (CC 1 2) ∷ [])
+  disconnected_in_confirming : LastRefused NoLink (opened ++ Gets B NODE_A NODE_B (DI 2 1) of_the_pair ∷ Sends B (CC_2 1 2) ∷ [])
   disconnected_in_calling : LastRefused NoLink (called ++ Does B (Reject 1 2) ∷ Sends B (DI 1 2) ∷ Comes A 0 ∷ Sends A (CI 1) ∷ [])
   disconnected_while_closing : LastRefused NoLink (closed ++ Gets A NODE_B NODE_A (DI 1 2) of_the_pair ∷ Sends A (DI 2 1) ∷ [])
-  end_confirmed_in_confirming : LastRefused NoLink (opened ++ Gets B NODE_A NODE_B (DC 2 1) of_the_pair ∷ Sends B (CC 1 2) ∷ [])
+  end_confirmed_in_confirming : LastRefused NoLink (opened ++ Gets B NODE_A NODE_B (DC_42 2 1) of_the_pair ∷ Sends B (CC_2 1 2) ∷ [])
   end_confirmed_while_closing : LastRefused NoLink (ended ++ Sends A (DI 2 1) ∷ [])
-  end_confirmed_in_run : LastRefused NoLink (connected ++ Gets A NODE_B NODE_A (DC 1 2) of_none ∷ Sends A (DATA_ACK 2 1 (ack 0)) ∷ [])
+  end_confirmed_in_run : LastRefused NoLink (connected ++ Gets A NODE_B NODE_A (DC_42 1 2) of_none ∷ Sends A (DATA_ACK 2 1 (ack 0)) ∷ [])
   -- the call is refused with SRCADDR 0
-  call_refused : LastRefused NoLink (called ++ Sends B (DC 1 0) ∷ Comes A 0 ∷ Sends A (CI 1) ∷ [])
+  call_refused : LastRefused NoLink (called ++ Sends B (DC_42 1 0) ∷ Comes A 0 ∷ Sends A (CI 1) ∷ [])
   disconnected_from_another_address : ChangesNothing B connected
       (Gets B NODE_A NODE_B (DI 2 3) of_the_pair ∷ Gets B NODE_A NODE_B (DI 3 1) of_the_pair ∷ [])
   end_confirmed_from_another_address : ChangesNothing A closed
-      (Gets A NODE_B NODE_A (DC 1 3) of_the_pair ∷ Gets A NODE_B NODE_A (DC 3 2) of_the_pair ∷ [])
-  disconnected_in_called : ChangesNothing B called (Gets B NODE_A NODE_B (DI 0 1) of_the_pair ∷ Gets B NODE_A NODE_B (DC 0 1) of_the_pair ∷ [])
+      (Gets A NODE_B NODE_A (DC_42 1 3) of_the_pair ∷ Gets A NODE_B NODE_A (DC_42 3 2) of_the_pair ∷ [])
+  disconnected_in_called : ChangesNothing B called (Gets B NODE_A NODE_B (DI 0 1) of_the_pair ∷ Gets B NODE_A NODE_B (DC_42 0 1) of_the_pair ∷ [])
   disconnected_after_the_end : ChangesNothing B ended_at_b (Sends A (DI 2 1) ∷ Comes B 3 ∷ [])
   -- ---- segment, data ack, link service, interrupt, other-data ack: in Confirming or RUN, of this pair, else 25; Confirming goes to RUN
   segment_confirms : AllMade

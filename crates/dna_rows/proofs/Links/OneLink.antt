@@ -3,11 +3,11 @@
 use Rattle.std.proofs.Common.{ℕ, List, [], ◌∷◌, ◌++◌}
 use Rattle.dna_station.specs.declared.link_refusal.LinkRefusal.TheVariants.{WrongAck, SegmentTooLong, WrongDelivery}
 use Rattle.dna_links.specs.User.{Open, Accept, In, Up}
-use Rattle.dna_rows.proofs.Links.Messages.{CI, CI_AGAIN, CC, DATA_ACK, ack, SEGMENT, carries}
+use Rattle.dna_rows.proofs.Units.{CI, CI_AGAIN, CC_2, DATA_ACK, ack, SEGMENT, carries}
 use Rattle.dna_rows.proofs.Links.Steps.{Act, A, B, Does, Sends, Comes, AllMade, LastRefused}
 
 abbrev pub opened : List Act
-opened = Does A (Open 1) ∷ Sends A (CI 1) ∷ Comes B 0 ∷ Does B (Accept 1 2) ∷ Sends B (CC 1 2) ∷ []
+opened = Does A (Open 1) ∷ Sends A (CI 1) ∷ Comes B 0 ∷ Does B (Accept 1 2) ∷ Sends B (CC_2 1 2) ∷ []
 
 -- the data ack in answer to the CC brings b into RUN
 abbrev pub connected : List Act
@@ -17,14 +17,9 @@ abbrev pub letters : List ℕ
 letters = 0x61 ∷ 0x62 ∷ 0x63 ∷ 0x64 ∷ 0x65 ∷ []
 
 abbrev given : List Act
-given =
-    Does A (In 1 letters)
-    ∷ Does A (In 1 [])
-    ∷ Sends A (SEGMENT 0x20 2 1 (carries 1 (0x61 ∷ 0x62 ∷ [])))
-    ∷ Sends A (SEGMENT 0x00 2 1 (carries 2 (0x63 ∷ 0x64 ∷ [])))
-    ∷ Sends A (SEGMENT 0x40 2 1 (carries 3 (0x65 ∷ [])))
-    ∷ Sends A (SEGMENT 0x60 2 1 (carries 4 []))
-    ∷ []
+given = Does A (In 1 letters) ∷ Does A (In 1 []) ∷ Sends A (SEGMENT 0x20 2 1 (carries 1 (0x61 ∷ 0x62 ∷ []))) ∷
+    Sends A (SEGMENT 0x00 2 1 (carries 2 (0x63 ∷ 0x64 ∷ []))) ∷ Sends A (SEGMENT 0x40 2 1 (carries 3 (0x65 ∷ []))) ∷
+    Sends A (SEGMENT 0x60 2 1 (carries 4 [])) ∷ []
 
 -- all but the first come
 abbrev one_missing : List Act
@@ -46,7 +41,7 @@ record Rows : Type 0 where
   segment_too_long : LastRefused SegmentTooLong
       (connected ++ Does A (In 1 letters) ∷ Sends A (SEGMENT 0x20 2 1 (carries 1 (0x61 ∷ 0x62 ∷ 0x63 ∷ []))) ∷ [])
   -- after b accepted and before a has the CC, the CI comes again and is ignored; the CC may be sent once more
-  repeated_connect : AllMade (opened ++ Sends A (CI_AGAIN 1) ∷ Comes B 1 ∷ Sends B (CC 1 2) ∷ Comes A 1 ∷ [])
+  repeated_connect : AllMade (opened ++ Sends A (CI_AGAIN 1) ∷ Comes B 1 ∷ Sends B (CC_2 1 2) ∷ Comes A 1 ∷ [])
 
 computed : Rows
 computed = search

@@ -2,7 +2,7 @@
 use Rattle.std.proofs.Common.{ℕ, List, [], ◌∷◌, ◌++◌, Some}
 use Rattle.dna_station.specs.declared.link_refusal.LinkRefusal.TheVariants.{WrongNode, NoLink, LinkState, WrongAck, CrossedLink, AddressInUse}
 use Rattle.dna_links.specs.User.{Open, Accept, In, Close}
-use Rattle.dna_rows.proofs.Links.Messages.{CI, CC, DI, LINK_SERVICE, INTERRUPT, OTHER_ACK, NO_OPERATION, DATA_ACK, ack, SEGMENT, carries}
+use Rattle.dna_rows.proofs.Units.{CI, CC_2, DI, LINK_SERVICE, INTERRUPT, OTHER_ACK, NO_OPERATION, DATA_ACK, ack, SEGMENT, carries}
 use Rattle.dna_rows.proofs.Links.Steps.{Act, A, B, NODE_B, Does, Sends, SendsAs, Comes, ComesAs, AllMade, LastRefused, ChangesNothing}
 
 abbrev opened_at_a : List Act
@@ -10,7 +10,7 @@ opened_at_a = Does A (Open 1) ∷ []
 
 -- the CC belongs to link 1, and there is link 0 alone; then it comes as it was sent
 abbrev confirmed_by_b : List Act
-confirmed_by_b = opened_at_a ++ Sends A (CI 1) ∷ Comes B 0 ∷ Does B (Accept 1 2) ∷ Sends B (CC 1 2) ∷ []
+confirmed_by_b = opened_at_a ++ Sends A (CI 1) ∷ Comes B 0 ∷ Does B (Accept 1 2) ∷ Sends B (CC_2 1 2) ∷ []
 
 abbrev in_run : List Act
 in_run = confirmed_by_b ++ ComesAs A 0 (record { link = Some 0; partner = Some 0 }) ∷ []
@@ -20,16 +20,8 @@ abbrev WITH_WORD : List ℕ
 WITH_WORD = SEGMENT 0x60 2 1 (ack 0 ++ carries 1 (5 ∷ []))
 
 abbrev exchanged : List Act
-exchanged =
-    in_run
-    ++ Does A (In 1 (5 ∷ []))
-    ∷ Sends A WITH_WORD
-    ∷ Comes B 1
-    ∷ Does B (In 2 (6 ∷ []))
-    ∷ Sends B (SEGMENT 0x60 1 2 (carries 1 (6 ∷ [])))
-    ∷ Comes A 1
-    ∷ Sends A (DATA_ACK 2 1 (ack 1))
-    ∷ []
+exchanged = in_run ++ Does A (In 1 (5 ∷ [])) ∷ Sends A WITH_WORD ∷ Comes B 1 ∷ Does B (In 2 (6 ∷ [])) ∷ Sends B (SEGMENT 0x60 1 2 (carries 1 (6 ∷
+    []))) ∷ Comes A 1 ∷ Sends A (DATA_ACK 2 1 (ack 1)) ∷ []
 
 record Rows : Type 0 where
   opened_twice : LastRefused AddressInUse (opened_at_a ++ Does A (Open 1) ∷ [])

@@ -2,8 +2,8 @@
 use Rattle.std.proofs.Common.{ℕ, List, [], ◌∷◌, ◌++◌, Some, None}
 use Rattle.dna_station.specs.declared.link_refusal.LinkRefusal.TheVariants.{WrongNode, NoLink, LinkState}
 use Rattle.dna_links.specs.User.{Open, Accept, Reject}
-use Rattle.dna_rows.proofs.Links.Messages.{CI, CI_AGAIN, CC, CONNECT_ACK, DI, DC, LINK_SERVICE, INTERRUPT, OTHER_ACK, NO_OPERATION, DATA_ACK, ack}
-use Rattle.dna_rows.proofs.Links.Messages.{SEGMENT, carries}
+use Rattle.dna_rows.proofs.Units.{CI, CI_AGAIN, CC_2, CONNECT_ACK, DI, DC_42, LINK_SERVICE, INTERRUPT, OTHER_ACK, NO_OPERATION, DATA_ACK, ack}
+use Rattle.dna_rows.proofs.Units.{SEGMENT, carries}
 use Rattle.dna_rows.proofs.Links.Steps.{Act, A, B, NODE_A, NODE_B, Does, Sends, SendsAs, AllMade, LastRefused, HasTag}
 use Rattle.dna_rows.proofs.Links.OneLink.{opened, connected}
 use Rattle.dna_rows.proofs.Links.User.{called, closed, ended}
@@ -38,17 +38,17 @@ record Rows : Type 0 where
   -- ---- connect ack: begun by a CI, else 18; in any phase
   acknowledges_the_call : AllMade (called ++ Sends B (CONNECT_ACK 1) ∷ Sends B (CONNECT_ACK 1) ∷ [])
   -- it leaves the phase as it is
-  accepted_after_the_connect_ack : AllMade (called ++ Sends B (CONNECT_ACK 1) ∷ Does B (Accept 1 2) ∷ Sends B (CC 1 2) ∷ [])
+  accepted_after_the_connect_ack : AllMade (called ++ Sends B (CONNECT_ACK 1) ∷ Does B (Accept 1 2) ∷ Sends B (CC_2 1 2) ∷ [])
   acknowledges_it_in_run : AllMade (connected ++ Sends B (CONNECT_ACK 1) ∷ [])
   acknowledges_another_call : LastRefused NoLink (called ++ Sends B (CONNECT_ACK 2) ∷ [])
   acknowledges_its_own_call : LastRefused NoLink (connected ++ Sends A (CONNECT_ACK 2) ∷ [])
   acknowledges_a_call_that_is_over : LastRefused NoLink (ended ++ Sends B (CONNECT_ACK 1) ∷ [])
   -- ---- CC: the link, else 18; in Confirming, else 19
-  confirms : AllMade (opened ++ Sends B (CC 1 2) ∷ [])
-  confirms_from_another_address : LastRefused NoLink (opened ++ Sends B (CC 1 3) ∷ [])
-  confirms_to_another_address : LastRefused NoLink (opened ++ Sends B (CC 3 2) ∷ [])
-  confirms_unaccepted : LastRefused NoLink (called ++ Sends B (CC 1 2) ∷ [])
-  confirms_in_run : LastRefused LinkState (connected ++ Sends B (CC 1 2) ∷ [])
+  confirms : AllMade (opened ++ Sends B (CC_2 1 2) ∷ [])
+  confirms_from_another_address : LastRefused NoLink (opened ++ Sends B (CC_2 1 3) ∷ [])
+  confirms_to_another_address : LastRefused NoLink (opened ++ Sends B (CC_2 3 2) ∷ [])
+  confirms_unaccepted : LastRefused NoLink (called ++ Sends B (CC_2 1 2) ∷ [])
+  confirms_in_run : LastRefused LinkState (connected ++ Sends B (CC_2 1 2) ∷ [])
   -- ---- DI: the link, else 18; in DI, else 19
   disconnects : AllMade (closed ++ Sends A (DI 2 1) ∷ Sends A (DI 2 1) ∷ [])
   disconnects_another_link : LastRefused NoLink (closed ++ Sends A (DI 3 1) ∷ [])
@@ -58,22 +58,22 @@ record Rows : Type 0 where
   disconnects_in_calling : LastRefused NoLink (called ++ Sends A (DI 0 1) ∷ [])
   disconnects_after_the_end : LastRefused NoLink (ended ++ Sends A (DI 2 1) ∷ [])
   -- ---- DC: not the link, else 19; with SRCADDR 0 it ends the one in Called
-  confirms_the_end_of_no_link : AllMade (Sends A (DC 7 8) ∷ Sends A (DC 7 0) ∷ [])
-  confirms_the_end : AllMade (ended ++ Sends B (DC 1 2) ∷ [])
-  confirms_the_end_of_a_live_link : LastRefused LinkState (connected ++ Sends B (DC 1 2) ∷ [])
-  confirms_the_end_in_confirming : LastRefused LinkState (opened ++ Sends B (DC 1 2) ∷ [])
-  confirms_the_end_while_closing : LastRefused LinkState (closed ++ Sends A (DC 2 1) ∷ [])
-  confirms_the_end_of_a_rejected_call : LastRefused LinkState (rejected ++ Sends B (DC 1 2) ∷ [])
-  confirms_the_end_in_calling : AllMade (called ++ Sends A (DC 2 1) ∷ Sends A (CI 1) ∷ [])
-  confirms_the_end_of_another_address : AllMade (connected ++ Sends B (DC 1 3) ∷ Sends B (DC 3 2) ∷ Sends B (DATA_ACK 1 2 (ack 0)) ∷ [])
+  confirms_the_end_of_no_link : AllMade (Sends A (DC_42 7 8) ∷ Sends A (DC_42 7 0) ∷ [])
+  confirms_the_end : AllMade (ended ++ Sends B (DC_42 1 2) ∷ [])
+  confirms_the_end_of_a_live_link : LastRefused LinkState (connected ++ Sends B (DC_42 1 2) ∷ [])
+  confirms_the_end_in_confirming : LastRefused LinkState (opened ++ Sends B (DC_42 1 2) ∷ [])
+  confirms_the_end_while_closing : LastRefused LinkState (closed ++ Sends A (DC_42 2 1) ∷ [])
+  confirms_the_end_of_a_rejected_call : LastRefused LinkState (rejected ++ Sends B (DC_42 1 2) ∷ [])
+  confirms_the_end_in_calling : AllMade (called ++ Sends A (DC_42 2 1) ∷ Sends A (CI 1) ∷ [])
+  confirms_the_end_of_another_address : AllMade (connected ++ Sends B (DC_42 1 3) ∷ Sends B (DC_42 3 2) ∷ Sends B (DATA_ACK 1 2 (ack 0)) ∷ [])
   -- the call is refused for want of resources: the link is over
-  refuses_the_call : LastRefused NoLink (called ++ Sends B (DC 1 0) ∷ Does B (Accept 1 2) ∷ [])
-  refused_call_is_over : LastRefused NoLink (called ++ Sends B (DC 1 0) ∷ Sends B (CONNECT_ACK 1) ∷ [])
-  refuses_another_call : AllMade (called ++ Sends B (DC 3 0) ∷ Does B (Accept 1 2) ∷ [])
+  refuses_the_call : LastRefused NoLink (called ++ Sends B (DC_42 1 0) ∷ Does B (Accept 1 2) ∷ [])
+  refused_call_is_over : LastRefused NoLink (called ++ Sends B (DC_42 1 0) ∷ Sends B (CONNECT_ACK 1) ∷ [])
+  refuses_another_call : AllMade (called ++ Sends B (DC_42 3 0) ∷ Does B (Accept 1 2) ∷ [])
   -- with another SRCADDR it ends no call
-  ends_no_call : AllMade (called ++ Sends B (DC 1 7) ∷ Does B (Accept 1 2) ∷ [])
+  ends_no_call : AllMade (called ++ Sends B (DC_42 1 7) ∷ Does B (Accept 1 2) ∷ [])
   -- an answered call is not ended by it
-  refuses_an_answered_call : AllMade (opened ++ Sends B (DC 1 0) ∷ Sends B (CC 1 2) ∷ [])
+  refuses_an_answered_call : AllMade (opened ++ Sends B (DC_42 1 0) ∷ Sends B (CC_2 1 2) ∷ [])
   -- ---- segment, data ack, link service, interrupt, other-data ack: the link, else 18; in RUN, else 19
   segment_of_no_link : LastRefused NoLink (connected ++ Sends A (SEGMENT 0x60 3 1 FIRST) ∷ [])
   segment_in_called : LastRefused NoLink (called ++ Sends B (SEGMENT 0x60 1 2 FIRST) ∷ [])
@@ -111,8 +111,8 @@ record Rows : Type 0 where
   tag_of_a_confirmation : HasTag B 0 (record { link = Some 1; partner = Some 0 }) (Does B (Open 3) ∷ opened)
   tag_in_run : HasTag A 1 (record { link = Some 0; partner = Some 0 }) connected
   tag_of_no_operation : HasTag A 2 (record { link = None; partner = None }) (connected ++ Sends A NO_OPERATION ∷ [])
-  tag_of_the_end_of_no_link : HasTag A 2 (record { link = None; partner = None }) (connected ++ Sends A (DC 7 8) ∷ [])
-  tag_of_a_refused_call : HasTag B 0 (record { link = Some 0; partner = Some 0 }) (called ++ Sends B (DC 1 0) ∷ [])
+  tag_of_the_end_of_no_link : HasTag A 2 (record { link = None; partner = None }) (connected ++ Sends A (DC_42 7 8) ∷ [])
+  tag_of_a_refused_call : HasTag B 0 (record { link = Some 0; partner = Some 0 }) (called ++ Sends B (DC_42 1 0) ∷ [])
 
 computed : Rows
 computed = search

@@ -3,7 +3,7 @@
 use Rattle.std.proofs.Common.{ℕ, List, [], ◌∷◌, ◌++◌}
 use Rattle.dna_station.specs.declared.link_refusal.LinkRefusal.TheVariants.{WrongSegment, WrongAck, SegmentTooLong, WrongDelivery}
 use Rattle.dna_links.specs.User.{In, Up}
-use Rattle.dna_rows.proofs.Links.Messages.{DATA_ACK, ack, nak, other_ack, other_nak, SEGMENT, carries}
+use Rattle.dna_rows.proofs.Units.{DATA_ACK, ack, nak, other_ack, other_nak, SEGMENT, carries}
 use Rattle.dna_rows.proofs.Links.Steps.{Act, A, B, Does, Sends, Comes, AllMade, LastRefused, ChangesNothing}
 use Rattle.dna_rows.proofs.Links.OneLink.{connected}
 

@@ -12,52 +12,33 @@ use Rattle.dna_rows.proofs.Courses.{runs, ends}
 use Rattle.dna_rows.proofs.Station.Units.{damaged_DATA, damaged_STRT, Runs, EndsAt, refused}
 
 record Rows : Type 0 where
-  -- ---- HALTED, STRT is sent
+  -- ---- in HALTED
   halted_sends_strt : EndsAt A [] [] (Sent STRT) (refused WrongState)
-  -- ---- HALTED, STACK is sent
   halted_sends_stack : EndsAt A [] [] (Sent STACK) (refused WrongState)
-  -- ---- HALTED, ACK is sent
   halted_sends_ack : EndsAt A [] [] (Sent (ACK 0)) (refused WrongState)
-  -- ---- HALTED, NAK 1 2 3 8 is sent
   halted_sends_caused_nak : EndsAt A [] [] (Sent (NAK 1 0)) (refused WrongState)
-  -- ---- HALTED, NAK 9 16 17 is sent
   halted_sends_free_nak : EndsAt A [] [] (Sent (NAK 9 0)) (refused WrongState)
-  -- ---- HALTED, REP is sent
   halted_sends_rep : EndsAt A (started ++ Sent (DATA 1 0) ∷ User Halt ∷ []) answered (Sent (REP 1)) (refused WrongState)
-  -- ---- HALTED, data is sent
   halted_sends_data : EndsAt A [] [] (Sent (DATA 1 0)) (refused WrongState)
-  -- ---- ISTRT, STRT is sent
+  -- ---- in ISTRT
   istrt_sends_strt : Runs (User Start ∷ Sent STRT ∷ []) []
-  -- ---- ISTRT, STACK is sent
   istrt_sends_stack : EndsAt A (User Start ∷ []) [] (Sent STACK) (refused WrongState)
-  -- ---- ISTRT, ACK is sent
   istrt_sends_ack : EndsAt A (User Start ∷ []) [] (Sent (ACK 0)) (refused WrongState)
-  -- ---- ISTRT, NAK 1 2 3 8 is sent
   istrt_sends_caused_nak : EndsAt A (User Start ∷ []) [] (Sent (NAK 1 0)) (refused WrongState)
-  -- ---- ISTRT, NAK 9 16 17 is sent
   istrt_sends_free_nak : EndsAt A (User Start ∷ []) [] (Sent (NAK 9 0)) (refused WrongState)
-  -- ---- ISTRT, data is sent
   istrt_sends_data : EndsAt A (User Start ∷ []) [] (Sent (DATA 1 0)) (refused WrongState)
-  -- ---- ASTRT, STRT is sent
+  -- ---- in ASTRT
   astrt_sends_strt : EndsAt B (User Start ∷ Sent STRT ∷ []) (User Start ∷ Received 0 false STRT ∷ []) (Sent STRT) (refused WrongState)
-  -- ---- ASTRT, STACK is sent
   astrt_sends_stack : Runs (User Start ∷ Sent STRT ∷ []) answered
-  -- ---- ASTRT, ACK is sent
   astrt_sends_ack : EndsAt B (User Start ∷ Sent STRT ∷ []) (User Start ∷ Received 0 false STRT ∷ []) (Sent (ACK 0)) (refused WrongState)
-  -- ---- ASTRT, NAK 1 2 3 8 is sent
   astrt_sends_caused_nak : EndsAt B (User Start ∷ Sent STRT ∷ []) (User Start ∷ Received 0 false STRT ∷ []) (Sent (NAK 1 0)) (refused WrongState)
-  -- ---- ASTRT, NAK 9 16 17 is sent
   astrt_sends_free_nak : EndsAt B (User Start ∷ Sent STRT ∷ []) (User Start ∷ Received 0 false STRT ∷ []) (Sent (NAK 9 0)) (refused WrongState)
-  -- ---- ASTRT, data is sent
   astrt_sends_data : EndsAt B (User Start ∷ Sent STRT ∷ []) (User Start ∷ Received 0 false STRT ∷ []) (Sent (DATA 1 0)) (refused WrongState)
-  -- ---- RUNNING, STRT is sent
+  -- ---- in RUNNING
   running_sends_strt : EndsAt A started answered (Sent STRT) (refused WrongState)
-  -- ---- RUNNING, STACK is sent
   running_sends_stack : EndsAt A started answered (Sent STACK) (refused WrongState)
-  -- ---- RUNNING, ACK is sent
   running_sends_ack_without_resp_is_last : EndsAt A started answered (Sent (ACK 1)) (refused WrongResponse)
   running_sends_ack_with_send_packet : Runs (started ++ Sent (ACK 0) ∷ Sent (DATA 1 0) ∷ []) answered
-  -- ---- RUNNING, NAK 1 2 3 8 is sent
   running_sends_caused_nak_without_cause_is_open_1 : EndsAt A started answered (Sent (NAK 1 0)) (refused NoCause)
   running_sends_caused_nak_without_resp_is_last : EndsAt A started answered (Sent (NAK 1 1)) (refused WrongResponse)
   running_sends_caused_nak_with_send_packet : Runs (started ++ Sent (DATA 1 0) ∷ [])
@@ -73,7 +54,6 @@ record Rows : Type 0 where
   running_sends_caused_nak_without_cause_is_open_8 : EndsAt A started answered (Sent (NAK 8 0)) (refused NoCause)
   running_sends_caused_nak_without_use_cause_8 : EndsAt B (started ++ Sent (DATA 1 0) ∷ [])
       (answered ++ Received 1 false (DATA 1 0) ∷ Sent (NAK 8 0) ∷ []) (Sent (NAK 8 0)) (refused NoCause)
-  -- ---- RUNNING, NAK 9 16 17 is sent
   running_sends_free_nak_with_cause_is_open_16 : Runs (started ++ Sent (NAK 16 0) ∷ []) answered
   running_sends_free_nak_without_resp_is_last : EndsAt A started answered (Sent (NAK 9 1)) (refused WrongResponse)
   running_sends_free_nak_with_send_packet : Runs (started ++ Sent (NAK 9 0) ∷ Sent (DATA 1 0) ∷ []) answered
@@ -85,11 +65,9 @@ record Rows : Type 0 where
   running_sends_free_nak_with_use_cause_17 : Runs (started ++ Sent (DATA 1 0) ∷ [])
       (answered ++ Received 1 false (DATA 1 0) ∷ Sent (NAK 17 0) ∷ Sent (NAK 8 0) ∷ [])
   running_sends_free_nak_with_cause_is_open_17 : Runs (started ++ Sent (NAK 17 0) ∷ []) answered
-  -- ---- RUNNING, REP is sent
   running_sends_rep_without_num_is_highest : EndsAt A (started ++ Sent (DATA 1 0) ∷ []) answered (Sent (REP 0)) (refused WrongNumber)
   running_sends_rep_without_some_outstanding : EndsAt A started answered (Sent (REP 0)) (refused WrongState)
   running_sends_rep_with_send_packet : Runs (started ++ Sent (DATA 1 0) ∷ Sent (REP 1) ∷ Sent (DATA 2 0) ∷ []) answered
-  -- ---- RUNNING, data is sent
   running_sends_data_without_resp_is_last : EndsAt A started answered (Sent (DATA 1 1)) (refused WrongResponse)
   running_sends_data_without_num_is_next : EndsAt A started answered (Sent (DATA 2 0)) (refused WrongNumber)
   running_sends_data_without_as_first_given : EndsAt A (started ++ Sent (DATA 1 0) ∷ Received 1 false (NAK 8 0) ∷ [])

@@ -13,7 +13,7 @@ use Rattle.dna_rows.proofs.Courses.{runs, ends}
 use Rattle.dna_rows.proofs.Station.Units.{damaged_DATA, damaged_STRT, maintenance, Runs, EndsAt, refused}
 
 record Rows : Type 0 where
-  -- ---- HALTED, the user: start
+  -- ---- the user: start
   halted_start : Runs (User Start ∷ []) []
   halted_start_keeps_the_period : EndsAt A (User Start ∷ Sent STRT ∷ User Halt ∷ User Start ∷ []) answered (Received 0 false STACK)
       (refused CrossedPeriod)
@@ -29,19 +29,13 @@ record Rows : Type 0 where
   halted_start_keeps_the_causes : EndsAt A
       (started ++ Received 1 false damaged_STRT ∷ User Halt ∷ User Start ∷ Sent STRT ∷ Received 2 false STACK ∷ [])
       (answered ++ Sent STACK ∷ Received 1 false STRT ∷ Sent STACK ∷ []) (Sent (NAK 1 0)) (refused NoCause)
-  -- ---- ISTRT, the user: start
   istrt_start : EndsAt A (User Start ∷ []) [] (User Start) (refused WrongUserEvent)
-  -- ---- ASTRT, the user: start
   astrt_start : EndsAt B (User Start ∷ Sent STRT ∷ []) (User Start ∷ Received 0 false STRT ∷ []) (User Start) (refused WrongUserEvent)
-  -- ---- RUNNING, the user: start
   running_start : EndsAt A started answered (User Start) (refused WrongUserEvent)
-  -- ---- HALTED, the user: halt
+  -- ---- the user: halt
   halted_halt : Runs (User Halt ∷ []) []
-  -- ---- ISTRT, the user: halt
   istrt_halt : Runs (User Start ∷ User Halt ∷ []) []
-  -- ---- ASTRT, the user: halt
   astrt_halt : Runs (User Start ∷ Sent STRT ∷ []) (User Start ∷ Received 0 false STRT ∷ User Halt ∷ [])
-  -- ---- RUNNING, the user: halt
   running_halt : Runs (started ++ User Halt ∷ []) answered
   -- ---- the line
   sent_a_bad_header : EndsAt A [] [] (Sent damaged_STRT) (Refused NotAMessage)
