@@ -95,7 +95,8 @@ module _ {head_a head_b : Head} {of_a of_b : List Record} (c : any.Course layers
         let start = layers_start head_a head_b in
         same all_a all_b e (
           λ whole. no_run_of_refused layers_pair start c.world c.made_a c.made_b xs left_b x reason c.run is whole,
-          next_offends layers_pair layers_tell (new_layers_node head_a) (new_layers_node head_b) c.world c.made_a c.made_b xs left_b x reason c.run is,
+          next_offends layers_pair layers_tell (new_layers_node head_a) (new_layers_node head_b) c.world c.made_a c.made_b xs left_b x reason
+              c.run is,
         )
     right_of_a x xs left_b all_a all_b Waits is e = right_of_left_b (x ∷ xs) left_b all_a all_b e
     right_of_a x xs left_b all_a all_b (Made h) is e = absurd cc

@@ -1,6 +1,8 @@
 -- Worked runs of both sides' links: packets are lost, and a segment that was lost at a restart of the line comes when it is sent again.
 use Rattle.std.proofs.Common.{◌≡◌, ℕ, ◌≤◌, Bool, true, false, nat_le, Option, Some, None, List, [], ◌∷◌, ◌++◌, map, refl, Result, Ok, Err, leb-true}
 use Rattle.std.specs.Prelude.{slice_get}
+use Rattle.wire_base.specs.declared.side.Side.{Side}
+use Rattle.wire_base.specs.declared.side.Side.TheVariants.{A, B}
 use Rattle.dna_packet.specs.declared.fault.NspFault.{NspFault}
 use Rattle.dna_packet.specs.Nsp.{NspValue}
 use Rattle.dna_packet.specs.ReadingNsp.{nsp_at}
@@ -15,7 +17,7 @@ use Rattle.dna_links.specs.Runs.{SentMessage, LinkSide, LinkWorld, LinkStep, ByU
 use Rattle.dna_links.specs.Runs.{new_world}
 use Rattle.dna_links.specs.Captures.{handed_in, delivered_up, behind}
 use Rattle.dna_rows.proofs.Units.{CI, CC_2, DI, DC_42, DATA_ACK, ack, SEGMENT, carries}
-use Rattle.dna_rows.proofs.Links.Steps.{End, A, B, NODE_A, NODE_B}
+use Rattle.dna_rows.proofs.Links.Steps.{NODE_A, NODE_B}
 
 -- What a side does: its user, a packet that is first sent with this message or with none, or the packet at this place that is kept
 data Turn : Type 0 where
@@ -78,10 +80,10 @@ ran_b r None = None
 ran_b r (Some m) = Some (record { world = _; of_a = _; of_b = _; reached = ByB r.reached m.step })
 
 record Step : Type 0 where
-  pub at : End
+  pub at : Side
   pub turn : Turn
 
-abbrev one_more : {start : LinkWorld} → Ran start → (at : End) → Turn → Option (Ran start)
+abbrev one_more : {start : LinkWorld} → Ran start → (at : Side) → Turn → Option (Ran start)
 one_more r A turn = ran_a r (turn_made r.world.a r.world.b turn)
 one_more r B turn = ran_b r (turn_made r.world.b r.world.a turn)
 

@@ -20,7 +20,8 @@ first_start_lost_b = User Start ∷ Received 1 false STRT ∷ Sent STACK ∷ Rec
 
 -- both sides start at once
 abbrev both_sides_start_of : List Record
-both_sides_start_of = User Start ∷ Sent STRT ∷ Received 0 false STRT ∷ Sent STACK ∷ Received 1 false STACK ∷ Sent (ACK 0) ∷ Received 2 false (ACK 0) ∷ []
+both_sides_start_of = User Start ∷ Sent STRT ∷ Received 0 false STRT ∷ Sent STACK ∷ Received 1 false STACK ∷ Sent (ACK 0) ∷
+    Received 2 false (ACK 0) ∷ []
 
 -- the answer to b's first start comes in its second
 abbrev pub crossed_period_a : List Record
