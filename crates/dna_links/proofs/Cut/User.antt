@@ -5,7 +5,7 @@ use Rattle.std.proofs.lemmas.Bool.{and_parts}
 use Rattle.dna_station.specs.declared.link_refusal.LinkRefusal.{LinkRefusal}
 use Rattle.dna_station.specs.declared.link_refusal.LinkRefusal.TheVariants.{NoLink, LinkState, AddressInUse}
 use Rattle.dna_links.specs.declared.port.Phase.{Phase}
-use Rattle.dna_links.specs.declared.port.Phase.TheVariants.{Calling, Called, Confirming, Running, Disconnecting, Ended}
+use Rattle.dna_links.specs.declared.port.Phase.TheVariants.{Confirming, Disconnecting, Ended}
 use Rattle.dna_links.specs.declared.port.LinkTest.TheVariants.{HasAddress, LiveAt, CalledBy}
 use Rattle.dna_links.specs.LookUps.{is_live, is_called, is_connected, is_at, takes_messages, passes}
 use Rattle.dna_links.specs.Links.{LinkOf, LinksOf, check, begun, changed, in_phase, with_flow, forgotten, freed}
@@ -25,12 +25,8 @@ use Rattle.dna_links.proofs.Cut.LookUps.{NoneFor, with_link_same, changed_same, 
 
 -- a test that an ended link does not pass is passed by a live one
 pub live_if : (test : Phase → Bool) → test Ended ≡ false → (phase : Phase) → test phase ≡ true → is_live phase ≡ true
-live_if test none Called e = refl
-live_if test none Calling e = refl
-live_if test none Confirming e = refl
-live_if test none Running e = refl
-live_if test none Disconnecting e = refl
 live_if test none Ended e = sym none ∙ e
+live_if test none phase e = refl
 
 module _ (l : LinkOf TrueFlow) where
   module _ (live : is_live l.port.phase ≡ true) where

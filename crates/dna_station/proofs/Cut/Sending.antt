@@ -25,7 +25,7 @@ first_failed_same p q same [] = refl
 first_failed_same p q same (check ∷ next) =
     ap₂ (λ (b : Bool) (o : Option StationRefusal). cond b o (Some (refusal_of check))) (same check) (first_failed_same p q same next)
 
-failed_same : (p q : Check → Bool) → ((check : Check) → p check ≡ q check) → (list : Option (List Check)) → failed p list ≡ failed q list
+pub failed_same : (p q : Check → Bool) → ((check : Check) → p check ≡ q check) → (list : Option (List Check)) → failed p list ≡ failed q list
 failed_same p q same None = refl
 failed_same p q same (Some list) = first_failed_same p q same list
 
