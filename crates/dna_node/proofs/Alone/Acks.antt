@@ -6,8 +6,7 @@ use Rattle.std.proofs.Common.{[], ◌∷◌, map, length, drop, Result, Ok, refl
 use Rattle.std.specs.Prelude.{slice_get}
 use Rattle.std.proofs.lemmas.Bool.{cases_lt, and_parts}
 use Rattle.dna_packet.specs.declared.ack_word.AckWord.{AckWord}
-use Rattle.dna_packet.specs.Nsp.{NspValue, DataSegment, LinkService, DataAck, OtherDataAck, ConnectAck, NoOperation, ConnectInitiate, ConnectConfirm}
-use Rattle.dna_packet.specs.Nsp.{DisconnectInitiate, DisconnectConfirm}
+use Rattle.dna_packet.specs.Nsp.{NspValue, DataSegment, DataAck}
 use Rattle.dna_station.specs.declared.link_refusal.LinkRefusal.{LinkRefusal}
 use Rattle.dna_station.specs.declared.link_refusal.LinkRefusal.TheVariants.{WrongNode, WrongAck, CrossedLink}
 use Rattle.dna_station.specs.declared.refusal.StepRefusal.{StepRefusal}
@@ -231,14 +230,7 @@ module _ (s : Links) (ordered : AreOrdered s) (truth : LinkTruth Numbers) where
       (λ n l there here e. let m = near n l there here e in (m.0, m.2))
   message_right (DataAck dst src acks) near =
       acks_right dst src acks (λ l. wire_flows.takes_acks acks tt l.flow) (λ n l there here e. let m = near n l there here e in (m.0, m.1))
-  message_right (LinkService interrupt dst src rest) near = λ links e. refl
-  message_right (OtherDataAck dst src rest) near = λ links e. refl
-  message_right (ConnectAck dst) near = λ links e. refl
-  message_right (NoOperation rest) near = λ links e. refl
-  message_right (ConnectInitiate retransmitted src services info segsize user_data) near = λ links e. refl
-  message_right (ConnectConfirm dst src services info segsize user_data) near = λ links e. refl
-  message_right (DisconnectInitiate dst src reason user_data) near = λ links e. refl
-  message_right (DisconnectConfirm dst src reason) near = λ links e. refl
+  message_right m near = λ links e. refl
 
   goes_right : (b : Bool) (r : Result WireLinks LinkRefusal) (y : Option StepRefusal) → Follows r y → Follows (check b WrongNode r) y
   goes_right true r y right = right
