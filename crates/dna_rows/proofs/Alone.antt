@@ -60,9 +60,7 @@ StationRefuses place accused reason records = judged_station_alone head_1 record
 
 record Rows : Type 0 where
   -- ---- how a row ends
-
   -- ---- packets: one of Routing's own, which is nothing to the links; one that no circuit carries; one with a message that can't be read
-
   -- ---- (8): RESP is among A to N, in RUNNING alone
   all_of_N : Passes (gave_two ++ Received 1 false (ACK 0) ∷ Received 2 false (ACK 1) ∷ Received 3 false (ACK 2) ∷ [])
   above_N : Refuses 5 OtherEnd (OfStation WrongResponse) (gave_two ++ Received 1 false (ACK 3) ∷ [])

@@ -40,10 +40,10 @@ record Rows : Type 0 where
       (answered ++ Received 1 true (data_of 1 0 (2 ∷ 2 ∷ 4 ∷ 1 ∷ 4 ∷ 0xff ∷ CI 1)) ∷ User (Accept 1 2) ∷ []) Accepted
   -- also of a DC of no link, beside bit 3 of RTFLG and flags of the units; the REP behind it is refused for its own sake
   forward_is_not_judged : Verdict
-      (User Start ∷ Sent (control 6 0 0 0) ∷ Received 0 false (control 7 0 0 0) ∷ Sent (control 1 0x80 0 0) ∷ Received 1 true (data_of 1 0 (0xa ∷ 1 ∷
-      4 ∷ 2 ∷ 4 ∷ 7 ∷ 0x48 ∷ 0 ∷ 0 ∷ 9 ∷ 0 ∷ 0xe7 ∷ 4 ∷ [])) ∷ Sent (control 3 0xc0 0 4) ∷ [])
-      (User Start ∷ Received 0 false (control 6 0 0 0) ∷ Sent (control 7 0 0 0) ∷ Received 1 false (control 1 0x80 0 0) ∷ Sent (data_of 1 0 (0xa ∷ 1 ∷
-      4 ∷ 2 ∷ 4 ∷ 7 ∷ 0x48 ∷ 0 ∷ 0 ∷ 9 ∷ 0 ∷ 0xe7 ∷ 4 ∷ [])) ∷ []) (refused A 5 (OfStation WrongState))
+      (User Start ∷ Sent (control 6 0 0 0) ∷ Received 0 false (control 7 0 0 0) ∷ Sent (control 1 0x80 0 0) ∷
+      Received 1 true (data_of 1 0 (0xa ∷ 1 ∷ 4 ∷ 2 ∷ 4 ∷ 7 ∷ 0x48 ∷ 0 ∷ 0 ∷ 9 ∷ 0 ∷ 0xe7 ∷ 4 ∷ [])) ∷ Sent (control 3 0xc0 0 4) ∷ [])
+      (User Start ∷ Received 0 false (control 6 0 0 0) ∷ Sent (control 7 0 0 0) ∷ Received 1 false (control 1 0x80 0 0) ∷
+      Sent (data_of 1 0 (0xa ∷ 1 ∷ 4 ∷ 2 ∷ 4 ∷ 7 ∷ 0x48 ∷ 0 ∷ 0 ∷ 9 ∷ 0 ∷ 0xe7 ∷ 4 ∷ [])) ∷ []) (refused A 5 (OfStation WrongState))
   -- ---- the heads of a pair are not compared
   two_equal_heads : VerdictOf head_of_one head_of_one (started ++ User (Open 1) ∷ Sent (data_of 1 0 (2 ∷ 1 ∷ 4 ∷ 1 ∷ 4 ∷ 0 ∷ CI 1)) ∷ [])
       (answered ++ Received 1 true (data_of 1 0 (2 ∷ 1 ∷ 4 ∷ 1 ∷ 4 ∷ 0 ∷ CI 1)) ∷ User (Accept 1 2) ∷ []) Accepted

@@ -40,8 +40,8 @@ record Rows : Type 0 where
   up_behind_the_end : Verdict
       (running_a ++ User (In 1 (5 ∷ [])) ∷ Sent (data_a 3 1 (SEGMENT 0x60 2 1 (carries 1 (5 ∷ [])))) ∷ User (Close 1) ∷ Sent (data_a 4 1 (DI 2 1)) ∷
       [])
-      (running_b ++ Received 3 true (data_a 3 1 (SEGMENT 0x60 2 1 (carries 1 (5 ∷ [])))) ∷ Received 4 true (data_a 4 1 (DI 2 1)) ∷ User (Up 2 (5 ∷
-      [])) ∷ []) Accepted
+      (running_b ++ Received 3 true (data_a 3 1 (SEGMENT 0x60 2 1 (carries 1 (5 ∷ [])))) ∷ Received 4 true (data_a 4 1 (DI 2 1)) ∷
+      User (Up 2 (5 ∷ [])) ∷ []) Accepted
 
 computed : Rows
 unfolding computing

@@ -42,11 +42,13 @@ record Rows : Type 0 where
   -- A repeat may have words that the first sending had not, and lack those of the repeat before
   a_repeat_has_other_words : Verdict
       (running_a ++ User (In 1 (5 ∷ [])) ∷ Sent (data_a 3 1 (SEGMENT 0x60 2 1 (carries 1 (5 ∷ [])))) ∷
-      Received 2 true (data_b 2 2 (SEGMENT 0x60 1 2 (carries 1 (7 ∷ [])))) ∷ Sent (data_a 4 2 (SEGMENT 0x60 2 1 (ack 1 ++ other_ack 9
-      ++ carries 1 (5 ∷ [])))) ∷ Sent (data_a 5 2 (SEGMENT 0x60 2 1 (carries 1 (5 ∷ [])))) ∷ [])
+      Received 2 true (data_b 2 2 (SEGMENT 0x60 1 2 (carries 1 (7 ∷ [])))) ∷
+      Sent (data_a 4 2 (SEGMENT 0x60 2 1 (ack 1 ++ other_ack 9 ++ carries 1 (5 ∷ [])))) ∷ Sent (data_a 5 2 (SEGMENT 0x60 2 1 (carries 1 (5 ∷ [])))) ∷
+      [])
       (running_b ++ User (In 2 (7 ∷ [])) ∷ Sent (data_b 2 2 (SEGMENT 0x60 1 2 (carries 1 (7 ∷ [])))) ∷
-      Received 3 true (data_a 3 1 (SEGMENT 0x60 2 1 (carries 1 (5 ∷ [])))) ∷ Received 4 true (data_a 4 2 (SEGMENT 0x60 2 1 (ack 1 ++ other_ack 9
-      ++ carries 1 (5 ∷ [])))) ∷ Received 5 true (data_a 5 2 (SEGMENT 0x60 2 1 (carries 1 (5 ∷ [])))) ∷ User (Up 2 (5 ∷ [])) ∷ []) Accepted
+      Received 3 true (data_a 3 1 (SEGMENT 0x60 2 1 (carries 1 (5 ∷ [])))) ∷
+      Received 4 true (data_a 4 2 (SEGMENT 0x60 2 1 (ack 1 ++ other_ack 9 ++ carries 1 (5 ∷ [])))) ∷
+      Received 5 true (data_a 5 2 (SEGMENT 0x60 2 1 (carries 1 (5 ∷ [])))) ∷ User (Up 2 (5 ∷ [])) ∷ []) Accepted
   -- but it has the same data: a message is cut into segments once
   a_repeat_is_not_cut_anew : Verdict
       (running_a ++ User (In 1 (5 ∷ 6 ∷ [])) ∷ Sent (data_a 3 1 (SEGMENT 0x60 2 1 (carries 1 (5 ∷ 6 ∷ [])))) ∷
@@ -54,8 +56,8 @@ record Rows : Type 0 where
   -- A packet that is sent again carries the same segment, though another was given since
   a_repeated_packet_keeps_its_segment_number : Verdict
       (running_a ++ User (In 1 (5 ∷ [])) ∷ User (In 1 (6 ∷ [])) ∷ Sent (data_a 3 1 (SEGMENT 0x60 2 1 (carries 1 (5 ∷ [])))) ∷
-      Sent (data_a 4 1 (SEGMENT 0x60 2 1 (carries 2 (6 ∷ [])))) ∷ Received 2 false (NAK 8 2) ∷ Sent (data_a 3 1 (SEGMENT 0x60 2 1 (carries 1 (5 ∷
-      [])))) ∷ [])
+      Sent (data_a 4 1 (SEGMENT 0x60 2 1 (carries 2 (6 ∷ [])))) ∷ Received 2 false (NAK 8 2) ∷
+      Sent (data_a 3 1 (SEGMENT 0x60 2 1 (carries 1 (5 ∷ [])))) ∷ [])
       (running_b ++ Received 3 false (data_a 3 1 (SEGMENT 0x60 2 1 (carries 1 (5 ∷ [])))) ∷ Sent (NAK 8 2) ∷
       Received 5 true (data_a 3 1 (SEGMENT 0x60 2 1 (carries 1 (5 ∷ [])))) ∷ User (Up 2 (5 ∷ [])) ∷ []) Accepted
 

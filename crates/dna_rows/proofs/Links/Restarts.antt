@@ -15,16 +15,16 @@ record Rows : Type 0 where
   links_outlive_a_restart : Verdict
       (running_a ++ User Halt ∷ User Start ∷ Sent STRT ∷ Received 2 false STACK ∷ User (In 1 (5 ∷ [])) ∷
       Sent (data_a 1 0 (SEGMENT 0x60 2 1 (carries 1 (5 ∷ [])))) ∷ [])
-      (running_b ++ User Halt ∷ User Start ∷ Received 3 false STRT ∷ Sent STACK ∷ Received 4 true (data_a 1 0 (SEGMENT 0x60 2 1 (carries 1 (5 ∷
-      [])))) ∷ User (Up 2 (5 ∷ [])) ∷ []) Accepted
+      (running_b ++ User Halt ∷ User Start ∷ Received 3 false STRT ∷ Sent STACK ∷
+      Received 4 true (data_a 1 0 (SEGMENT 0x60 2 1 (carries 1 (5 ∷ [])))) ∷ User (Up 2 (5 ∷ [])) ∷ []) Accepted
   -- what is held over a gap stays held: the second segment comes in the second period, the first in the third
   what_is_held_over_a_gap_outlives_a_restart : Verdict
       (running_a ++ User (In 1 (5 ∷ [])) ∷ User (In 1 (6 ∷ [])) ∷ Sent (data_a 3 1 (SEGMENT 0x60 2 1 (carries 1 (5 ∷ [])))) ∷ User Halt ∷ User Start ∷
       Sent STRT ∷ Received 2 false STACK ∷ Sent (data_a 1 0 (SEGMENT 0x60 2 1 (carries 2 (6 ∷ [])))) ∷ User Halt ∷ User Start ∷ Sent STRT ∷
       Received 3 false STACK ∷ Sent (data_a 1 0 (SEGMENT 0x60 2 1 (carries 1 (5 ∷ [])))) ∷ [])
-      (confirmed_b ++ User Halt ∷ User Start ∷ Received 4 false STRT ∷ Sent STACK ∷ Received 5 true (data_a 1 0 (SEGMENT 0x60 2 1 (carries 2 (6 ∷
-      [])))) ∷ User Halt ∷ User Start ∷ Received 6 false STRT ∷ Sent STACK ∷ Received 7 true (data_a 1 0 (SEGMENT 0x60 2 1 (carries 1 (5 ∷ [])))) ∷
-      User (Up 2 (5 ∷ [])) ∷ User (Up 2 (6 ∷ [])) ∷ []) Accepted
+      (confirmed_b ++ User Halt ∷ User Start ∷ Received 4 false STRT ∷ Sent STACK ∷
+      Received 5 true (data_a 1 0 (SEGMENT 0x60 2 1 (carries 2 (6 ∷ [])))) ∷ User Halt ∷ User Start ∷ Received 6 false STRT ∷ Sent STACK ∷
+      Received 7 true (data_a 1 0 (SEGMENT 0x60 2 1 (carries 1 (5 ∷ [])))) ∷ User (Up 2 (5 ∷ [])) ∷ User (Up 2 (6 ∷ [])) ∷ []) Accepted
   -- the last word stays: none names less than it did
   the_last_word_sent_outlives_a_restart : Verdict
       (running_a ++ User (In 1 (5 ∷ [])) ∷ Sent (data_a 3 1 (SEGMENT 0x60 2 1 (carries 1 (5 ∷ [])))) ∷ User Halt ∷ User Start ∷ Sent STRT ∷

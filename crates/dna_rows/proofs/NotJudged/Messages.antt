@@ -13,29 +13,31 @@ record Rows : Type 0 where
       (running_b ++ Received 3 true (data_a 3 1 (SEGMENT 0x60 2 1 (1 ∷ 0x10 ∷ 5 ∷ []))) ∷ User (Up 2 (5 ∷ [])) ∷ []) Accepted
   -- nor does it end one: a message of two segments, both with bit 12
   bit_12_does_not_end_a_message : Verdict
-      (running_a ++ User (In 1 (5 ∷ 6 ∷ [])) ∷ Sent (data_a 3 1 (SEGMENT 0x20 2 1 (1 ∷ 0x10 ∷ 5 ∷ []))) ∷ Sent (data_a 4 1 (SEGMENT 0x40 2 1 (2 ∷
-      0x10 ∷ 6 ∷ []))) ∷ [])
-      (running_b ++ Received 3 true (data_a 3 1 (SEGMENT 0x20 2 1 (1 ∷ 0x10 ∷ 5 ∷ []))) ∷ Received 4 true (data_a 4 1 (SEGMENT 0x40 2 1 (2 ∷ 0x10 ∷
-      6 ∷ []))) ∷ User (Up 2 (5 ∷ 6 ∷ [])) ∷ []) Accepted
+      (running_a ++ User (In 1 (5 ∷ 6 ∷ [])) ∷ Sent (data_a 3 1 (SEGMENT 0x20 2 1 (1 ∷ 0x10 ∷ 5 ∷ []))) ∷
+      Sent (data_a 4 1 (SEGMENT 0x40 2 1 (2 ∷ 0x10 ∷ 6 ∷ []))) ∷ [])
+      (running_b ++ Received 3 true (data_a 3 1 (SEGMENT 0x20 2 1 (1 ∷ 0x10 ∷ 5 ∷ []))) ∷
+      Received 4 true (data_a 4 1 (SEGMENT 0x40 2 1 (2 ∷ 0x10 ∷ 6 ∷ []))) ∷ User (Up 2 (5 ∷ 6 ∷ [])) ∷ []) Accepted
   -- a segment that is not acknowledged may be sent again with bit 12, and first without
   bit_12_of_a_repeat : Verdict
-      (running_a ++ User (In 1 (5 ∷ [])) ∷ Sent (data_a 3 1 (SEGMENT 0x60 2 1 (1 ∷ 0 ∷ 5 ∷ []))) ∷ Sent (data_a 4 1 (SEGMENT 0x60 2 1 (1 ∷ 0x10 ∷ 5 ∷
-      []))) ∷ []) running_b Accepted
+      (running_a ++ User (In 1 (5 ∷ [])) ∷ Sent (data_a 3 1 (SEGMENT 0x60 2 1 (1 ∷ 0 ∷ 5 ∷ []))) ∷
+      Sent (data_a 4 1 (SEGMENT 0x60 2 1 (1 ∷ 0x10 ∷ 5 ∷ []))) ∷ []) running_b Accepted
   -- ---- SERVICES and INFO: which flow control and which version of NSP a side asks for is not judged, nor is flow control itself
   -- a asks for flow control by segments, b for flow control by messages; both send without any request
   flow_control_is_not_judged : Verdict
-      (started ++ User (Open 1) ∷ Sent (data_a 1 0 (between 0x18 0 1 ++ connects 5 0 512)) ∷ Received 1 true (data_b 1 1 (between 0x28 1 2
-      ++ connects 9 3 512)) ∷ User (In 1 (5 ∷ [])) ∷ Sent (data_a 2 1 (SEGMENT 0x60 2 1 (carries 1 (5 ∷ [])))) ∷
-      Received 2 true (data_b 2 2 (SEGMENT 0x60 1 2 (carries 1 (6 ∷ [])))) ∷ User (Up 1 (6 ∷ [])) ∷ [])
-      (answered ++ Received 1 true (data_a 1 0 (between 0x18 0 1 ++ connects 5 0 512)) ∷ User (Accept 1 2) ∷ Sent (data_b 1 1 (between 0x28 1 2
-      ++ connects 9 3 512)) ∷ User (In 2 (6 ∷ [])) ∷ Received 2 true (data_a 2 1 (SEGMENT 0x60 2 1 (carries 1 (5 ∷ [])))) ∷ User (Up 2 (5 ∷ [])) ∷
+      (started ++ User (Open 1) ∷ Sent (data_a 1 0 (between 0x18 0 1 ++ connects 5 0 512)) ∷
+      Received 1 true (data_b 1 1 (between 0x28 1 2 ++ connects 9 3 512)) ∷ User (In 1 (5 ∷ [])) ∷
+      Sent (data_a 2 1 (SEGMENT 0x60 2 1 (carries 1 (5 ∷ [])))) ∷ Received 2 true (data_b 2 2 (SEGMENT 0x60 1 2 (carries 1 (6 ∷ [])))) ∷
+      User (Up 1 (6 ∷ [])) ∷ [])
+      (answered ++ Received 1 true (data_a 1 0 (between 0x18 0 1 ++ connects 5 0 512)) ∷ User (Accept 1 2) ∷
+      Sent (data_b 1 1 (between 0x28 1 2 ++ connects 9 3 512)) ∷ User (In 2 (6 ∷ [])) ∷
+      Received 2 true (data_a 2 1 (SEGMENT 0x60 2 1 (carries 1 (5 ∷ [])))) ∷ User (Up 2 (5 ∷ [])) ∷
       Sent (data_b 2 2 (SEGMENT 0x60 1 2 (carries 1 (6 ∷ [])))) ∷ []) Accepted
   -- any other values, too
   any_services_and_info : Verdict
-      (started ++ User (Open 1) ∷ Sent (data_a 1 0 (between 0x18 0 1 ++ connects 0xff 0xff 512)) ∷ Received 1 true (data_b 1 1 (between 0x28 1 2
-      ++ connects 0 0xfe 512)) ∷ Sent (data_a 2 1 (LINK_SERVICE 2 1)) ∷ [])
-      (answered ++ Received 1 true (data_a 1 0 (between 0x18 0 1 ++ connects 0xff 0xff 512)) ∷ User (Accept 1 2) ∷ Sent (data_b 1 1 (between 0x28 1 2
-      ++ connects 0 0xfe 512)) ∷ []) Accepted
+      (started ++ User (Open 1) ∷ Sent (data_a 1 0 (between 0x18 0 1 ++ connects 0xff 0xff 512)) ∷
+      Received 1 true (data_b 1 1 (between 0x28 1 2 ++ connects 0 0xfe 512)) ∷ Sent (data_a 2 1 (LINK_SERVICE 2 1)) ∷ [])
+      (answered ++ Received 1 true (data_a 1 0 (between 0x18 0 1 ++ connects 0xff 0xff 512)) ∷ User (Accept 1 2) ∷
+      Sent (data_b 1 1 (between 0x28 1 2 ++ connects 0 0xfe 512)) ∷ []) Accepted
   -- ---- user data of a CI, CC and DI: any bytes, and no count of them stands before
   user_data_may_be_anything : Verdict
       (started ++ User (Open 1) ∷ Sent (data_a 1 0 (CI 1 ++ 0x78 ∷ 0x79 ∷ 0x7a ∷ [])) ∷ Received 1 true (data_b 1 1 (CC 1 2 512 ++ 0xff ∷ [])) ∷

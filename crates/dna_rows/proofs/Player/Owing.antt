@@ -50,7 +50,8 @@ call_computed = search
 record EndRows : Type 0 where
   -- a segment, which the user gets at once
   segment_brings_data_ack : Adds (linked ++ a (In 1 (codes "a")) ∷ a Send ∷ []) (b Deliver ∷ b Send ∷ b Send ∷ [])
-      (StopsAt 2 BadStep [] (k 4 (codes "810e00010301e72002020401040060010001000100610b66") ∷ User (event.Up 1 (codes "a")) ∷
+      (StopsAt 2 BadStep []
+      (k 4 (codes "810e00010301e72002020401040060010001000100610b66") ∷ User (event.Up 1 (codes "a")) ∷
       s (codes "810d000302010370020104020400040100010001803966") ∷ []))
   -- a segment that comes again: acknowledged, and not delivered
   segment_again_brings_data_ack : Adds (linked ++ a (In 1 (codes "a")) ∷ a Send ∷ b Deliver ∷ b Send ∷ a (Retry 1) ∷ a Send ∷ [])
@@ -70,16 +71,16 @@ record EndRows : Type 0 where
       (codes "810d000203015320020204010400480100010029005f09")
   -- one for each DI, in the order in which they came
   each_di_brings_dc : Adds (rejected ++ b (Retry 1) ∷ b Send ∷ a Deliver ∷ a Deliver ∷ []) (a Send ∷ a Send ∷ a Send ∷ [])
-      (StopsAt 2 BadStep (s (codes "810d0002020152b002020401040048010001002a005ff9") ∷ s (codes "810d000203015320020204010400480100010029005f09") ∷
-      []) [])
+      (StopsAt 2 BadStep
+      (s (codes "810d0002020152b002020401040048010001002a005ff9") ∷ s (codes "810d000203015320020204010400480100010029005f09") ∷ []) [])
   -- a DC: the ACK of its data alone
   dc_brings_nothing : BSends (rejected ++ a Deliver ∷ a Send ∷ b Deliver ∷ []) (codes "0501000200015d95")
   -- both DCs have the addresses of their DI exchanged
   dcs_go_back : Adds
       (running ++ a Open ∷ a Open ∷ a Send ∷ a Send ∷ b Deliver ∷ b Deliver ∷ b (Reject 2) ∷ b Send ∷ b Send ∷ b (Retry 1) ∷ b Send ∷ a Deliver ∷
       a Deliver ∷ a Deliver ∷ []) (a Send ∷ a Send ∷ a Send ∷ [])
-      (StopsAt 2 BadStep (s (codes "810d0003030102e002020401040048010002002a005fbd") ∷ s (codes "810d0003040100d0020204010400480100020029005f4d") ∷
-      []) [])
+      (StopsAt 2 BadStep
+      (s (codes "810d0003030102e002020401040048010002002a005fbd") ∷ s (codes "810d0003040100d0020204010400480100020029005f4d") ∷ []) [])
   -- also of a link in RUN
   dc_of_a_link_in_run_goes_back : BSendsOne
       (running ++ a Open ∷ a Open ∷ a Send ∷ a Send ∷ b Deliver ∷ b Deliver ∷ b (Accept 2) ∷ b Send ∷ b Send ∷ a Deliver ∷ a Deliver ∷ a Send ∷

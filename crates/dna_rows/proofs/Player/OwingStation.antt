@@ -76,8 +76,8 @@ record Rows : Type 0 where
   lowest_nak_first : Adds
       (running ++ a Open ∷ a Send ∷ b Refuse ∷ a Timer ∷ a Send ∷ b Deliver ∷ a Open ∷ a Send ∷ b (Damage 9 1) ∷ a Timer ∷ a Send ∷ b (Damage 0 1) ∷
       []) (b Send ∷ b Send ∷ b Send ∷ b Send ∷ b Send ∷ [])
-      (StopsAt 4 BadStep [] (s (codes "050201000001b9a9") ∷ s (codes "050202000001b9ed") ∷ s (codes "050203000001b811") ∷
-      s (codes "050208000001ba35") ∷ []))
+      (StopsAt 4 BadStep []
+      (s (codes "050201000001b9a9") ∷ s (codes "050202000001b9ed") ∷ s (codes "050203000001b811") ∷ s (codes "050208000001ba35") ∷ []))
   -- NAK before REP
   nak_before_rep : Adds (running ++ b Open ∷ b Send ∷ b Timer ∷ a Open ∷ a Send ∷ b Refuse ∷ []) (b Send ∷ b Send ∷ [])
       (Captures [] (s (codes "050208000001ba35") ∷ s (codes "0503000001018405") ∷ []))
@@ -95,8 +95,8 @@ record Rows : Type 0 where
       (codes "810f00010201db70020204010400180000020001020002edab")
   -- a number that was given before a new one
   given_numbers_first : Adds (running ++ a Open ∷ a Send ∷ a Open ∷ b Refuse ∷ b Send ∷ a Deliver ∷ []) (a Send ∷ a Send ∷ [])
-      (Captures (s (codes "810f000001018a40020204010400180000010001020002ed98") ∷ s (codes "810f000002018ab0020204010400180000020001020002edab") ∷
-      []) [])
+      (Captures
+      (s (codes "810f000001018a40020204010400180000010001020002ed98") ∷ s (codes "810f000002018ab0020204010400180000020001020002edab") ∷ []) [])
   -- no REP once all is acknowledged
   rep_is_dropped : ASendsOne (running ++ a Open ∷ a Send ∷ a Timer ∷ b Deliver ∷ b Send ∷ a Deliver ∷ []) (codes "050100010001ad95")
   -- while something is outstanding it stays owed

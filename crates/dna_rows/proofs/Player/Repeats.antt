@@ -16,8 +16,8 @@ record TimerRows : Type 0 where
   -- the timer in RUN: all that is outstanding goes again, lowest first
   segments_are_repeated : Adds (linked ++ a (In 1 (codes "a")) ∷ a (In 1 (codes "b")) ∷ a Send ∷ a Send ∷ a (Retry 1) ∷ [])
       (a Send ∷ a Send ∷ a Send ∷ [])
-      (StopsAt 2 BadStep (s (codes "810e00010501e48002020401040060010001000100610b66") ∷
-      s (codes "810e00010601e4700202040104006001000100020062bb67") ∷ []) [])
+      (StopsAt 2 BadStep
+      (s (codes "810e00010501e48002020401040060010001000100610b66") ∷ s (codes "810e00010601e4700202040104006001000100020062bb67") ∷ []) [])
   -- save those acknowledged before their turn
   acknowledged_segments_are_not : ASendsOne
       (linked ++ a (In 1 (codes "a")) ∷ a (In 1 (codes "b")) ∷ a (In 1 (codes "c")) ∷ a Send ∷ a Send ∷ a Send ∷ a (Retry 1) ∷ a Send ∷ b Deliver ∷
@@ -25,8 +25,8 @@ record TimerRows : Type 0 where
   -- a timer while repeats are left: all that is not acknowledged goes again
   repeats_begin_anew : Adds (linked ++ a (In 1 (codes "a")) ∷ a (In 1 (codes "b")) ∷ a Send ∷ a Send ∷ a (Retry 1) ∷ a Send ∷ a (Retry 1) ∷ [])
       (a Send ∷ a Send ∷ a Send ∷ [])
-      (StopsAt 2 BadStep (s (codes "810e00010601e47002020401040060010001000100610b66") ∷
-      s (codes "810e00010701e5e00202040104006001000100020062bb67") ∷ []) [])
+      (StopsAt 2 BadStep
+      (s (codes "810e00010601e47002020401040060010001000100610b66") ∷ s (codes "810e00010701e5e00202040104006001000100020062bb67") ∷ []) [])
   -- a timer with nothing outstanding
   nothing_to_repeat : IsBad (linked ++ a (Retry 1) ∷ []) (a Send)
 
@@ -64,8 +64,8 @@ record OrderRows : Type 0 where
       (Captures (s (codes "810d00010201a2b002020401040048010001002a005ff9") ∷ s (codes "810f00010301dae0020204010400180000020001020002edab") ∷ []) [])
   -- links in the order in which they began
   links_in_order : Adds (running ++ a Open ∷ a Open ∷ []) (a Send ∷ a Send ∷ a Send ∷ [])
-      (StopsAt 2 BadStep (s (codes "810f000001018a40020204010400180000010001020002ed98") ∷
-      s (codes "810f000002018ab0020204010400180000020001020002edab") ∷ []) [])
+      (StopsAt 2 BadStep
+      (s (codes "810f000001018a40020204010400180000010001020002ed98") ∷ s (codes "810f000002018ab0020204010400180000020001020002edab") ∷ []) [])
   -- which is not that of their addresses
   links_not_by_address : Adds (running ++ a Open ∷ a Open ∷ a Send ∷ a Send ∷ b Deliver ∷ b Deliver ∷ b (Accept 2) ∷ []) (b Send ∷ b Send ∷ [])
       (Captures [] (s (codes "810900020101a3800201040204002401002cd5") ∷ s (codes "811000020201beb2020104020400280200010001020002000710") ∷ []))
@@ -87,7 +87,8 @@ record OrderRows : Type 0 where
       (Captures [] (k 4 (codes "810d00010301a32002020401040060010001000100e90b") ∷ User (event.Up 1 []) ∷ []))
   -- each message is delivered with its last segment
   messages_one_by_one : Adds (linked ++ a (In 1 (codes "ab")) ∷ a (In 1 (codes "c")) ∷ a Send ∷ a Send ∷ []) (b Deliver ∷ b Deliver ∷ [])
-      (Captures [] (k 4 (codes "810f00010301dae0020204010400600100010001006162a62e") ∷ User (event.Up 1 (codes "ab")) ∷
+      (Captures []
+      (k 4 (codes "810f00010301dae0020204010400600100010001006162a62e") ∷ User (event.Up 1 (codes "ab")) ∷
       k 5 (codes "810e00010401e51002020401040060010001000200637aa7") ∷ User (event.Up 1 (codes "c")) ∷ []))
 
 order_computed : OrderRows

@@ -48,9 +48,11 @@ record Rows : Type 0 where
   same_as_the_run_of_b : example_b ≡ player_example_b
   closed_before_the_answer : Plays closes_instead (StopsAt 11 BadStep closes_instead_a closes_instead_b)
   noise_in_a_script : Plays noisy
-      (Captures (User event.Start ∷ s (codes "0506c00000017595") ∷ r 0 (codes "0507c00000014855") ∷ s (codes "050100000001fc55") ∷
-      r 1 (codes "050201000001b9a9") ∷ []) (User event.Start ∷ r 0 (codes "0506c00000017595") ∷ s (codes "0507c00000014855") ∷
-      r 1 (codes "050100000001fc55") ∷ n [] ∷ s (codes "050201000001b9a9") ∷ []))
+      (Captures
+      (User event.Start ∷ s (codes "0506c00000017595") ∷ r 0 (codes "0507c00000014855") ∷ s (codes "050100000001fc55") ∷
+      r 1 (codes "050201000001b9a9") ∷ [])
+      (User event.Start ∷ r 0 (codes "0506c00000017595") ∷ s (codes "0507c00000014855") ∷ r 1 (codes "050100000001fc55") ∷ n [] ∷
+      s (codes "050201000001b9a9") ∷ []))
 
 computed : Rows
 unfolding playing
