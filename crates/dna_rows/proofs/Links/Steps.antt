@@ -94,7 +94,8 @@ module _ {D K : Type 0} (flows : Flows D K) where
   does own event = of_result (λ (next : LinksOf D). record own { state = next }) (user_step flows own.state event)
 
   abbrev sends : OneEnd D K → Carried → Becomes (OneEnd D K)
-  sends own packet = of_result (λ (made : Sent D K). record { state = made.links; sent = own.sent ++ record { packet = packet; truth = made.truth } ∷ [] })
+  sends own packet =
+      of_result (λ (made : Sent D K). record { state = made.links; sent = own.sent ++ record { packet = packet; truth = made.truth } ∷ [] })
       (sent_step flows own.state packet)
 
   abbrev arrives : OneEnd D K → Carried → LinkTruth K → Becomes (OneEnd D K)
