@@ -42,11 +42,7 @@ shows before x y after h ne fits good bad =
 
 length-header : (message : MessageValue) → length (header message) ≡ 6
 length-header (Data flags resp num body) = refl
-length-header (Ack flags resp) = refl
-length-header (Nak flags reason resp) = refl
-length-header (Rep flags num) = refl
-length-header (Strt flags) = refl
-length-header (Stack flags) = refl
+length-header m = refl
 
 length-head : (message : MessageValue) (unit : List ℕ) (u : IsUnit message unit) → length u.head ≡ 8
 length-head message unit u = ap length u.head_is.2 ∙ length-append (header message) (u.head_is.0 ∷ u.head_is.1 ∷ []) ∙

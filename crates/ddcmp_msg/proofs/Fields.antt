@@ -3,8 +3,7 @@ use Rattle.std.proofs.Common.{◌≡◌, ℕ, zero, suc, ◌+◌, ◌/◌, ◌%�
 use Rattle.std.specs.Prelude.{nat_eq}
 use Rattle.ddcmp_msg.specs.declared.flags.Flags.{Flags}
 use Rattle.ddcmp_msg.specs.declared.nak_reason.NakReason.{NakReason}
-use Rattle.ddcmp_msg.specs.declared.nak_reason.NakReason.TheVariants.{HeaderCheck, DataCheck, RepResponse, NoBuffer, Overrun, MessageTooLong}
-use Rattle.ddcmp_msg.specs.declared.nak_reason.NakReason.TheVariants.{HeaderFormat}
+use Rattle.ddcmp_msg.specs.declared.nak_reason.NakReason.TheVariants.{HeaderCheck}
 use Rattle.ddcmp_msg.specs.Message.{bit, flags_byte, flags_of, reason_number, reason_of}
 
 -- a bit at its place is read as it was written
@@ -38,18 +37,8 @@ byte_again byte h = omega (arith, byte_bit (byte / 64 % 2) (omega arith), byte_b
 
 pub reason_back : (reason : NakReason) → reason_of (reason_number reason) ≡ Some reason
 reason_back HeaderCheck = refl
-reason_back DataCheck = refl
-reason_back RepResponse = refl
-reason_back NoBuffer = refl
-reason_back Overrun = refl
-reason_back MessageTooLong = refl
-reason_back HeaderFormat = refl
+reason_back other = refl
 
 pub reason-lt : (reason : NakReason) → reason_number reason < 64
 reason-lt HeaderCheck = omega arith
-reason-lt DataCheck = omega arith
-reason-lt RepResponse = omega arith
-reason-lt NoBuffer = omega arith
-reason-lt Overrun = omega arith
-reason-lt MessageTooLong = omega arith
-reason-lt HeaderFormat = omega arith
+reason-lt other = omega arith

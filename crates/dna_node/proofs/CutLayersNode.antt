@@ -9,7 +9,6 @@ use Rattle.two_nodes.specs.Cutting.{cut_half, cut_outcome}
 use Rattle.ddcmp_msg.specs.Message.{MessageValue}
 use Rattle.capture.specs.declared.record.Record.{Record}
 use Rattle.capture.specs.declared.event.Event.{Event}
-use Rattle.capture.specs.declared.event.Event.TheVariants as events
 use Rattle.dna_station.specs.declared.tag.Tag.{Tag}
 use Rattle.dna_links.specs.declared.tag.LinkTag.{LinkTag}
 use Rattle.dna_station.specs.declared.state.StationEvent.{StationEvent}
@@ -18,6 +17,7 @@ use Rattle.dna_station.specs.declared.refusal.StationRefusal.{StationRefusal}
 use Rattle.dna_station.specs.declared.refusal.StepRefusal.{StepRefusal}
 use Rattle.dna_station.specs.declared.link_refusal.LinkRefusal.{LinkRefusal}
 use Rattle.dna_station.specs.Table.{user_refusal, Change, SendPacket, change_of}
+use Rattle.dna_node.proofs.Events.{by_event}
 use Rattle.dna_node.specs.Rules.{judged}
 use Rattle.dna_station.specs.Station.{Station, PastPeriod, packets_of, all_given, after_event}
 use Rattle.dna_station.specs.Truth.{Truth, tag_of}
@@ -28,7 +28,7 @@ use Rattle.dna_station.specs.WireBook.{wire_after_sending, wire_arrival_refusal,
 use Rattle.dna_station.specs.Bounds.{IsWithin, IsBounded}
 use Rattle.dna_station.specs.Cut.{AreLabelled, cut, all_after}
 use Rattle.dna_station.specs.Machine.{unless_refused, step}
-use Rattle.dna_links.specs.User.{LinkEventValue, Open, Accept, Reject, In, Up, Close}
+use Rattle.dna_links.specs.User.{LinkEventValue}
 use Rattle.dna_links.specs.Sending as links_sending
 use Rattle.dna_links.specs.Links.{Carried}
 use Rattle.dna_links.specs.TrueFlow.{TrueFlow, Numbers}
@@ -117,14 +117,9 @@ module _ (own other : Half LayersNode LayersUnit) (front of_other : ℕ) (c : Is
   link_made event = ap (λ o. with_wire_links (cut_layers s) o) (sym (c.links.user event)) ∙ by_links s (links_user s.links event)
 
   user_made : (event : Event) → (wire_layers_machine judged).user (cut_layers s) event ≡ layers_result ((layers_machine judged).user s event)
-  user_made events.Start = by_station Start (user_refusal s.station.state Start)
-  user_made events.Halt = by_station Halt (user_refusal s.station.state Halt)
-  user_made (events.Open link) = link_made (Open link)
-  user_made (events.Accept partner link) = link_made (Accept partner link)
-  user_made (events.Reject partner link) = link_made (Reject partner link)
-  user_made (events.In link bytes) = link_made (In link bytes)
-  user_made (events.Up link bytes) = link_made (Up link bytes)
-  user_made (events.Close link) = link_made (Close link)
+  user_made = by_event (λ event. (wire_layers_machine judged).user (cut_layers s) event ≡ layers_result ((layers_machine judged).user s event))
+      (by_station Start (user_refusal s.station.state Start)) (by_station Halt (user_refusal s.station.state Halt))
+      (λ event link e. rw e (link_made link))
 
   -- ---- a message is sent
 

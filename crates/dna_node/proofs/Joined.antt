@@ -12,7 +12,7 @@ use Rattle.two_nodes.specs.Cutting.{cut_half, cut_world}
 use Rattle.two_nodes.proofs.Order.{slice_get-append}
 use Rattle.two_nodes.proofs.Listed.{next_at}
 use Rattle.two_nodes.proofs.Lasting.{lasts}
-use Rattle.ddcmp_msg.specs.Message.{MessageValue, Data, Ack, Nak, Rep, Strt, Stack}
+use Rattle.ddcmp_msg.specs.Message.{MessageValue, Data}
 use Rattle.ddcmp_msg.specs.declared.nak_reason.NakReason.{NakReason}
 use Rattle.ddcmp_msg.specs.declared.nak_reason.NakReason.TheVariants.{HeaderCheck, DataCheck}
 use Rattle.capture.specs.declared.record.Record.{Record}
@@ -67,29 +67,17 @@ given_arrival s arrival kept =
 pub given_first : (s : Station) (m : MessageValue) → gives_number s m ≡ true → all_given (after_sending s m) ≡ all_given s ++ body_of m ∷ []
 given_first s (Data flags resp num body) new =
     ap (λ (b : Bool). packets_of s.earlier ++ with_packet b s.packets body) new ∙ sym (append_assoc (packets_of s.earlier) s.packets (body ∷ []))
-given_first s (Ack flags resp) new = absurd cc
-given_first s (Nak flags reason resp) new = absurd cc
-given_first s (Rep flags num) new = absurd cc
-given_first s (Strt flags) new = absurd cc
-given_first s (Stack flags) new = absurd cc
+given_first s m new = absurd cc
 
 pub given_again : (s : Station) (m : MessageValue) → gives_number s m ≡ false → all_given (after_sending s m) ≡ all_given s
 given_again s (Data flags resp num body) old = ap (λ (b : Bool). packets_of s.earlier ++ with_packet b s.packets body) old
-given_again s (Ack flags resp) old = refl
-given_again s (Nak flags reason resp) old = refl
-given_again s (Rep flags num) old = refl
-given_again s (Strt flags) old = refl
-given_again s (Stack flags) old = refl
+given_again s m old = refl
 
 -- where it is in them
 first_place : (s : Station) (m : MessageValue) → gives_number s m ≡ true → place_of s m ≡ length (all_given s)
 first_place s (Data flags resp num body) new =
     let e = eqb-true s.next_to_send (length s.packets + 1) new in let l = length-append (packets_of s.earlier) s.packets in omega arith
-first_place s (Ack flags resp) new = absurd cc
-first_place s (Nak flags reason resp) new = absurd cc
-first_place s (Rep flags num) new = absurd cc
-first_place s (Strt flags) new = absurd cc
-first_place s (Stack flags) new = absurd cc
+first_place s m new = absurd cc
 
 there_is : (xs : List (Option SentMessage)) (i : ℕ) → i < length xs → slice_get xs i ≡ Some (of_place (slice_get xs i))
 there_is [] i within = absurd (omega arith)
@@ -104,11 +92,7 @@ again_told s (Data flags resp num body) o counted old d =
     let l = length-append (packets_of s.station.earlier) s.station.packets in
     let a = o.above in let b = o.below in
     there_is s.messages (place_of s.station (Data flags resp num body)) (omega arith)
-again_told s (Ack flags resp) o counted old d = absurd cc
-again_told s (Nak flags reason resp) o counted old d = absurd cc
-again_told s (Rep flags num) o counted old d = absurd cc
-again_told s (Strt flags) o counted old d = absurd cc
-again_told s (Stack flags) o counted old d = absurd cc
+again_told s m o counted old d = absurd cc
 
 -- ---- each data message has what was true of its packet at the first sending, found by its place
 

@@ -5,7 +5,7 @@ use Rattle.std.proofs.lemmas.Option.{same_Some, slice_get-map}
 use Rattle.two_nodes.specs.Nodes.{Half, World, stepped, advance, exchanged_world}
 use Rattle.two_nodes.specs.Kept.{IsKept}
 use Rattle.two_nodes.specs.Cutting.{Commutes, cut_half, cut_outcome}
-use Rattle.ddcmp_msg.specs.Message.{MessageValue, Data, Ack, Nak, Rep, Strt, Stack}
+use Rattle.ddcmp_msg.specs.Message.{MessageValue, Data}
 use Rattle.capture.specs.declared.record.Record.{Record}
 use Rattle.capture.specs.declared.record.Record.TheVariants.{Received}
 use Rattle.dna_station.specs.declared.head.Head.{Head}
@@ -33,11 +33,7 @@ use Rattle.dna_node.proofs.CutLayersNode.{HasItsMessage, IsLayersBounded, record
 
 data_packet : (m : MessageValue) → is_data m ≡ true → change_of m ≡ SendPacket
 data_packet (Data flags resp num body) d = refl
-data_packet (Ack flags resp) d = absurd cc
-data_packet (Nak flags reason resp) d = absurd cc
-data_packet (Rep flags num) d = absurd cc
-data_packet (Strt flags) d = absurd cc
-data_packet (Stack flags) d = absurd cc
+data_packet m d = absurd cc
 
 module _ (own other : Half LayersNode LayersUnit)
     (sound : IsSound (cut_half stations own).state (cut_half stations own).sent (cut_half stations other).sent)

@@ -5,7 +5,7 @@ use Rattle.std.specs.Prelude.{slice_get, slice_set, option_and_then}
 use Rattle.std.proofs.lemmas.Bool.{eqb-false}
 use Rattle.std.proofs.lemmas.List.{length_push, drop-append-le}
 use Rattle.two_nodes.proofs.Listed.{next_at}
-use Rattle.ddcmp_msg.specs.Message.{MessageValue, Data, Ack, Nak, Rep, Strt, Stack}
+use Rattle.ddcmp_msg.specs.Message.{MessageValue, Data}
 use Rattle.dna_links.specs.declared.tag.LinkTag.{LinkTag}
 use Rattle.dna_station.specs.Table.{SendPacket, change_of}
 use Rattle.dna_station.specs.Station.{Station, packets_of, all_given}
@@ -94,11 +94,7 @@ module _ (s : Layers) where
         ∙ tags_push s.station.packets behind body carried as_many
         ∙ sym (newest_labelled (tagged_packets s) body (tag_of_packet carried))
         ∙ sym (ap (λ (b : Bool). with_label (with_new b (tagged_packets s) body) (tag_of_packet carried)) new)
-    first_tagged_same (Ack flags resp) links carried new = absurd cc
-    first_tagged_same (Nak flags reason resp) links carried new = absurd cc
-    first_tagged_same (Rep flags num) links carried new = absurd cc
-    first_tagged_same (Strt flags) links carried new = absurd cc
-    first_tagged_same (Stack flags) links carried new = absurd cc
+    first_tagged_same m links carried new = absurd cc
 
     -- any other message changes no packet
     pub again_tagged_same : (m : MessageValue) → gives_number s.station m ≡ false →
@@ -106,11 +102,7 @@ module _ (s : Layers) where
     again_tagged_same (Data flags resp num body) old =
         ap (λ (b : Bool). with_tags (with_packet b s.station.packets body) behind) old ∙
         sym (ap (λ (b : Bool). with_new b (tagged_packets s) body) old)
-    again_tagged_same (Ack flags resp) old = refl
-    again_tagged_same (Nak flags reason resp) old = refl
-    again_tagged_same (Rep flags num) old = refl
-    again_tagged_same (Strt flags) old = refl
-    again_tagged_same (Stack flags) old = refl
+    again_tagged_same m old = refl
 
     -- a packet that is sent again has the tag of its place
     pub again_tag_same : (m : MessageValue) → IsOrdered s.station → gives_number s.station m ≡ false →
@@ -121,11 +113,7 @@ module _ (s : Layers) where
         tag_at s.station.packets behind (s.station.next_to_send - 1) (carried_again s (truth_of s.station (Data flags resp num body)) SendPacket)
         (omega arith)
         (slice_get-drop before (s.station.next_to_send - 1) s.messages ∙ again_told s (Data flags resp num body) o counted old refl)
-    again_tag_same (Ack flags resp) o old = refl
-    again_tag_same (Nak flags reason resp) o old = refl
-    again_tag_same (Rep flags num) o old = refl
-    again_tag_same (Strt flags) o old = refl
-    again_tag_same (Stack flags) o old = refl
+    again_tag_same m o old = refl
 
   -- so the newest number is outstanding
   pub newest_outstanding : (m : MessageValue) → IsOrdered s.station → gives_number s.station m ≡ true →
@@ -135,17 +123,9 @@ module _ (s : Layers) where
       let more : length (with_packet (is_new s.station) s.station.packets body) ≡ length s.station.packets + 1 =
       ap (λ (b : Bool). length (with_packet b s.station.packets body)) new ∙ length_push s.station.packets body in
       omega arith
-  newest_outstanding (Ack flags resp) o new = absurd cc
-  newest_outstanding (Nak flags reason resp) o new = absurd cc
-  newest_outstanding (Rep flags num) o new = absurd cc
-  newest_outstanding (Strt flags) o new = absurd cc
-  newest_outstanding (Stack flags) o new = absurd cc
+  newest_outstanding m o new = absurd cc
 
 -- what gives a number carries a packet
 pub gives_packet : (s : Station) (m : MessageValue) → gives_number s m ≡ true → change_of m ≡ SendPacket
 gives_packet s (Data flags resp num body) new = refl
-gives_packet s (Ack flags resp) new = absurd cc
-gives_packet s (Nak flags reason resp) new = absurd cc
-gives_packet s (Rep flags num) new = absurd cc
-gives_packet s (Strt flags) new = absurd cc
-gives_packet s (Stack flags) new = absurd cc
+gives_packet s m new = absurd cc

@@ -5,7 +5,7 @@ use Rattle.std.specs.Prelude.{slice_get}
 use Rattle.std.proofs.lemmas.Option.{slice_get_within}
 use Rattle.two_nodes.specs.Nodes.{Half, World}
 use Rattle.two_nodes.specs.Kept.{IsKept}
-use Rattle.ddcmp_msg.specs.Message.{MessageValue, Data, Ack, Nak, Rep, Strt, Stack}
+use Rattle.ddcmp_msg.specs.Message.{MessageValue, Data}
 use Rattle.capture.specs.declared.record.Record.{Record}
 use Rattle.dna_station.specs.declared.head.Head.{Head}
 use Rattle.dna_station.specs.declared.state.StationEvent.TheVariants.{Start, Halt}
@@ -86,11 +86,7 @@ pub body_read : (m : MessageValue) (u : Truth) (messages : List (Option SentMess
     AreReadAs messages packets → is_data m ≡ true → CarriesItsPacket packets m u → slice_get messages u.place ≡ Some carried →
     content (body_of m) ≡ Ok (packet_in carried)
 body_read (Data flags resp num body) u messages packets carried read d at told = read u.place carried body told at
-body_read (Ack flags resp) u messages packets carried read d at told = absurd cc
-body_read (Nak flags reason resp) u messages packets carried read d at told = absurd cc
-body_read (Rep flags num) u messages packets carried read d at told = absurd cc
-body_read (Strt flags) u messages packets carried read d at told = absurd cc
-body_read (Stack flags) u messages packets carried read d at told = absurd cc
+body_read m u messages packets carried read d at told = absurd cc
 
 -- ---- in every run
 

@@ -3,8 +3,7 @@
 use Rattle.std.specs.Prelude.{ℕ, Bool, true, ◌&&◌, ◌||◌, not, nat_le, if◌then◌else◌, Option, Some, None, List, [], ◌∷◌, length, Result, Ok, Err}
 use Rattle.ddcmp_msg.specs.Message.{MessageValue, Data, Ack, Nak, Rep, Strt, Stack}
 use Rattle.dna_packet.specs.declared.ack_word.AckWord.{AckWord}
-use Rattle.dna_packet.specs.Nsp.{NspValue, DataSegment, LinkService, DataAck, OtherDataAck, ConnectAck, NoOperation, ConnectInitiate, ConnectConfirm}
-use Rattle.dna_packet.specs.Nsp.{DisconnectInitiate, DisconnectConfirm}
+use Rattle.dna_packet.specs.Nsp.{NspValue, DataSegment, DataAck}
 use Rattle.dna_station.specs.declared.state.State.{State}
 use Rattle.dna_station.specs.declared.state.State.TheVariants.{Running}
 use Rattle.dna_station.specs.declared.refusal.StationRefusal.TheVariants.{WrongResponse}
@@ -88,14 +87,7 @@ wrong_acks own far acks s = with_link (ActedOn own far) s None (λ number link. 
 abbrev pub wrong_message : WireLinks → NspValue → Option StepRefusal
 wrong_message s (DataSegment segment) = wrong_acks segment.dstaddr segment.srcaddr segment.acks s
 wrong_message s (DataAck dst src acks) = wrong_acks dst src acks s
-wrong_message s (LinkService interrupt dst src rest) = None
-wrong_message s (OtherDataAck dst src rest) = None
-wrong_message s (ConnectAck dst) = None
-wrong_message s (NoOperation rest) = None
-wrong_message s (ConnectInitiate retransmitted src services info segsize user_data) = None
-wrong_message s (ConnectConfirm dst src services info segsize user_data) = None
-wrong_message s (DisconnectInitiate dst src reason user_data) = None
-wrong_message s (DisconnectConfirm dst src reason) = None
+wrong_message s m = None
 
 -- a packet without a message of the links is not read further; one that can't be read was wrong before
 abbrev pub wrong_carried : WireLinks → Result (Option Carried) StepRefusal → Option StepRefusal

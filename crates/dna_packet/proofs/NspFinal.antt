@@ -12,6 +12,7 @@ use Rattle.dna_packet.specs.Nsp.{DisconnectInitiate, DisconnectConfirm}
 use Rattle.dna_packet.specs.ReadingNsp.{addresses_at, no_more_at, acks_at, segnum_at, segment_at, link_service_at, other_data_ack_at, second_ack_at}
 use Rattle.dna_packet.specs.ReadingNsp.{data_acks_at, data_ack_at, connect_ack_at, connect_fields_at, connect_initiate_at, connect_confirm_at}
 use Rattle.dna_packet.specs.ReadingNsp.{disconnect_initiate_at, disconnect_confirm_at, message_at, nsp_at}
+use Rattle.dna_packet.proofs.Final.{fails, answers, missed, answered}
 
 then_assoc : {A B C : Type 0} (r : Result A NspFault) (f : A → Result B NspFault) (k : B → Result C NspFault) →
     ((r >>= f) >>= k) ≡ (r >>= λ x. f x >>= k)
@@ -21,32 +22,20 @@ then_assoc (Err e) f k = refl
 abbrev Read : Type 0
 Read = Result NspValue NspFault
 
-abbrev fails : NspFault → Read
-fails fault = Err fault
-
-abbrev answers : NspValue → Read
-answers m = Ok m
-
 abbrev with_rest : AckWord → List ℕ → Result (AckWord × List ℕ) NspFault
 with_rest word rest = Ok (word, rest)
 
 module _ (more : List ℕ) (fault : NspFault) (is_found : fault ≢ MissingField) where
-  missed : fails MissingField ≡ fails fault → ⊥
-  missed e = let same : fault ≡ MissingField = cc in is_found same
-
-  answered : (m : NspValue) → answers m ≡ fails fault → ⊥
-  answered m e = absurd cc
-
   -- ---- the parts of messages
 
   by_addresses : (f : ℕ → ℕ → List ℕ → Read) (bytes : List ℕ)
       → ((dst src : ℕ) (rest : List ℕ) → f dst src rest ≡ fails fault → f dst src (rest ++ more) ≡ fails fault)
       → (addresses_at bytes >>= λ links. f links.0 links.1 links.2) ≡ fails fault
       → (addresses_at (bytes ++ more) >>= λ links. f links.0 links.1 links.2) ≡ fails fault
-  by_addresses f [] final e = absurd (missed e)
-  by_addresses f (a ∷ []) final e = absurd (missed e)
-  by_addresses f (a ∷ b ∷ []) final e = absurd (missed e)
-  by_addresses f (a ∷ b ∷ c ∷ []) final e = absurd (missed e)
+  by_addresses f [] final e = absurd (missed is_found e)
+  by_addresses f (a ∷ []) final e = absurd (missed is_found e)
+  by_addresses f (a ∷ b ∷ []) final e = absurd (missed is_found e)
+  by_addresses f (a ∷ b ∷ c ∷ []) final e = absurd (missed is_found e)
   by_addresses f (a ∷ b ∷ c ∷ d ∷ rest) final e = final (a + 256 * b) (c + 256 * d) rest e
 
   segnum_tested : (g : ℕ × Bool × List ℕ → NspValue) (right : Bool) (x y : ℕ × Bool × List ℕ)
@@ -57,8 +46,8 @@ module _ (more : List ℕ) (fault : NspFault) (is_found : fault ≢ MissingField
 
   segnum_final : (g : ℕ × Bool × List ℕ → NspValue) (bytes : List ℕ)
       → (segnum_at bytes >>= λ n. answers (g n)) ≡ fails fault → (segnum_at (bytes ++ more) >>= λ n. answers (g n)) ≡ fails fault
-  segnum_final g [] e = absurd (missed e)
-  segnum_final g (a ∷ []) e = absurd (missed e)
+  segnum_final g [] e = absurd (missed is_found e)
+  segnum_final g (a ∷ []) e = absurd (missed is_found e)
   segnum_final g (a ∷ b ∷ rest) e =
       let n = a + 256 * b in
       segnum_tested g (ltb n 0x2000) (n % 0x1000, leb 0x1000 n, rest) (n % 0x1000, leb 0x1000 n, rest ++ more) e
@@ -92,8 +81,8 @@ module _ (more : List ℕ) (fault : NspFault) (is_found : fault ≢ MissingField
 
   words_final : (room : ℕ) → IsFinalAt room
   words_final zero g bytes e = segnum_final (g []) bytes e
-  words_final (suc room) g [] e = absurd (missed e)
-  words_final (suc room) g (a ∷ []) e = absurd (missed e)
+  words_final (suc room) g [] e = absurd (missed is_found e)
+  words_final (suc room) g (a ∷ []) e = absurd (missed is_found e)
   words_final (suc room) g (a ∷ b ∷ rest) e = next_final room (words_final room) g a b rest (leb 128 b) e
 
   -- the words of a data acknowledgement, and its end
@@ -112,21 +101,21 @@ module _ (more : List ℕ) (fault : NspFault) (is_found : fault ≢ MissingField
       → ends_at g ((ack >>= λ word. with_rest word (rest ++ more)) >>= λ first. second_ack_at first.0 first.1) ≡ fails fault
   first_final g rest (Err f) e = e
   first_final g [] (Ok ack) e = absurd (answered (g (ack ∷ [])) e)
-  first_final g (a ∷ []) (Ok ack) e = absurd (missed e)
+  first_final g (a ∷ []) (Ok ack) e = absurd (missed is_found e)
   first_final g (a ∷ b ∷ rest) (Ok ack) e = second_final g ack rest (ok_or (ack_of (a + 256 * b)) BadAckWord) e
 
   data_acks_final : (g : List AckWord → NspValue) (bytes : List ℕ) → ends_at g (data_acks_at bytes) ≡ fails fault →
       ends_at g (data_acks_at (bytes ++ more)) ≡ fails fault
-  data_acks_final g [] e = absurd (missed e)
-  data_acks_final g (a ∷ []) e = absurd (missed e)
+  data_acks_final g [] e = absurd (missed is_found e)
+  data_acks_final g (a ∷ []) e = absurd (missed is_found e)
   data_acks_final g (a ∷ b ∷ rest) e = first_final g rest (ok_or (ack_of (a + 256 * b)) BadAckWord) e
 
   -- SERVICES, INFO and SEGSIZE miss a byte, or nothing is wrong
   fields_answer : (g : ℕ × ℕ × ℕ × List ℕ → NspValue) (bytes : List ℕ) → (connect_fields_at bytes >>= λ fields. answers (g fields)) ≡ fails fault → ⊥
-  fields_answer g [] e = missed e
-  fields_answer g (a ∷ []) e = missed e
-  fields_answer g (a ∷ b ∷ []) e = missed e
-  fields_answer g (a ∷ b ∷ c ∷ []) e = missed e
+  fields_answer g [] e = missed is_found e
+  fields_answer g (a ∷ []) e = missed is_found e
+  fields_answer g (a ∷ b ∷ []) e = missed is_found e
+  fields_answer g (a ∷ b ∷ c ∷ []) e = missed is_found e
   fields_answer g (a ∷ b ∷ c ∷ d ∷ rest) e = answered (g (a, b, c + 256 * d, rest)) e
 
   -- ---- the messages
@@ -158,8 +147,8 @@ module _ (more : List ℕ) (fault : NspFault) (is_found : fault ≢ MissingField
       by_addresses (λ dst src rest. ends_at (DataAck dst src) (data_acks_at rest)) bytes (λ dst src rest. data_acks_final (DataAck dst src) rest) e
 
   connect_ack_final : (bytes : List ℕ) → connect_ack_at bytes ≡ fails fault → connect_ack_at (bytes ++ more) ≡ fails fault
-  connect_ack_final [] e = absurd (missed e)
-  connect_ack_final (a ∷ []) e = absurd (missed e)
+  connect_ack_final [] e = absurd (missed is_found e)
+  connect_ack_final (a ∷ []) e = absurd (missed is_found e)
   connect_ack_final (a ∷ b ∷ []) e = absurd (answered (ConnectAck (a + 256 * b)) e)
   connect_ack_final (a ∷ b ∷ byte ∷ rest) e = e
 
@@ -167,8 +156,8 @@ module _ (more : List ℕ) (fault : NspFault) (is_found : fault ≢ MissingField
   initiate_answers : (retransmitted : Bool) (rest : List ℕ)
       → (word_at MissingField rest >>= λ src. connect_fields_at src.1 >>= λ fields. answers
       (ConnectInitiate retransmitted src.0 fields.0 fields.1 fields.2 fields.3)) ≡ fails fault → ⊥
-  initiate_answers retransmitted [] e = missed e
-  initiate_answers retransmitted (a ∷ []) e = missed e
+  initiate_answers retransmitted [] e = missed is_found e
+  initiate_answers retransmitted (a ∷ []) e = missed is_found e
   initiate_answers retransmitted (a ∷ b ∷ rest) e =
       fields_answer (λ fields. ConnectInitiate retransmitted (a + 256 * b) fields.0 fields.1 fields.2 fields.3) rest e
 
@@ -182,8 +171,8 @@ module _ (more : List ℕ) (fault : NspFault) (is_found : fault ≢ MissingField
 
   connect_initiate_final : (retransmitted : Bool) (bytes : List ℕ) → connect_initiate_at retransmitted bytes ≡ fails fault →
       connect_initiate_at retransmitted (bytes ++ more) ≡ fails fault
-  connect_initiate_final retransmitted [] e = absurd (missed e)
-  connect_initiate_final retransmitted (a ∷ []) e = absurd (missed e)
+  connect_initiate_final retransmitted [] e = absurd (missed is_found e)
+  connect_initiate_final retransmitted (a ∷ []) e = absurd (missed is_found e)
   connect_initiate_final retransmitted (a ∷ b ∷ rest) e = address_final retransmitted (eqb (a + 256 * b) 0) rest (rest ++ more) e
 
   connect_confirm_final : (bytes : List ℕ) → connect_confirm_at bytes ≡ fails fault → connect_confirm_at (bytes ++ more) ≡ fails fault
@@ -193,8 +182,8 @@ module _ (more : List ℕ) (fault : NspFault) (is_found : fault ≢ MissingField
 
   reason_answers : (dst src : ℕ) (rest : List ℕ) →
       (word_at MissingField rest >>= λ reason. answers (DisconnectInitiate dst src reason.0 reason.1)) ≡ fails fault → ⊥
-  reason_answers dst src [] e = missed e
-  reason_answers dst src (a ∷ []) e = missed e
+  reason_answers dst src [] e = missed is_found e
+  reason_answers dst src (a ∷ []) e = missed is_found e
   reason_answers dst src (a ∷ b ∷ rest) e = answered (DisconnectInitiate dst src (a + 256 * b) rest) e
 
   disconnect_initiate_final : (bytes : List ℕ) → disconnect_initiate_at bytes ≡ fails fault → disconnect_initiate_at (bytes ++ more) ≡ fails fault
@@ -205,8 +194,8 @@ module _ (more : List ℕ) (fault : NspFault) (is_found : fault ≢ MissingField
   reason_final : (dst src : ℕ) (rest : List ℕ)
       → (word_at MissingField rest >>= λ reason. no_more_at reason.1 >>= λ end. answers (DisconnectConfirm dst src reason.0)) ≡ fails fault
       → (word_at MissingField (rest ++ more) >>= λ reason. no_more_at reason.1 >>= λ end. answers (DisconnectConfirm dst src reason.0)) ≡ fails fault
-  reason_final dst src [] e = absurd (missed e)
-  reason_final dst src (a ∷ []) e = absurd (missed e)
+  reason_final dst src [] e = absurd (missed is_found e)
+  reason_final dst src (a ∷ []) e = absurd (missed is_found e)
   reason_final dst src (a ∷ b ∷ []) e = absurd (answered (DisconnectConfirm dst src (a + 256 * b)) e)
   reason_final dst src (a ∷ b ∷ byte ∷ rest) e = e
 
@@ -241,5 +230,5 @@ module _ (more : List ℕ) (fault : NspFault) (is_found : fault ≢ MissingField
       (row (eqb flag 0x48) _ _ _ _ (disconnect_confirm_final rest) (λ e. e)))))))))))))))
 
 pub nsp_final : (bytes more : List ℕ) (fault : NspFault) → fault ≢ MissingField → nsp_at bytes ≡ fails fault → nsp_at (bytes ++ more) ≡ fails fault
-nsp_final [] more fault is_found e = absurd (missed more fault is_found e)
+nsp_final [] more fault is_found e = absurd (missed is_found e)
 nsp_final (flag ∷ rest) more fault is_found e = message_final more fault is_found flag rest e

@@ -1,34 +1,23 @@
 -- A fault other than a short packet is decided by the first byte: no bytes that follow change it.
-use Rattle.std.proofs.Common.{◌≡◌, ℕ, ◌+◌, ◌*◌, ◌%◌, Bool, true, false, cond, eqb, leb, List, [], ◌∷◌, ◌++◌, Result, Ok, Err}
+use Rattle.std.proofs.Common.{◌≡◌, ℕ, ◌+◌, ◌*◌, ◌%◌, Bool, true, false, cond, eqb, leb, List, [], ◌∷◌, ◌++◌, Result}
 use Rattle.std.specs.Prelude.{◌≢◌}
 use Rattle.dna_packet.specs.declared.fault.PacketFault.{PacketFault}
 use Rattle.dna_packet.specs.declared.fault.PacketFault.TheVariants.{Padded, LongFormat, Short, UnknownFlags}
 use Rattle.dna_packet.specs.Packet.{PacketValue, Data, Control}
 use Rattle.dna_packet.specs.ReadingPacket.{data_at, packet_at}
+use Rattle.dna_packet.proofs.Final.{fails, answers, missed, answered}
 
 abbrev Read : Type 0
 Read = Result PacketValue PacketFault
 
-abbrev fails : PacketFault → Read
-fails fault = Err fault
-
-abbrev answers : PacketValue → Read
-answers p = Ok p
-
 module _ (more : List ℕ) (fault : PacketFault) (is_found : fault ≢ Short) where
-  missed : fails Short ≡ fails fault → ⊥
-  missed e = let same : fault ≡ Short = cc in is_found same
-
-  answered : (p : PacketValue) → answers p ≡ fails fault → ⊥
-  answered p e = absurd cc
-
   -- a short format data packet is short, or nothing is wrong
   data_answers : (rtflg : ℕ) (bytes : List ℕ) → data_at rtflg bytes ≡ fails fault → ⊥
-  data_answers rtflg [] e = missed e
-  data_answers rtflg (a ∷ []) e = missed e
-  data_answers rtflg (a ∷ b ∷ []) e = missed e
-  data_answers rtflg (a ∷ b ∷ c ∷ []) e = missed e
-  data_answers rtflg (a ∷ b ∷ c ∷ d ∷ []) e = missed e
+  data_answers rtflg [] e = missed is_found e
+  data_answers rtflg (a ∷ []) e = missed is_found e
+  data_answers rtflg (a ∷ b ∷ []) e = missed is_found e
+  data_answers rtflg (a ∷ b ∷ c ∷ []) e = missed is_found e
+  data_answers rtflg (a ∷ b ∷ c ∷ d ∷ []) e = missed is_found e
   data_answers rtflg (a ∷ b ∷ c ∷ d ∷ forward ∷ nsp) e = answered (Data rtflg (a + 256 * b) (c + 256 * d) forward nsp) e
 
   abbrev tested : (padded control long short : Bool) → ℕ → List ℕ → Read
@@ -46,6 +35,6 @@ module _ (more : List ℕ) (fault : PacketFault) (is_found : fault ≢ Short) wh
 
 pub packet_final : (bytes more : List ℕ) (fault : PacketFault) → fault ≢ Short → packet_at bytes ≡ fails fault →
     packet_at (bytes ++ more) ≡ fails fault
-packet_final [] more fault is_found e = absurd (missed more fault is_found e)
+packet_final [] more fault is_found e = absurd (missed is_found e)
 packet_final (rtflg ∷ rest) more fault is_found e =
     tests_final more fault is_found (leb 128 rtflg) (eqb (rtflg % 2) 1) (eqb (rtflg % 8) 6) (eqb (rtflg % 8) 2) rtflg rest e

@@ -8,7 +8,7 @@ use Rattle.dna_station.specs.declared.refusal.StepRefusal.{StepRefusal}
 use Rattle.dna_node.specs.declared.finding.Cause.TheVariants.{Step}
 use Rattle.dna_node.specs.declared.finding.Finding.{Finding}
 use Rattle.dna_node.specs.declared.finding.Finding.TheVariants.{Refused}
-use Rattle.dna_rows.proofs.Units.{STRT, STACK, ACK, data_of, from_a, from_b, CI, CC, LINK_SERVICE}
+use Rattle.dna_rows.proofs.Units.{STRT, STACK, ACK, CI, CC, LINK_SERVICE, data_a, data_b}
 
 -- a starts and is in RUNNING; b answers and is in ASTRT
 abbrev pub started : List Record
@@ -26,24 +26,24 @@ acked_b = answered ++ Received 1 false (ACK 0) ∷ []
 
 -- a calls from its link 1
 abbrev pub called_a : List Record
-called_a = started ++ User (Open 1) ∷ Sent (data_of 1 0 (from_a (CI 1))) ∷ []
+called_a = started ++ User (Open 1) ∷ Sent (data_a 1 0 (CI 1)) ∷ []
 
 abbrev pub called_b : List Record
-called_b = answered ++ Received 1 true (data_of 1 0 (from_a (CI 1))) ∷ []
+called_b = answered ++ Received 1 true (data_a 1 0 (CI 1)) ∷ []
 
 -- b accepts at its link 2, and its CC comes
 abbrev pub confirmed_a : List Record
-confirmed_a = called_a ++ Received 1 true (data_of 1 1 (from_b (CC 1 2 512))) ∷ []
+confirmed_a = called_a ++ Received 1 true (data_b 1 1 (CC 1 2 512)) ∷ []
 
 abbrev pub confirmed_b : List Record
-confirmed_b = called_b ++ User (Accept 1 2) ∷ Sent (data_of 1 1 (from_b (CC 1 2 512))) ∷ []
+confirmed_b = called_b ++ User (Accept 1 2) ∷ Sent (data_b 1 1 (CC 1 2 512)) ∷ []
 
 -- a link service message brings the link into RUN on b's side too
 abbrev pub running_a : List Record
-running_a = confirmed_a ++ Sent (data_of 2 1 (from_a (LINK_SERVICE 2 1))) ∷ []
+running_a = confirmed_a ++ Sent (data_a 2 1 (LINK_SERVICE 2 1)) ∷ []
 
 abbrev pub running_b : List Record
-running_b = confirmed_b ++ Received 2 true (data_of 2 1 (from_a (LINK_SERVICE 2 1))) ∷ []
+running_b = confirmed_b ++ Received 2 true (data_a 2 1 (LINK_SERVICE 2 1)) ∷ []
 
 -- this record, counted from 0, is refused
 abbrev pub refused : Side → (place : ℕ) → StepRefusal → Finding

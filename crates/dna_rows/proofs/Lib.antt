@@ -1,4 +1,5 @@
 -- how a verdict is computed, and what the rows are made of
+pub mod Courses
 pub mod Verdicts
 pub mod Units
 pub mod Captures

@@ -1,4 +1,3 @@
-mod Messages
 mod Steps
 pub mod OneLink
 mod User

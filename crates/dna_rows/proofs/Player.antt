@@ -1,4 +1,3 @@
-mod Steps
 mod BadSteps
 mod Bounds
 mod Links

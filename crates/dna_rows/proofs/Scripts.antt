@@ -1,12 +1,23 @@
 -- How the worked rows of the player are stated: a script over nodes 1.1 and 1.2, and what becomes of it, on true numbers and by ends as their nodes
 -- keep them.
-use Rattle.std.proofs.Common.{◌≡◌, ℕ, ◌+◌, ◌%◌, zero, suc, List, [], ◌∷◌, ◌++◌, Result, Ok, Err}
+use Rattle.std.proofs.Common.{◌≡◌, ℕ, ◌+◌, ◌%◌, zero, suc, true, false, List, [], ◌∷◌, ◌++◌, Result, Ok, Err}
 use Rattle.wire_base.specs.declared.side.Side.TheVariants.{A, B}
+use Rattle.ddcmp_msg.specs.Spelling.{spelling}
 use Rattle.capture.specs.declared.record.Record.{Record}
-use Rattle.dna_play.specs.Script.{StepValue, ScriptStep, Script, Start, Send, Deliver, Open, Accept}
-use Rattle.dna_play.specs.Stepped.{Stop}
-use Rattle.dna_play.specs.Played.{Played, Stopped, play}
-use Rattle.dna_play.specs.KeptPlayed.{KeptPlayed, KeptStopped, kept_play}
+use Rattle.capture.specs.declared.record.Record.TheVariants.{Sent, Received, Noise}
+use Rattle.dna_play.specs.Script.{StepValue, ScriptStep, Script, Start, Send, Deliver, Open, Accept, Reject}
+use Rattle.dna_play.specs.Player.{end_step}
+use Rattle.dna_play.specs.Stepped.{Stop, BadStep}
+use Rattle.dna_play.specs.Play.{plays}
+use Rattle.dna_play.specs.Played.{Played, Stopped, plays_step, plays_all, play}
+use Rattle.dna_play.specs.KeptPlay.{kept_plays}
+use Rattle.dna_play.specs.KeptPlayed.{KeptPlayed, KeptStopped, kept_plays_step, kept_plays_all, kept_play}
+use Rattle.dna_rows.proofs.Units.{computing, hex}
+
+-- what the computation of a script opens
+unfoldable pub playing : Unit {0}
+unfolding computing spelling end_step plays plays_step kept_plays kept_plays_step
+playing = tt
 
 abbrev pub a : StepValue → ScriptStep
 a step = record { side = A; step = step }
@@ -14,24 +25,79 @@ a step = record { side = A; step = step }
 abbrev pub b : StepValue → ScriptStep
 b step = record { side = B; step = step }
 
-abbrev script : List ScriptStep → Script
-script steps = record { node_a = 0x401; node_b = 0x402; steps = steps }
+abbrev pub script_between : (node_a node_b : ℕ) → List ScriptStep → Script
+script_between node_a node_b steps = record { node_a = node_a; node_b = node_b; steps = steps }
 
--- What becomes of a script: its captures; or how many of its steps are made, why the next one is not, and the captures of those before it
+abbrev pub script : List ScriptStep → Script
+script steps = script_between 0x0401 0x0402 steps
+
+-- ---- records, with bytes in hexadecimal
+
+abbrev pub s : List ℕ → Record
+s digits = Sent (hex digits)
+
+abbrev pub r : ℕ → List ℕ → Record
+r hint digits = Received hint false (hex digits)
+
+abbrev pub k : ℕ → List ℕ → Record
+k hint digits = Received hint true (hex digits)
+
+abbrev pub n : List ℕ → Record
+n digits = Noise (hex digits)
+
+-- ---- what becomes of a script
+
+-- its captures; or how many of its steps are made, why the next one is not, and the captures of those before it
 pub data Becomes : Type 0 where
   Captures : (of_a of_b : List Record) → Becomes
   StopsAt : (steps : ℕ) → Stop → (of_a of_b : List Record) → Becomes
 
-abbrev becomes : Result Played Stopped → Becomes
+abbrev pub becomes : Result Played Stopped → Becomes
 becomes (Ok end) = Captures end.of_a end.of_b
 becomes (Err stopped) = StopsAt stopped.steps stopped.stop stopped.so_far.of_a stopped.so_far.of_b
 
+-- what these steps add behind those
+abbrev behind : Result Played Stopped → List ScriptStep → Result Played Stopped
+behind (Ok end) steps = plays_all 0 (record end { of_a = []; of_b = [] }) steps
+behind (Err stopped) steps = Err stopped
+
+-- the same by ends as their nodes keep them
 abbrev kept_becomes : Result KeptPlayed KeptStopped → Becomes
 kept_becomes (Ok end) = Captures end.of_a end.of_b
 kept_becomes (Err stopped) = StopsAt stopped.steps stopped.stop stopped.so_far.of_a stopped.so_far.of_b
 
+abbrev kept_behind : Result KeptPlayed KeptStopped → List ScriptStep → Result KeptPlayed KeptStopped
+kept_behind (Ok end) steps = kept_plays_all 0 (record end { of_a = []; of_b = [] }) steps
+kept_behind (Err stopped) steps = Err stopped
+
+-- ---- a row is of both
+
+abbrev pub PlaysBetween : (node_a node_b : ℕ) → List ScriptStep → Becomes → Type 0
+PlaysBetween node_a node_b steps made =
+    (becomes (play (script_between node_a node_b steps)) ≡ made) × (kept_becomes (kept_play (script_between node_a node_b steps)) ≡ made)
+
 abbrev pub Plays : List ScriptStep → Becomes → Type 0
-Plays steps made = (becomes (play (script steps)) ≡ made) × (kept_becomes (kept_play (script steps)) ≡ made)
+Plays steps made = PlaysBetween 0x0401 0x0402 steps made
+
+abbrev pub Adds : (first steps : List ScriptStep) → Becomes → Type 0
+Adds first steps made = (becomes (behind (play (script first)) steps) ≡ made) × (kept_becomes (kept_behind (kept_play (script first)) steps) ≡ made)
+
+abbrev pub ASends : (first : List ScriptStep) → (digits : List ℕ) → Type 0
+ASends first digits = Adds first (a Send ∷ []) (Captures (s digits ∷ []) [])
+
+abbrev pub BSends : (first : List ScriptStep) → (digits : List ℕ) → Type 0
+BSends first digits = Adds first (b Send ∷ []) (Captures [] (s digits ∷ []))
+
+-- it sends this, and nothing behind it
+abbrev pub ASendsOne : (first : List ScriptStep) → (digits : List ℕ) → Type 0
+ASendsOne first digits = Adds first (a Send ∷ a Send ∷ []) (StopsAt 1 BadStep (s digits ∷ []) [])
+
+abbrev pub BSendsOne : (first : List ScriptStep) → (digits : List ℕ) → Type 0
+BSendsOne first digits = Adds first (b Send ∷ b Send ∷ []) (StopsAt 1 BadStep [] (s digits ∷ []))
+
+-- this step can't be made behind those
+abbrev pub IsBad : (first : List ScriptStep) → ScriptStep → Type 0
+IsBad first step = Adds first (step ∷ []) (StopsAt 0 BadStep [] [])
 
 -- ---- what scripts begin with
 
@@ -43,13 +109,20 @@ running = a Start ∷ b Start ∷ a Send ∷ b Deliver ∷ b Send ∷ a Deliver 
 abbrev pub called : List ScriptStep
 called = running ++ a Open ∷ a Send ∷ b Deliver ∷ []
 
--- b has accepted with link 1, and a has its CC
+-- b has accepted with link 1, and its CC is on the line; then a has it
+abbrev pub accepted : List ScriptStep
+accepted = called ++ b (Accept 1) ∷ b Send ∷ []
+
 abbrev pub confirmed : List ScriptStep
-confirmed = called ++ b (Accept 1) ∷ b Send ∷ a Deliver ∷ []
+confirmed = accepted ++ a Deliver ∷ []
 
 -- both ends of the link are in RUN
 abbrev pub linked : List ScriptStep
 linked = confirmed ++ a Send ∷ b Deliver ∷ []
+
+-- b has rejected with link 1, and its DI is on the line
+abbrev pub rejected : List ScriptStep
+rejected = called ++ b (Reject 1) ∷ b Send ∷ []
 
 -- so many bytes, counted up from this one, and behind 250 from 0 again
 abbrev pub counted : (byte count : ℕ) → List ℕ

@@ -1,6 +1,5 @@
 mod Causes
 pub mod Units
-pub mod PairUnits
 mod InAstrt
 mod InHalted
 mod InIstrt

@@ -1,7 +1,23 @@
 -- The bytes in the rows: units, packets and messages as the standards spell them, field by field. The block checks alone are computed, by their
 -- definition. Numbers and addresses are below 256.
-use Rattle.std.proofs.Common.{ℕ, ◌+◌, ◌/◌, ◌%◌, List, [], ◌∷◌, ◌++◌, length}
-use Rattle.wire_base.specs.BlockCheck.{check_of, word_bytes}
+use Rattle.std.proofs.Common.{ℕ, ◌+◌, ◌-◌, ◌*◌, ◌/◌, ◌%◌, List, [], ◌∷◌, ◌++◌, length}
+use Rattle.std.specs.Prelude.{nat_lt, if◌then◌else◌}
+use Rattle.wire_base.specs.BlockCheck.{is_good, check_of, word_bytes, after_byte, shift}
+use Rattle.ddcmp_msg.specs.Reading.{reading}
+
+-- what a row's computation opens: how a unit is read, and the block check
+unfoldable pub computing : Unit {0}
+unfolding reading is_good check_of after_byte shift
+computing = tt
+
+-- bytes in hexadecimal, as a capture has them
+abbrev digit : ℕ → ℕ
+digit code = if nat_lt code 0x61 then code - 0x30 else code - 0x57
+
+abbrev pub hex : List ℕ → List ℕ
+hex [] = []
+hex (high ∷ []) = []
+hex (high ∷ low ∷ rest) = (16 * digit high + digit low) ∷ hex rest
 
 -- ---- units
 
@@ -37,6 +53,10 @@ data_with flags num resp packet = checked (0x81 ∷ (length packet % 256) ∷ (f
 abbrev pub data_of : (num resp : ℕ) → List ℕ → List ℕ
 data_of num resp packet = data_with 0 num resp packet
 
+-- the packet is the byte 5
+abbrev pub DATA : (num resp : ℕ) → List ℕ
+DATA num resp = data_of num resp (5 ∷ [])
+
 -- ---- packets: RTFLG, destination, source, FORWARD. Those of one odd byte in the rows are Routing's own, and nothing to the links
 
 -- what stands behind RTFLG in a packet of node 1.1 for node 1.2, up to the message
@@ -49,6 +69,13 @@ from_a message = 2 ∷ behind_a message
 -- of node 1.2 for node 1.1
 abbrev pub from_b : List ℕ → List ℕ
 from_b message = 2 ∷ 1 ∷ 4 ∷ 2 ∷ 4 ∷ 0 ∷ message
+
+-- a data message with such a packet of a, and of b
+abbrev pub data_a : (num resp : ℕ) → List ℕ → List ℕ
+data_a num resp message = data_of num resp (from_a message)
+
+abbrev pub data_b : (num resp : ℕ) → List ℕ → List ℕ
+data_b num resp message = data_of num resp (from_b message)
 
 -- ---- NSP messages
 
@@ -74,6 +101,13 @@ CI_AGAIN src = between 0x68 0 src ++ connects 1 2 512
 abbrev pub CC : (dst src segsize : ℕ) → List ℕ
 CC dst src segsize = between 0x28 dst src ++ connects 1 2 segsize
 
+-- with SEGSIZE 2: a CI that is sent again, and a CC with one byte of user data
+abbrev pub CI_AGAIN_2 : (src : ℕ) → List ℕ
+CI_AGAIN_2 src = between 0x68 0 src ++ connects 1 2 2
+
+abbrev pub CC_2 : (dst src : ℕ) → List ℕ
+CC_2 dst src = CC dst src 2 ++ 0 ∷ []
+
 abbrev pub CONNECT_ACK : (dst : ℕ) → List ℕ
 CONNECT_ACK dst = 0x24 ∷ dst ∷ 0 ∷ []
 
@@ -84,6 +118,9 @@ DI dst src = between 0x38 dst src ++ 0 ∷ 0 ∷ 0 ∷ []
 abbrev pub DC : (dst src reason : ℕ) → List ℕ
 DC dst src reason = between 0x48 dst src ++ word reason
 
+abbrev pub DC_42 : (dst src : ℕ) → List ℕ
+DC_42 dst src = DC dst src 42
+
 abbrev pub LINK_SERVICE : (dst src : ℕ) → List ℕ
 LINK_SERVICE dst src = between 0x10 dst src
 
@@ -93,7 +130,10 @@ INTERRUPT dst src = between 0x30 dst src
 abbrev pub OTHER_ACK : (dst src : ℕ) → List ℕ
 OTHER_ACK dst src = between 0x14 dst src
 
--- acknowledgement words: ACK, NAK, and the ACK of the other subchannel
+abbrev pub NO_OPERATION : List ℕ
+NO_OPERATION = 0x08 ∷ []
+
+-- acknowledgement words: ACK, NAK, and those of the other subchannel
 abbrev pub ack : (number : ℕ) → List ℕ
 ack number = number ∷ 0x80 ∷ []
 
@@ -102,6 +142,9 @@ nak number = number ∷ 0x90 ∷ []
 
 abbrev pub other_ack : (number : ℕ) → List ℕ
 other_ack number = number ∷ 0xa0 ∷ []
+
+abbrev pub other_nak : (number : ℕ) → List ℕ
+other_nak number = number ∷ 0xb0 ∷ []
 
 -- a data ack with these words; a segment: its flag byte (0x20 begins a message, 0x40 ends one), words, number and data
 abbrev pub DATA_ACK : (dst src : ℕ) → List ℕ → List ℕ

@@ -3,8 +3,8 @@
 //! definitions may be wrong together, and every other proof passes: a row ties a definition to the standard. It has no code, decides nothing,
 //! and nothing stands on it.
 //!
-//! A row is a lemma: its name says the rule, its statement has the bytes, the records and the answer, and its proof computes that. Where
-//! the rule is turned in the definition, the row is refused. The rows stand by subject: `Station`, `Line`, `Links`, `Layers`, `Packets`,
-//! `Alone`, `NotJudged`, `Player`, `Limits`. `Verdicts` has how a verdict is computed, `Scripts` what a script stands for, `Units` and
-//! `Captures` what rows are made of.
+//! A table is a record, and a row is a field of it: its name says the rule, its type has the bytes, the records and the answer, and `computed`
+//! says that the table is right, by computation. Where the rule is turned in the definition, the table is refused, and the row is named. The
+//! rows stand by subject: `Station`, `Line`, `Links`, `Layers`, `Packets`, `Alone`, `NotJudged`, `Player`, `Limits`. `Courses` has how far two
+//! captures come, `Verdicts` how a verdict is read off there, `Scripts` what a script stands for, `Units` and `Captures` what rows are made of.
 #![tactic(auto)]

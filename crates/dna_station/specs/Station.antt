@@ -65,21 +65,10 @@ new_station = record {
 abbrev pub past : Station → PastPeriod
 past s = record { partner = s.partner; given = s.packets; taken = s.taken }
 
--- A start begins a period: no number is received, given or acknowledged and the next to send is 1, all packets and
--- causes are dropped, and there is no partner period
+-- A start begins a period, with all else as before any record: no number is received, given or acknowledged and the next to send is 1, all packets
+-- and causes are dropped, and there is no partner period
 abbrev pub after_event : Station → StationEvent → Station
-after_event s Start = record {
-  state = state_after Start;
-  period = s.period + 1;
-  partner = None;
-  received = 0;
-  acknowledged = 0;
-  next_to_send = 1;
-  packets = [];
-  causes = no_causes;
-  taken = [];
-  earlier = s.earlier ++ past s ∷ [];
-}
+after_event s Start = record new_station { state = state_after Start; period = s.period + 1; earlier = s.earlier ++ past s ∷ [] }
 after_event s Halt = record s { state = state_after Halt }
 
 -- ---- what was given over all periods

@@ -8,8 +8,7 @@ use Rattle.dna_packet.specs.Nsp.{ConnectConfirm, DisconnectInitiate, DisconnectC
 use Rattle.dna_station.specs.declared.link_refusal.LinkRefusal.{LinkRefusal}
 use Rattle.dna_station.specs.declared.link_refusal.LinkRefusal.TheVariants.{WrongNode, CrossedLink}
 use Rattle.dna_links.specs.declared.tag.LinkTag.{LinkTag}
-use Rattle.dna_links.specs.declared.port.Phase.{Phase}
-use Rattle.dna_links.specs.declared.port.Phase.TheVariants.{Calling, Called, Confirming, Running, Disconnecting, Ended}
+use Rattle.dna_links.specs.declared.port.Phase.TheVariants.{Running}
 use Rattle.dna_links.specs.declared.port.LinkTest.TheVariants.{TheLink, LiveTo, CallingAt, ActedOn}
 use Rattle.dna_links.specs.LookUps.{is_live, is_calling, is_connected, is_at, has_both, passes}
 use Rattle.dna_links.specs.Links.{LinkOf, LinksOf, Carried, LinkTruth, check, with_link, begun, changed, in_phase, with_flow, ended}
@@ -23,24 +22,8 @@ use Rattle.dna_links.specs.CutFlow.{cut}
 use Rattle.dna_links.specs.CutLinks.{cut_link, cut_links, cut_result, AreOrdered, ArrivesNear}
 use Rattle.dna_links.proofs.Cut.FlowArriving.{takes_acks_same, takes_segment_same}
 use Rattle.dna_links.proofs.Cut.LookUps.{with_link_same, changed_same, begun_same}
-use Rattle.dna_links.proofs.Cut.User.{live_flow}
+use Rattle.dna_links.proofs.Cut.User.{live_if, live_flow}
 use Rattle.dna_links.proofs.Cut.Sending.{ended_same}
-
-calling_is_live : (phase : Phase) → is_calling phase ≡ true → is_live phase ≡ true
-calling_is_live Called e = refl
-calling_is_live Calling e = refl
-calling_is_live Confirming e = refl
-calling_is_live Running e = refl
-calling_is_live Disconnecting e = refl
-calling_is_live Ended e = e
-
-connected_is_live : (phase : Phase) → is_connected phase ≡ true → is_live phase ≡ true
-connected_is_live Called e = refl
-connected_is_live Calling e = refl
-connected_is_live Confirming e = refl
-connected_is_live Running e = refl
-connected_is_live Disconnecting e = refl
-connected_is_live Ended e = e
 
 arrived_check : (b : Bool) (reason : LinkRefusal) (r : Result Links LinkRefusal) (r' : Result (LinksOf WireFlow) LinkRefusal)
     → (b ≡ true → cut_result r ≡ r') → cut_result (check b reason r) ≡ check b reason r'
@@ -61,7 +44,7 @@ module _ (rule : PartnerRule) (s : Links) (ordered : AreOrdered s) where
       (λ none. with_link_same cut_links (CallingAt own) s s (cut_links s) (λ n l. changed n (ended true_flows l) s)
       (λ n l. changed n (ended wire_flows l) (cut_links s))
       (λ nobody. refl) (λ n l there here. one_ended n l there
-      (calling_is_live l.port.phase (and_parts (is_calling l.port.phase) (is_at l.port.own own) here).0)))
+      (live_if is_calling refl l.port.phase (and_parts (is_calling l.port.phase) (is_at l.port.own own) here).0)))
       (λ n l there here. one_ended n l there (and_parts (is_live l.port.phase) (has_both l.port own far) here).0)
     where
       one_ended : (n : ℕ) (l : LinkOf TrueFlow) → slice_get s.links n ≡ Some l → is_live l.port.phase ≡ true
@@ -78,7 +61,7 @@ module _ (rule : PartnerRule) (s : Links) (ordered : AreOrdered s) where
       (λ n l. check (rule (is_of_pair n l.partner tag)) CrossedLink (Ok (changed n (running true_flows rule takes l) s)))
       (λ n l. check (rule (is_of_pair n l.partner tag)) CrossedLink (Ok (changed n (running wire_flows rule takes' l) (cut_links s))))
       (λ none. refl) (λ n l there here.
-      let live = connected_is_live l.port.phase (and_parts (is_connected l.port.phase) (has_both l.port own far) here).0 in
+      let live = live_if is_connected refl l.port.phase (and_parts (is_connected l.port.phase) (has_both l.port own far) here).0 in
       arrived_check (rule (is_of_pair n l.partner tag)) CrossedLink (Ok (changed n (running true_flows rule takes l) s))
       (Ok (changed n (running wire_flows rule takes' (cut_link l)) (cut_links s)))
       (λ e. ap Ok (one_changed n (running true_flows rule takes l) (running wire_flows rule takes' (cut_link l))
@@ -118,7 +101,7 @@ module _ (rule : PartnerRule) (s : Links) (ordered : AreOrdered s) where
         (λ n l. check (rule (is_for n truth.tag)) CrossedLink (Ok (changed n (confirmed true_flows rule src segsize truth.tag l) s)))
         (λ n l. check (rule (is_for n truth.tag)) CrossedLink (Ok (changed n (confirmed wire_flows rule src segsize truth.tag l) (cut_links s))))
         (λ none. refl) (λ n l there here.
-        let live = calling_is_live l.port.phase (and_parts (is_calling l.port.phase) (is_at l.port.own dst) here).0 in
+        let live = live_if is_calling refl l.port.phase (and_parts (is_calling l.port.phase) (is_at l.port.own dst) here).0 in
         arrived_check (rule (is_for n truth.tag)) CrossedLink (Ok (changed n (confirmed true_flows rule src segsize truth.tag l) s))
         (Ok (changed n (confirmed wire_flows rule src segsize truth.tag (cut_link l)) (cut_links s)))
         (λ e. ap Ok (one_changed n (confirmed true_flows rule src segsize truth.tag l) (confirmed wire_flows rule src segsize truth.tag (cut_link l))

@@ -28,7 +28,7 @@ use Rattle.dna_links.specs.CutLinks.{cut_as, cut_link, cut_links, cut_sent, IsLi
 use Rattle.dna_links.proofs.Cut.FlowSending.{sends_acks_same, sends_segment_same}
 use Rattle.dna_links.proofs.Cut.Pieces.{drop_none}
 use Rattle.dna_links.proofs.Cut.LookUps.{with_link_same, changed_same}
-use Rattle.dna_links.proofs.Cut.User.{called_is_live, live_flow, flow_changed}
+use Rattle.dna_links.proofs.Cut.User.{live_if, live_flow, flow_changed}
 
 abbrev cut_one : Sent TrueFlow Numbers → Sent WireFlow (Unit {0})
 cut_one sent = record { links = cut_links sent.links; truth = record { tag = sent.truth.tag; known = tt } }
@@ -81,7 +81,7 @@ module _ (s : Links) (ordered : AreOrdered s) where
           with_link_same cut_one (CalledBy dst) s (of_no_link true_flows s) (of_no_link wire_flows (cut_links s)) (λ n l. ending true_flows s n l)
           (λ n l. ending wire_flows (cut_links s) n l)
           (λ none. refl) (λ n l there here. ending_same n l there
-          (called_is_live l.port.phase (and_parts (is_called l.port.phase) (is_at l.port.far dst) here).0))
+          (live_if is_called refl l.port.phase (and_parts (is_called l.port.phase) (is_at l.port.far dst) here).0))
       by_address false = refl
 
   carries_same : (n : ℕ) (l : LinkOf TrueFlow) → is_live l.port.phase ≡ true → (r : Result (Sending TrueFlow Numbers) LinkRefusal)

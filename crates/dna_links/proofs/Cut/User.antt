@@ -5,7 +5,7 @@ use Rattle.std.proofs.lemmas.Bool.{and_parts}
 use Rattle.dna_station.specs.declared.link_refusal.LinkRefusal.{LinkRefusal}
 use Rattle.dna_station.specs.declared.link_refusal.LinkRefusal.TheVariants.{NoLink, LinkState, AddressInUse}
 use Rattle.dna_links.specs.declared.port.Phase.{Phase}
-use Rattle.dna_links.specs.declared.port.Phase.TheVariants.{Calling, Called, Confirming, Running, Disconnecting, Ended}
+use Rattle.dna_links.specs.declared.port.Phase.TheVariants.{Confirming, Disconnecting, Ended}
 use Rattle.dna_links.specs.declared.port.LinkTest.TheVariants.{HasAddress, LiveAt, CalledBy}
 use Rattle.dna_links.specs.LookUps.{is_live, is_called, is_connected, is_at, takes_messages, passes}
 use Rattle.dna_links.specs.Links.{LinkOf, LinksOf, check, begun, changed, in_phase, with_flow, forgotten, freed}
@@ -23,13 +23,10 @@ use Rattle.dna_links.proofs.Cut.LookUps.{NoneFor, with_link_same, changed_same, 
 
 -- ---- one link
 
-pub called_is_live : (phase : Phase) → is_called phase ≡ true → is_live phase ≡ true
-called_is_live Called e = refl
-called_is_live Calling e = refl
-called_is_live Confirming e = refl
-called_is_live Running e = refl
-called_is_live Disconnecting e = refl
-called_is_live Ended e = e
+-- a test that an ended link does not pass is passed by a live one
+pub live_if : (test : Phase → Bool) → test Ended ≡ false → (phase : Phase) → test phase ≡ true → is_live phase ≡ true
+live_if test none Ended e = sym none ∙ e
+live_if test none phase e = refl
 
 module _ (l : LinkOf TrueFlow) where
   module _ (live : is_live l.port.phase ≡ true) where
@@ -121,7 +118,7 @@ module _ (s : Links) where
           (changed n (answered wire_flows phase own (cut_link l)) (freed wire_flows own (cut_links s)))
           (λ none. changed_same n (answered true_flows phase own l) (freed true_flows own s)
           ∙ ap₂ (λ (w : LinkOf WireFlow) (all : LinksOf WireFlow). changed n w all)
-          (answered_same l (called_is_live l.port.phase called) phase own to) (freed_same own none))
+          (answered_same l (live_if is_called refl l.port.phase called) phase own to) (freed_same own none))
 
   pub user_same : (event : LinkEventValue) → cut_result (links_user s event) ≡ wire_links_user (cut_links s) event
   user_same (Open own) =

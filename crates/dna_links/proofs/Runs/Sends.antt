@@ -13,7 +13,7 @@ use Rattle.dna_station.specs.declared.link_refusal.LinkRefusal.TheVariants.{Wron
 use Rattle.dna_links.specs.Pieces.{Piece, piece_of, alike, same_piece, in_order, is_next_piece, without_piece}
 use Rattle.dna_links.specs.Flow.{Sending, REACH, wire, distance}
 use Rattle.dna_links.specs.Delivery.{IsCut}
-use Rattle.dna_links.specs.TrueFlow.{TrueFlow, Numbers, highest_given, highest_received, Named, all_named, sending, acks_named, sends_acks, sends_new}
+use Rattle.dna_links.specs.TrueFlow.{TrueFlow, Numbers, highest_given, highest_received, Named, all_named, sending, acks_named, sends_acks, sends_other, sends_new}
 use Rattle.dna_links.specs.TrueFlow.{is_given, is_repeat, sends_again, is_new, segment_named, sends_segment}
 use Rattle.two_nodes.proofs.Numbered.{IsGiven, AcksFrom}
 use Rattle.dna_links.proofs.Tables.Outcomes.{checked}
@@ -78,32 +78,6 @@ same_Ok : {R : Type 0} (x y : R) → ◌≡◌ {A = Result R LinkRefusal} (Ok x)
 same_Ok x y e = cc
 
 -- ---- words alone, and no numbers
-
-pub other_sent : (f : TrueFlow) (known : Numbers) →
-    known ≡ record {
-      segment = 0;
-      acknowledgements = [];
-      given = highest_given f;
-      received = highest_received f;
-      acknowledged = f.acknowledged;
-      last =
-          f.last;
-      last_before = f.last;
-    } → IsSoundFlow f → SendsFrom f f known
-other_sent f known is o = subst (λ (k : Numbers). SendsFrom f f k) (sym is) (record {
-  tells = record { given = refl; received = refl; acknowledged = refl; last = refl; last_before = refl };
-  sound = o;
-  received = refl;
-  acknowledged = refl;
-  handed = refl;
-  delivered = refl;
-  more = [];
-  given = sym (append-nil f.given);
-  more_last = omega arith;
-  number = tt;
-  acks = tt;
-  at_most = tt;
-})
 
 module _ (f : TrueFlow) (o : IsSoundFlow f) where
   -- the same flow with another last acknowledgement
@@ -258,3 +232,7 @@ module _ (f : TrueFlow) (o : IsSoundFlow f) where
           SendsSegment s x
       go None all e = absurd cc
       go (Some names) all e = kind names (names_are (not (is_new s f)) (highest_received f) s.acks f.last names o.last all) (is_new s f) refl e
+
+-- no words at all
+pub other_sent : (f : TrueFlow) → IsSoundFlow f → SendsFrom f f (sends_other f)
+other_sent f o = (acks_sent f o [] (sending 0 (record { numbers = []; last = f.last }) f f) refl).sends

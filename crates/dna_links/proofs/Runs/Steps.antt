@@ -48,6 +48,16 @@ same_numbers : (name : ℕ) (partner : Option ℕ) (g h r s a b l m : ℕ) → g
     (record { name = name; partner = partner; given = h; received = s; acknowledged = b; last = m })
 same_numbers name partner g h r s a b l m e f p q = cc
 
+-- and says nothing of any number
+says_nothing : IsSending view limits nobody 0 0 (view None)
+says_nothing = record {
+  sender = refl;
+  last_before = refl;
+  lawful = record { few = omega arith; number = tt; acks = tt };
+  more_given = omega arith;
+  more_last = omega arith;
+}
+
 module _ (own other : LinkSide) (h : IsSoundSide own other) (theirs : IsSoundSide other own) where
   -- by no link
   module _ (x : Option SentMessage) (sending : IsSending view limits nobody 0 0 (view x)) (named : (view x).sender.name ≡ 0)
@@ -69,15 +79,7 @@ module _ (own other : LinkSide) (h : IsSoundSide own other) (theirs : IsSoundSid
         go k u (inr e) = told u e.1
 
   pub none_sent : StaySound (sends own own.links None) other
-  none_sent = nobody_sent None
-      (record {
-        sender = refl;
-        last_before = refl;
-        lawful = record { few = omega arith; number = tt; acks = tt };
-        more_given =
-            omega arith;
-        more_last = omega arith;
-      }) refl (λ u e. absurd cc)
+  none_sent = nobody_sent None says_nothing refl (λ u e. absurd cc)
 
   -- a message without numbers says nothing of them
   nothing_told : (packet : Carried) (truth : LinkTruth Numbers) (links : List (LinkOf TrueFlow)) → has_numbers packet.message ≡ false →
@@ -200,14 +202,7 @@ module _ (own other : LinkSide) (h : IsSoundSide own other) (theirs : IsSoundSid
       StaySound (sends own made.links (Some (record { packet = packet; truth = made.truth }))) other
   message_sent packet made (OfNone none) =
       nobody_sent (Some (record { packet = packet; truth = no_truth }))
-      (record {
-        sender = refl;
-        last_before = refl;
-        lawful = record { few = omega arith; number = tt; acks = tt };
-        more_given =
-            omega arith;
-        more_last = omega arith;
-      }) refl
+      says_nothing refl
       (λ u e. subst (IsTold own.links.links) (same_Some _ u e)
       (record {
         sender = λ n e. absurd cc;
@@ -218,12 +213,12 @@ module _ (own other : LinkSide) (h : IsSoundSide own other) (theirs : IsSoundSid
       }))
   message_sent packet made (Stays number link none there) =
       link_sent packet (flow.sends_other link.flow) number link link own.links there
-      (other_sent link.flow (flow.sends_other link.flow) refl (h.ends number link there).flow) refl (λ c. c) (grows_same own.links.links) there
+      (other_sent link.flow (h.ends number link there).flow) refl (λ c. c) (grows_same own.links.links) there
       (only_same number link there)
       (λ x e. let t = ap has_numbers e in absurd cc) (no_words packet (truth_of true_flows number link (flow.sends_other link.flow)) none)
   message_sent packet made (EndsCalled far number link none found) =
       changed_sent packet (flow.sends_other link.flow) number link (ended true_flows link) found.there
-      (other_sent link.flow (flow.sends_other link.flow) refl (h.ends number link found.there).flow) refl (λ c. absurd cc)
+      (other_sent link.flow (h.ends number link found.there).flow) refl (λ c. absurd cc)
       (λ x e. let t = ap has_numbers e in absurd cc) (no_words packet (truth_of true_flows number link (flow.sends_other link.flow)) none)
   message_sent packet made (Segment segment number link sent is found run does) =
       let t = segment_sent link.flow (h.ends number link found.there).flow link.segsize segment sent does in

@@ -1,5 +1,5 @@
 -- Segment numbers and their wire values, where they are near each other.
-use Rattle.std.proofs.Common.{◌≡◌, ℕ, ◌+◌, ◌-◌, ◌<◌, ◌≤◌, ◌&&◌, ◌||◌, ltb, leb, arith, lt-ltb, le-ltb, le-leb, ◌⊎◌, inl, inr}
+use Rattle.std.proofs.Common.{◌≡◌, ℕ, ◌+◌, ◌-◌, ◌<◌, ◌≤◌, Bool, true, false, ◌&&◌, ◌||◌, ltb, leb, arith, lt-ltb, le-leb, leb-true, ltb-true, ◌⊎◌, inl, inr, refl}
 use Rattle.std.proofs.lemmas.Bool.{cases_lt, lt-leb}
 use Rattle.dna_links.specs.Flow.{REACH, wire, distance}
 
@@ -46,18 +46,17 @@ reached_same n d = go (cases_lt n REACH)
     go (inr m) = let p = le-leb REACH n m in let q = le-leb REACH (n + d) (omega arith) in cc
 
 -- so far down it does not go below 0: a node has to ask only while 2,047 has not been reached
+module _ (near : Bool) (n : ℕ) (below : ℕ → Bool) (reaches : near ≡ true → REACH ≤ n → below n ≡ true) where
+  low_same : (near && below n) ≡ (near && (leb REACH n || below (wire n)))
+  low_same = go near (cases_lt n REACH) refl
+    where
+      go : (is_near : Bool) → (n < REACH) ⊎ (REACH ≤ n) → near ≡ is_near → (near && below n) ≡ (near && (leb REACH n || below (wire n)))
+      go is_near (inl l) e = let p = lt-leb REACH n l in let same = wire-low n l in cc
+      go true (inr m) e = let p = le-leb REACH n m in let q = reaches e m in cc
+      go false (inr m) e = cc
+
 pub low_le_same : (d n : ℕ) → (leb d REACH && leb d n) ≡ (leb d REACH && (leb REACH n || leb d (wire n)))
-low_le_same d n = go (cases_lt n REACH) (cases_lt REACH d)
-  where
-    go : (n < REACH) ⊎ (REACH ≤ n) → (REACH < d) ⊎ (d ≤ REACH) → (leb d REACH && leb d n) ≡ (leb d REACH && (leb REACH n || leb d (wire n)))
-    go (inl l) far = let p = lt-leb REACH n l in let e = wire-low n l in cc
-    go (inr m) (inl far) = let p = lt-leb d REACH far in cc
-    go (inr m) (inr near) = let p = le-leb REACH n m in let q = le-leb d n (omega arith) in cc
+low_le_same d n = low_same (leb d REACH) n (leb d) (λ near m. let l = leb-true d REACH near in le-leb d n (omega arith))
 
 pub low_lt_same : (d n : ℕ) → (ltb d REACH && ltb d n) ≡ (ltb d REACH && (leb REACH n || ltb d (wire n)))
-low_lt_same d n = go (cases_lt n REACH) (cases_lt d REACH)
-  where
-    go : (n < REACH) ⊎ (REACH ≤ n) → (d < REACH) ⊎ (REACH ≤ d) → (ltb d REACH && ltb d n) ≡ (ltb d REACH && (leb REACH n || ltb d (wire n)))
-    go (inl l) far = let p = lt-leb REACH n l in let e = wire-low n l in cc
-    go (inr m) (inr far) = let p = le-ltb d REACH far in cc
-    go (inr m) (inl near) = let p = le-leb REACH n m in let q = lt-ltb d n (omega arith) in cc
+low_lt_same d n = low_same (ltb d REACH) n (ltb d) (λ near m. let l = ltb-true d REACH near in lt-ltb d n (omega arith))

@@ -6,8 +6,7 @@ use Rattle.std.proofs.Common.{[], ◌∷◌, map, length, drop, Result, Ok, refl
 use Rattle.std.specs.Prelude.{slice_get}
 use Rattle.std.proofs.lemmas.Bool.{cases_lt, and_parts}
 use Rattle.dna_packet.specs.declared.ack_word.AckWord.{AckWord}
-use Rattle.dna_packet.specs.Nsp.{NspValue, DataSegment, LinkService, DataAck, OtherDataAck, ConnectAck, NoOperation, ConnectInitiate, ConnectConfirm}
-use Rattle.dna_packet.specs.Nsp.{DisconnectInitiate, DisconnectConfirm}
+use Rattle.dna_packet.specs.Nsp.{NspValue, DataSegment, DataAck}
 use Rattle.dna_station.specs.declared.link_refusal.LinkRefusal.{LinkRefusal}
 use Rattle.dna_station.specs.declared.link_refusal.LinkRefusal.TheVariants.{WrongNode, WrongAck, CrossedLink}
 use Rattle.dna_station.specs.declared.refusal.StepRefusal.{StepRefusal}
@@ -15,9 +14,7 @@ use Rattle.dna_station.specs.declared.refusal.StepRefusal.TheVariants.{Links as 
 use Rattle.dna_links.specs.declared.port.LinkTest.{LinkTest}
 use Rattle.dna_links.specs.declared.port.LinkTest.TheVariants.{ActedOn}
 use Rattle.dna_links.specs.Pieces.{Piece}
-use Rattle.dna_links.specs.declared.port.Phase.{Phase}
-use Rattle.dna_links.specs.declared.port.Phase.TheVariants.{Calling, Called, Confirming, Running, Disconnecting, Ended}
-use Rattle.dna_links.specs.LookUps.{passes, is_live, is_connected, has_both}
+use Rattle.dna_links.specs.LookUps.{passes, is_connected, has_both}
 use Rattle.dna_links.specs.Flow.{REACH, wire, distance, is_of_data}
 use Rattle.dna_links.specs.Links.{LinkOf, Carried, LinkTruth, check, number_of, on_link, at_number, with_link, changed}
 use Rattle.dna_links.specs.Arriving.{of_partner, is_of_pair, running, acted_on, message_arrived}
@@ -30,7 +27,7 @@ use Rattle.dna_links.specs.CutLinks.{cut_link, cut_links, AreOrdered, ArrivesNea
 use Rattle.dna_links.proofs.Tables.Numbers.{distance_ahead, wire-low}
 use Rattle.dna_links.proofs.Cut.FlowArriving.{takes_acks_same, all_ordered}
 use Rattle.dna_links.proofs.Cut.LookUps.{with_link_same}
-use Rattle.dna_links.proofs.Cut.User.{live_flow}
+use Rattle.dna_links.proofs.Cut.User.{live_if, live_flow}
 use Rattle.dna_node.specs.Accusing.{may_acknowledge, may_acknowledge_all, wrong_words, wrong_acks, wrong_message}
 
 -- ---- one number
@@ -160,14 +157,6 @@ words_right many (word ∷ words) f numbers ordered spells near same =
 
 -- ---- the link that acts on them
 
-connected_is_live : (phase : Phase) → is_connected phase ≡ true → is_live phase ≡ true
-connected_is_live Called e = refl
-connected_is_live Calling e = refl
-connected_is_live Confirming e = refl
-connected_is_live Running e = refl
-connected_is_live Disconnecting e = refl
-connected_is_live Ended e = e
-
 -- three ways to go on, which belong together at each link
 module _ {A B C : Type 0} (P : A → B → C → Type 0) (test : LinkTest) (s : WireLinks) (a : A) (b : B) (c : C) (f : ℕ → LinkOf WireFlow → A)
     (g : ℕ → LinkOf WireFlow → B) (h : ℕ → LinkOf WireFlow → C) (none : P a b c)
@@ -228,7 +217,7 @@ module _ (s : Links) (ordered : AreOrdered s) (truth : LinkTruth Numbers) where
       all_right : (n : ℕ) (l : LinkOf TrueFlow) → slice_get s.links n ≡ Some l → passes (ActedOn own far) l.port ≡ true →
           None ≡ asked acks n (cut_link l)
       all_right n l there here =
-          let live = connected_is_live l.port.phase (and_parts (is_connected l.port.phase) (has_both l.port own far) here).0 in
+          let live = live_if is_connected refl l.port.phase (and_parts (is_connected l.port.phase) (has_both l.port own far) here).0 in
           none_asked (is_of_pair n l.partner truth.tag) (wrong_words acks (cut_link l).flow)
           (λ e. ap (wrong_words acks) (live_flow l live)
           ∙ ap none_if (words_right (cut l.flow).gave_many acks l.flow truth.known.acknowledgements (ordered n l there).flow
@@ -241,14 +230,7 @@ module _ (s : Links) (ordered : AreOrdered s) (truth : LinkTruth Numbers) where
       (λ n l there here e. let m = near n l there here e in (m.0, m.2))
   message_right (DataAck dst src acks) near =
       acks_right dst src acks (λ l. wire_flows.takes_acks acks tt l.flow) (λ n l there here e. let m = near n l there here e in (m.0, m.1))
-  message_right (LinkService interrupt dst src rest) near = λ links e. refl
-  message_right (OtherDataAck dst src rest) near = λ links e. refl
-  message_right (ConnectAck dst) near = λ links e. refl
-  message_right (NoOperation rest) near = λ links e. refl
-  message_right (ConnectInitiate retransmitted src services info segsize user_data) near = λ links e. refl
-  message_right (ConnectConfirm dst src services info segsize user_data) near = λ links e. refl
-  message_right (DisconnectInitiate dst src reason user_data) near = λ links e. refl
-  message_right (DisconnectConfirm dst src reason) near = λ links e. refl
+  message_right m near = λ links e. refl
 
   goes_right : (b : Bool) (r : Result WireLinks LinkRefusal) (y : Option StepRefusal) → Follows r y → Follows (check b WrongNode r) y
   goes_right true r y right = right

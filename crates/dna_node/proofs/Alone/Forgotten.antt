@@ -2,8 +2,7 @@
 use Rattle.std.proofs.Common.{◌≡◌, ℕ, Bool, cond, leb, Option, Some, None, Result, Ok, Err, List, refl, ap}
 use Rattle.ddcmp_msg.specs.Message.{MessageValue, Data, Ack, Nak, Rep, Strt, Stack}
 use Rattle.dna_packet.specs.declared.ack_word.AckWord.{AckWord}
-use Rattle.dna_packet.specs.Nsp.{NspValue, DataSegment, LinkService, DataAck, OtherDataAck, ConnectAck, NoOperation, ConnectInitiate, ConnectConfirm}
-use Rattle.dna_packet.specs.Nsp.{DisconnectInitiate, DisconnectConfirm}
+use Rattle.dna_packet.specs.Nsp.{NspValue, DataSegment, DataAck}
 use Rattle.dna_station.specs.declared.state.State.{State}
 use Rattle.dna_station.specs.declared.state.State.TheVariants.{Halted, Istrt, Astrt, Running}
 use Rattle.dna_station.specs.declared.refusal.StationRefusal.TheVariants.{WrongResponse}
@@ -67,14 +66,7 @@ wrong_acks_along own far acks s =
 wrong_message_along : (s : WireLinks) (m : NspValue) → wrong_message (forget_links s) m ≡ wrong_message s m
 wrong_message_along s (DataSegment segment) = wrong_acks_along segment.dstaddr segment.srcaddr segment.acks s
 wrong_message_along s (DataAck dst src acks) = wrong_acks_along dst src acks s
-wrong_message_along s (LinkService interrupt dst src rest) = refl
-wrong_message_along s (OtherDataAck dst src rest) = refl
-wrong_message_along s (ConnectAck dst) = refl
-wrong_message_along s (NoOperation rest) = refl
-wrong_message_along s (ConnectInitiate retransmitted src services info segsize user_data) = refl
-wrong_message_along s (ConnectConfirm dst src services info segsize user_data) = refl
-wrong_message_along s (DisconnectInitiate dst src reason user_data) = refl
-wrong_message_along s (DisconnectConfirm dst src reason) = refl
+wrong_message_along s m = refl
 
 wrong_carried_along : (s : WireLinks) (r : Result (Option Carried) StepRefusal) → wrong_carried (forget_links s) r ≡ wrong_carried s r
 wrong_carried_along s (Ok (Some packet)) = wrong_message_along s packet.message

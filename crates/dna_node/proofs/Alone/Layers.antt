@@ -3,7 +3,6 @@
 use Rattle.std.proofs.Common.{◌≡◌, Bool, true, false, cond, Option, Some, None, Result, Ok, Err, refl, sym, ap, ◌∙◌, subst}
 use Rattle.ddcmp_msg.specs.Message.{MessageValue}
 use Rattle.capture.specs.declared.event.Event.{Event}
-use Rattle.capture.specs.declared.event.Event.TheVariants as events
 use Rattle.dna_station.specs.declared.state.StationEvent.{StationEvent}
 use Rattle.dna_station.specs.declared.state.StationEvent.TheVariants.{Start, Halt}
 use Rattle.dna_station.specs.declared.tag.Tag.{Tag}
@@ -20,11 +19,12 @@ use Rattle.dna_station.specs.WireBook.{wire_book, wire_tag, wire_after_sending, 
 use Rattle.dna_station.specs.Rules.{of_period}
 use Rattle.dna_station.specs.Machine.{unless_refused}
 use Rattle.dna_links.specs.Links.{Carried}
-use Rattle.dna_links.specs.User.{LinkEventValue, Open, Accept, Reject, In, Up, Close}
+use Rattle.dna_links.specs.User.{LinkEventValue}
 use Rattle.dna_links.specs.Sending.{Sent}
 use Rattle.dna_links.specs.Arriving.{of_partner, of_anyone}
 use Rattle.dna_links.specs.WireFlow.{WireFlow, wire_flows}
 use Rattle.dna_links.specs.WireLinks.{WireLinks, wire_links_user, wire_links_sent, wire_links_arrived}
+use Rattle.dna_node.proofs.Events.{by_event}
 use Rattle.dna_node.specs.Rules.{judged, by_bytes}
 use Rattle.dna_node.specs.Content.{content}
 use Rattle.dna_node.specs.WireLayers.{WireLayers, LayersTag, of_no_link, with_wire_station, with_wire_links, first_tagged, with_tag}
@@ -64,14 +64,10 @@ module _ (s : WireLayers) where
 
   pub user_along : (event : Event) → (wire_layers_machine by_bytes).user (forget_layers s) event
       ≡ forget_result forget_layers ((wire_layers_machine judged).user s event)
-  user_along events.Start = by_station Start (user_refusal s.station.variables.state Start)
-  user_along events.Halt = by_station Halt (user_refusal s.station.variables.state Halt)
-  user_along (events.Open link) = link_along (Open link)
-  user_along (events.Accept partner link) = link_along (Accept partner link)
-  user_along (events.Reject partner link) = link_along (Reject partner link)
-  user_along (events.In link bytes) = link_along (In link bytes)
-  user_along (events.Up link bytes) = link_along (Up link bytes)
-  user_along (events.Close link) = link_along (Close link)
+  user_along = by_event (λ event. (wire_layers_machine by_bytes).user (forget_layers s) event
+      ≡ forget_result forget_layers ((wire_layers_machine judged).user s event))
+      (by_station Start (user_refusal s.station.variables.state Start)) (by_station Halt (user_refusal s.station.variables.state Halt))
+      (λ event link e. rw e (link_along link))
 
 -- ---- a message is sent: what is left of the node, whatever is known of the unit
 

@@ -3,12 +3,13 @@ use Rattle.std.proofs.Common.{◌≡◌, ℕ, zero, suc, ◌+◌, ◌≤◌, tru
 use Rattle.std.proofs.Common.{subst, option_map}
 use Rattle.std.specs.Prelude.{slice_get}
 use Rattle.std.proofs.lemmas.Option.{same_Some, slice_get-map}
-use Rattle.two_nodes.specs.Nodes.{Half, World, Outcome, Run, advance, exchanged_world}
+use Rattle.two_nodes.specs.Nodes.{Half, World, Outcome, Run, advance}
 use Rattle.two_nodes.specs.Nodes.Outcome.{Made, Refused}
 use Rattle.two_nodes.specs.Nodes.Run.{Done, OfA, OfB}
 use Rattle.two_nodes.specs.Cutting.{Cut, cut_half, cut_outcome}
 use Rattle.two_nodes.specs.Kept.{IsKept}
 use Rattle.two_nodes.specs.Past.{Offends}
+use Rattle.two_nodes.proofs.Closed.{exchange_run}
 use Rattle.two_nodes.proofs.Lasting.{lasts}
 use Rattle.capture.specs.declared.record.Record.{Record}
 use Rattle.dna_station.specs.declared.head.Head.{Head}
@@ -38,7 +39,7 @@ module _ {S K : Type 0} (one : EndOf S K) where
       (λ next. ends_from one next (place + 1) (records ++ more))
       (λ next. refused_further records more next (place + 1) at accused reason) e
 
-  pub final : (n : NodeOf S) (records more : List Record) (at : ℕ) (accused : Accused) (reason : StepRefusal) →
+  final : (n : NodeOf S) (records more : List Record) (at : ℕ) (accused : Accused) (reason : StepRefusal) →
       ends_from one n 0 records ≡ RefusedAt at accused reason → ¬ ((end : NodeOf S) × (ends_from one n 0 (records ++ more) ≡ Passed end))
   final n records more at accused reason e passes =
       let further = refused_further records more n 0 at accused reason e in
@@ -153,14 +154,22 @@ module _ {S K : Type 0} {judge : Machine S K} {one : EndOf S K} {forget : S → 
   pub passes_a : (head_a head_b : Head) (of_a of_b : List Record) → IsRunOf kind head_a head_b of_a of_b → PassesFrom head_a of_a
   passes_a head_a head_b of_a of_b run = (alone_at run.0, run_alone [] [] (sees.begins head_a head_b) run.1 0)
 
-  exchanged_run : {w end : World (KindNode kind) (KindUnit kind)} {xs ys : List Record} → Run (kind_pair kind) w xs ys end →
-      Run (kind_pair kind) (exchanged_world w) ys xs (exchanged_world end)
-  exchanged_run Done = Done
-  exchanged_run (OfA made rest) = OfB made (exchanged_run rest)
-  exchanged_run (OfB made rest) = OfA made (exchanged_run rest)
+  exchanged : (head_a head_b : Head) (of_a of_b : List Record) → IsRunOf kind head_a head_b of_a of_b → IsRunOf kind head_b head_a of_b of_a
+  exchanged head_a head_b of_a of_b run = exchange_run (kind_pair kind) (kind_start kind head_a head_b) of_a of_b run
 
   pub passes_b : (head_a head_b : Head) (of_a of_b : List Record) → IsRunOf kind head_a head_b of_a of_b → PassesFrom head_b of_b
-  passes_b head_a head_b of_a of_b run = passes_a head_b head_a of_b of_a (exchanged_world run.0, exchanged_run run.1)
+  passes_b head_a head_b of_a of_b run = passes_a head_b head_a of_b of_a (exchanged head_a head_b of_a of_b run)
+
+  -- a capture of which it refuses a record is a side of no run, however it goes on
+  pub final_of_a : (head_a head_b : Head) (of_a further of_b : List Record) (place : ℕ) (accused : Accused) (reason : StepRefusal) →
+      ends_from one (alone_of (first_node kind head_a)) 0 of_a ≡ RefusedAt place accused reason → ¬ IsRunOf kind head_a head_b (of_a ++ further) of_b
+  final_of_a head_a head_b of_a further of_b place accused reason refused run =
+      final one (alone_of (first_node kind head_a)) of_a further place accused reason refused (passes_a head_a head_b (of_a ++ further) of_b run)
+
+  pub final_of_b : (head_a head_b : Head) (of_a of_b further : List Record) (place : ℕ) (accused : Accused) (reason : StepRefusal) →
+      ends_from one (alone_of (first_node kind head_b)) 0 of_b ≡ RefusedAt place accused reason → ¬ IsRunOf kind head_a head_b of_a (of_b ++ further)
+  final_of_b head_a head_b of_a of_b further place accused reason refused run =
+      final_of_a head_b head_a of_b further of_a place accused reason refused (exchanged head_a head_b of_a (of_b ++ further) run)
 
   -- ---- a record that offends
 

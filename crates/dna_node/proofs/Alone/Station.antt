@@ -10,29 +10,19 @@ use Rattle.ddcmp_msg.specs.declared.nak_reason.NakReason.{NakReason}
 use Rattle.ddcmp_msg.specs.declared.nak_reason.NakReason.TheVariants.{HeaderCheck, DataCheck}
 use Rattle.dna_station.specs.declared.state.StationEvent.{StationEvent}
 use Rattle.dna_station.specs.declared.state.StationEvent.TheVariants.{Start, Halt}
-use Rattle.dna_station.specs.declared.refusal.StationRefusal.{StationRefusal}
 use Rattle.dna_station.specs.declared.tag.Tag.{Tag}
-use Rattle.dna_station.specs.Table.{WINDOW, Check, refusal_of, checks, RespIsLast, CauseIsOpen, SomeOutstanding, NumIsHighest, NumIsNext, RoomIfNew}
+use Rattle.dna_station.specs.Table.{WINDOW, Check, checks, RespIsLast, CauseIsOpen, SomeOutstanding, NumIsHighest, NumIsNext, RoomIfNew}
 use Rattle.dna_station.specs.Table.{AsFirstGiven, Change, Nothing, UseCause, SendPacket, change_of, Effect, GoTo, TakePartner, Respond, SetBack}
 use Rattle.dna_station.specs.Table.{TakePacket, AnswerRep, row, counts_damage}
 use Rattle.dna_station.specs.Station.{wire}
-use Rattle.dna_station.specs.Book.{num_of, resp_of, body_of, first_failed, failed, Sound, HeaderBad, DataBad}
+use Rattle.dna_station.specs.Book.{num_of, resp_of, body_of, Sound, HeaderBad, DataBad}
 use Rattle.dna_station.specs.WireStation.{HeldPacket, StationVariables, WireStation, wire_after_event, with_new, labelled, with_label}
 use Rattle.dna_station.specs.WireStation.{wire_after_label}
 use Rattle.dna_station.specs.WireBook.{wire_is_new, is_held_packet, wire_passes, wire_sends, acknowledges, wire_acknowledged_by}
 use Rattle.dna_station.specs.WireBook.{wire_responded, wire_is_next, with_next, wire_does, wire_book, wire_sending_refusal}
 use Rattle.dna_station.specs.WireBook.{wire_after_sending, wire_after_arrival, gives_by, gives_new}
+use Rattle.dna_station.proofs.Cut.Sending.{failed_same}
 use Rattle.dna_node.specs.Alone.{unknown_period}
-
--- checks that are answered alike refuse alike
-first_failed_same : (p q : Check → Bool) → ((check : Check) → p check ≡ q check) → (list : List Check) → first_failed p list ≡ first_failed q list
-first_failed_same p q same [] = refl
-first_failed_same p q same (check ∷ next) =
-    ap₂ (λ (b : Bool) (o : Option StationRefusal). cond b o (Some (refusal_of check))) (same check) (first_failed_same p q same next)
-
-failed_same : (p q : Check → Bool) → ((check : Check) → p check ≡ q check) → (list : Option (List Check)) → failed p list ≡ failed q list
-failed_same p q same None = refl
-failed_same p q same (Some list) = first_failed_same p q same list
 
 module _ {L : Type 0} (forget_label : L → L) where
   abbrev pub forget_packet : HeldPacket L → HeldPacket L

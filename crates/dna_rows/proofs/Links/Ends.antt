@@ -1,83 +1,48 @@
 -- The end of a link: DI, DC, and what may still be delivered.
-use Rattle.std.proofs.Common.{true, [], ◌∷◌, ◌++◌, refl}
-use Rattle.wire_base.specs.BlockCheck.{is_good, check_of, after_byte, shift}
+use Rattle.std.proofs.Common.{true, [], ◌∷◌, ◌++◌}
 use Rattle.wire_base.specs.declared.side.Side.TheVariants.{A, B}
-use Rattle.ddcmp_msg.specs.Reading.{reading}
 use Rattle.capture.specs.declared.record.Record.TheVariants.{Sent, Received, User}
 use Rattle.capture.specs.declared.event.Event.TheVariants.{Open, Accept, Reject, In, Up, Close}
 use Rattle.dna_station.specs.declared.refusal.StepRefusal.TheVariants.{Links as OfLinks}
 use Rattle.dna_station.specs.declared.link_refusal.LinkRefusal.TheVariants.{NoLink, WrongDelivery}
 use Rattle.dna_node.specs.declared.finding.Finding.TheVariants.{Accepted}
 use Rattle.dna_rows.proofs.Verdicts.{Verdict, verdict}
-use Rattle.dna_rows.proofs.Units.{data_of, from_a, from_b, DI, DC, SEGMENT, carries}
+use Rattle.dna_rows.proofs.Units.{computing, DI, DC, SEGMENT, carries, data_a, data_b}
 use Rattle.dna_rows.proofs.Captures.{called_a, called_b, running_a, running_b, refused}
 
--- No DI is sent for a call that the user has not rejected
-di_without_reject : Verdict
-    called_a
-    (called_b ++ Sent (data_of 1 1 (from_b (DI 1 2))) ∷ [])
-    (refused B 4 (OfLinks NoLink))
-unfolding reading is_good check_of after_byte shift
-di_without_reject = verdict refl
+record Rows : Type 0 where
+  -- No DI is sent for a call that the user has not rejected
+  di_without_reject : Verdict called_a (called_b ++ Sent (data_b 1 1 (DI 1 2)) ∷ []) (refused B 4 (OfLinks NoLink))
+  -- once it is, the DI may be sent twice and be answered twice, by DCs of unequal reasons
+  di_twice : Verdict
+      (called_a ++ Received 1 true (data_b 1 1 (DI 1 2)) ∷ Received 2 true (data_b 2 1 (DI 1 2)) ∷ Sent (data_a 2 2 (DC 2 1 42)) ∷
+      Sent (data_a 3 2 (DC 2 1 41)) ∷ [])
+      (called_b ++ User (Reject 1 2) ∷ Sent (data_b 1 1 (DI 1 2)) ∷ Sent (data_b 2 1 (DI 1 2)) ∷ Received 2 true (data_a 2 2 (DC 2 1 42)) ∷
+      Received 3 true (data_a 3 2 (DC 2 1 41)) ∷ User (Open 2) ∷ []) Accepted
+  -- Where both sides close, each DI ends the link of the other side, and both addresses can be given again
+  di_meets_di : Verdict (running_a ++ User (Close 1) ∷ Sent (data_a 3 1 (DI 2 1)) ∷ Received 2 true (data_b 2 2 (DI 1 2)) ∷ User (Open 1) ∷ [])
+      (running_b ++ User (Close 2) ∷ Sent (data_b 2 2 (DI 1 2)) ∷ Received 3 true (data_a 3 1 (DI 2 1)) ∷ User (Open 2) ∷ []) Accepted
+  -- A DC from any address and of any reason ends the call that it answers
+  dc_of_any_address_ends_calling : Verdict (called_a ++ Received 1 true (data_b 1 1 (DC 1 9 38)) ∷ User (In 1 (5 ∷ [])) ∷ [])
+      (called_b ++ Sent (data_b 1 1 (DC 1 9 38)) ∷ []) (refused A 6 (OfLinks NoLink))
+  -- but a DC of the caller's changes nothing on a call that waits: it can still be answered
+  a_dc_in_called_changes_nothing : Verdict (called_a ++ Sent (data_a 2 0 (DC 0 1 42)) ∷ [])
+      (called_b ++ Received 2 true (data_a 2 0 (DC 0 1 42)) ∷ User (Accept 1 2) ∷ []) Accepted
+  -- ---- segments of a link that is being closed, or is over
+  -- A segment that comes behind the close is not taken
+  a_segment_in_di_is_ignored : Verdict (running_a ++ User (In 1 (5 ∷ [])) ∷ Sent (data_a 3 1 (SEGMENT 0x60 2 1 (carries 1 (5 ∷ [])))) ∷ [])
+      (running_b ++ User (Close 2) ∷ Received 3 true (data_a 3 1 (SEGMENT 0x60 2 1 (carries 1 (5 ∷ [])))) ∷ User (Up 2 (5 ∷ [])) ∷ [])
+      (refused B 9 (OfLinks WrongDelivery))
+  -- what came before it can still be delivered
+  up_is_allowed_behind_a_close : Verdict (running_a ++ User (In 1 (5 ∷ [])) ∷ Sent (data_a 3 1 (SEGMENT 0x60 2 1 (carries 1 (5 ∷ [])))) ∷ [])
+      (running_b ++ Received 3 true (data_a 3 1 (SEGMENT 0x60 2 1 (carries 1 (5 ∷ [])))) ∷ User (Close 2) ∷ User (Up 2 (5 ∷ [])) ∷ []) Accepted
+  -- and behind the end of the link
+  up_behind_the_end : Verdict
+      (running_a ++ User (In 1 (5 ∷ [])) ∷ Sent (data_a 3 1 (SEGMENT 0x60 2 1 (carries 1 (5 ∷ [])))) ∷ User (Close 1) ∷ Sent (data_a 4 1 (DI 2 1)) ∷
+      [])
+      (running_b ++ Received 3 true (data_a 3 1 (SEGMENT 0x60 2 1 (carries 1 (5 ∷ [])))) ∷ Received 4 true (data_a 4 1 (DI 2 1)) ∷
+      User (Up 2 (5 ∷ [])) ∷ []) Accepted
 
--- once it is, the DI may be sent twice and be answered twice, by DCs of unequal reasons
-di_twice : Verdict
-    (called_a ++ Received 1 true (data_of 1 1 (from_b (DI 1 2))) ∷ Received 2 true (data_of 2 1 (from_b (DI 1 2))) ∷
-    Sent (data_of 2 2 (from_a (DC 2 1 42))) ∷ Sent (data_of 3 2 (from_a (DC 2 1 41))) ∷ [])
-    (called_b ++ User (Reject 1 2) ∷ Sent (data_of 1 1 (from_b (DI 1 2))) ∷ Sent (data_of 2 1 (from_b (DI 1 2))) ∷
-    Received 2 true (data_of 2 2 (from_a (DC 2 1 42))) ∷ Received 3 true (data_of 3 2 (from_a (DC 2 1 41))) ∷ User (Open 2) ∷ [])
-    Accepted
-unfolding reading is_good check_of after_byte shift
-di_twice = verdict refl
-
--- Where both sides close, each DI ends the link of the other side, and both addresses can be given again
-di_meets_di : Verdict
-    (running_a ++ User (Close 1) ∷ Sent (data_of 3 1 (from_a (DI 2 1))) ∷ Received 2 true (data_of 2 2 (from_b (DI 1 2))) ∷ User (Open 1) ∷ [])
-    (running_b ++ User (Close 2) ∷ Sent (data_of 2 2 (from_b (DI 1 2))) ∷ Received 3 true (data_of 3 1 (from_a (DI 2 1))) ∷ User (Open 2) ∷ [])
-    Accepted
-unfolding reading is_good check_of after_byte shift
-di_meets_di = verdict refl
-
--- A DC from any address and of any reason ends the call that it answers
-dc_of_any_address_ends_calling : Verdict
-    (called_a ++ Received 1 true (data_of 1 1 (from_b (DC 1 9 38))) ∷ User (In 1 (5 ∷ [])) ∷ [])
-    (called_b ++ Sent (data_of 1 1 (from_b (DC 1 9 38))) ∷ [])
-    (refused A 6 (OfLinks NoLink))
-unfolding reading is_good check_of after_byte shift
-dc_of_any_address_ends_calling = verdict refl
-
--- but a DC of the caller's changes nothing on a call that waits: it can still be answered
-a_dc_in_called_changes_nothing : Verdict
-    (called_a ++ Sent (data_of 2 0 (from_a (DC 0 1 42))) ∷ [])
-    (called_b ++ Received 2 true (data_of 2 0 (from_a (DC 0 1 42))) ∷ User (Accept 1 2) ∷ [])
-    Accepted
-unfolding reading is_good check_of after_byte shift
-a_dc_in_called_changes_nothing = verdict refl
-
--- ---- segments of a link that is being closed, or is over
-
--- A segment that comes behind the close is not taken
-a_segment_in_di_is_ignored : Verdict
-    (running_a ++ User (In 1 (5 ∷ [])) ∷ Sent (data_of 3 1 (from_a (SEGMENT 0x60 2 1 (carries 1 (5 ∷ []))))) ∷ [])
-    (running_b ++ User (Close 2) ∷ Received 3 true (data_of 3 1 (from_a (SEGMENT 0x60 2 1 (carries 1 (5 ∷ []))))) ∷ User (Up 2 (5 ∷ [])) ∷ [])
-    (refused B 9 (OfLinks WrongDelivery))
-unfolding reading is_good check_of after_byte shift
-a_segment_in_di_is_ignored = verdict refl
-
--- what came before it can still be delivered
-up_is_allowed_behind_a_close : Verdict
-    (running_a ++ User (In 1 (5 ∷ [])) ∷ Sent (data_of 3 1 (from_a (SEGMENT 0x60 2 1 (carries 1 (5 ∷ []))))) ∷ [])
-    (running_b ++ Received 3 true (data_of 3 1 (from_a (SEGMENT 0x60 2 1 (carries 1 (5 ∷ []))))) ∷ User (Close 2) ∷ User (Up 2 (5 ∷ [])) ∷ [])
-    Accepted
-unfolding reading is_good check_of after_byte shift
-up_is_allowed_behind_a_close = verdict refl
-
--- and behind the end of the link
-up_behind_the_end : Verdict
-    (running_a ++ User (In 1 (5 ∷ [])) ∷ Sent (data_of 3 1 (from_a (SEGMENT 0x60 2 1 (carries 1 (5 ∷ []))))) ∷ User (Close 1) ∷
-    Sent (data_of 4 1 (from_a (DI 2 1))) ∷ [])
-    (running_b ++ Received 3 true (data_of 3 1 (from_a (SEGMENT 0x60 2 1 (carries 1 (5 ∷ []))))) ∷
-    Received 4 true (data_of 4 1 (from_a (DI 2 1))) ∷ User (Up 2 (5 ∷ [])) ∷ [])
-    Accepted
-unfolding reading is_good check_of after_byte shift
-up_behind_the_end = verdict refl
+computed : Rows
+unfolding computing
+computed = search (verdict)

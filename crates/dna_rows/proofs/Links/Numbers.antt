@@ -1,98 +1,66 @@
 -- Segments and acknowledgement words: their numbers, repeats, and what is delivered.
-use Rattle.std.proofs.Common.{true, false, [], ◌∷◌, ◌++◌, refl}
-use Rattle.wire_base.specs.BlockCheck.{is_good, check_of, after_byte, shift}
+use Rattle.std.proofs.Common.{true, false, [], ◌∷◌, ◌++◌}
 use Rattle.wire_base.specs.declared.side.Side.TheVariants.{A, B}
-use Rattle.ddcmp_msg.specs.Reading.{reading}
 use Rattle.capture.specs.declared.record.Record.TheVariants.{Sent, Received, User}
 use Rattle.capture.specs.declared.event.Event.TheVariants.{In, Up}
 use Rattle.dna_station.specs.declared.refusal.StepRefusal.TheVariants.{Links as OfLinks}
 use Rattle.dna_station.specs.declared.link_refusal.LinkRefusal.TheVariants.{WrongSegment, WrongAck}
 use Rattle.dna_node.specs.declared.finding.Finding.TheVariants.{Accepted}
 use Rattle.dna_rows.proofs.Verdicts.{Verdict, verdict}
-use Rattle.dna_rows.proofs.Units.{NAK, data_of, from_a, from_b, ack, nak, other_ack, DATA_ACK, SEGMENT, carries}
+use Rattle.dna_rows.proofs.Units.{computing, NAK, ack, nak, other_ack, DATA_ACK, SEGMENT, carries, data_a, data_b}
 use Rattle.dna_rows.proofs.Captures.{running_a, running_b, refused}
 
--- Two messages of one link are delivered, in the order in which they were handed in
-two_messages_are_delivered_in_order : Verdict
-    (running_a ++ User (In 1 (5 ∷ [])) ∷ User (In 1 (6 ∷ [])) ∷ Sent (data_of 3 1 (from_a (SEGMENT 0x60 2 1 (carries 1 (5 ∷ []))))) ∷
-    Sent (data_of 4 1 (from_a (SEGMENT 0x60 2 1 (carries 2 (6 ∷ []))))) ∷ [])
-    (running_b ++ Received 3 true (data_of 3 1 (from_a (SEGMENT 0x60 2 1 (carries 1 (5 ∷ []))))) ∷
-    Received 4 true (data_of 4 1 (from_a (SEGMENT 0x60 2 1 (carries 2 (6 ∷ []))))) ∷ User (Up 2 (5 ∷ [])) ∷ User (Up 2 (6 ∷ [])) ∷ [])
-    Accepted
-unfolding reading is_good check_of after_byte shift
-two_messages_are_delivered_in_order = verdict refl
+record Rows : Type 0 where
+  -- Two messages of one link are delivered, in the order in which they were handed in
+  two_messages_are_delivered_in_order : Verdict
+      (running_a ++ User (In 1 (5 ∷ [])) ∷ User (In 1 (6 ∷ [])) ∷ Sent (data_a 3 1 (SEGMENT 0x60 2 1 (carries 1 (5 ∷ [])))) ∷
+      Sent (data_a 4 1 (SEGMENT 0x60 2 1 (carries 2 (6 ∷ [])))) ∷ [])
+      (running_b ++ Received 3 true (data_a 3 1 (SEGMENT 0x60 2 1 (carries 1 (5 ∷ [])))) ∷
+      Received 4 true (data_a 4 1 (SEGMENT 0x60 2 1 (carries 2 (6 ∷ [])))) ∷ User (Up 2 (5 ∷ [])) ∷ User (Up 2 (6 ∷ [])) ∷ []) Accepted
+  -- Each direction has its own numbers: a word names what came to its sender, and acknowledges what its receiver gave
+  words_both_ways_with_unequal_numbers : Verdict
+      (running_a ++ User (In 1 (5 ∷ [])) ∷ Received 2 true (data_b 2 2 (SEGMENT 0x60 1 2 (carries 1 (7 ∷ [])))) ∷
+      Received 3 true (data_b 3 2 (SEGMENT 0x60 1 2 (carries 2 (7 ∷ [])))) ∷ Sent (data_a 3 3 (DATA_ACK 2 1 (ack 2))) ∷
+      Sent (data_a 4 3 (SEGMENT 0x60 2 1 (carries 1 (5 ∷ [])))) ∷ Received 4 true (data_b 4 4 (DATA_ACK 1 2 (ack 1))) ∷
+      Sent (data_a 5 4 (SEGMENT 0 2 1 (carries 1 (6 ∷ [])))) ∷ [])
+      (running_b ++ User (In 2 (7 ∷ [])) ∷ User (In 2 (7 ∷ [])) ∷ Sent (data_b 2 2 (SEGMENT 0x60 1 2 (carries 1 (7 ∷ [])))) ∷
+      Sent (data_b 3 2 (SEGMENT 0x60 1 2 (carries 2 (7 ∷ [])))) ∷ Received 3 true (data_a 3 3 (DATA_ACK 2 1 (ack 2))) ∷
+      Received 4 true (data_a 4 3 (SEGMENT 0x60 2 1 (carries 1 (5 ∷ [])))) ∷ Sent (data_b 4 4 (DATA_ACK 1 2 (ack 1))) ∷ []) Accepted
+  -- no word names a segment that has not come
+  a_word_above_what_came : Verdict (running_a ++ User (In 1 (5 ∷ [])) ∷ Sent (data_a 3 1 (SEGMENT 0x60 2 1 (carries 1 (5 ∷ [])))) ∷ [])
+      (running_b ++ Received 3 true (data_a 3 1 (SEGMENT 0x60 2 1 (carries 1 (5 ∷ [])))) ∷ Sent (data_b 2 3 (DATA_ACK 1 2 (ack 2))) ∷ [])
+      (refused B 8 (OfLinks WrongAck))
+  -- and no second word one below the first
+  the_second_word_goes_back : Verdict
+      (running_a ++ Received 2 true (data_b 2 2 (SEGMENT 0x60 1 2 (carries 1 (5 ∷ [])))) ∷ Sent (data_a 3 2 (DATA_ACK 2 1 (ack 1 ++ nak 0))) ∷ [])
+      (running_b ++ User (In 2 (5 ∷ [])) ∷ Sent (data_b 2 2 (SEGMENT 0x60 1 2 (carries 1 (5 ∷ [])))) ∷ []) (refused A 8 (OfLinks WrongAck))
+  -- A NAK word acknowledges its number too: a repeat of that segment is not judged further
+  a_nak_word_acknowledges_its_number : Verdict
+      (running_a ++ User (In 1 (5 ∷ [])) ∷ Sent (data_a 3 1 (SEGMENT 0x60 2 1 (carries 1 (5 ∷ [])))) ∷
+      Received 2 true (data_b 2 3 (DATA_ACK 1 2 (nak 1))) ∷ Sent (data_a 4 2 (SEGMENT 0 2 1 (carries 1 (6 ∷ [])))) ∷ [])
+      (running_b ++ Received 3 true (data_a 3 1 (SEGMENT 0x60 2 1 (carries 1 (5 ∷ [])))) ∷ Sent (data_b 2 3 (DATA_ACK 1 2 (nak 1))) ∷ []) Accepted
+  -- A repeat may have words that the first sending had not, and lack those of the repeat before
+  a_repeat_has_other_words : Verdict
+      (running_a ++ User (In 1 (5 ∷ [])) ∷ Sent (data_a 3 1 (SEGMENT 0x60 2 1 (carries 1 (5 ∷ [])))) ∷
+      Received 2 true (data_b 2 2 (SEGMENT 0x60 1 2 (carries 1 (7 ∷ [])))) ∷
+      Sent (data_a 4 2 (SEGMENT 0x60 2 1 (ack 1 ++ other_ack 9 ++ carries 1 (5 ∷ [])))) ∷ Sent (data_a 5 2 (SEGMENT 0x60 2 1 (carries 1 (5 ∷ [])))) ∷
+      [])
+      (running_b ++ User (In 2 (7 ∷ [])) ∷ Sent (data_b 2 2 (SEGMENT 0x60 1 2 (carries 1 (7 ∷ [])))) ∷
+      Received 3 true (data_a 3 1 (SEGMENT 0x60 2 1 (carries 1 (5 ∷ [])))) ∷
+      Received 4 true (data_a 4 2 (SEGMENT 0x60 2 1 (ack 1 ++ other_ack 9 ++ carries 1 (5 ∷ [])))) ∷
+      Received 5 true (data_a 5 2 (SEGMENT 0x60 2 1 (carries 1 (5 ∷ [])))) ∷ User (Up 2 (5 ∷ [])) ∷ []) Accepted
+  -- but it has the same data: a message is cut into segments once
+  a_repeat_is_not_cut_anew : Verdict
+      (running_a ++ User (In 1 (5 ∷ 6 ∷ [])) ∷ Sent (data_a 3 1 (SEGMENT 0x60 2 1 (carries 1 (5 ∷ 6 ∷ [])))) ∷
+      Sent (data_a 4 1 (SEGMENT 0x20 2 1 (carries 1 (5 ∷ [])))) ∷ []) running_b (refused A 9 (OfLinks WrongSegment))
+  -- A packet that is sent again carries the same segment, though another was given since
+  a_repeated_packet_keeps_its_segment_number : Verdict
+      (running_a ++ User (In 1 (5 ∷ [])) ∷ User (In 1 (6 ∷ [])) ∷ Sent (data_a 3 1 (SEGMENT 0x60 2 1 (carries 1 (5 ∷ [])))) ∷
+      Sent (data_a 4 1 (SEGMENT 0x60 2 1 (carries 2 (6 ∷ [])))) ∷ Received 2 false (NAK 8 2) ∷
+      Sent (data_a 3 1 (SEGMENT 0x60 2 1 (carries 1 (5 ∷ [])))) ∷ [])
+      (running_b ++ Received 3 false (data_a 3 1 (SEGMENT 0x60 2 1 (carries 1 (5 ∷ [])))) ∷ Sent (NAK 8 2) ∷
+      Received 5 true (data_a 3 1 (SEGMENT 0x60 2 1 (carries 1 (5 ∷ [])))) ∷ User (Up 2 (5 ∷ [])) ∷ []) Accepted
 
--- Each direction has its own numbers: a word names what came to its sender, and acknowledges what its receiver gave
-words_both_ways_with_unequal_numbers : Verdict
-    (running_a ++ User (In 1 (5 ∷ [])) ∷ Received 2 true (data_of 2 2 (from_b (SEGMENT 0x60 1 2 (carries 1 (7 ∷ []))))) ∷
-    Received 3 true (data_of 3 2 (from_b (SEGMENT 0x60 1 2 (carries 2 (7 ∷ []))))) ∷ Sent (data_of 3 3 (from_a (DATA_ACK 2 1 (ack 2)))) ∷
-    Sent (data_of 4 3 (from_a (SEGMENT 0x60 2 1 (carries 1 (5 ∷ []))))) ∷ Received 4 true (data_of 4 4 (from_b (DATA_ACK 1 2 (ack 1)))) ∷
-    Sent (data_of 5 4 (from_a (SEGMENT 0 2 1 (carries 1 (6 ∷ []))))) ∷ [])
-    (running_b ++ User (In 2 (7 ∷ [])) ∷ User (In 2 (7 ∷ [])) ∷ Sent (data_of 2 2 (from_b (SEGMENT 0x60 1 2 (carries 1 (7 ∷ []))))) ∷
-    Sent (data_of 3 2 (from_b (SEGMENT 0x60 1 2 (carries 2 (7 ∷ []))))) ∷ Received 3 true (data_of 3 3 (from_a (DATA_ACK 2 1 (ack 2)))) ∷
-    Received 4 true (data_of 4 3 (from_a (SEGMENT 0x60 2 1 (carries 1 (5 ∷ []))))) ∷ Sent (data_of 4 4 (from_b (DATA_ACK 1 2 (ack 1)))) ∷ [])
-    Accepted
-unfolding reading is_good check_of after_byte shift
-words_both_ways_with_unequal_numbers = verdict refl
-
--- no word names a segment that has not come
-a_word_above_what_came : Verdict
-    (running_a ++ User (In 1 (5 ∷ [])) ∷ Sent (data_of 3 1 (from_a (SEGMENT 0x60 2 1 (carries 1 (5 ∷ []))))) ∷ [])
-    (running_b ++ Received 3 true (data_of 3 1 (from_a (SEGMENT 0x60 2 1 (carries 1 (5 ∷ []))))) ∷
-    Sent (data_of 2 3 (from_b (DATA_ACK 1 2 (ack 2)))) ∷ [])
-    (refused B 8 (OfLinks WrongAck))
-unfolding reading is_good check_of after_byte shift
-a_word_above_what_came = verdict refl
-
--- and no second word one below the first
-the_second_word_goes_back : Verdict
-    (running_a ++ Received 2 true (data_of 2 2 (from_b (SEGMENT 0x60 1 2 (carries 1 (5 ∷ []))))) ∷
-    Sent (data_of 3 2 (from_a (DATA_ACK 2 1 (ack 1 ++ nak 0)))) ∷ [])
-    (running_b ++ User (In 2 (5 ∷ [])) ∷ Sent (data_of 2 2 (from_b (SEGMENT 0x60 1 2 (carries 1 (5 ∷ []))))) ∷ [])
-    (refused A 8 (OfLinks WrongAck))
-unfolding reading is_good check_of after_byte shift
-the_second_word_goes_back = verdict refl
-
--- A NAK word acknowledges its number too: a repeat of that segment is not judged further
-a_nak_word_acknowledges_its_number : Verdict
-    (running_a ++ User (In 1 (5 ∷ [])) ∷ Sent (data_of 3 1 (from_a (SEGMENT 0x60 2 1 (carries 1 (5 ∷ []))))) ∷
-    Received 2 true (data_of 2 3 (from_b (DATA_ACK 1 2 (nak 1)))) ∷ Sent (data_of 4 2 (from_a (SEGMENT 0 2 1 (carries 1 (6 ∷ []))))) ∷ [])
-    (running_b ++ Received 3 true (data_of 3 1 (from_a (SEGMENT 0x60 2 1 (carries 1 (5 ∷ []))))) ∷
-    Sent (data_of 2 3 (from_b (DATA_ACK 1 2 (nak 1)))) ∷ [])
-    Accepted
-unfolding reading is_good check_of after_byte shift
-a_nak_word_acknowledges_its_number = verdict refl
-
--- A repeat may have words that the first sending had not, and lack those of the repeat before
-a_repeat_has_other_words : Verdict
-    (running_a ++ User (In 1 (5 ∷ [])) ∷ Sent (data_of 3 1 (from_a (SEGMENT 0x60 2 1 (carries 1 (5 ∷ []))))) ∷
-    Received 2 true (data_of 2 2 (from_b (SEGMENT 0x60 1 2 (carries 1 (7 ∷ []))))) ∷
-    Sent (data_of 4 2 (from_a (SEGMENT 0x60 2 1 (ack 1 ++ other_ack 9 ++ carries 1 (5 ∷ []))))) ∷
-    Sent (data_of 5 2 (from_a (SEGMENT 0x60 2 1 (carries 1 (5 ∷ []))))) ∷ [])
-    (running_b ++ User (In 2 (7 ∷ [])) ∷ Sent (data_of 2 2 (from_b (SEGMENT 0x60 1 2 (carries 1 (7 ∷ []))))) ∷
-    Received 3 true (data_of 3 1 (from_a (SEGMENT 0x60 2 1 (carries 1 (5 ∷ []))))) ∷
-    Received 4 true (data_of 4 2 (from_a (SEGMENT 0x60 2 1 (ack 1 ++ other_ack 9 ++ carries 1 (5 ∷ []))))) ∷
-    Received 5 true (data_of 5 2 (from_a (SEGMENT 0x60 2 1 (carries 1 (5 ∷ []))))) ∷ User (Up 2 (5 ∷ [])) ∷ [])
-    Accepted
-unfolding reading is_good check_of after_byte shift
-a_repeat_has_other_words = verdict refl
-
--- but it has the same data: a message is cut into segments once
-a_repeat_is_not_cut_anew : Verdict
-    (running_a ++ User (In 1 (5 ∷ 6 ∷ [])) ∷ Sent (data_of 3 1 (from_a (SEGMENT 0x60 2 1 (carries 1 (5 ∷ 6 ∷ []))))) ∷
-    Sent (data_of 4 1 (from_a (SEGMENT 0x20 2 1 (carries 1 (5 ∷ []))))) ∷ [])
-    running_b
-    (refused A 9 (OfLinks WrongSegment))
-unfolding reading is_good check_of after_byte shift
-a_repeat_is_not_cut_anew = verdict refl
-
--- A packet that is sent again carries the same segment, though another was given since
-a_repeated_packet_keeps_its_segment_number : Verdict
-    (running_a ++ User (In 1 (5 ∷ [])) ∷ User (In 1 (6 ∷ [])) ∷ Sent (data_of 3 1 (from_a (SEGMENT 0x60 2 1 (carries 1 (5 ∷ []))))) ∷
-    Sent (data_of 4 1 (from_a (SEGMENT 0x60 2 1 (carries 2 (6 ∷ []))))) ∷ Received 2 false (NAK 8 2) ∷
-    Sent (data_of 3 1 (from_a (SEGMENT 0x60 2 1 (carries 1 (5 ∷ []))))) ∷ [])
-    (running_b ++ Received 3 false (data_of 3 1 (from_a (SEGMENT 0x60 2 1 (carries 1 (5 ∷ []))))) ∷ Sent (NAK 8 2) ∷
-    Received 5 true (data_of 3 1 (from_a (SEGMENT 0x60 2 1 (carries 1 (5 ∷ []))))) ∷ User (Up 2 (5 ∷ [])) ∷ [])
-    Accepted
-unfolding reading is_good check_of after_byte shift
-a_repeated_packet_keeps_its_segment_number = verdict refl
+computed : Rows
+unfolding computing
+computed = search (verdict)

@@ -1,13 +1,14 @@
 -- The worked rows of one link, computed from the definitions on true numbers and on those that a node keeps: from the opening on, with
 -- every refusal on the way.
-use Rattle.std.proofs.Common.{ℕ, List, [], ◌∷◌, ◌++◌, refl}
+use Rattle.std.proofs.Common.{ℕ, List, [], ◌∷◌, ◌++◌}
+use Rattle.wire_base.specs.declared.side.Side.TheVariants.{A, B}
 use Rattle.dna_station.specs.declared.link_refusal.LinkRefusal.TheVariants.{WrongAck, SegmentTooLong, WrongDelivery}
 use Rattle.dna_links.specs.User.{Open, Accept, In, Up}
-use Rattle.dna_rows.proofs.Links.Messages.{CI, CI_AGAIN, CC, DATA_ACK, ack, SEGMENT, carries}
-use Rattle.dna_rows.proofs.Links.Steps.{Act, A, B, Does, Sends, Comes, AllMade, LastRefused}
+use Rattle.dna_rows.proofs.Units.{CI, CI_AGAIN, CC_2, DATA_ACK, ack, SEGMENT, carries}
+use Rattle.dna_rows.proofs.Links.Steps.{Act, Does, Sends, Comes, AllMade, LastRefused}
 
 abbrev pub opened : List Act
-opened = Does A (Open 1) ∷ Sends A (CI 1) ∷ Comes B 0 ∷ Does B (Accept 1 2) ∷ Sends B (CC 1 2) ∷ []
+opened = Does A (Open 1) ∷ Sends A (CI 1) ∷ Comes B 0 ∷ Does B (Accept 1 2) ∷ Sends B (CC_2 1 2) ∷ []
 
 -- the data ack in answer to the CC brings b into RUN
 abbrev pub connected : List Act
@@ -17,14 +18,9 @@ abbrev pub letters : List ℕ
 letters = 0x61 ∷ 0x62 ∷ 0x63 ∷ 0x64 ∷ 0x65 ∷ []
 
 abbrev given : List Act
-given =
-    Does A (In 1 letters)
-    ∷ Does A (In 1 [])
-    ∷ Sends A (SEGMENT 0x20 2 1 (carries 1 (0x61 ∷ 0x62 ∷ [])))
-    ∷ Sends A (SEGMENT 0x00 2 1 (carries 2 (0x63 ∷ 0x64 ∷ [])))
-    ∷ Sends A (SEGMENT 0x40 2 1 (carries 3 (0x65 ∷ [])))
-    ∷ Sends A (SEGMENT 0x60 2 1 (carries 4 []))
-    ∷ []
+given = Does A (In 1 letters) ∷ Does A (In 1 []) ∷ Sends A (SEGMENT 0x20 2 1 (carries 1 (0x61 ∷ 0x62 ∷ []))) ∷
+    Sends A (SEGMENT 0x00 2 1 (carries 2 (0x63 ∷ 0x64 ∷ []))) ∷ Sends A (SEGMENT 0x40 2 1 (carries 3 (0x65 ∷ []))) ∷
+    Sends A (SEGMENT 0x60 2 1 (carries 4 [])) ∷ []
 
 -- all but the first come
 abbrev one_missing : List Act
@@ -34,28 +30,19 @@ one_missing = connected ++ given ++ Comes B 3 ∷ Comes B 4 ∷ Comes B 5 ∷ []
 abbrev none_missing : List Act
 none_missing = one_missing ++ Sends A (SEGMENT 0x20 2 1 (carries 1 (0x61 ∷ 0x62 ∷ []))) ∷ Comes B 6 ∷ []
 
-one_link : AllMade (none_missing ++ Does B (Up 2 letters) ∷ Does B (Up 2 []) ∷ Sends B (DATA_ACK 1 2 (ack 4)) ∷ Comes A 1 ∷ [])
-one_link = (refl, refl)
+record Rows : Type 0 where
+  one_link : AllMade (none_missing ++ Does B (Up 2 letters) ∷ Does B (Up 2 []) ∷ Sends B (DATA_ACK 1 2 (ack 4)) ∷ Comes A 1 ∷ [])
+  -- while the first is missing nothing of it is acknowledged, and nothing is delivered
+  nothing_acknowledged : AllMade (one_missing ++ Sends B (DATA_ACK 1 2 (ack 0)) ∷ [])
+  acknowledges_over_a_gap : LastRefused WrongAck (one_missing ++ Sends B (DATA_ACK 1 2 (ack 1)) ∷ [])
+  delivered_too_early : LastRefused WrongDelivery (one_missing ++ Does B (Up 2 letters) ∷ [])
+  -- the empty message is the second
+  second_message_first : LastRefused WrongDelivery (none_missing ++ Does B (Up 2 []) ∷ [])
+  -- b takes two data bytes in a segment
+  segment_too_long : LastRefused SegmentTooLong
+      (connected ++ Does A (In 1 letters) ∷ Sends A (SEGMENT 0x20 2 1 (carries 1 (0x61 ∷ 0x62 ∷ 0x63 ∷ []))) ∷ [])
+  -- after b accepted and before a has the CC, the CI comes again and is ignored; the CC may be sent once more
+  repeated_connect : AllMade (opened ++ Sends A (CI_AGAIN 1) ∷ Comes B 1 ∷ Sends B (CC_2 1 2) ∷ Comes A 1 ∷ [])
 
--- while the first is missing nothing of it is acknowledged, and nothing is delivered
-nothing_acknowledged : AllMade (one_missing ++ Sends B (DATA_ACK 1 2 (ack 0)) ∷ [])
-nothing_acknowledged = (refl, refl)
-
-acknowledges_over_a_gap : LastRefused WrongAck (one_missing ++ Sends B (DATA_ACK 1 2 (ack 1)) ∷ [])
-acknowledges_over_a_gap = (refl, refl)
-
-delivered_too_early : LastRefused WrongDelivery (one_missing ++ Does B (Up 2 letters) ∷ [])
-delivered_too_early = (refl, refl)
-
--- the empty message is the second
-second_message_first : LastRefused WrongDelivery (none_missing ++ Does B (Up 2 []) ∷ [])
-second_message_first = (refl, refl)
-
--- b takes two data bytes in a segment
-segment_too_long : LastRefused SegmentTooLong
-    (connected ++ Does A (In 1 letters) ∷ Sends A (SEGMENT 0x20 2 1 (carries 1 (0x61 ∷ 0x62 ∷ 0x63 ∷ []))) ∷ [])
-segment_too_long = (refl, refl)
-
--- after b accepted and before a has the CC, the CI comes again and is ignored; the CC may be sent once more
-repeated_connect : AllMade (opened ++ Sends A (CI_AGAIN 1) ∷ Comes B 1 ∷ Sends B (CC 1 2) ∷ Comes A 1 ∷ [])
-repeated_connect = (refl, refl)
+computed : Rows
+computed = search

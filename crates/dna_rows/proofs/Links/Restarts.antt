@@ -1,58 +1,46 @@
 -- Links live on over starts of the station, with all that they hold.
-use Rattle.std.proofs.Common.{true, false, [], ◌∷◌, ◌++◌, refl}
-use Rattle.wire_base.specs.BlockCheck.{is_good, check_of, after_byte, shift}
+use Rattle.std.proofs.Common.{true, false, [], ◌∷◌, ◌++◌}
 use Rattle.wire_base.specs.declared.side.Side.TheVariants.{B}
-use Rattle.ddcmp_msg.specs.Reading.{reading}
 use Rattle.capture.specs.declared.record.Record.TheVariants.{Sent, Received, User}
 use Rattle.capture.specs.declared.event.Event.TheVariants.{Start, Halt, In, Up}
 use Rattle.dna_station.specs.declared.refusal.StepRefusal.TheVariants.{Links as OfLinks}
 use Rattle.dna_station.specs.declared.link_refusal.LinkRefusal.TheVariants.{WrongAck}
 use Rattle.dna_node.specs.declared.finding.Finding.TheVariants.{Accepted}
 use Rattle.dna_rows.proofs.Verdicts.{Verdict, verdict}
-use Rattle.dna_rows.proofs.Units.{STRT, STACK, ACK, data_of, from_a, from_b, ack, DATA_ACK, SEGMENT, carries}
+use Rattle.dna_rows.proofs.Units.{computing, STRT, STACK, ACK, ack, DATA_ACK, SEGMENT, carries, data_a, data_b}
 use Rattle.dna_rows.proofs.Captures.{confirmed_b, running_a, running_b, refused}
 
--- A link goes on in the next period
-links_outlive_a_restart : Verdict
-    (running_a ++ User Halt ∷ User Start ∷ Sent STRT ∷ Received 2 false STACK ∷ User (In 1 (5 ∷ [])) ∷
-    Sent (data_of 1 0 (from_a (SEGMENT 0x60 2 1 (carries 1 (5 ∷ []))))) ∷ [])
-    (running_b ++ User Halt ∷ User Start ∷ Received 3 false STRT ∷ Sent STACK ∷
-    Received 4 true (data_of 1 0 (from_a (SEGMENT 0x60 2 1 (carries 1 (5 ∷ []))))) ∷ User (Up 2 (5 ∷ [])) ∷ [])
-    Accepted
-unfolding reading is_good check_of after_byte shift
-links_outlive_a_restart = verdict refl
+record Rows : Type 0 where
+  -- A link goes on in the next period
+  links_outlive_a_restart : Verdict
+      (running_a ++ User Halt ∷ User Start ∷ Sent STRT ∷ Received 2 false STACK ∷ User (In 1 (5 ∷ [])) ∷
+      Sent (data_a 1 0 (SEGMENT 0x60 2 1 (carries 1 (5 ∷ [])))) ∷ [])
+      (running_b ++ User Halt ∷ User Start ∷ Received 3 false STRT ∷ Sent STACK ∷
+      Received 4 true (data_a 1 0 (SEGMENT 0x60 2 1 (carries 1 (5 ∷ [])))) ∷ User (Up 2 (5 ∷ [])) ∷ []) Accepted
+  -- what is held over a gap stays held: the second segment comes in the second period, the first in the third
+  what_is_held_over_a_gap_outlives_a_restart : Verdict
+      (running_a ++ User (In 1 (5 ∷ [])) ∷ User (In 1 (6 ∷ [])) ∷ Sent (data_a 3 1 (SEGMENT 0x60 2 1 (carries 1 (5 ∷ [])))) ∷ User Halt ∷ User Start ∷
+      Sent STRT ∷ Received 2 false STACK ∷ Sent (data_a 1 0 (SEGMENT 0x60 2 1 (carries 2 (6 ∷ [])))) ∷ User Halt ∷ User Start ∷ Sent STRT ∷
+      Received 3 false STACK ∷ Sent (data_a 1 0 (SEGMENT 0x60 2 1 (carries 1 (5 ∷ [])))) ∷ [])
+      (confirmed_b ++ User Halt ∷ User Start ∷ Received 4 false STRT ∷ Sent STACK ∷
+      Received 5 true (data_a 1 0 (SEGMENT 0x60 2 1 (carries 2 (6 ∷ [])))) ∷ User Halt ∷ User Start ∷ Received 6 false STRT ∷ Sent STACK ∷
+      Received 7 true (data_a 1 0 (SEGMENT 0x60 2 1 (carries 1 (5 ∷ [])))) ∷ User (Up 2 (5 ∷ [])) ∷ User (Up 2 (6 ∷ [])) ∷ []) Accepted
+  -- the last word stays: none names less than it did
+  the_last_word_sent_outlives_a_restart : Verdict
+      (running_a ++ User (In 1 (5 ∷ [])) ∷ Sent (data_a 3 1 (SEGMENT 0x60 2 1 (carries 1 (5 ∷ [])))) ∷ User Halt ∷ User Start ∷ Sent STRT ∷
+      Received 3 false STACK ∷ Sent (ACK 0) ∷ [])
+      (running_b ++ Received 3 true (data_a 3 1 (SEGMENT 0x60 2 1 (carries 1 (5 ∷ [])))) ∷ Sent (data_b 2 3 (DATA_ACK 1 2 (ack 1))) ∷ User Halt ∷
+      User Start ∷ Received 4 false STRT ∷ Sent STACK ∷ Received 5 false (ACK 0) ∷ Sent (data_b 1 0 (DATA_ACK 1 2 (ack 0))) ∷ [])
+      (refused B 14 (OfLinks WrongAck))
+  -- and the words of a segment that is held over a gap have acknowledged
+  words_of_a_segment_over_a_gap_count : Verdict
+      (running_a ++ User (In 1 (5 ∷ [])) ∷ User (In 1 (6 ∷ [])) ∷ Received 2 true (data_b 2 2 (SEGMENT 0x60 1 2 (carries 1 (7 ∷ [])))) ∷
+      Sent (data_a 3 2 (SEGMENT 0x60 2 1 (carries 1 (5 ∷ [])))) ∷ User Halt ∷ User Start ∷ Sent STRT ∷ Received 3 false STACK ∷
+      Sent (data_a 1 0 (SEGMENT 0x60 2 1 (ack 1 ++ carries 2 (6 ∷ [])))) ∷ [])
+      (running_b ++ User (In 2 (7 ∷ [])) ∷ Sent (data_b 2 2 (SEGMENT 0x60 1 2 (carries 1 (7 ∷ [])))) ∷ User Halt ∷ User Start ∷
+      Received 4 false STRT ∷ Sent STACK ∷ Received 5 true (data_a 1 0 (SEGMENT 0x60 2 1 (ack 1 ++ carries 2 (6 ∷ [])))) ∷
+      Sent (data_b 1 1 (SEGMENT 0 1 2 (carries 1 (6 ∷ [])))) ∷ []) Accepted
 
--- what is held over a gap stays held: the second segment comes in the second period, the first in the third
-what_is_held_over_a_gap_outlives_a_restart : Verdict
-    (running_a ++ User (In 1 (5 ∷ [])) ∷ User (In 1 (6 ∷ [])) ∷ Sent (data_of 3 1 (from_a (SEGMENT 0x60 2 1 (carries 1 (5 ∷ []))))) ∷ User Halt ∷
-    User Start ∷ Sent STRT ∷ Received 2 false STACK ∷ Sent (data_of 1 0 (from_a (SEGMENT 0x60 2 1 (carries 2 (6 ∷ []))))) ∷ User Halt ∷
-    User Start ∷ Sent STRT ∷ Received 3 false STACK ∷ Sent (data_of 1 0 (from_a (SEGMENT 0x60 2 1 (carries 1 (5 ∷ []))))) ∷ [])
-    (confirmed_b ++ User Halt ∷ User Start ∷ Received 4 false STRT ∷ Sent STACK ∷
-    Received 5 true (data_of 1 0 (from_a (SEGMENT 0x60 2 1 (carries 2 (6 ∷ []))))) ∷ User Halt ∷ User Start ∷ Received 6 false STRT ∷ Sent STACK ∷
-    Received 7 true (data_of 1 0 (from_a (SEGMENT 0x60 2 1 (carries 1 (5 ∷ []))))) ∷ User (Up 2 (5 ∷ [])) ∷ User (Up 2 (6 ∷ [])) ∷ [])
-    Accepted
-unfolding reading is_good check_of after_byte shift
-what_is_held_over_a_gap_outlives_a_restart = verdict refl
-
--- the last word stays: none names less than it did
-the_last_word_sent_outlives_a_restart : Verdict
-    (running_a ++ User (In 1 (5 ∷ [])) ∷ Sent (data_of 3 1 (from_a (SEGMENT 0x60 2 1 (carries 1 (5 ∷ []))))) ∷ User Halt ∷ User Start ∷ Sent STRT ∷
-    Received 3 false STACK ∷ Sent (ACK 0) ∷ [])
-    (running_b ++ Received 3 true (data_of 3 1 (from_a (SEGMENT 0x60 2 1 (carries 1 (5 ∷ []))))) ∷
-    Sent (data_of 2 3 (from_b (DATA_ACK 1 2 (ack 1)))) ∷ User Halt ∷ User Start ∷ Received 4 false STRT ∷ Sent STACK ∷ Received 5 false (ACK 0) ∷
-    Sent (data_of 1 0 (from_b (DATA_ACK 1 2 (ack 0)))) ∷ [])
-    (refused B 14 (OfLinks WrongAck))
-unfolding reading is_good check_of after_byte shift
-the_last_word_sent_outlives_a_restart = verdict refl
-
--- and the words of a segment that is held over a gap have acknowledged
-words_of_a_segment_over_a_gap_count : Verdict
-    (running_a ++ User (In 1 (5 ∷ [])) ∷ User (In 1 (6 ∷ [])) ∷ Received 2 true (data_of 2 2 (from_b (SEGMENT 0x60 1 2 (carries 1 (7 ∷ []))))) ∷
-    Sent (data_of 3 2 (from_a (SEGMENT 0x60 2 1 (carries 1 (5 ∷ []))))) ∷ User Halt ∷ User Start ∷ Sent STRT ∷ Received 3 false STACK ∷
-    Sent (data_of 1 0 (from_a (SEGMENT 0x60 2 1 (ack 1 ++ carries 2 (6 ∷ []))))) ∷ [])
-    (running_b ++ User (In 2 (7 ∷ [])) ∷ Sent (data_of 2 2 (from_b (SEGMENT 0x60 1 2 (carries 1 (7 ∷ []))))) ∷ User Halt ∷ User Start ∷
-    Received 4 false STRT ∷ Sent STACK ∷ Received 5 true (data_of 1 0 (from_a (SEGMENT 0x60 2 1 (ack 1 ++ carries 2 (6 ∷ []))))) ∷
-    Sent (data_of 1 1 (from_b (SEGMENT 0 1 2 (carries 1 (6 ∷ []))))) ∷ [])
-    Accepted
-unfolding reading is_good check_of after_byte shift
-words_of_a_segment_over_a_gap_count = verdict refl
+computed : Rows
+unfolding computing
+computed = search (verdict)

@@ -1,6 +1,8 @@
 -- Worked runs of both sides' links: packets are lost, and a segment that was lost at a restart of the line comes when it is sent again.
 use Rattle.std.proofs.Common.{◌≡◌, ℕ, ◌≤◌, Bool, true, false, nat_le, Option, Some, None, List, [], ◌∷◌, ◌++◌, map, refl, Result, Ok, Err, leb-true}
 use Rattle.std.specs.Prelude.{slice_get}
+use Rattle.wire_base.specs.declared.side.Side.{Side}
+use Rattle.wire_base.specs.declared.side.Side.TheVariants.{A, B}
 use Rattle.dna_packet.specs.declared.fault.NspFault.{NspFault}
 use Rattle.dna_packet.specs.Nsp.{NspValue}
 use Rattle.dna_packet.specs.ReadingNsp.{nsp_at}
@@ -14,8 +16,8 @@ use Rattle.dna_links.specs.TrueLinks.{Links, links_user, links_sent, links_arriv
 use Rattle.dna_links.specs.Runs.{SentMessage, LinkSide, LinkWorld, LinkStep, ByUser, Sends, SendsNone, Keeps, KeepsNone, Reached, Start, ByA, ByB}
 use Rattle.dna_links.specs.Runs.{new_world}
 use Rattle.dna_links.specs.Captures.{handed_in, delivered_up, behind}
-use Rattle.dna_rows.proofs.Links.Messages.{CI, CC, DI, DC, DATA_ACK, ack, SEGMENT, carries}
-use Rattle.dna_rows.proofs.Links.Steps.{End, A, B, NODE_A, NODE_B}
+use Rattle.dna_rows.proofs.Units.{CI, CC_2, DI, DC_42, DATA_ACK, ack, SEGMENT, carries}
+use Rattle.dna_rows.proofs.Links.Steps.{NODE_A, NODE_B}
 
 -- What a side does: its user, a packet that is first sent with this message or with none, or the packet at this place that is kept
 data Turn : Type 0 where
@@ -78,10 +80,10 @@ ran_b r None = None
 ran_b r (Some m) = Some (record { world = _; of_a = _; of_b = _; reached = ByB r.reached m.step })
 
 record Step : Type 0 where
-  pub at : End
+  pub at : Side
   pub turn : Turn
 
-abbrev one_more : {start : LinkWorld} → Ran start → (at : End) → Turn → Option (Ran start)
+abbrev one_more : {start : LinkWorld} → Ran start → (at : Side) → Turn → Option (Ran start)
 one_more r A turn = ran_a r (turn_made r.world.a r.world.b turn)
 one_more r B turn = ran_b r (turn_made r.world.b r.world.a turn)
 
@@ -121,58 +123,30 @@ abbrev letters : List ℕ
 letters = 0x61 ∷ 0x62 ∷ 0x63 ∷ []
 
 abbrev connected : List Step
-connected =
-    a (Does (Open 1)) ∷ a FirstNone ∷ a (First (CI 1)) ∷ b (Kept 1) ∷ b (Does (Accept 1 2)) ∷ b (First (CC 1 2)) ∷ a (Kept 0) ∷
+connected = a (Does (Open 1)) ∷ a FirstNone ∷ a (First (CI 1)) ∷ b (Kept 1) ∷ b (Does (Accept 1 2)) ∷ b (First (CC_2 1 2)) ∷ a (Kept 0) ∷
     a (First (DATA_ACK 2 1 (ack 0))) ∷ b (Kept 2) ∷ []
 
 -- the first segment is lost with the period it was sent in, and the second comes; then the first is sent again
 abbrev lost_at_a_restart : List Step
-lost_at_a_restart =
-    connected
-    ++ a (Does (In 1 letters))
-    ∷ a (First (SEGMENT 0x20 2 1 (carries 1 (0x61 ∷ 0x62 ∷ []))))
-    ∷ a (First (SEGMENT 0x40 2 1 (carries 2 (0x63 ∷ []))))
-    ∷ b (Kept 4)
-    ∷ a (First (SEGMENT 0x20 2 1 (carries 1 (0x61 ∷ 0x62 ∷ []))))
-    ∷ b (Kept 5)
-    ∷ b (Does (Up 2 letters))
-    ∷ []
-
-it_is_a_run : shown 0 0 (run_of lost_at_a_restart) ≡ Some (record { up = (letters ∷ []) ∷ []; in_at_a = letters ∷ []; up_at_b = letters ∷ [] })
-it_is_a_run = refl
-
--- a packet is not kept twice, nor behind a later one
-kept_twice : shown 0 0 (run_of (lost_at_a_restart ++ b (Kept 5) ∷ [])) ≡ None
-kept_twice = refl
-
-kept_late : shown 0 0 (run_of (lost_at_a_restart ++ b (Kept 3) ∷ [])) ≡ None
-kept_late = refl
+lost_at_a_restart = connected ++ a (Does (In 1 letters)) ∷ a (First (SEGMENT 0x20 2 1 (carries 1 (0x61 ∷ 0x62 ∷ [])))) ∷
+    a (First (SEGMENT 0x40 2 1 (carries 2 (0x63 ∷ [])))) ∷ b (Kept 4) ∷ a (First (SEGMENT 0x20 2 1 (carries 1 (0x61 ∷ 0x62 ∷ [])))) ∷ b (Kept 5) ∷
+    b (Does (Up 2 letters)) ∷ []
 
 -- the link ends, and both addresses are given again
 abbrev given_again : List Step
-given_again =
-    lost_at_a_restart
-    ++ a (Does (Close 1))
-    ∷ a (First (DI 2 1))
-    ∷ b (Kept 6)
-    ∷ b (First (DC 1 2))
-    ∷ a (Kept 1)
-    ∷ a (Does (Open 1))
-    ∷ a (First (CI 1))
-    ∷ b (Kept 7)
-    ∷ b (Does (Accept 1 2))
-    ∷ b (First (CC 1 2))
-    ∷ a (Kept 2)
-    ∷ a (Does (In 1 (0x78 ∷ [])))
-    ∷ a (First (SEGMENT 0x60 2 1 (carries 1 (0x78 ∷ []))))
-    ∷ b (Kept 8)
-    ∷ b (Does (Up 2 (0x78 ∷ [])))
-    ∷ []
+given_again = lost_at_a_restart ++ a (Does (Close 1)) ∷ a (First (DI 2 1)) ∷ b (Kept 6) ∷ b (First (DC_42 1 2)) ∷ a (Kept 1) ∷ a (Does (Open 1)) ∷
+    a (First (CI 1)) ∷ b (Kept 7) ∷ b (Does (Accept 1 2)) ∷ b (First (CC_2 1 2)) ∷ a (Kept 2) ∷ a (Does (In 1 (0x78 ∷ []))) ∷
+    a (First (SEGMENT 0x60 2 1 (carries 1 (0x78 ∷ [])))) ∷ b (Kept 8) ∷ b (Does (Up 2 (0x78 ∷ []))) ∷ []
 
-first_link : shown 0 0 (run_of given_again) ≡ Some
-    (record { up = (letters ∷ []) ∷ ((0x78 ∷ []) ∷ []) ∷ []; in_at_a = letters ∷ []; up_at_b = letters ∷ [] })
-first_link = refl
+record Rows : Type 0 where
+  it_is_a_run : shown 0 0 (run_of lost_at_a_restart) ≡ Some (record { up = (letters ∷ []) ∷ []; in_at_a = letters ∷ []; up_at_b = letters ∷ [] })
+  -- a packet is not kept twice, nor behind a later one
+  kept_twice : shown 0 0 (run_of (lost_at_a_restart ++ b (Kept 5) ∷ [])) ≡ None
+  kept_late : shown 0 0 (run_of (lost_at_a_restart ++ b (Kept 3) ∷ [])) ≡ None
+  first_link : shown 0 0 (run_of given_again) ≡ Some
+      (record { up = (letters ∷ []) ∷ ((0x78 ∷ []) ∷ []) ∷ []; in_at_a = letters ∷ []; up_at_b = letters ∷ [] })
+  second_link : shown 3 2 (run_of given_again) ≡ Some
+      (record { up = (letters ∷ []) ∷ ((0x78 ∷ []) ∷ []) ∷ []; in_at_a = (0x78 ∷ []) ∷ []; up_at_b = (0x78 ∷ []) ∷ [] })
 
-second_link : shown 3 2 (run_of given_again) ≡ Some
-    (record { up = (letters ∷ []) ∷ ((0x78 ∷ []) ∷ []) ∷ []; in_at_a = (0x78 ∷ []) ∷ []; up_at_b = (0x78 ∷ []) ∷ [] })
-second_link = refl
+computed : Rows
+computed = search

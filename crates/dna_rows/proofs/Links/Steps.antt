@@ -2,6 +2,9 @@
 -- message comes as it was sent, with what is true of it, or with another tag; its bytes are read as a node reads them.
 use Rattle.std.proofs.Common.{◌≡◌, ℕ, Option, Some, None, List, [], ◌∷◌, ◌++◌, Result, Ok, Err}
 use Rattle.std.specs.Prelude.{slice_get}
+use Rattle.wire_base.specs.declared.side.Side.{Side}
+use Rattle.wire_base.specs.declared.side.Side.TheVariants.{A, B}
+use Rattle.wire_base.specs.Side.{other_side}
 use Rattle.dna_packet.specs.declared.fault.NspFault.{NspFault}
 use Rattle.dna_packet.specs.Nsp.{NspValue}
 use Rattle.dna_packet.specs.ReadingNsp.{nsp_at}
@@ -22,34 +25,31 @@ NODE_A = 0x0401
 abbrev pub NODE_B : ℕ
 NODE_B = 0x0402
 
-pub data End : Type 0 where
-  A : End
-  B : End
-
 -- What a node does
 pub data Act : Type 0 where
-  Does : (at : End) (event : LinkEventValue) → Act
-  Sends : (from : End) (bytes : List ℕ) → Act
-  SendsAs : (from : End) (src dst : ℕ) (bytes : List ℕ) → Act
+  Does : (at : Side) (event : LinkEventValue) → Act
+  Sends : (from : Side) (bytes : List ℕ) → Act
+  SendsAs : (from : Side) (src dst : ℕ) (bytes : List ℕ) → Act
   -- message k of the other node comes, counted from 0
-  Comes : (to : End) (k : ℕ) → Act
+  Comes : (to : Side) (k : ℕ) → Act
   -- it comes with another tag
-  ComesAs : (to : End) (k : ℕ) (tag : LinkTag) → Act
+  ComesAs : (to : Side) (k : ℕ) (tag : LinkTag) → Act
   -- a message without numbers comes that the other node did not send
-  Gets : (to : End) (src dst : ℕ) (bytes : List ℕ) (tag : LinkTag) → Act
+  Gets : (to : Side) (src dst : ℕ) (bytes : List ℕ) (tag : LinkTag) → Act
 
 -- a message that was sent, with what is true of it
 pub record SentOne (K : Type 0) : Type 0 where
   pub packet : Carried
   pub truth : LinkTruth K
 
-pub record Side (D K : Type 0) : Type 0 where
+-- the links of one node, and what it has sent
+pub record OneEnd (D K : Type 0) : Type 0 where
   pub state : LinksOf D
   pub sent : List (SentOne K)
 
 pub record Both (D K : Type 0) : Type 0 where
-  pub a : Side D K
-  pub b : Side D K
+  pub a : OneEnd D K
+  pub b : OneEnd D K
 
 -- what becomes of an act; it is not made where bytes are no message, or a message was not sent
 pub data Becomes (X : Type 0) : Type 0 where
@@ -57,59 +57,70 @@ pub data Becomes (X : Type 0) : Type 0 where
   Refuses : (reason : LinkRefusal) → Becomes X
   Fails : Becomes X
 
+abbrev into : {X Y : Type 0} → Becomes X → (X → Becomes Y) → Becomes Y
+into (Makes made) f = f made
+into (Refuses reason) f = Refuses reason
+into Fails f = Fails
+
+abbrev of_result : {X Y : Type 0} → (X → Y) → Result X LinkRefusal → Becomes Y
+of_result f (Ok made) = Makes (f made)
+of_result f (Err reason) = Refuses reason
+
+abbrev if_there : {X : Type 0} → Option X → Becomes X
+if_there None = Fails
+if_there (Some x) = Makes x
+
+-- the message of these bytes
+abbrev read : (src dst : ℕ) → Result NspValue NspFault → Becomes Carried
+read src dst (Ok message) = Makes (record { dst = dst; src = src; message = message })
+read src dst (Err fault) = Fails
+
+abbrev node : Side → ℕ
+node A = NODE_A
+node B = NODE_B
+
 module _ {D K : Type 0} (flows : Flows D K) where
-  abbrev stays : Side D K → Result (LinksOf D) LinkRefusal → Becomes (Side D K)
-  stays own (Ok next) = Makes (record own { state = next })
-  stays own (Err reason) = Refuses reason
+  abbrev end : Side → Both D K → OneEnd D K
+  end A w = w.a
+  end B w = w.b
 
-  abbrev sends : Side D K → Carried → Result (Sent D K) LinkRefusal → Becomes (Side D K)
-  sends own packet (Ok sent) = Makes (record { state = sent.links; sent = own.sent ++ record { packet = packet; truth = sent.truth } ∷ [] })
-  sends own packet (Err reason) = Refuses reason
+  abbrev with_end : Side → Both D K → OneEnd D K → Both D K
+  with_end A w own = record w { a = own }
+  with_end B w own = record w { b = own }
 
-  abbrev sends_read : Side D K → (src dst : ℕ) → Result NspValue NspFault → Becomes (Side D K)
-  sends_read own src dst (Ok message) =
-      sends own (record { dst = dst; src = src; message = message }) (sent_step flows own.state (record { dst = dst; src = src; message = message }))
-  sends_read own src dst (Err fault) = Fails
+  -- ---- what one end makes
 
-  abbrev arrives : Side D K → Carried → LinkTruth K → Becomes (Side D K)
-  arrives own packet truth = stays own (arrived_step flows of_partner own.state packet truth)
+  abbrev does : OneEnd D K → LinkEventValue → Becomes (OneEnd D K)
+  does own event = of_result (λ (next : LinksOf D). record own { state = next }) (user_step flows own.state event)
 
-  abbrev comes : Side D K → Option (SentOne K) → Becomes (Side D K)
-  comes own None = Fails
-  comes own (Some one) = arrives own one.packet one.truth
+  abbrev sends : OneEnd D K → Carried → Becomes (OneEnd D K)
+  sends own packet =
+      of_result (λ (made : Sent D K). record { state = made.links; sent = own.sent ++ record { packet = packet; truth = made.truth } ∷ [] })
+      (sent_step flows own.state packet)
 
-  abbrev comes_as : Side D K → LinkTag → Option (SentOne K) → Becomes (Side D K)
-  comes_as own tag None = Fails
-  comes_as own tag (Some one) = arrives own one.packet (record one.truth { tag = tag })
+  abbrev arrives : OneEnd D K → Carried → LinkTruth K → Becomes (OneEnd D K)
+  arrives own packet truth = of_result (λ (next : LinksOf D). record own { state = next }) (arrived_step flows of_partner own.state packet truth)
 
-  abbrev gets : Side D K → (src dst : ℕ) → LinkTag → Result NspValue NspFault → Becomes (Side D K)
-  gets own src dst tag (Ok message) =
-      arrives own (record { dst = dst; src = src; message = message }) (record { tag = tag; known = flows.sends_other flows.empty })
-  gets own src dst tag (Err fault) = Fails
+  -- ---- what both make
 
-  abbrev at_a : Both D K → Becomes (Side D K) → Becomes (Both D K)
-  at_a w (Makes side) = Makes (record w { a = side })
-  at_a w (Refuses reason) = Refuses reason
-  at_a w Fails = Fails
+  abbrev lands : Side → Both D K → Becomes (OneEnd D K) → Becomes (Both D K)
+  lands at w own = into own (λ (e : OneEnd D K). Makes (with_end at w e))
 
-  abbrev at_b : Both D K → Becomes (Side D K) → Becomes (Both D K)
-  at_b w (Makes side) = Makes (record w { b = side })
-  at_b w (Refuses reason) = Refuses reason
-  at_b w Fails = Fails
+  abbrev read_and_sent : Side → Both D K → (src dst : ℕ) → List ℕ → Becomes (Both D K)
+  read_and_sent from w src dst bytes = lands from w (into (read src dst (nsp_at bytes)) (λ (packet : Carried). sends (end from w) packet))
+
+  abbrev sent_by : Side → Both D K → (k : ℕ) → Becomes (SentOne K)
+  sent_by from w k = if_there (slice_get (end from w).sent k)
 
   abbrev pub act : Both D K → Act → Becomes (Both D K)
-  act w (Does A event) = at_a w (stays w.a (user_step flows w.a.state event))
-  act w (Does B event) = at_b w (stays w.b (user_step flows w.b.state event))
-  act w (Sends A bytes) = at_a w (sends_read w.a NODE_A NODE_B (nsp_at bytes))
-  act w (Sends B bytes) = at_b w (sends_read w.b NODE_B NODE_A (nsp_at bytes))
-  act w (SendsAs A src dst bytes) = at_a w (sends_read w.a src dst (nsp_at bytes))
-  act w (SendsAs B src dst bytes) = at_b w (sends_read w.b src dst (nsp_at bytes))
-  act w (Comes A k) = at_a w (comes w.a (slice_get w.b.sent k))
-  act w (Comes B k) = at_b w (comes w.b (slice_get w.a.sent k))
-  act w (ComesAs A k tag) = at_a w (comes_as w.a tag (slice_get w.b.sent k))
-  act w (ComesAs B k tag) = at_b w (comes_as w.b tag (slice_get w.a.sent k))
-  act w (Gets A src dst bytes tag) = at_a w (gets w.a src dst tag (nsp_at bytes))
-  act w (Gets B src dst bytes tag) = at_b w (gets w.b src dst tag (nsp_at bytes))
+  act w (Does at event) = lands at w (does (end at w) event)
+  act w (Sends from bytes) = read_and_sent from w (node from) (node (other_side from)) bytes
+  act w (SendsAs from src dst bytes) = read_and_sent from w src dst bytes
+  act w (Comes to k) = lands to w (into (sent_by (other_side to) w k) (λ (one : SentOne K). arrives (end to w) one.packet one.truth))
+  act w (ComesAs to k tag) =
+      lands to w (into (sent_by (other_side to) w k) (λ (one : SentOne K). arrives (end to w) one.packet (record one.truth { tag = tag })))
+  act w (Gets to src dst bytes tag) = lands to w (into (read src dst (nsp_at bytes))
+      (λ (packet : Carried). arrives (end to w) packet (record { tag = tag; known = flows.sends_other flows.empty })))
 
   abbrev pub acts : Becomes (Both D K) → List Act → Becomes (Both D K)
   acts w [] = w
@@ -117,44 +128,22 @@ module _ {D K : Type 0} (flows : Flows D K) where
   acts (Refuses reason) (first ∷ later) = Fails
   acts Fails (first ∷ later) = Fails
 
-  abbrev pub new_side : (node peer : ℕ) → Side D K
-  new_side node peer = record { state = no_links node peer; sent = [] }
+  abbrev new_end : (node peer : ℕ) → OneEnd D K
+  new_end node peer = record { state = no_links node peer; sent = [] }
 
-  abbrev pub new_both : Both D K
-  new_both = record { a = new_side NODE_A NODE_B; b = new_side NODE_B NODE_A }
+  abbrev pub after : List Act → Becomes (Both D K)
+  after list = acts (Makes (record { a = new_end NODE_A NODE_B; b = new_end NODE_B NODE_A })) list
 
   -- whether all is made, or the reason why the last act is refused
   abbrev pub end_of : Becomes (Both D K) → Becomes (Unit {0})
-  end_of (Makes w) = Makes tt
-  end_of (Refuses reason) = Refuses reason
-  end_of Fails = Fails
+  end_of w = into w (λ (made : Both D K). Makes tt)
 
-  abbrev pub after : List Act → Becomes (Both D K)
-  after list = acts (Makes new_both) list
+  -- the links of one node, and the tag of message k that it sent
+  abbrev pub links_of : Side → Becomes (Both D K) → Becomes (LinksOf D)
+  links_of at w = into w (λ (made : Both D K). Makes (end at made).state)
 
-  -- the links of one node
-  abbrev links_at : End → Both D K → LinksOf D
-  links_at A w = w.a.state
-  links_at B w = w.b.state
-
-  abbrev pub links_of : End → Becomes (Both D K) → Becomes (LinksOf D)
-  links_of at (Makes w) = Makes (links_at at w)
-  links_of at (Refuses reason) = Refuses reason
-  links_of at Fails = Fails
-
-  -- the tag of message k that a node sent
-  abbrev sent_by : End → Both D K → List (SentOne K)
-  sent_by A w = w.a.sent
-  sent_by B w = w.b.sent
-
-  abbrev tag_of : Option (SentOne K) → Becomes LinkTag
-  tag_of None = Fails
-  tag_of (Some one) = Makes one.truth.tag
-
-  abbrev pub tag_in : End → ℕ → Becomes (Both D K) → Becomes LinkTag
-  tag_in from k (Makes w) = tag_of (slice_get (sent_by from w) k)
-  tag_in from k (Refuses reason) = Refuses reason
-  tag_in from k Fails = Fails
+  abbrev pub tag_in : Side → ℕ → Becomes (Both D K) → Becomes LinkTag
+  tag_in from k w = into w (λ (made : Both D K). into (sent_by from made k) (λ (one : SentOne K). Makes one.truth.tag))
 
 -- All is made, of both flows; or the last act is refused, of both
 abbrev pub AllMade : List Act → Type 0
@@ -164,13 +153,13 @@ abbrev pub LastRefused : LinkRefusal → List Act → Type 0
 LastRefused reason list = (end_of true_flows (after true_flows list) ≡ Refuses reason) × (end_of wire_flows (after wire_flows list) ≡ Refuses reason)
 
 -- What comes after these acts is made, and changes nothing at this node
-abbrev pub ChangesNothing : End → List Act → List Act → Type 0
+abbrev pub ChangesNothing : Side → List Act → List Act → Type 0
 ChangesNothing at list more =
     (links_of true_flows at (after true_flows (list ++ more)) ≡ links_of true_flows at (after true_flows list))
     × (links_of wire_flows at (after wire_flows (list ++ more)) ≡ links_of wire_flows at (after wire_flows list))
     × AllMade (list ++ more)
 
 -- Message k of this node has this tag
-abbrev pub HasTag : End → ℕ → LinkTag → List Act → Type 0
+abbrev pub HasTag : Side → ℕ → LinkTag → List Act → Type 0
 HasTag from k tag list =
     (tag_in true_flows from k (after true_flows list) ≡ Makes tag) × (tag_in wire_flows from k (after wire_flows list) ≡ Makes tag)

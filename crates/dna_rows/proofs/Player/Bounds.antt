@@ -1,11 +1,9 @@
 -- Worked rows of the player: full windows, numbers across their wrap, pieces, the last address, and what no script can show.
-use Rattle.std.proofs.Common.{◌≡◌, ℕ, Bool, true, false, Some, None, List, [], ◌∷◌, Result, Ok, Err, refl, replicate}
+use Rattle.std.proofs.Common.{◌≡◌, ℕ, Bool, true, false, Some, None, List, [], ◌∷◌, Result, Ok, Err, replicate}
 use Rattle.std.specs.Prelude.{codes}
 use Rattle.two_nodes.specs.Nodes.{Half}
-use Rattle.wire_base.specs.BlockCheck.{is_good, check_of, after_byte, shift}
 use Rattle.ddcmp_msg.specs.Message.{Data, Rep}
-use Rattle.ddcmp_msg.specs.Reading.{reading, HeaderBad, DataBad}
-use Rattle.ddcmp_msg.specs.Spelling.{spelling}
+use Rattle.ddcmp_msg.specs.Reading.{HeaderBad, DataBad}
 use Rattle.dna_packet.specs.Nsp.{nsp_bytes}
 use Rattle.capture.specs.declared.record.Record.{Record}
 use Rattle.capture.specs.declared.record.Record.TheVariants.{User}
@@ -13,7 +11,7 @@ use Rattle.capture.specs.declared.event.Event.TheVariants as event
 use Rattle.dna_links.specs.declared.port.Phase.TheVariants.{Running}
 use Rattle.dna_station.specs.declared.state.State.TheVariants as states
 use Rattle.dna_node.specs.Layers.{LayersNode, LayersUnit}
-use Rattle.dna_links.specs.Pieces.{Piece, Unsent}
+use Rattle.dna_links.specs.Pieces.{Piece, Unsent, next_piece}
 use Rattle.dna_station.specs.WireStation.{HeldPacket, StationVariables}
 use Rattle.dna_play.specs.Script.{Start, Send, Deliver, Open, Accept}
 use Rattle.dna_play.specs.Owed.{Owed, arrival_debt}
@@ -22,15 +20,13 @@ use Rattle.dna_play.specs.LinkOwed.{LinkOwed, DataAckTurn, SegmentTurn}
 use Rattle.dna_play.specs.LinkOwed as links_owing
 use Rattle.dna_play.specs.NextSent.{LinkEnd, turn_of, OfLink, choice, SendAgain, SendNew, SendAck, SendRep}
 use Rattle.dna_play.specs.Compose.{turn_message, message_of, no_flags}
-use Rattle.dna_links.specs.Pieces.{next_piece}
-use Rattle.dna_play.specs.Player.{End, new_end, end_step}
-use Rattle.dna_play.specs.Stepped.{Stop, BadStep, Full, Stepped}
 use Rattle.dna_play.specs.Play.{plays}
-use Rattle.dna_play.specs.Played.{Played, Stopped, plays_step, play}
-use Rattle.dna_rows.proofs.Station.Units.{head_1, head_2}
-use Rattle.dna_rows.proofs.Player.Steps.{a, b, hex, script, called}
-
--- ---- the station
+use Rattle.dna_play.specs.Player.{End, new_end}
+use Rattle.dna_play.specs.Stepped.{Stop, BadStep, Full, Stepped}
+use Rattle.dna_play.specs.Played.{Played, Stopped, play}
+use Rattle.dna_rows.proofs.Courses.{head_1, head_2}
+use Rattle.dna_rows.proofs.Units.{hex}
+use Rattle.dna_rows.proofs.Scripts.{a, b, script, called, playing}
 
 abbrev packet : HeldPacket (Unit {0})
 packet = record { body = 5 ∷ []; label = None }
@@ -42,32 +38,6 @@ station received acknowledged outstanding ahead =
 
 abbrev owes_ack : Owed
 owes_ack = record owing.nothing { ack = true }
-
--- a new packet while 254 are outstanding, and none while 255 are
-room_for_one : choice (station 0 0 254 254) owes_ack (Some (OfLink 0 SegmentTurn)) ≡ Some (SendNew (OfLink 0 SegmentTurn))
-room_for_one = refl
-
-no_room : choice (station 0 0 255 255) owes_ack (Some (OfLink 0 SegmentTurn)) ≡ Some SendAck
-no_room = refl
-
-repeats_when_full : choice (station 0 0 255 254) owes_ack (Some (OfLink 0 SegmentTurn)) ≡ Some SendAgain
-repeats_when_full = refl
-
--- number 256 is 0 on the line, and so is the highest given in a REP; RESP is R
-number_across_the_wrap : message_of SendAgain head_1 (station 7 255 1 0) [] ≡ Some (Data no_flags 7 0 (5 ∷ []))
-number_across_the_wrap = refl
-
-rep_across_the_wrap : message_of SendRep head_1 (station 7 254 2 2) [] ≡ Some (Rep no_flags 0)
-rep_across_the_wrap = refl
-
--- damage brings a NAK in RUNNING alone
-damage_in_astrt : arrival_debt (record (station 0 0 0 0) { state = states.Astrt }) HeaderBad false ≡ None
-damage_in_astrt = refl
-
-bad_data_in_istrt : arrival_debt (record (station 0 0 0 0) { state = states.Istrt }) DataBad false ≡ None
-bad_data_in_istrt = refl
-
--- ---- links
 
 abbrev letter : Piece
 letter = record { begins = true; ends = true; body = 0x61 ∷ [] }
@@ -87,47 +57,8 @@ link acknowledged outstanding ahead = record {
   owed = record links_owing.nothing { ahead = ahead };
 }
 
--- a new segment while 2,046 are outstanding, and none while 2,047 are
-room_for_a_segment : turn_of (link 0 2046 2046) ≡ Some SegmentTurn
-room_for_a_segment = refl
-
-no_room_for_a_segment : turn_of (link 0 2047 2047) ≡ None
-no_room_for_a_segment = refl
-
-repeats_a_segment_when_full : turn_of (link 0 2047 2046) ≡ Some SegmentTurn
-repeats_a_segment_when_full = refl
-
--- number 4,096 is 0 on the line, new and again; a data ack has R
-segment_across_the_wrap : nsp_bytes (turn_message SegmentTurn (link 4095 0 0)) ≡ hex (codes "6002000100000062")
-segment_across_the_wrap = refl
-
-segment_again_across_the_wrap : nsp_bytes (turn_message SegmentTurn (link 4094 3 1)) ≡ hex (codes "6002000100000061")
-segment_again_across_the_wrap = refl
-
-data_ack_below_the_wrap : nsp_bytes (turn_message DataAckTurn (link 0 0 0)) ≡ hex (codes "0402000100ff8f")
-data_ack_below_the_wrap = refl
-
--- ---- pieces: 512 bytes of a message, or all that is left
-
 abbrev unsent : Bool → (length : ℕ) → Unsent
 unsent begun length = record { begun = begun; messages = replicate length 7 ∷ (8 ∷ []) ∷ [] }
-
-longest_message_in_one : next_piece (unsent false 512) ≡ record { begins = true; ends = true; body = replicate 512 7 }
-longest_message_in_one = refl
-
-first_of_two : next_piece (unsent false 513) ≡ record { begins = true; ends = false; body = replicate 512 7 }
-first_of_two = refl
-
-piece_between : next_piece (unsent true 513) ≡ record { begins = false; ends = false; body = replicate 512 7 }
-piece_between = refl
-
-last_of_two : next_piece (unsent true 1) ≡ record { begins = false; ends = true; body = 7 ∷ [] }
-last_of_two = refl
-
-piece_of_nothing : next_piece (unsent false 0) ≡ record { begins = true; ends = true; body = [] }
-piece_of_nothing = refl
-
--- ---- addresses
 
 -- an end that has given so many addresses
 abbrev with_given : ℕ → End → End
@@ -144,26 +75,43 @@ abbrev records_of : Result Stepped Stop → Result (List Record) Stop
 records_of (Ok stepped) = Ok stepped.records
 records_of (Err stop) = Err stop
 
-last_address : records_of (plays (with_given 65534 (new_end head_1)) nothing_there Open) ≡ Ok (User (event.Open 65535) ∷ [])
-unfolding end_step plays
-last_address = refl
+record Rows : Type 0 where
+  -- ---- the station
+  -- a new packet while 254 are outstanding, and none while 255 are
+  room_for_one : choice (station 0 0 254 254) owes_ack (Some (OfLink 0 SegmentTurn)) ≡ Some (SendNew (OfLink 0 SegmentTurn))
+  no_room : choice (station 0 0 255 255) owes_ack (Some (OfLink 0 SegmentTurn)) ≡ Some SendAck
+  repeats_when_full : choice (station 0 0 255 254) owes_ack (Some (OfLink 0 SegmentTurn)) ≡ Some SendAgain
+  -- number 256 is 0 on the line, and so is the highest given in a REP; RESP is R
+  number_across_the_wrap : message_of SendAgain head_1 (station 7 255 1 0) [] ≡ Some (Data no_flags 7 0 (5 ∷ []))
+  rep_across_the_wrap : message_of SendRep head_1 (station 7 254 2 2) [] ≡ Some (Rep no_flags 0)
+  -- damage brings a NAK in RUNNING alone
+  damage_in_astrt : arrival_debt (record (station 0 0 0 0) { state = states.Astrt }) HeaderBad false ≡ None
+  bad_data_in_istrt : arrival_debt (record (station 0 0 0 0) { state = states.Istrt }) DataBad false ≡ None
+  -- ---- links
+  -- a new segment while 2,046 are outstanding, and none while 2,047 are
+  room_for_a_segment : turn_of (link 0 2046 2046) ≡ Some SegmentTurn
+  no_room_for_a_segment : turn_of (link 0 2047 2047) ≡ None
+  repeats_a_segment_when_full : turn_of (link 0 2047 2046) ≡ Some SegmentTurn
+  -- number 4,096 is 0 on the line, new and again; a data ack has R
+  segment_across_the_wrap : nsp_bytes (turn_message SegmentTurn (link 4095 0 0)) ≡ hex (codes "6002000100000062")
+  segment_again_across_the_wrap : nsp_bytes (turn_message SegmentTurn (link 4094 3 1)) ≡ hex (codes "6002000100000061")
+  data_ack_below_the_wrap : nsp_bytes (turn_message DataAckTurn (link 0 0 0)) ≡ hex (codes "0402000100ff8f")
+  -- ---- pieces: 512 bytes of a message, or all that is left
+  longest_message_in_one : next_piece (unsent false 512) ≡ record { begins = true; ends = true; body = replicate 512 7 }
+  first_of_two : next_piece (unsent false 513) ≡ record { begins = true; ends = false; body = replicate 512 7 }
+  piece_between : next_piece (unsent true 513) ≡ record { begins = false; ends = false; body = replicate 512 7 }
+  last_of_two : next_piece (unsent true 1) ≡ record { begins = false; ends = true; body = 7 ∷ [] }
+  piece_of_nothing : next_piece (unsent false 0) ≡ record { begins = true; ends = true; body = [] }
+  -- ---- addresses
+  last_address : records_of (plays (with_given 65534 (new_end head_1)) nothing_there Open) ≡ Ok (User (event.Open 65535) ∷ [])
+  no_address : records_of (plays (with_given 65535 (new_end head_1)) nothing_there Open) ≡ Err Full
+  -- an answer wants a call, and then an address
+  no_address_for_the_answer : records_of (plays (with_given 65535 (end_b (play (script called)))) nothing_there (Accept 1)) ≡ Err Full
+  no_call_and_no_address : records_of (plays (with_given 65535 (end_b (play (script called)))) nothing_there (Accept 2)) ≡ Err BadStep
+  -- ---- data that lead from ASTRT to RUNNING and are taken bring ACK; the connect ack that goes first clears it
+  data_in_astrt_bring_ack :
+      (end_b (play (script (a Start ∷ b Start ∷ a Send ∷ b Deliver ∷ b Send ∷ a Deliver ∷ a Open ∷ a Send ∷ b Deliver ∷ [])))).owed ≡ owes_ack
 
-no_address : records_of (plays (with_given 65535 (new_end head_1)) nothing_there Open) ≡ Err Full
-unfolding end_step plays
-no_address = refl
-
--- an answer wants a call, and then an address
-no_address_for_the_answer : records_of (plays (with_given 65535 (end_b (play (script called)))) nothing_there (Accept 1)) ≡ Err Full
-unfolding reading spelling is_good check_of after_byte shift end_step plays plays_step
-no_address_for_the_answer = refl
-
-no_call_and_no_address : records_of (plays (with_given 65535 (end_b (play (script called)))) nothing_there (Accept 2)) ≡ Err BadStep
-unfolding reading spelling is_good check_of after_byte shift end_step plays plays_step
-no_call_and_no_address = refl
-
--- ---- data that lead from ASTRT to RUNNING and are taken bring ACK; the connect ack that goes first clears it
-
-data_in_astrt_bring_ack :
-    (end_b (play (script (a Start ∷ b Start ∷ a Send ∷ b Deliver ∷ b Send ∷ a Deliver ∷ a Open ∷ a Send ∷ b Deliver ∷ [])))).owed ≡ owes_ack
-unfolding reading spelling is_good check_of after_byte shift end_step plays plays_step
-data_in_astrt_bring_ack = refl
+computed : Rows
+unfolding playing
+computed = search

@@ -1,119 +1,45 @@
 -- Pairs of captures that tell a rule from its turn, computed from the definitions: what comes in HALTED. A row is named for the state, the
 -- message, and the turn whose answer is another: an effect left out or added, another need, or a receipt that says it kept a packet.
-use Rattle.std.proofs.Common.{true, false, [], ◌∷◌, ◌++◌, refl}
-use Rattle.two_nodes.specs.Nodes.{Done, OfA, OfB, Refused}
-use Rattle.wire_base.specs.BlockCheck.{is_good, check_of, after_byte, shift}
-use Rattle.ddcmp_msg.specs.Reading.{reading}
+use Rattle.std.proofs.Common.{true, false, [], ◌∷◌, ◌++◌}
+use Rattle.wire_base.specs.declared.side.Side.TheVariants.{A, B}
 use Rattle.capture.specs.declared.record.Record.TheVariants.{Sent, Received, User}
 use Rattle.capture.specs.declared.event.Event.TheVariants.{Start, Halt}
 use Rattle.dna_station.specs.declared.refusal.StationRefusal.TheVariants.{WrongKeep}
-use Rattle.dna_station.specs.declared.refusal.StepRefusal.TheVariants.{Station as OfStation}
-use Rattle.dna_rows.proofs.Station.Units.{STRT, STACK, ACK0, DATA1, damaged_DATA1, REP1, IsRowRun, EndsAt, EndsAtA}
-use Rattle.dna_rows.proofs.Station.PairUnits.{NAK_OVERRUN0, damaged_STRT, started, answered}
+use Rattle.dna_rows.proofs.Units.{computing, STRT, STACK, ACK, NAK, REP, DATA}
+use Rattle.dna_rows.proofs.Captures.{started, answered}
+use Rattle.dna_rows.proofs.Courses.{runs, ends}
+use Rattle.dna_rows.proofs.Station.Units.{damaged_DATA, damaged_STRT, Runs, EndsAt, refused}
 
--- ---- HALTED, STRT comes
+record Rows : Type 0 where
+  -- ---- HALTED, STRT comes
+  halted_strt_kept : EndsAt B (User Start ∷ Sent STRT ∷ []) [] (Received 0 true STRT) (refused WrongKeep)
+  halted_strt_with_go_to_astrt : Runs (User Start ∷ Sent STRT ∷ []) (Received 0 false STRT ∷ User Start ∷ [])
+  -- ---- HALTED, STACK comes
+  halted_stack_needs_fresh : Runs (User Start ∷ Sent STRT ∷ User Halt ∷ User Start ∷ User Halt ∷ Received 0 false STACK ∷ []) answered
+  halted_stack_kept : EndsAt A (User Start ∷ Sent STRT ∷ User Halt ∷ []) answered (Received 0 true STACK) (refused WrongKeep)
+  halted_stack_with_go_to_running : Runs (User Start ∷ Sent STRT ∷ User Halt ∷ Received 0 false STACK ∷ User Start ∷ []) answered
+  -- ---- HALTED, ACK comes
+  halted_ack_needs_fresh : Runs (started ++ Sent (ACK 0) ∷ []) (answered ++ User Halt ∷ User Start ∷ User Halt ∷ Received 1 false (ACK 0) ∷ [])
+  halted_ack_with_go_to_running : Runs (started ++ Sent (ACK 0) ∷ []) (answered ++ User Halt ∷ Received 1 false (ACK 0) ∷ User Start ∷ [])
+  halted_ack_kept : EndsAt B (started ++ Sent (ACK 0) ∷ []) (answered ++ User Halt ∷ []) (Received 1 true (ACK 0)) (refused WrongKeep)
+  -- ---- HALTED, NAK comes
+  halted_nak_needs_fresh : Runs (started ++ Sent (NAK 9 0) ∷ []) (answered ++ User Halt ∷ User Start ∷ User Halt ∷ Received 1 false (NAK 9 0) ∷ [])
+  halted_nak_kept : EndsAt B (started ++ Sent (NAK 9 0) ∷ []) (answered ++ User Halt ∷ []) (Received 1 true (NAK 9 0)) (refused WrongKeep)
+  -- ---- HALTED, REP comes
+  halted_rep_needs_fresh : Runs (started ++ Sent (DATA 1 0) ∷ Sent (REP 1) ∷ [])
+      (answered ++ User Halt ∷ User Start ∷ User Halt ∷ Received 2 false (REP 1) ∷ [])
+  halted_rep_kept : EndsAt B (started ++ Sent (DATA 1 0) ∷ Sent (REP 1) ∷ []) (answered ++ User Halt ∷ []) (Received 2 true (REP 1))
+      (refused WrongKeep)
+  -- ---- HALTED, data comes
+  halted_data_needs_fresh : Runs (started ++ Sent (DATA 1 0) ∷ []) (answered ++ User Halt ∷ User Start ∷ User Halt ∷ Received 1 false (DATA 1 0) ∷ [])
+  halted_data_with_go_to_running : Runs (started ++ Sent (DATA 1 0) ∷ []) (answered ++ User Halt ∷ Received 1 false (DATA 1 0) ∷ User Start ∷ [])
+  halted_data_with_take_packet : EndsAt B (started ++ Sent (DATA 1 0) ∷ []) (answered ++ User Halt ∷ []) (Received 1 true (DATA 1 0))
+      (refused WrongKeep)
+  -- ---- HALTED, bad header comes
+  halted_bad_header_kept : EndsAt B (User Start ∷ Sent STRT ∷ []) [] (Received 0 true damaged_STRT) (refused WrongKeep)
+  -- ---- HALTED, bad data comes
+  halted_bad_data_kept : EndsAt B (User Start ∷ Sent STRT ∷ []) [] (Received 0 true damaged_DATA) (refused WrongKeep)
 
-halted_strt_kept : EndsAt (User Start ∷ Sent STRT ∷ []) [] (Received 0 true STRT) (Refused (OfStation WrongKeep))
-unfolding reading is_good check_of after_byte shift
-halted_strt_kept = record { world = _; run = OfA refl (OfA refl Done); becomes = refl }
-
-halted_strt_with_go_to_astrt : IsRowRun (User Start ∷ Sent STRT ∷ []) (Received 0 false STRT ∷ User Start ∷ [])
-unfolding reading is_good check_of after_byte shift
-halted_strt_with_go_to_astrt = (_, OfA refl (OfA refl (OfB refl (OfB refl Done))))
-
--- ---- HALTED, STACK comes
-
-halted_stack_needs_fresh : IsRowRun (User Start ∷ Sent STRT ∷ User Halt ∷ User Start ∷ User Halt ∷ Received 0 false STACK ∷ []) answered
-unfolding reading is_good check_of after_byte shift
-halted_stack_needs_fresh = (_, OfA refl (OfA refl (OfA refl (OfA refl (OfA refl (OfB refl (OfB refl (OfB refl (OfA refl Done)))))))))
-
-halted_stack_kept : EndsAtA (User Start ∷ Sent STRT ∷ User Halt ∷ []) answered (Received 0 true STACK) (Refused (OfStation WrongKeep))
-unfolding reading is_good check_of after_byte shift
-halted_stack_kept = record { world = _; run = OfA refl (OfA refl (OfA refl (OfB refl (OfB refl (OfB refl Done))))); becomes = refl }
-
-halted_stack_with_go_to_running : IsRowRun (User Start ∷ Sent STRT ∷ User Halt ∷ Received 0 false STACK ∷ User Start ∷ []) answered
-unfolding reading is_good check_of after_byte shift
-halted_stack_with_go_to_running = (_, OfA refl (OfA refl (OfA refl (OfB refl (OfB refl (OfB refl (OfA refl (OfA refl Done))))))))
-
--- ---- HALTED, ACK comes
-
-halted_ack_needs_fresh : IsRowRun (started ++ Sent ACK0 ∷ []) (answered ++ User Halt ∷ User Start ∷ User Halt ∷ Received 1 false ACK0 ∷ [])
-unfolding reading is_good check_of after_byte shift
-halted_ack_needs_fresh =
-    (_, OfA refl (OfA refl (OfB refl (OfB refl (OfB refl (OfA refl (OfA refl (OfB refl (OfB refl (OfB refl (OfB refl Done)))))))))))
-
-halted_ack_with_go_to_running : IsRowRun (started ++ Sent ACK0 ∷ []) (answered ++ User Halt ∷ Received 1 false ACK0 ∷ User Start ∷ [])
-unfolding reading is_good check_of after_byte shift
-halted_ack_with_go_to_running = (_, OfA refl (OfA refl (OfB refl (OfB refl (OfB refl (OfA refl (OfA refl (OfB refl (OfB refl (OfB refl Done))))))))))
-
-halted_ack_kept : EndsAt (started ++ Sent ACK0 ∷ []) (answered ++ User Halt ∷ []) (Received 1 true ACK0) (Refused (OfStation WrongKeep))
-unfolding reading is_good check_of after_byte shift
-halted_ack_kept = record {
-  world = _;
-  run = OfA refl (OfA refl (OfB refl (OfB refl (OfB refl (OfA refl (OfA refl (OfB refl Done)))))));
-  becomes =
-      refl;
-}
-
--- ---- HALTED, NAK comes
-
-halted_nak_needs_fresh : IsRowRun (started ++ Sent NAK_OVERRUN0 ∷ [])
-    (answered ++ User Halt ∷ User Start ∷ User Halt ∷ Received 1 false NAK_OVERRUN0 ∷ [])
-unfolding reading is_good check_of after_byte shift
-halted_nak_needs_fresh =
-    (_, OfA refl (OfA refl (OfB refl (OfB refl (OfB refl (OfA refl (OfA refl (OfB refl (OfB refl (OfB refl (OfB refl Done)))))))))))
-
-halted_nak_kept : EndsAt (started ++ Sent NAK_OVERRUN0 ∷ []) (answered ++ User Halt ∷ []) (Received 1 true NAK_OVERRUN0)
-    (Refused (OfStation WrongKeep))
-unfolding reading is_good check_of after_byte shift
-halted_nak_kept = record {
-  world = _;
-  run = OfA refl (OfA refl (OfB refl (OfB refl (OfB refl (OfA refl (OfA refl (OfB refl Done)))))));
-  becomes =
-      refl;
-}
-
--- ---- HALTED, REP comes
-
-halted_rep_needs_fresh : IsRowRun (started ++ Sent DATA1 ∷ Sent REP1 ∷ [])
-    (answered ++ User Halt ∷ User Start ∷ User Halt ∷ Received 2 false REP1 ∷ [])
-unfolding reading is_good check_of after_byte shift
-halted_rep_needs_fresh =
-    (_, OfA refl (OfA refl (OfB refl (OfB refl (OfB refl (OfA refl (OfA refl (OfA refl (OfB refl (OfB refl (OfB refl (OfB refl Done))))))))))))
-
-halted_rep_kept : EndsAt (started ++ Sent DATA1 ∷ Sent REP1 ∷ []) (answered ++ User Halt ∷ []) (Received 2 true REP1) (Refused (OfStation WrongKeep))
-unfolding reading is_good check_of after_byte shift
-halted_rep_kept = record {
-  world = _;
-  run = OfA refl (OfA refl (OfB refl (OfB refl (OfB refl (OfA refl (OfA refl (OfA refl (OfB refl Done))))))));
-  becomes = refl;
-}
-
--- ---- HALTED, data comes
-
-halted_data_needs_fresh : IsRowRun (started ++ Sent DATA1 ∷ []) (answered ++ User Halt ∷ User Start ∷ User Halt ∷ Received 1 false DATA1 ∷ [])
-unfolding reading is_good check_of after_byte shift
-halted_data_needs_fresh =
-    (_, OfA refl (OfA refl (OfB refl (OfB refl (OfB refl (OfA refl (OfA refl (OfB refl (OfB refl (OfB refl (OfB refl Done)))))))))))
-
-halted_data_with_go_to_running : IsRowRun (started ++ Sent DATA1 ∷ []) (answered ++ User Halt ∷ Received 1 false DATA1 ∷ User Start ∷ [])
-unfolding reading is_good check_of after_byte shift
-halted_data_with_go_to_running = (_, OfA refl (OfA refl (OfB refl (OfB refl (OfB refl (OfA refl (OfA refl (OfB refl (OfB refl (OfB refl Done))))))))))
-
-halted_data_with_take_packet : EndsAt (started ++ Sent DATA1 ∷ []) (answered ++ User Halt ∷ []) (Received 1 true DATA1)
-    (Refused (OfStation WrongKeep))
-unfolding reading is_good check_of after_byte shift
-halted_data_with_take_packet =
-    record { world = _; run = OfA refl (OfA refl (OfB refl (OfB refl (OfB refl (OfA refl (OfA refl (OfB refl Done))))))); becomes = refl }
-
--- ---- HALTED, bad header comes
-
-halted_bad_header_kept : EndsAt (User Start ∷ Sent STRT ∷ []) [] (Received 0 true damaged_STRT) (Refused (OfStation WrongKeep))
-unfolding reading is_good check_of after_byte shift
-halted_bad_header_kept = record { world = _; run = OfA refl (OfA refl Done); becomes = refl }
-
--- ---- HALTED, bad data comes
-
-halted_bad_data_kept : EndsAt (User Start ∷ Sent STRT ∷ []) [] (Received 0 true damaged_DATA1) (Refused (OfStation WrongKeep))
-unfolding reading is_good check_of after_byte shift
-halted_bad_data_kept = record { world = _; run = OfA refl (OfA refl Done); becomes = refl }
+computed : Rows
+unfolding computing
+computed = search (runs, ends)

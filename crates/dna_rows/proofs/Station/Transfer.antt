@@ -1,153 +1,67 @@
 -- Worked rows of data transfer, computed from the definitions like those of startup.
-use Rattle.std.proofs.Common.{◌≡◌, true, false, List, [], ◌∷◌, ◌++◌, refl}
-use Rattle.two_nodes.specs.Nodes.{Done, OfA, OfB, Refused}
-use Rattle.wire_base.specs.BlockCheck.{is_good, check_of, after_byte, shift}
-use Rattle.ddcmp_msg.specs.Reading.{reading}
+use Rattle.std.proofs.Common.{true, false, List, [], ◌∷◌, ◌++◌, ◌≡◌}
+use Rattle.wire_base.specs.declared.side.Side.TheVariants.{A, B}
 use Rattle.capture.specs.declared.record.Record.{Record}
 use Rattle.capture.specs.declared.record.Record.TheVariants.{Sent, Received, User}
 use Rattle.capture.specs.declared.event.Event.TheVariants.{Start, Halt}
 use Rattle.dna_station.specs.declared.refusal.StationRefusal.TheVariants.{WrongState, WrongNumber, WrongResponse, Changed, NoCause, WrongKeep}
 use Rattle.dna_station.specs.declared.refusal.StationRefusal.TheVariants.{WrongUserEvent}
-use Rattle.dna_station.specs.declared.refusal.StepRefusal.TheVariants.{Station as OfStation}
+use Rattle.dna_rows.proofs.Units.{computing, ACK, NAK, REP, DATA, data_of}
+use Rattle.dna_rows.proofs.Captures.{answered, acked_a}
+use Rattle.dna_rows.proofs.Courses.{runs, ends}
+use Rattle.dna_rows.proofs.Station.Units.{damaged_DATA, Runs, EndsAt, refused}
 use Rattle.dna_station.specs.Offered.{offered}
-use Rattle.dna_rows.proofs.Station.Units.{STRT, STACK, ACK0, ACK1, DATA1, DATA2, damaged_DATA1, other_DATA1, NAK_DATA0, NAK_DATA1, REP0, REP1}
-use Rattle.dna_rows.proofs.Station.Units.{DATA1_RESP1, NAK_REP0, NAK_REP1, NAK_BUFFER0, NAK_OVERRUN1, EndsAt, EndsAtA, IsRowRun}
-
--- a starts, b answers; nothing of a is sent yet
-abbrev pub started_a : List Record
-started_a = User Start ∷ Sent STRT ∷ Received 0 false STACK ∷ Sent ACK0 ∷ []
-
-abbrev pub started_b : List Record
-started_b = User Start ∷ Received 0 false STRT ∷ Sent STACK ∷ []
-
--- one packet is kept
-one_packet_kept : IsRowRun (started_a ++ Sent DATA1 ∷ []) (started_b ++ Received 1 false ACK0 ∷ Received 2 true DATA1 ∷ [])
-unfolding reading is_good check_of after_byte shift
-one_packet_kept = (_, OfA refl (OfA refl (OfB refl (OfB refl (OfB refl (OfA refl (OfA refl (OfB refl (OfA refl (OfB refl Done))))))))))
 
 -- the second packet comes first: it ends b's startup and is not taken
 abbrev second_first_a : List Record
-second_first_a = started_a ++ Sent DATA1 ∷ Sent DATA2 ∷ []
-
-second_packet_first : IsRowRun second_first_a (started_b ++ Received 3 false DATA2 ∷ [])
-unfolding reading is_good check_of after_byte shift
-second_packet_first = (_, OfA refl (OfA refl (OfB refl (OfB refl (OfB refl (OfA refl (OfA refl (OfA refl (OfA refl (OfB refl Done))))))))))
-
-second_packet_kept : EndsAt second_first_a started_b (Received 3 true DATA2) (Refused (OfStation WrongKeep))
-unfolding reading is_good check_of after_byte shift
-second_packet_kept =
-    record { world = _; run = OfA refl (OfA refl (OfB refl (OfB refl (OfB refl (OfA refl (OfA refl (OfA refl (OfA refl Done)))))))); becomes = refl }
+second_first_a = acked_a ++ Sent (DATA 1 0) ∷ Sent (DATA 2 0) ∷ []
 
 -- the packet comes damaged, is asked for by a NAK and repeated
 abbrev repeated_a : List Record
-repeated_a = started_a ++ Sent DATA1 ∷ Received 1 false NAK_DATA0 ∷ Sent DATA1 ∷ []
+repeated_a = acked_a ++ Sent (DATA 1 0) ∷ Received 1 false (NAK 2 0) ∷ Sent (DATA 1 0) ∷ []
 
 abbrev repeated_b : List Record
-repeated_b = started_b ++ Received 1 false ACK0 ∷ Received 2 false damaged_DATA1 ∷ Sent NAK_DATA0 ∷ Received 3 true DATA1 ∷ []
-
-damaged_and_repeated : IsRowRun repeated_a repeated_b
-unfolding reading is_good check_of after_byte shift
-damaged_and_repeated = (
-  _,
-  OfA refl (OfA refl (OfB refl
-      (OfB refl (OfB refl (OfA refl (OfA refl (OfB refl (OfA refl (OfB refl (OfB refl (OfA refl (OfA refl (OfB refl Done))))))))))))),
-)
-
--- the cause of the NAK is used up
-second_nak : EndsAt repeated_a repeated_b (Sent NAK_DATA1) (Refused (OfStation NoCause))
-unfolding reading is_good check_of after_byte shift
-second_nak = record {
-  world = _;
-  run =
-      OfA refl (OfA refl (OfB refl (OfB refl
-      (OfB refl (OfA refl (OfA refl (OfB refl (OfA refl (OfB refl (OfB refl (OfA refl (OfA refl (OfB refl Done)))))))))))));
-  becomes = refl;
-}
-
--- the packet is repeated with other data
-changed_packet : EndsAtA (started_a ++ Sent DATA1 ∷ Received 1 false NAK_DATA0 ∷ [])
-    (started_b ++ Received 1 false ACK0 ∷ Received 2 false damaged_DATA1 ∷ Sent NAK_DATA0 ∷ []) (Sent other_DATA1) (Refused (OfStation Changed))
-unfolding reading is_good check_of after_byte shift
-changed_packet = record {
-  world = _;
-  run = OfA refl (OfA refl
-      (OfB refl (OfB refl (OfB refl (OfA refl (OfA refl (OfB refl (OfA refl (OfB refl (OfB refl (OfA refl Done)))))))))));
-  becomes = refl;
-}
-
--- a start in RUNNING
-starts_while_running : EndsAtA started_a started_b (User Start) (Refused (OfStation WrongUserEvent))
-unfolding reading is_good check_of after_byte shift
-starts_while_running = record { world = _; run = OfA refl (OfA refl (OfB refl (OfB refl (OfB refl (OfA refl (OfA refl Done)))))); becomes = refl }
+repeated_b = answered ++ Received 1 false (ACK 0) ∷ Received 2 false damaged_DATA ∷ Sent (NAK 2 0) ∷ Received 3 true (DATA 1 0) ∷ []
 
 -- the packet is lost; a REP asks for it, a NAK answers, and it is repeated
 abbrev asked_for_a : List Record
-asked_for_a = started_a ++ Sent DATA1 ∷ Sent REP1 ∷ Received 1 false NAK_REP0 ∷ Sent DATA1 ∷ []
+asked_for_a = acked_a ++ Sent (DATA 1 0) ∷ Sent (REP 1) ∷ Received 1 false (NAK 3 0) ∷ Sent (DATA 1 0) ∷ []
 
 abbrev asked_for_b : List Record
-asked_for_b = started_b ++ Received 1 false ACK0 ∷ Received 3 false REP1 ∷ Sent NAK_REP0 ∷ Received 4 true DATA1 ∷ []
+asked_for_b = answered ++ Received 1 false (ACK 0) ∷ Received 3 false (REP 1) ∷ Sent (NAK 3 0) ∷ Received 4 true (DATA 1 0) ∷ []
 
-rep_answered : IsRowRun asked_for_a asked_for_b
-unfolding reading is_good check_of after_byte shift
-rep_answered = (
-  _,
-  OfA refl
-      (OfA refl (OfB refl (OfB refl (OfB refl
-      (OfA refl (OfA refl (OfA refl (OfA refl (OfB refl (OfB refl (OfB refl (OfA refl (OfA refl (OfB refl Done)))))))))))))),
-)
+record Rows : Type 0 where
+  -- one packet is kept
+  one_packet_kept : Runs (acked_a ++ Sent (DATA 1 0) ∷ []) (answered ++ Received 1 false (ACK 0) ∷ Received 2 true (DATA 1 0) ∷ [])
+  second_packet_first : Runs second_first_a (answered ++ Received 3 false (DATA 2 0) ∷ [])
+  second_packet_kept : EndsAt B second_first_a answered (Received 3 true (DATA 2 0)) (refused WrongKeep)
+  damaged_and_repeated : Runs repeated_a repeated_b
+  -- the cause of the NAK is used up
+  second_nak : EndsAt B repeated_a repeated_b (Sent (NAK 2 1)) (refused NoCause)
+  -- the packet is repeated with other data
+  changed_packet : EndsAt A (acked_a ++ Sent (DATA 1 0) ∷ Received 1 false (NAK 2 0) ∷ [])
+      (answered ++ Received 1 false (ACK 0) ∷ Received 2 false damaged_DATA ∷ Sent (NAK 2 0) ∷ []) (Sent (data_of 1 0 (6 ∷ []))) (refused Changed)
+  -- a start in RUNNING
+  starts_while_running : EndsAt A acked_a answered (User Start) (refused WrongUserEvent)
+  rep_answered : Runs asked_for_a asked_for_b
+  -- once it is taken, a REP of its number gives no cause
+  rep_of_what_came : EndsAt B (asked_for_a ++ Sent (REP 1) ∷ []) (asked_for_b ++ Received 5 false (REP 1) ∷ []) (Sent (NAK 3 1)) (refused NoCause)
+  -- there is no buffer for the packet: a NAK says so, it is repeated and kept; a NAK for an overrun needs no cause
+  refused_for_want_of_a_buffer : Runs (acked_a ++ Sent (DATA 1 0) ∷ Received 1 false (NAK 8 0) ∷ Sent (DATA 1 0) ∷ [])
+      (answered ++ Received 1 false (ACK 0) ∷ Received 2 false (DATA 1 0) ∷ Sent (NAK 8 0) ∷ Received 3 true (DATA 1 0) ∷ Sent (NAK 9 1) ∷ [])
+  -- a RESP of what never came: of an ACK, and of a packet
+  acknowledges_unasked : EndsAt A acked_a answered (Sent (ACK 1)) (refused WrongResponse)
+  responds_unasked : EndsAt A acked_a answered (Sent (DATA 1 1)) (refused WrongResponse)
+  -- the second number is given before the first
+  skips_a_number : EndsAt A acked_a answered (Sent (DATA 2 0)) (refused WrongNumber)
+  -- a REP while nothing is outstanding
+  asks_for_nothing : EndsAt A acked_a answered (Sent (REP 0)) (refused WrongState)
+  -- a REP of a number that was not given
+  asks_for_more : EndsAt A (acked_a ++ Sent (DATA 1 0) ∷ Sent (DATA 2 0) ∷ []) answered (Sent (REP 1)) (refused WrongNumber)
+  -- a packet that is sent again is offered once, and a start begins a period
+  offered_once : offered (User Start ∷ Sent (DATA 1 0) ∷ Sent (DATA 1 0) ∷ Sent (DATA 2 0) ∷ User Halt ∷ User Start ∷ Sent (DATA 1 0) ∷ []) ≡ [] ∷
+      ((5 ∷ []) ∷ (5 ∷ []) ∷ []) ∷ ((5 ∷ []) ∷ []) ∷ []
 
--- once it is taken, a REP of its number gives no cause
-rep_of_what_came : EndsAt (asked_for_a ++ Sent REP1 ∷ []) (asked_for_b ++ Received 5 false REP1 ∷ []) (Sent NAK_REP1) (Refused (OfStation NoCause))
-unfolding reading is_good check_of after_byte shift
-rep_of_what_came = record {
-  world = _;
-  run = OfA refl (OfA refl
-      (OfB refl (OfB refl (OfB refl (OfA refl
-      (OfA refl (OfA refl (OfA refl (OfB refl (OfB refl (OfB refl (OfA refl (OfA refl (OfB refl (OfA refl (OfB refl Done))))))))))))))));
-  becomes =
-      refl;
-}
-
--- there is no buffer for the packet: a NAK says so, it is repeated and kept; a NAK for an overrun needs no cause
-refused_for_want_of_a_buffer : IsRowRun (started_a ++ Sent DATA1 ∷ Received 1 false NAK_BUFFER0 ∷ Sent DATA1 ∷ [])
-    (started_b ++ Received 1 false ACK0 ∷ Received 2 false DATA1 ∷ Sent NAK_BUFFER0 ∷ Received 3 true DATA1 ∷ Sent NAK_OVERRUN1 ∷ [])
-unfolding reading is_good check_of after_byte shift
-refused_for_want_of_a_buffer = (
-  _,
-  OfA refl (OfA refl (OfB refl
-      (OfB refl (OfB refl (OfA refl (OfA refl (OfB refl (OfA refl (OfB refl (OfB refl (OfA refl (OfA refl (OfB refl (OfB refl Done)))))))))))))),
-)
-
--- a RESP of what never came: of an ACK, and of a packet
-acknowledges_unasked : EndsAtA started_a started_b (Sent ACK1) (Refused (OfStation WrongResponse))
-unfolding reading is_good check_of after_byte shift
-acknowledges_unasked = record { world = _; run = OfA refl (OfA refl (OfB refl (OfB refl (OfB refl (OfA refl (OfA refl Done)))))); becomes = refl }
-
-responds_unasked : EndsAtA started_a started_b (Sent DATA1_RESP1) (Refused (OfStation WrongResponse))
-unfolding reading is_good check_of after_byte shift
-responds_unasked = record { world = _; run = OfA refl (OfA refl (OfB refl (OfB refl (OfB refl (OfA refl (OfA refl Done)))))); becomes = refl }
-
--- the second number is given before the first
-skips_a_number : EndsAtA started_a started_b (Sent DATA2) (Refused (OfStation WrongNumber))
-unfolding reading is_good check_of after_byte shift
-skips_a_number = record { world = _; run = OfA refl (OfA refl (OfB refl (OfB refl (OfB refl (OfA refl (OfA refl Done)))))); becomes = refl }
-
--- a REP while nothing is outstanding
-asks_for_nothing : EndsAtA started_a started_b (Sent REP0) (Refused (OfStation WrongState))
-unfolding reading is_good check_of after_byte shift
-asks_for_nothing = record { world = _; run = OfA refl (OfA refl (OfB refl (OfB refl (OfB refl (OfA refl (OfA refl Done)))))); becomes = refl }
-
--- a REP of a number that was not given
-asks_for_more : EndsAtA (started_a ++ Sent DATA1 ∷ Sent DATA2 ∷ []) started_b (Sent REP1) (Refused (OfStation WrongNumber))
-unfolding reading is_good check_of after_byte shift
-asks_for_more = record {
-  world = _;
-  run = OfA refl (OfA refl (OfB refl (OfB refl (OfB refl (OfA refl (OfA refl (OfA refl (OfA refl Done))))))));
-  becomes = refl;
-}
-
--- a packet that is sent again is offered once, and a start begins a period
-offered_once : offered (User Start ∷ Sent DATA1 ∷ Sent DATA1 ∷ Sent DATA2 ∷ User Halt ∷ User Start ∷ Sent DATA1 ∷ []) ≡ [] ∷
-    ((5 ∷ []) ∷ (5 ∷ []) ∷ []) ∷ ((5 ∷ []) ∷ []) ∷ []
-unfolding reading is_good check_of after_byte shift
-offered_once = refl
+computed : Rows
+unfolding computing
+computed = search (runs, ends)

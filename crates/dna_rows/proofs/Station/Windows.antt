@@ -1,5 +1,5 @@
 -- Worked rows of one station, computed from the definitions: the full window, and numbers beyond one byte.
-use Rattle.std.proofs.Common.{◌≡◌, ℕ, zero, suc, ◌+◌, false, Option, Some, None, List, [], ◌∷◌, replicate, fold, refl}
+use Rattle.std.proofs.Common.{◌≡◌, ℕ, zero, suc, ◌+◌, false, Option, Some, None, List, [], ◌∷◌, replicate, fold}
 use Rattle.ddcmp_msg.specs.Message.{MessageValue, Data, Nak, Rep}
 use Rattle.ddcmp_msg.specs.declared.nak_reason.NakReason.TheVariants.{RepResponse}
 use Rattle.dna_station.specs.declared.state.State.TheVariants.{Running}
@@ -14,8 +14,6 @@ use Rattle.dna_rows.proofs.Station.Units.{plain}
 -- in RUNNING, with nothing sent or received
 abbrev running : Station
 running = record (after_event new_station Start) { state = Running; partner = Some 1 }
-
--- ---- messages sent one after another, as long as none is refused
 
 abbrev sent_if : Option StationRefusal → Station → MessageValue → Option Station
 sent_if None s m = Some (after_sending s m)
@@ -36,15 +34,6 @@ packets_from number (suc count) = Data plain 0 (wire number) packet ∷ packets_
 abbrev after_packets : ℕ → Option Station
 after_packets count = fold sent_next (Some running) (packets_from 1 count)
 
--- 255 packets are sent of which none is acknowledged, and one more is refused
-window_filled : after_packets 255 ≡ Some (record running { packets = replicate 255 packet; next_to_send = 256 })
-window_filled = refl
-
-window_full : sending_refusal (record running { packets = replicate 255 packet; next_to_send = 256 }) (Data plain 0 0 packet) ≡ Some WindowFull
-window_full = refl
-
--- ---- numbers beyond one byte
-
 -- a has given 255 and seen RESP 10, b has received 255
 abbrev a255 : Station
 a255 = record running { packets = replicate 255 packet; next_to_send = 256; acknowledged = 10 }
@@ -52,40 +41,37 @@ a255 = record running { packets = replicate 255 packet; next_to_send = 256; ackn
 abbrev b255 : Station
 b255 = record running { received = 255 }
 
--- a REP of number 255 gives no cause
-rep_of_255 : (sending_refusal a255 (Rep plain 0xff) ≡ None) ×
-    (after_arrival b255 (Sound (Rep plain 0xff) (truth_of a255 (Rep plain 0xff))) false ≡ b255)
-rep_of_255 = (refl, refl)
-
 -- a gives 256, which is lost
 abbrev a256 : Station
 a256 = after_sending a255 (Data plain 0 0 packet)
-
-packet_256 : sending_refusal a255 (Data plain 0 0 packet) ≡ None
-packet_256 = refl
 
 -- a REP of number 256 gives b a cause
 abbrev asked_b : Station
 asked_b = after_arrival b255 (Sound (Rep plain 0) (truth_of a256 (Rep plain 0))) false
 
-rep_of_256 : (sending_refusal a256 (Rep plain 0) ≡ None) × (sending_refusal asked_b (Nak plain RepResponse 0xff) ≡ None)
-rep_of_256 = (refl, refl)
-
--- but none once it has received 256
-rep_of_256_received : after_arrival (record running { received = 256 }) (Sound (Rep plain 0) (truth_of a256 (Rep plain 0))) false ≡ record running
-    { received = 256 }
-rep_of_256_received = refl
-
--- one NAK uses the cause up
-second_nak : sending_refusal (after_sending asked_b (Nak plain RepResponse 0xff)) (Nak plain RepResponse 0xff) ≡ Some NoCause
-second_nak = refl
-
--- ---- over periods
-
 -- the first packet behind a restart stands behind the 255 of the period before
 abbrev restarted : Station
 restarted = record (after_event (after_event a255 Halt) Start) { state = Running; partner = Some 2 }
 
-place_behind_a_restart : ((truth_of a255 (Data plain 0 0 packet)).place ≡ 255) × ((truth_of restarted (Data plain 0 1 packet)).place ≡ 255) ×
-    ((truth_of restarted (Data plain 0 1 packet)).number ≡ 1)
-place_behind_a_restart = (refl, refl, refl)
+record Rows : Type 0 where
+  -- ---- messages sent one after another, as long as none is refused
+  -- 255 packets are sent of which none is acknowledged, and one more is refused
+  window_filled : after_packets 255 ≡ Some (record running { packets = replicate 255 packet; next_to_send = 256 })
+  window_full : sending_refusal (record running { packets = replicate 255 packet; next_to_send = 256 }) (Data plain 0 0 packet) ≡ Some WindowFull
+  -- ---- numbers beyond one byte
+  -- a REP of number 255 gives no cause
+  rep_of_255 : (sending_refusal a255 (Rep plain 0xff) ≡ None) ×
+      (after_arrival b255 (Sound (Rep plain 0xff) (truth_of a255 (Rep plain 0xff))) false ≡ b255)
+  packet_256 : sending_refusal a255 (Data plain 0 0 packet) ≡ None
+  rep_of_256 : (sending_refusal a256 (Rep plain 0) ≡ None) × (sending_refusal asked_b (Nak plain RepResponse 0xff) ≡ None)
+  -- but none once it has received 256
+  rep_of_256_received : after_arrival (record running { received = 256 }) (Sound (Rep plain 0) (truth_of a256 (Rep plain 0))) false ≡ record running
+      { received = 256 }
+  -- one NAK uses the cause up
+  second_nak : sending_refusal (after_sending asked_b (Nak plain RepResponse 0xff)) (Nak plain RepResponse 0xff) ≡ Some NoCause
+  -- ---- over periods
+  place_behind_a_restart : ((truth_of a255 (Data plain 0 0 packet)).place ≡ 255) × ((truth_of restarted (Data plain 0 1 packet)).place ≡ 255) ×
+      ((truth_of restarted (Data plain 0 1 packet)).number ≡ 1)
+
+computed : Rows
+computed = search

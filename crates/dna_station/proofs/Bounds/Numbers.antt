@@ -2,6 +2,7 @@
 -- received.
 use Rattle.std.proofs.Common.{◌≡◌, ℕ, ◌+◌, ◌-◌, ◌≤◌, Bool, true, false, cond, Option, Some, None, List, [], ◌∷◌, length, refl, arith, eqb-true}
 use Rattle.std.proofs.Common.{length-append}
+use Rattle.ddcmp_msg.specs.declared.flags.Flags.{Flags}
 use Rattle.ddcmp_msg.specs.Message.{MessageValue, Data, Ack, Nak, Rep}
 use Rattle.dna_station.specs.Station.{Station, given, wire}
 use Rattle.dna_station.specs.Table.{WINDOW}
@@ -95,6 +96,16 @@ module _ (s : Station) (o : IsOrdered s) (bytes : List ℕ) where
   few : given s ≤ s.acknowledged + WINDOW
   few = o.few
 
+  -- a RESP and no packet
+  of_response : (flags : Flags) (resp : ℕ) → IsSending view limits (numbers_of s) (given s) s.received (view (unit_of s bytes (Ack flags resp)))
+  of_response flags resp = record {
+    sender = refl;
+    last_before = refl;
+    lawful = record { few = few; number = tt; acks = (omega arith, omega arith, tt) };
+    more_given = omega arith;
+    more_last = omega arith;
+  }
+
   -- what is sent was lawful, and follows the numbers of its sender
   pub sending_is : (m : MessageValue) → sending_refusal s m ≡ None → IsSending view limits (numbers_of s) (given (after_sending s m)) s.received
       (view (unit_of s bytes m))
@@ -112,24 +123,8 @@ module _ (s : Station) (o : IsOrdered s) (bytes : List ℕ) where
       more : (b : Bool) → given s ≤ length (with_packet b s.packets body)
       more true = let n = length-append s.packets (body ∷ []) in omega arith
       more false = omega arith
-  sending_is (Ack flags resp) e =
-      record {
-        sender = refl;
-        last_before = refl;
-        lawful = record { few = few; number = tt; acks = (omega arith, omega arith, tt) };
-        more_given =
-            omega arith;
-        more_last = omega arith;
-      }
-  sending_is (Nak flags reason resp) e =
-      record {
-        sender = refl;
-        last_before = refl;
-        lawful = record { few = few; number = tt; acks = (omega arith, omega arith, tt) };
-        more_given =
-            omega arith;
-        more_last = omega arith;
-      }
+  sending_is (Ack flags resp) e = of_response flags resp
+  sending_is (Nak flags reason resp) e = of_response flags resp
   sending_is m e = record {
     sender = refl;
     last_before = refl;

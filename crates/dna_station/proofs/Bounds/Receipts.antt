@@ -103,6 +103,18 @@ module _ (n : Node) (own other : List SentUnit) (h : IsSound n own other) (their
     present = present_further view limits own other n.front (k + 1) (numbers_of n.station) h.present (omega arith);
   }
 
+  -- an effect that leaves the state, the packets and the periods as they are, with what it makes of the numbers
+  same_but : {now : State} {t left : Station} → IsMet now t → left.state ≡ t.state → left.period ≡ t.period → left.packets ≡ t.packets →
+      left.partner ≡ t.partner → (is_starting now ≡ true → HasNone left) → IsPresent view limits own other (k + 1) (numbers_of left) → IsMet now left
+  same_but m state period packets partner none present = record {
+    state = state ∙ m.state;
+    period = period ∙ m.period;
+    packets = packets ∙ m.packets;
+    none = none;
+    partner = λ pair. partner ∙ m.partner pair;
+    present = present;
+  }
+
   module _ (lawful_number : IsGiven limits (view unit).number unit.known.given)
       (lawful_acks : AcksFrom limits unit.known.received unit.known.received (view unit).acks) (kept : Bool) where
     does_met : (now : State) (t : Station) (effect : Effect) → IsLawfulEffect n.station unit.message unit.known.tag now effect → IsMet now t →
@@ -125,35 +137,23 @@ module _ (n : Node) (own other : List SentUnit) (h : IsSound n own other) (their
               let q = m.present.up_to i v at same in let g = q.given in let r = q.received in let y = q.last in
               record { given = omega arith; received = omega arith; last = omega arith });
         }
-    does_met now t SetBack l m =
-        record { state = m.state; period = m.period; packets = m.packets; none = m.none; partner = m.partner; present = m.present }
+    does_met now t SetBack l m = same_but m refl refl refl refl m.none m.present
     does_met now t Respond l m = by_response unit.message unit.known kept t (IsMet now) m (λ e.
         let less = ltb-true t.acknowledged unit.known.response (and_parts _ _ e).0 in
         let fits = (acks_of unit.known unit.known.received unit.known.received (has_response unit.message) l.1 lawful_acks).1 in
-        record {
-          state = m.state;
-          period = m.period;
-          packets = m.packets;
-          none = λ e. absurd (let f = l.0 in cc);
-          partner = m.partner;
-          present = present_acknowledged view limits own other (k + 1) (k + 1) (numbers_of t) m.present (omega arith) k unit there (omega arith)
-              (m.partner l.2 ∙ (l.2).from) unit.known.response (omega arith) fits fits;
-        })
+        same_but m refl refl refl refl (λ e. absurd (let f = l.0 in cc))
+        (present_acknowledged view limits own other (k + 1) (k + 1) (numbers_of t) m.present (omega arith) k unit there (omega arith)
+        (m.partner l.2 ∙ (l.2).from) unit.known.response (omega arith) fits fits))
     does_met now t TakePacket l m = by_packet unit.message unit.known kept t (IsMet now) m (λ e.
         let next = eqb-true unit.known.number (t.received + 1) e in
         let fits = given_of unit.known (is_data unit.message) l.1 lawful_number in
-        record {
-          state = m.state;
-          period = m.period;
-          packets = m.packets;
-          none = λ e. absurd (let f = l.0 in cc);
-          partner = m.partner;
-          present = present_received view limits own other (k + 1) (k + 1) (numbers_of t) m.present (omega arith) k unit there (omega arith)
-              (m.partner l.2 ∙ (l.2).from) (t.received + 1) (t.received + 1) (omega arith) (omega arith) (omega arith);
-        }) (record { state = m.state; period = m.period; packets = m.packets; none = m.none; partner = m.partner; present = m.present })
+        same_but m refl refl refl refl (λ e. absurd (let f = l.0 in cc))
+        (present_received view limits own other (k + 1) (k + 1) (numbers_of t) m.present (omega arith) k unit there (omega arith)
+        (m.partner l.2 ∙ (l.2).from) (t.received + 1) (t.received + 1) (omega arith) (omega arith) (omega arith)))
+        (same_but m refl refl refl refl m.none m.present)
     does_met now t AnswerRep l m =
         by_rep unit.message unit.known kept t (IsMet now) m
-        (record { state = m.state; period = m.period; packets = m.packets; none = m.none; partner = m.partner; present = m.present })
+        (same_but m refl refl refl refl m.none m.present)
 
     all_met : (effects : List Effect) (now : State) (t : Station) → AreLawful n.station unit.message unit.known.tag now effects → IsMet now t →
         IsMet (fold goes now effects) (fold (does unit.message unit.known kept) t effects)

@@ -1,6 +1,6 @@
 -- What holds of each side of a run beside the other, with the records that it made. It is said of one side, and kept by what a record does.
-use Rattle.std.specs.Prelude.{List, [], ◌∷◌, ◌++◌}
-use Rattle.two_nodes.specs.Nodes.{Half, World, Run}
+use Rattle.std.specs.Prelude.{◌≡◌, List, [], ◌∷◌, ◌++◌}
+use Rattle.two_nodes.specs.Nodes.{Half, World, Run, Made, advance, exchanged_world}
 use Rattle.two_nodes.specs.Kept.{IsKept}
 use Rattle.two_nodes.proofs.Lasting.{lasts}
 use Rattle.capture.specs.declared.record.Record.{Record}
@@ -23,22 +23,23 @@ module _ (holds : (own other : Half Node SentUnit) → List Record → Type 0) w
     pub other : (own other left : Half Node SentUnit) (made of_other : List Record) (r : Record) → holds own other made → holds other own of_other →
         Happens of_period own other r left → holds other left of_other
 
+  sides_exchanged : (w : World Node SentUnit) (made_a made_b : List Record) → OfBoth w made_a made_b → OfBoth (exchanged_world w) made_b made_a
+  sides_exchanged w made_a made_b both = record { of_a = both.of_b; of_b = both.of_a }
+
+  kept_by_a : IsKeptBySides → (w : World Node SentUnit) (made_a made_b : List Record) (r : Record) (h : Half Node SentUnit) →
+      OfBoth w made_a made_b → advance pair.node_a w.a w.b r ≡ Made h → OfBoth (record { a = h; b = w.b }) (made_a ++ r ∷ []) made_b
+  kept_by_a kept w made_a made_b r h both made =
+      let what = happens of_period w.a w.b h r made in
+      record {
+        of_a = kept.own w.a w.b h made_a made_b r both.of_a both.of_b what;
+        of_b = kept.other w.a w.b h made_a made_b r both.of_a both.of_b what;
+      }
+
   pub kept_by_both : IsKeptBySides → IsKept pair OfBoth
   kept_by_both kept = record {
-    by_a = λ w made_a made_b r h both made.
-        let what = happens of_period w.a w.b h r made in
-        record {
-          of_a = kept.own w.a w.b h made_a made_b r both.of_a both.of_b what;
-          of_b =
-              kept.other w.a w.b h made_a made_b r both.of_a both.of_b what;
-        };
-    by_b = λ w made_a made_b r h both made.
-        let what = happens of_period w.b w.a h r made in
-        record {
-          of_a = kept.other w.b w.a h made_b made_a r both.of_b both.of_a what;
-          of_b =
-              kept.own w.b w.a h made_b made_a r both.of_b both.of_a what;
-        };
+    by_a = kept_by_a kept;
+    by_b = λ w made_a made_b r h both made. sides_exchanged (record { a = h; b = w.a }) (made_b ++ r ∷ []) made_a
+        (kept_by_a kept (exchanged_world w) made_b made_a r h (sides_exchanged w made_a made_b both) made);
   }
 
   pub after_run : IsKeptBySides → (head_a head_b : Head) → OfBoth (start head_a head_b) [] [] → (w : World Node SentUnit) (of_a of_b : List Record) →

@@ -1,6 +1,6 @@
 -- Cutting a station to what a node keeps commutes with what it may send, check by check, and with what sending changes.
-use Rattle.std.proofs.Common.{◌≡◌, ℕ, zero, suc, ◌+◌, ◌-◌, ◌≤◌, Bool, true, false, not, eqb, ltb, cond, Option, Some, None, List, [], ◌∷◌, ◌++◌, map}
-use Rattle.std.proofs.Common.{length, drop, refl, sym, ap, ap₂, ◌∙◌, arith, length-drop, zero-add, option_map}
+use Rattle.std.proofs.Common.{◌≡◌, ℕ, ◌+◌, ◌-◌, ◌≤◌, Bool, true, false, not, eqb, ltb, cond, Option, Some, None, List, [], ◌∷◌, ◌++◌, map}
+use Rattle.std.proofs.Common.{length, drop, refl, sym, ap, ap₂, ◌∙◌, arith, length-drop, option_map}
 use Rattle.std.specs.Prelude.{slice_get, option_and_then}
 use Rattle.std.proofs.lemmas.List.{length-map, map-append, drop-append-le}
 use Rattle.std.proofs.lemmas.Option.{slice_get-map}
@@ -25,7 +25,7 @@ first_failed_same p q same [] = refl
 first_failed_same p q same (check ∷ next) =
     ap₂ (λ (b : Bool) (o : Option StationRefusal). cond b o (Some (refusal_of check))) (same check) (first_failed_same p q same next)
 
-failed_same : (p q : Check → Bool) → ((check : Check) → p check ≡ q check) → (list : Option (List Check)) → failed p list ≡ failed q list
+pub failed_same : (p q : Check → Bool) → ((check : Check) → p check ≡ q check) → (list : Option (List Check)) → failed p list ≡ failed q list
 failed_same p q same None = refl
 failed_same p q same (Some list) = first_failed_same p q same list
 

@@ -10,7 +10,7 @@ use Rattle.two_nodes.specs.Nodes.{Half, World, stepped}
 use Rattle.two_nodes.specs.Kept.{IsKept}
 use Rattle.two_nodes.proofs.Order.{slice_get-append}
 use Rattle.two_nodes.proofs.Listed.{next_at}
-use Rattle.ddcmp_msg.specs.Message.{MessageValue, Data, Ack, Nak, Rep, Strt, Stack}
+use Rattle.ddcmp_msg.specs.Message.{MessageValue, Data}
 use Rattle.capture.specs.declared.record.Record.{Record}
 use Rattle.capture.specs.declared.record.Record.TheVariants.{Sent, Received, Noise, User}
 use Rattle.dna_station.specs.declared.head.Head.{Head}
@@ -88,11 +88,7 @@ number_given s own i u o at same = go u.message at.1 (o.offered i u at.0)
         let within = slice_get_within s.packets (u.known.number - 1) body
         (ap (λ (x : PastPeriod). slice_get x.given (u.known.number - 1)) (sym is) ∙ offered.3) in
         omega arith
-    go (Ack flags resp) d offered = absurd cc
-    go (Nak flags reason resp) d offered = absurd cc
-    go (Rep flags num) d offered = absurd cc
-    go (Strt flags) d offered = absurd cc
-    go (Stack flags) d offered = absurd cc
+    go m d offered = absurd cc
 
 placed_start : (s : Station) (own : List SentUnit) → Offers s own →
     ((i : ℕ) (u : SentUnit) → slice_get own i ≡ Some u → u.known.tag.period ≤ s.period) → ArePlaced s own → ArePlaced (after_event s Start) own
@@ -115,11 +111,7 @@ placed_start s own o no_later p = record {
 -- a data message of the next number has the place of that number
 place_next : (s : Station) (m : MessageValue) → 0 < s.next_to_send → is_data m ≡ true → place_of s m + 1 ≡ before s + number_of s m
 place_next s (Data flags resp num body) l d = omega arith
-place_next s (Ack flags resp) l d = absurd cc
-place_next s (Nak flags reason resp) l d = absurd cc
-place_next s (Rep flags num) l d = absurd cc
-place_next s (Strt flags) l d = absurd cc
-place_next s (Stack flags) l d = absurd cc
+place_next s m l d = absurd cc
 
 module _ (s : Station) (own : List SentUnit) (bytes : List ℕ) (m : MessageValue) (first : 0 < s.next_to_send)
     (no_later : (i : ℕ) (u : SentUnit) → slice_get own i ≡ Some u → u.known.tag.period ≤ s.period) (p : ArePlaced s own) where
@@ -170,11 +162,7 @@ module _ (s : Station) (own : List SentUnit) (bytes : List ℕ) (m : MessageValu
     where
       from_one : (k : MessageValue) → is_data k ≡ true → 0 < number_of s k
       from_one (Data flags resp num body) d = first
-      from_one (Ack flags resp) d = absurd cc
-      from_one (Nak flags reason resp) d = absurd cc
-      from_one (Rep flags num) d = absurd cc
-      from_one (Strt flags) d = absurd cc
-      from_one (Stack flags) d = absurd cc
+      from_one m d = absurd cc
 
       go : (slice_get own j ≡ Some v) ⊎ ((j ≡ length own) × (unit_of s bytes m ≡ v)) → 0 < v.known.number ⊎ IsDataAt own j v
       go (inl a) = inr (a, at.1)

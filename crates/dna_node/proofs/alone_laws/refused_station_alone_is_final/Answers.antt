@@ -1,18 +1,11 @@
-use Rattle.std.proofs.Common.{◌++◌}
-use Rattle.dna_station.specs.WireNode.{new_wire_node}
-use Rattle.dna_node.specs.Alone.{station_end}
 use Rattle.dna_node.proofs.Alone.StationsAlone.{stations_see}
-use Rattle.dna_node.proofs.Alone.Runs.{final, passes_a, passes_b}
+use Rattle.dna_node.proofs.Alone.Runs.{passes_a, passes_b, final_of_a, final_of_b}
 use Rattle.dna_node.proofs.alone_laws.refused_station_alone_is_final.Goals as goal
 
 pub returns : goal.returns
 returns c = record {
   a_passes = passes_a stations_see;
   b_passes = passes_b stations_see;
-  of_a = λ head_a head_b of_a further of_b place accused reason refused run.
-      final station_end (new_wire_node head_a) of_a further place accused reason refused (passes_a stations_see head_a head_b
-      (of_a ++ further) of_b run);
-  of_b = λ head_a head_b of_a of_b further place accused reason refused run.
-      final station_end (new_wire_node head_b) of_b further place accused reason refused (passes_b stations_see head_a head_b of_a
-      (of_b ++ further) run);
+  of_a = final_of_a stations_see;
+  of_b = final_of_b stations_see;
 }
