@@ -1,6 +1,6 @@
 -- The check that a message does not pass which comes is the one for which the tables refuse it.
 use Rattle.std.proofs.Common.{◌≡◌, ℕ, Bool, true, false, ◌&&◌, Option, Some, None, refl, sym, option_map, eqb}
-use Rattle.std.specs.Prelude.{Result, Ok, Err, slice_get}
+use Rattle.std.specs.Prelude.{Result, Ok, slice_get}
 use Rattle.dna_packet.specs.Nsp.{NspValue, DataSegment, LinkService, DataAck, OtherDataAck, ConnectAck, NoOperation, ConnectInitiate, ConnectConfirm}
 use Rattle.dna_packet.specs.Nsp.{DisconnectInitiate, DisconnectConfirm}
 use Rattle.dna_station.specs.declared.link_refusal.LinkRefusal.{LinkRefusal}

@@ -1,6 +1,6 @@
 -- The check that an event of the links' user does not pass is the one for which the tables refuse it.
-use Rattle.std.proofs.Common.{◌≡◌, ℕ, Bool, true, false, Option, Some, None, List, length, refl, sym, ap, ◌∙◌, option_map}
-use Rattle.std.specs.Prelude.{Result, Ok, Err, is_some}
+use Rattle.std.proofs.Common.{◌≡◌, ℕ, Bool, true, false, Option, Some, None, List, length, refl, ap, option_map}
+use Rattle.std.specs.Prelude.{Ok, is_some}
 use Rattle.std.specs.Str.{bytes_eq}
 use Rattle.dna_station.specs.declared.link_refusal.LinkRefusal.{LinkRefusal}
 use Rattle.dna_links.specs.declared.port.LinkTest.TheVariants.{HasAddress, LiveAt, CalledBy}
@@ -10,11 +10,11 @@ use Rattle.dna_links.specs.Links.{LinkOf, check, begun, with_flow, changed, in_p
 use Rattle.dna_links.specs.LookUps.{is_connected, takes_messages}
 use Rattle.dna_links.specs.Pieces.{Whole, next_message}
 use Rattle.dna_links.specs.User.{LinkEventValue, Open, Accept, Reject, In, Up, Close, answered, answers, delivered, gives, opened}
-use Rattle.dna_links.specs.WireFlow.{WireFlow, delivers, delivers_whole, delivered_as, hands_in, wire_flows}
+use Rattle.dna_links.specs.WireFlow.{WireFlow, delivers_whole, delivered_as, hands_in, wire_flows}
 use Rattle.dna_links.specs.WireLinks.{WireLinks, wire_links_user}
 use Rattle.link_segments.specs.Received.{pieces_if, pieces_of, next_length}
 use Rattle.nsp_link.specs.FailedSending.{named}
-use Rattle.nsp_link.specs.FailedEvent.{failed_address, failed_answer, failed_delivery, failed_event, is_whole, refusal_of_event}
+use Rattle.nsp_link.specs.FailedEvent.{failed_address, failed_answer, failed_event, is_whole, refusal_of_event}
 use Rattle.nsp_link.specs.Missing.{refusal_in}
 use Rattle.nsp_link.specs.declared.failed.FailedLinkEvent.{FailedLinkEvent}
 use Rattle.nsp_link.specs.declared.failed.FailedLinkEvent.TheVariants.{TakesMessages, IsConnected, Delivery}

@@ -1,6 +1,6 @@
 -- The check that a message does not pass is the one for which the tables refuse it, and with what is allowed it is passed.
-use Rattle.std.proofs.Common.{◌≡◌, ℕ, ◌+◌, ◌-◌, ◌<◌, ◌≤◌, Bool, true, false, ◌&&◌, ◌||◌, cond, not, Option, Some, None, List, [], ◌∷◌, length}
-use Rattle.std.proofs.Common.{refl, sym, ap, ◌∙◌, arith, option_map, ltb, leb, eqb}
+use Rattle.std.proofs.Common.{◌≡◌, ℕ, ◌-◌, ◌<◌, Bool, true, false, ◌&&◌, ◌||◌, cond, not, Option, Some, None, List, [], ◌∷◌, length}
+use Rattle.std.proofs.Common.{refl, sym, ◌∙◌, arith, option_map, ltb, leb, eqb}
 use Rattle.std.proofs.lemmas.Bool.{leb-false}
 use Rattle.std.specs.Prelude.{slice_get, Result, Ok, Err}
 use Rattle.dna_packet.specs.Nsp.{SegmentValue, NspValue, DataSegment, LinkService, DataAck, OtherDataAck, ConnectAck, NoOperation, ConnectInitiate}
@@ -12,7 +12,7 @@ use Rattle.dna_links.specs.declared.port.LinkTest.{LinkTest}
 use Rattle.dna_links.specs.declared.port.LinkTest.TheVariants.{TheLink, OpenedAt, BegunBy}
 use Rattle.dna_links.specs.declared.port.Phase.{Phase}
 use Rattle.dna_links.specs.declared.port.Phase.TheVariants.{Calling, Confirming, Running, Disconnecting}
-use Rattle.dna_links.specs.Flow.{REACH, wire, distance, is_of_data, Sending}
+use Rattle.dna_links.specs.Flow.{REACH, distance, is_of_data, Sending}
 use Rattle.dna_links.specs.Links.{LinkOf, Carried, check, with_link, at_number, on_link, number_of}
 use Rattle.dna_links.specs.Pieces.{Piece, piece_of, same_piece, is_next_piece}
 use Rattle.dna_links.specs.Sending.{carries, in_its_phase, in_run, message_sent, segment_of, unchanged}
