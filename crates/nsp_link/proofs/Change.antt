@@ -20,6 +20,7 @@ use Rattle.dna_links.specs.declared.port.Phase.{Phase}
 use Rattle.dna_links.specs.declared.port.Port.{Port}
 use Rattle.dna_links.specs.LookUps.{is_called, is_calling}
 use Rattle.nsp_link.specs.inner.Index.{IsIndexed, Stays, lives_to}
+use Rattle.nsp_link.specs.inner.Indexing.{LivesAt}
 use Rattle.nsp_link.proofs.Indexed.{indexed_change, indexed_confirm, indexed_end, no_more, stays_same, stays_moved}
 
 and_false : (b : Bool) → (b && false) ≡ false
@@ -86,7 +87,8 @@ module _ {node peer : ℕ} {items : List (LinkOf WireFlow)} {s : WireLinks} {n :
       ∙ ap (λ (t : WireLinks). Ok (record { links = t; truth = truth_of wire_flows n link tt }))
       (sym (change_made (with_flow m.flow) rest link found))
 
-  pub carried_if_ok : {A E : Type 0} (r : Result A E) (step : LinkOf WireFlow → Result (Sending WireFlow (Unit {0})) LinkRefusal) {m : LinkOf WireFlow} →
+  pub carried_if_ok : {A E : Type 0} (r : Result A E) (step : LinkOf WireFlow → Result (Sending WireFlow (Unit {0})) LinkRefusal)
+      {m : LinkOf WireFlow} →
       m ≡ with_flow m.flow l → OnOk r (step l ≡ Ok (sending m.flow)) → (link : LinkOf WireFlow) → slice_get s.links n ≡ Some link →
       OnOk r (carries wire_flows s n link (step link) ≡ Ok
       (record { links = record { node = node; peer = peer; links = set items n m }; truth = truth_of wire_flows n link tt }))
@@ -117,8 +119,7 @@ module _ {node peer : ℕ} {items : List (LinkOf WireFlow)} {s : WireLinks} {n :
     kept_indexed {m} rest = change_indexed (stays_same l m (ap (λ (k : LinkOf WireFlow). k.port) rest))
 
     -- where it goes to another phase
-    pub moved_indexed : (phase : Phase) {m k : LinkOf WireFlow} →
-        ((k : LinkOf WireFlow) → slice_get s.links n ≡ Some k → is_live k.port.phase ≡ true) → m ≡ k → k.port ≡ record l.port { phase = phase } →
+    pub moved_indexed : (phase : Phase) {m k : LinkOf WireFlow} → LivesAt n s → m ≡ k → k.port ≡ record l.port { phase = phase } →
         is_live phase ≡ true → is_called phase ≡ false → is_calling phase ≡ false → IsIndexed (set items n m) h c r w
     moved_indexed phase {m} {k} lives made moved live called calling =
         change_indexed (stays_moved phase l m (ap (λ (x : LinkOf WireFlow). x.port) made ∙ moved) live called calling (lives l link_found))

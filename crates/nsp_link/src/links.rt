@@ -51,19 +51,14 @@ pub struct Links<W: Window<Piece, 4096> + Drop> {
 }
 
 impl<W: Window<Piece, 4096> + Drop> Model for Links<W> {
-    ghost use Rattle.std.specs.Prelude.{nat_eq};
-    ghost use Rattle.std.specs.Ordering.{nat_cmp};
-    ghost use Rattle.std.specs.BTreeMap.{get};
-    ghost use Rattle.std.specs.HashMap as hashed;
     ghost use Rattle.dna_links.specs.WireLinks.{WireLinks};
-    ghost use Rattle.nsp_link.specs.inner.Index.{IsIndexed, times};
+    ghost use Rattle.nsp_link.specs.inner.Indexing.{AreIndexed};
 
     ghost Value = { WireLinks };
 
     ghost view = { λ l. record { node = l.node; peer = l.peer; links = l.links.items } };
 
-    ghost invariant = { λ l. IsIndexed l.links.items (λ q. get nat_cmp l.index.holders q) (λ q. get nat_cmp l.index.callers q)
-        (λ q. times (hashed.get nat_eq l.index.reached q)) l.index.waiting };
+    ghost invariant = { λ l. AreIndexed l.links.items l.index };
 }
 
 impl<W: Window<Piece, 4096> + Drop> Links<W> {

@@ -7,7 +7,8 @@ use Rattle.nsp_link.proofs.Change.{in_place, kept_indexed, carried_if_ok, holds_
 use Rattle.nsp_link.proofs.links.Links.send_segment_at.Goals as goal
 
 pub invariant_of-self : goal.invariant_of-self
-invariant_of-self g c = kept_indexed (in_place c.self.view_is c.requires.within c.index_mut.ensures.value) c.self.invariant c.send_segment.ensures.rest
+invariant_of-self g c =
+    kept_indexed (in_place c.self.view_is c.requires.within c.index_mut.ensures.value) c.self.invariant c.send_segment.ensures.rest
 
 pub returns-clause-ok : goal.returns-clause-ok
 returns-clause-ok g c =
