@@ -18,7 +18,7 @@ use Rattle.nsp_link.specs.inner.Index.{passes_in}
 use Rattle.nsp_link.specs.FailedEvent.{is_whole}
 use Rattle.nsp_link.specs.FailedSending.{from_below, front_piece, is_again, is_allowed, may_repeat, segment_numbers, segments_back, word_numbers}
 use Rattle.nsp_link.specs.FailedSending.{words_back}
-use Rattle.nsp_link.proofs.LookUps.{IsFound, At, Nowhere, both_true, found}
+use Rattle.nsp_link.proofs.LookUps.{IsFound, Nowhere, both_true, found}
 
 -- ---- a link
 

@@ -1,6 +1,6 @@
 -- The check that a message does not pass which comes is the one for which the tables refuse it.
-use Rattle.std.proofs.Common.{◌≡◌, ℕ, Bool, true, false, ◌&&◌, Option, Some, None, refl, sym, option_map, eqb}
-use Rattle.std.specs.Prelude.{Result, Ok, Err, slice_get}
+use Rattle.std.proofs.Common.{◌≡◌, ℕ, ◌&&◌, Option, Some, None, refl, sym, option_map, eqb}
+use Rattle.std.specs.Prelude.{Ok, slice_get}
 use Rattle.dna_packet.specs.Nsp.{NspValue, DataSegment, LinkService, DataAck, OtherDataAck, ConnectAck, NoOperation, ConnectInitiate, ConnectConfirm}
 use Rattle.dna_packet.specs.Nsp.{DisconnectInitiate, DisconnectConfirm}
 use Rattle.dna_station.specs.declared.link_refusal.LinkRefusal.{LinkRefusal}
@@ -8,23 +8,18 @@ use Rattle.dna_links.specs.declared.port.LinkTest.{LinkTest}
 use Rattle.dna_links.specs.declared.port.LinkTest.TheVariants.{CallingAt, LiveTo, ActedOn}
 use Rattle.dna_links.specs.declared.tag.LinkTag.{LinkTag}
 use Rattle.dna_links.specs.Arriving.{acted_on, called, confirmed, is_for, is_of_pair, message_arrived, of_partner, running}
-use Rattle.dna_links.specs.Links.{LinkOf, Carried, check, begun, changed, with_link, at_number, on_link, number_of}
+use Rattle.dna_links.specs.Links.{LinkOf, Carried, begun, changed, with_link, at_number, on_link, number_of}
 use Rattle.dna_links.specs.WireFlow.{WireFlow, takes_acks, takes_segment, wire_flows}
 use Rattle.dna_links.specs.WireLinks.{WireLinks, wire_links_arrived}
-use Rattle.nsp_link.specs.FailedSending.{named, nodes_of}
+use Rattle.nsp_link.specs.FailedSending.{nodes_of}
 use Rattle.nsp_link.specs.FailedArrival.{failed_pair, failed_taken, failed_arrival, refusal_of_arrival}
 use Rattle.nsp_link.specs.Missing.{refusal_in}
 use Rattle.nsp_link.specs.declared.failed.FailedLinkArrival.{FailedLinkArrival}
 use Rattle.nsp_link.specs.declared.failed.FailedLinkArrival.TheVariants.{OtherCall, OtherPair, Nodes as Between}
-use Rattle.nsp_link.proofs.FailedSending.{linked_same}
+use Rattle.nsp_link.proofs.FailedSending.{check_same, linked_same}
 
 abbrev refused : Option FailedLinkArrival → Option LinkRefusal
 refused failed = option_map refusal_of_arrival failed
-
-check_same : {R : Type 0} (passes : Bool) (failed : FailedLinkArrival) (o : Option FailedLinkArrival) (next : Result R LinkRefusal) →
-    refused o ≡ refusal_in next → refused (named passes failed o) ≡ refusal_in (check passes (refusal_of_arrival failed) next)
-check_same true failed o next same = same
-check_same false failed o next same = refl
 
 -- where none is refused, whether a link is found or not
 module _ {R : Type 0} (test : LinkTest) (s : WireLinks) (otherwise : R) (next : ℕ → LinkOf WireFlow → R) where
@@ -43,13 +38,13 @@ module _ {R : Type 0} (test : LinkTest) (s : WireLinks) (otherwise : R) (next : 
 pair_same : (own far : ℕ) (tag : LinkTag) (takes : LinkOf WireFlow → WireFlow) (s : WireLinks) →
     refused (failed_pair own far tag s) ≡ refusal_in (acted_on wire_flows of_partner own far tag takes s)
 pair_same own far tag takes s = linked_same refused refusal_in (ActedOn own far) s _ _ _ _ refl (λ number link.
-    check_same (is_of_pair number link.partner tag) (OtherPair number link.partner tag) None
+    check_same refusal_of_arrival (is_of_pair number link.partner tag) (OtherPair number link.partner tag) None
     (Ok (changed number (running wire_flows of_partner takes link) s)) refl)
 
 taken_same : (s : WireLinks) (m : NspValue) (tag : LinkTag) →
     refused (failed_taken s m tag) ≡ refusal_in (message_arrived wire_flows of_partner s m (record { tag = tag; known = tt }))
 taken_same s (ConnectConfirm dst src services info segsize user_data) tag = linked_same refused refusal_in (CallingAt dst) s _ _ _ _ refl
-    (λ number link. check_same (is_for number tag) (OtherCall number tag) None
+    (λ number link. check_same refusal_of_arrival (is_for number tag) (OtherCall number tag) None
     (Ok (changed number (confirmed wire_flows of_partner src segsize tag link) s)) refl)
 taken_same s (DataSegment segment) tag = pair_same segment.dstaddr segment.srcaddr tag (λ link. takes_segment segment tt link.flow) s
 taken_same s (DataAck dst src acks) tag = pair_same dst src tag (λ link. takes_acks acks tt link.flow) s
@@ -65,6 +60,7 @@ taken_same s (DisconnectConfirm dst src reason) tag = refl
 pub arrival_same : (s : WireLinks) (packet : Carried) (tag : LinkTag) →
     refused (failed_arrival s packet tag) ≡ refusal_in (wire_links_arrived of_partner s packet tag)
 arrival_same s packet tag =
-    check_same (eqb packet.src s.peer && eqb packet.dst s.node) (Between (nodes_of packet) (record { source = s.peer; destination = s.node }))
-    (failed_taken s packet.message tag) (message_arrived wire_flows of_partner s packet.message (record { tag = tag; known = tt }))
+    check_same refusal_of_arrival (eqb packet.src s.peer && eqb packet.dst s.node)
+    (Between (nodes_of packet) (record { source = s.peer; destination = s.node })) (failed_taken s packet.message tag)
+    (message_arrived wire_flows of_partner s packet.message (record { tag = tag; known = tt }))
     (taken_same s packet.message tag)

@@ -1,24 +1,24 @@
 -- The check that an event of the links' user does not pass is the one for which the tables refuse it.
-use Rattle.std.proofs.Common.{◌≡◌, ℕ, Bool, true, false, Option, Some, None, List, length, refl, sym, ap, ◌∙◌, option_map}
-use Rattle.std.specs.Prelude.{Result, Ok, Err, is_some}
+use Rattle.std.proofs.Common.{◌≡◌, ℕ, Bool, true, false, Option, Some, None, List, length, refl, ap, option_map}
+use Rattle.std.specs.Prelude.{Ok, is_some}
 use Rattle.std.specs.Str.{bytes_eq}
 use Rattle.dna_station.specs.declared.link_refusal.LinkRefusal.{LinkRefusal}
 use Rattle.dna_links.specs.declared.port.LinkTest.TheVariants.{HasAddress, LiveAt, CalledBy}
 use Rattle.dna_links.specs.declared.port.Phase.{Phase}
 use Rattle.dna_links.specs.declared.port.Phase.TheVariants.{Confirming, Disconnecting}
-use Rattle.dna_links.specs.Links.{LinkOf, check, begun, with_flow, changed, in_phase, freed}
+use Rattle.dna_links.specs.Links.{LinkOf, begun, with_flow, changed, in_phase, freed}
 use Rattle.dna_links.specs.LookUps.{is_connected, takes_messages}
 use Rattle.dna_links.specs.Pieces.{Whole, next_message}
 use Rattle.dna_links.specs.User.{LinkEventValue, Open, Accept, Reject, In, Up, Close, answered, answers, delivered, gives, opened}
-use Rattle.dna_links.specs.WireFlow.{WireFlow, delivers, delivers_whole, delivered_as, hands_in, wire_flows}
+use Rattle.dna_links.specs.WireFlow.{WireFlow, delivers_whole, delivered_as, hands_in, wire_flows}
 use Rattle.dna_links.specs.WireLinks.{WireLinks, wire_links_user}
 use Rattle.link_segments.specs.Received.{pieces_if, pieces_of, next_length}
 use Rattle.nsp_link.specs.FailedSending.{named}
-use Rattle.nsp_link.specs.FailedEvent.{failed_address, failed_answer, failed_delivery, failed_event, is_whole, refusal_of_event}
+use Rattle.nsp_link.specs.FailedEvent.{failed_address, failed_answer, failed_event, is_whole, refusal_of_event}
 use Rattle.nsp_link.specs.Missing.{refusal_in}
 use Rattle.nsp_link.specs.declared.failed.FailedLinkEvent.{FailedLinkEvent}
 use Rattle.nsp_link.specs.declared.failed.FailedLinkEvent.TheVariants.{TakesMessages, IsConnected, Delivery}
-use Rattle.nsp_link.proofs.FailedSending.{linked_same}
+use Rattle.nsp_link.proofs.FailedSending.{check_same, linked_same}
 
 by_bytes : (b : Bool) (n : ℕ) → is_some (pieces_if b n) ≡ b
 by_bytes true n = refl
@@ -30,11 +30,6 @@ is_whole_same message (Some w) = by_bytes (bytes_eq message w.message) w.pieces
 
 abbrev refused : Option FailedLinkEvent → Option LinkRefusal
 refused failed = option_map refusal_of_event failed
-
-check_same : {R : Type 0} (passes : Bool) (failed : FailedLinkEvent) (made : R) →
-    refused (named passes failed None) ≡ refusal_in (check passes (refusal_of_event failed) (Ok made))
-check_same true failed made = refl
-check_same false failed made = refl
 
 address_same : (own : ℕ) (s next : WireLinks) → refused (failed_address own s) ≡ refusal_in (gives wire_flows own s next)
 address_same own s next = linked_same refused refusal_in (LiveAt own) s _ _ _ _ refl (λ number link. refl)
@@ -58,10 +53,11 @@ event_same s (Open own) = address_same own s (begun (opened wire_flows own) (fre
 event_same s (Accept far own) = answer_same Confirming far own s
 event_same s (Reject far own) = answer_same Disconnecting far own s
 event_same s (In own message) = linked_same refused refusal_in (LiveAt own) s _ _ _ _ refl (λ number link.
-    check_same (takes_messages link.port.phase) (TakesMessages number link.port.phase)
-    (changed number (with_flow (hands_in message link.flow) link) s))
+    check_same refusal_of_event (takes_messages link.port.phase) (TakesMessages number link.port.phase) None
+    (Ok (changed number (with_flow (hands_in message link.flow) link) s)) refl)
 event_same s (Up own message) = linked_same refused refusal_in (HasAddress own) s _ _ _ _ refl (λ number link.
     delivered_same number link s message (next_message link.flow.kept.pieces)
     (Delivery number (length message) (next_length link.flow.kept.pieces)) refl)
 event_same s (Close own) = linked_same refused refusal_in (LiveAt own) s _ _ _ _ refl (λ number link.
-    check_same (is_connected link.port.phase) (IsConnected number link.port.phase) (changed number (in_phase Disconnecting link) s))
+    check_same refusal_of_event (is_connected link.port.phase) (IsConnected number link.port.phase) None
+    (Ok (changed number (in_phase Disconnecting link) s)) refl)

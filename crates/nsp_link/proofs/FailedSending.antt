@@ -1,6 +1,6 @@
 -- The check that a message does not pass is the one for which the tables refuse it, and with what is allowed it is passed.
-use Rattle.std.proofs.Common.{◌≡◌, ℕ, ◌+◌, ◌-◌, ◌<◌, ◌≤◌, Bool, true, false, ◌&&◌, ◌||◌, cond, not, Option, Some, None, List, [], ◌∷◌, length}
-use Rattle.std.proofs.Common.{refl, sym, ap, ◌∙◌, arith, option_map, ltb, leb, eqb}
+use Rattle.std.proofs.Common.{◌≡◌, ℕ, ◌-◌, ◌<◌, Bool, true, false, ◌&&◌, ◌||◌, cond, not, Option, Some, None, List, [], ◌∷◌, length}
+use Rattle.std.proofs.Common.{refl, sym, ◌∙◌, arith, option_map, ltb, leb, eqb}
 use Rattle.std.proofs.lemmas.Bool.{leb-false}
 use Rattle.std.specs.Prelude.{slice_get, Result, Ok, Err}
 use Rattle.dna_packet.specs.Nsp.{SegmentValue, NspValue, DataSegment, LinkService, DataAck, OtherDataAck, ConnectAck, NoOperation, ConnectInitiate}
@@ -12,7 +12,7 @@ use Rattle.dna_links.specs.declared.port.LinkTest.{LinkTest}
 use Rattle.dna_links.specs.declared.port.LinkTest.TheVariants.{TheLink, OpenedAt, BegunBy}
 use Rattle.dna_links.specs.declared.port.Phase.{Phase}
 use Rattle.dna_links.specs.declared.port.Phase.TheVariants.{Calling, Confirming, Running, Disconnecting}
-use Rattle.dna_links.specs.Flow.{REACH, wire, distance, is_of_data, Sending}
+use Rattle.dna_links.specs.Flow.{REACH, distance, is_of_data, Sending}
 use Rattle.dna_links.specs.Links.{LinkOf, Carried, check, with_link, at_number, on_link, number_of}
 use Rattle.dna_links.specs.Pieces.{Piece, piece_of, same_piece, is_next_piece}
 use Rattle.dna_links.specs.Sending.{carries, in_its_phase, in_run, message_sent, segment_of, unchanged}
@@ -38,10 +38,11 @@ use Rattle.nsp_link.proofs.Found.{some_there}
 abbrev refused : Option FailedLinkSending → Option LinkRefusal
 refused failed = option_map refusal_of_sending failed
 
-check_same : {R : Type 0} (passes : Bool) (failed : FailedLinkSending) (o : Option FailedLinkSending) (next : Result R LinkRefusal) →
-    refused o ≡ refusal_in next → refused (named passes failed o) ≡ refusal_in (check passes (refusal_of_sending failed) next)
-check_same true failed o next same = same
-check_same false failed o next same = refl
+pub check_same : {F R : Type 0} (refusal_of : F → LinkRefusal) (passes : Bool) (failed : F) (o : Option F) (next : Result R LinkRefusal) →
+    option_map refusal_of o ≡ refusal_in next →
+    option_map refusal_of (named passes failed o) ≡ refusal_in (check passes (refusal_of failed) next)
+check_same refusal_of true failed o next same = same
+check_same refusal_of false failed o next same = refl
 
 -- what holds of both where no link is found, and where one is, holds of both
 module _ {R S P : Type 0} (f : R → P) (g : S → P) (test : LinkTest) (s : WireLinks) (r : R) (t : S) (on_r : ℕ → LinkOf WireFlow → R)
@@ -120,7 +121,8 @@ given_same s outstanding place made within = by_piece (slice_get outstanding pla
       refused (failed_given s o) ≡ refusal_in (check (is_given o (piece_of s)) WrongSegment (Ok made))
   by_piece None out = absurd (some_there outstanding place within out)
   by_piece (Some first) at =
-      check_same (same_piece (piece_of s) first) (AsFirstGiven s.number (shape_of (piece_of s)) (shape_of first)) None (Ok made) refl
+      check_same refusal_of_sending (same_piece (piece_of s) first)
+      (AsFirstGiven s.number (shape_of (piece_of s)) (shape_of first)) None (Ok made) refl
 
 repeat_same : {R : Type 0} (below : ℕ) (s : SegmentValue) (outstanding : List Piece) (made : R) →
     refused (failed_repeat below s outstanding) ≡ refusal_in (check (is_repeat below (piece_of s) outstanding) WrongSegment (Ok made))
@@ -136,7 +138,7 @@ repeat_same below s outstanding made = by_place (leb (length outstanding) below)
 again_same : (below : ℕ) (s : SegmentValue) (sent : LastSent) (f : WireFlow) →
     refused (failed_again below s f) ≡ refusal_in (sends_again below (piece_of s) sent f)
 again_same below s sent f =
-    check_same (ltb below REACH && (f.gave_many || ltb below (highest_given f.kept))) (Number s.number (segment_numbers f))
+    check_same refusal_of_sending (ltb below REACH && (f.gave_many || ltb below (highest_given f.kept))) (Number s.number (segment_numbers f))
     (failed_repeat below s f.kept.outstanding)
     (check (is_repeat below (piece_of s) f.kept.outstanding) WrongSegment (Ok (sending (with_last sent f))))
     (repeat_same below s f.kept.outstanding (sending (with_last sent f)))
@@ -162,7 +164,8 @@ segment_same segsize s f =
 phase_same : (test : LinkTest) (wanted : Phase) (s : WireLinks) →
     refused (failed_phase test wanted s) ≡ refusal_in (in_its_phase wire_flows test (is_in wanted) s)
 phase_same test wanted s = linked_same refused refusal_in test s _ _ _ _ refl (λ number link.
-    check_same (is_in wanted link.port.phase) (InPhase number link.port.phase wanted) None (Ok (unchanged wire_flows s number link)) refl)
+    check_same refusal_of_sending (is_in wanted link.port.phase) (InPhase number link.port.phase wanted) None
+    (Ok (unchanged wire_flows s number link)) refl)
 
 carries_same : (s : WireLinks) (number : ℕ) (link : LinkOf WireFlow) (r : Result (Sending WireFlow (Unit {0})) LinkRefusal) →
     refusal_in (carries wire_flows s number link r) ≡ refusal_in r
@@ -174,7 +177,7 @@ run_same : (src dst : ℕ) (fails : LinkOf WireFlow → Option FailedLinkSending
     ((link : LinkOf WireFlow) → refused (fails link) ≡ refusal_in (sends link)) →
     refused (failed_in_run src dst fails s) ≡ refusal_in (in_run wire_flows src dst sends s)
 run_same src dst fails sends s same = linked_same refused refusal_in (TheLink src dst) s _ _ _ _ refl (λ number link.
-    check_same (is_in Running link.port.phase) (InPhase number link.port.phase Running) (fails link)
+    check_same refusal_of_sending (is_in Running link.port.phase) (InPhase number link.port.phase Running) (fails link)
     (carries wire_flows s number link (sends link)) (same link ∙ sym (carries_same s number link (sends link))))
 
 -- ---- each message
@@ -196,5 +199,6 @@ message_same s (NoOperation rest) = refl
 
 pub sending_same : (s : WireLinks) (packet : Carried) → refused (failed_sending s packet) ≡ refusal_in (wire_links_sent s packet)
 sending_same s packet =
-    check_same (eqb packet.src s.node && eqb packet.dst s.peer) (Between (nodes_of packet) (record { source = s.node; destination = s.peer }))
+    check_same refusal_of_sending (eqb packet.src s.node && eqb packet.dst s.peer)
+    (Between (nodes_of packet) (record { source = s.node; destination = s.peer }))
     (failed_message s packet.message) (message_sent wire_flows s packet.message) (message_same s packet.message)

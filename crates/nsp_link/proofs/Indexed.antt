@@ -33,6 +33,10 @@ length_set [] n m = refl
 length_set (x ∷ xs) zero m = refl
 length_set (x ∷ xs) (suc n) m = ap suc (length_set xs n m)
 
+with_bit : (b : Bool) (k q : ℕ) → cond b (suc k) k ≡ q → q ≡ k + bit b
+with_bit true k q e = omega arith
+with_bit false k q e = omega arith
+
 -- ---- the link that a CI began
 
 never : {A : Type 0} (b : Bool) → b ≡ false → b ≡ true → A
@@ -182,17 +186,13 @@ module _ {D : Type 0} where
             ((q : ℕ) → reached' q ≡ cond (eqb far q) (suc (reached q)) (reached q)) →
             IsIndexed (set links n m) holder' caller' reached' waiting'
         indexed_confirm far calling unknown confirmed known wait counts = changed_index reaches few_wait (omega arith) where
-          by : (b : Bool) (k q : ℕ) → cond b (suc k) k ≡ q → q ≡ k + bit b
-          by true k q e = omega arith
-          by false k q e = omega arith
-
           reaches : (q : ℕ) → reached' q ≡ counted (lives_to q) (set links n m)
           reaches q =
               let counting = counted_set (lives_to q) links n l m there in
               let none = bit_false (lives_to q l) (unknown q) in
               let some = ap bit (known q) in
               let before = index.reaches q in
-              let after = by (eqb far q) (reached q) (reached' q) (sym (counts q)) in
+              let after = with_bit (eqb far q) (reached q) (reached' q) (sym (counts q)) in
               omega arith
 
           few_wait : counted waits (set links n m) ≤ waiting'
@@ -210,17 +210,13 @@ module _ {D : Type 0} where
             ((q : ℕ) → cond (is_at l.port.far q) (suc (reached' q)) (reached' q) ≡ reached q) →
             IsIndexed (set links n m) holder' caller' reached' waiting'
         indexed_end lived dead calling wait counts = changed_index reaches few_wait less where
-          by : (b : Bool) (k q : ℕ) → cond b (suc k) k ≡ q → q ≡ k + bit b
-          by true k q e = omega arith
-          by false k q e = omega arith
-
           reaches : (q : ℕ) → reached' q ≡ counted (lives_to q) (set links n m)
           reaches q =
               let counting = counted_set (lives_to q) links n l m there in
               let none = bit_false (lives_to q m) (ap (λ (b : Bool). b && is_at m.port.far q) dead) in
               let some = ap (λ (b : Bool). bit (b && is_at l.port.far q)) lived in
               let before = index.reaches q in
-              let after = by (is_at l.port.far q) (reached' q) (reached q) (counts q) in
+              let after = with_bit (is_at l.port.far q) (reached' q) (reached q) (counts q) in
               omega arith
 
           few_wait : counted waits (set links n m) ≤ waiting'
@@ -228,8 +224,8 @@ module _ {D : Type 0} where
               let counting = counted_set waits links n l m there in
               let none = bit_false (waits m) calling in
               let before = index.waits in
-              let after = by (is_calling l.port.phase) waiting' waiting wait in
+              let after = with_bit (is_calling l.port.phase) waiting' waiting wait in
               omega arith
 
           less : waiting' ≤ waiting
-          less = let after = by (is_calling l.port.phase) waiting' waiting wait in omega arith
+          less = let after = with_bit (is_calling l.port.phase) waiting' waiting wait in omega arith

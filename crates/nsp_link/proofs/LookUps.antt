@@ -78,29 +78,17 @@ module _ {X : Type 0} (p : X → Bool) where
 
 -- ---- the tests
 
-calling_lives : (phase : Phase) → is_calling phase ≡ true → is_live phase ≡ true
-calling_lives Calling e = refl
-calling_lives Called e = refl
-calling_lives Confirming e = refl
-calling_lives Running e = refl
-calling_lives Disconnecting e = refl
-calling_lives Ended e = e
+-- a test of phases that no ended link passes
+by_phase : (test : Phase → Bool) → test Ended ≡ false → (phase : Phase) → test phase ≡ true → is_live phase ≡ true
+by_phase test ended Calling e = refl
+by_phase test ended Called e = refl
+by_phase test ended Confirming e = refl
+by_phase test ended Running e = refl
+by_phase test ended Disconnecting e = refl
+by_phase test ended Ended e = sym ended ∙ e
 
 pub called_lives : (phase : Phase) → is_called phase ≡ true → is_live phase ≡ true
-called_lives Calling e = refl
-called_lives Called e = refl
-called_lives Confirming e = refl
-called_lives Running e = refl
-called_lives Disconnecting e = refl
-called_lives Ended e = e
-
-connected_lives : (phase : Phase) → is_connected phase ≡ true → is_live phase ≡ true
-connected_lives Calling e = refl
-connected_lives Called e = refl
-connected_lives Confirming e = refl
-connected_lives Running e = refl
-connected_lives Disconnecting e = refl
-connected_lives Ended e = e
+called_lives = by_phase is_called refl
 
 -- a test that only a live link passes
 abbrev pub is_of_live : LinkTest → Bool
@@ -113,10 +101,10 @@ passes_lives (LiveAt own) port of e = first_true (is_live port.phase) _ e
 passes_lives (TheLink own far) port of e = first_true (is_live port.phase) _ e
 passes_lives (LiveTo far) port of e = first_true (is_live port.phase) _ e
 passes_lives (OpenedAt own) port of e = first_true (is_live port.phase) _ e
-passes_lives (CallingAt own) port of e = calling_lives port.phase (first_true (is_calling port.phase) _ e)
+passes_lives (CallingAt own) port of e = by_phase is_calling refl port.phase (first_true (is_calling port.phase) _ e)
 passes_lives (CalledBy far) port of e = called_lives port.phase (first_true (is_called port.phase) _ e)
 passes_lives (BegunBy far) port of e = first_true (is_live port.phase) _ e
-passes_lives (ActedOn own far) port of e = connected_lives port.phase (first_true (is_connected port.phase) _ e)
+passes_lives (ActedOn own far) port of e = by_phase is_connected refl port.phase (first_true (is_connected port.phase) _ e)
 
 -- ---- the one that is looked at
 

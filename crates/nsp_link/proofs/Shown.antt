@@ -8,7 +8,6 @@ use Rattle.dna_links.specs.LookUps.{is_live}
 use Rattle.dna_links.specs.TrueFlow.{TrueFlow, highest_given}
 use Rattle.nsp_link.specs.View.{numbers_of, true_numbers, true_view, view_of}
 use Rattle.nsp_link.specs.declared.view.LinkNumbers.{LinkNumbers}
-use Rattle.nsp_link.specs.declared.view.LinkView.{LinkView}
 
 wire_on : (a n : ℕ) → a ≤ n → wire (wire a + (n - a)) ≡ wire n
 wire_on a n l = omega arith

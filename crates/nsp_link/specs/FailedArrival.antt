@@ -1,6 +1,6 @@
 -- The first check that a message does not pass which comes to a node's links, by its name, with what is seen there and what is allowed. The
 -- checks are those of `Arriving` of `dna_links`, in their order.
-use Rattle.std.specs.Prelude.{ℕ, Option, Some, None, ◌==◌, ◌&&◌}
+use Rattle.std.specs.Prelude.{ℕ, Option, None, ◌==◌, ◌&&◌}
 use Rattle.dna_packet.specs.Nsp.{NspValue, DataSegment, LinkService, DataAck, OtherDataAck, ConnectAck, NoOperation, ConnectInitiate, ConnectConfirm}
 use Rattle.dna_packet.specs.Nsp.{DisconnectInitiate, DisconnectConfirm}
 use Rattle.dna_station.specs.declared.link_refusal.LinkRefusal.{LinkRefusal}

@@ -1,7 +1,7 @@
 -- The first check that a message does not pass which a node's links send, by its name, with what is seen there and what is allowed. The checks
 -- are those of `Sending` and `WireFlow` of `dna_links`, in their order.
 use Rattle.std.specs.Prelude.{ℕ, ◌+◌, ◌-◌, Bool, true, false, ◌&&◌, ◌||◌, not, ◌==◌, nat_lt, nat_le, min, if◌then◌else◌, Option, Some, None, List, []}
-use Rattle.std.specs.Prelude.{◌∷◌, length, take, slice_get, is_some}
+use Rattle.std.specs.Prelude.{◌∷◌, length, take, slice_get}
 use Rattle.dna_packet.specs.Nsp.{SegmentValue, NspValue, DataSegment, LinkService, DataAck, OtherDataAck, ConnectAck, NoOperation, ConnectInitiate}
 use Rattle.dna_packet.specs.Nsp.{ConnectConfirm, DisconnectInitiate, DisconnectConfirm}
 use Rattle.dna_packet.specs.declared.ack_word.AckWord.{AckWord}
@@ -15,7 +15,7 @@ use Rattle.dna_links.specs.declared.port.LinkTest.TheVariants.{TheLink, OpenedAt
 use Rattle.dna_links.specs.Flow.{REACH, wire, distance, is_of_data}
 use Rattle.dna_links.specs.Links.{LinkOf, Carried, with_link}
 use Rattle.dna_links.specs.Pieces.{Piece, piece_of, same_piece, Unsent, is_next_piece}
-use Rattle.dna_links.specs.WireFlow.{WireFlow, LinkVariables, LastSent, last_named, last_of, is_new, highest_given}
+use Rattle.dna_links.specs.WireFlow.{WireFlow, LastSent, last_named, last_of, is_new, highest_given}
 use Rattle.dna_links.specs.WireLinks.{WireLinks}
 use Rattle.nsp_link.specs.Missing.{missing}
 use Rattle.nsp_link.specs.Phases.{is_in}

@@ -67,37 +67,45 @@ impl<W: Window<Piece, 4096> + Drop> Link<W> {
     pub fn opened(alloc: Global, own: u16) -> Result<Self, AllocError>
         ensures { IfOk result (λ link. link ≡ user.opened wire_flows own) }
     {
-        let Ok(flow) = Box::new(alloc, Flow::new(alloc)) else {
-            return Err(AllocError);
+        let port = Port {
+            phase: Phase::Calling,
+            opened: true,
+            own: Some(own),
+            far: None,
         };
-        Ok(Link {
-            port: Port {
-                phase: Phase::Calling,
-                opened: true,
-                own: Some(own),
-                far: None,
-            },
-            partner: None,
-            segsize: 0,
-            flow: Some(flow),
-        })
+        Link::begun(alloc, port, None, 0)
     }
 
     /// A link that a CI begins, with this far address and the CI's SEGSIZE; its partner is the sender.
     pub fn called(alloc: Global, far: u16, segsize: u16, tag: LinkTag) -> Result<Self, AllocError>
         ensures { IfOk result (λ link. link ≡ arriving.called wire_flows of_partner far segsize tag) }
     {
+        let port = Port {
+            phase: Phase::Called,
+            opened: false,
+            own: None,
+            far: Some(far),
+        };
+        Link::begun(alloc, port, tag.link, segsize)
+    }
+
+    // A link with this port, partner and SEGSIZE, on which nothing was handed in, sent or received.
+    fn begun(
+        alloc: Global,
+        port: Port,
+        partner: Option<u64>,
+        segsize: u16,
+    ) -> Result<Self, AllocError>
+        requires called { is_called port.phase ≡ true → port.own ≡ None }
+        requires calling { is_calling port.phase ≡ true → (port.opened ≡ true) × (port.far ≡ None) }
+        ensures { IfOk result (λ link. link ≡ record { port = port; partner = partner; segsize = segsize; flow = spec.empty }) }
+    {
         let Ok(flow) = Box::new(alloc, Flow::new(alloc)) else {
             return Err(AllocError);
         };
         Ok(Link {
-            port: Port {
-                phase: Phase::Called,
-                opened: false,
-                own: None,
-                far: Some(far),
-            },
-            partner: tag.link,
+            port,
+            partner,
             segsize,
             flow: Some(flow),
         })

@@ -1,6 +1,6 @@
 //! The links of a node, and how they are found.
 
-ghost use Rattle.std.specs.Prelude.{◌≡◌, ◌<◌, true, None, Some, length, slice_get, is_some, option_copied, OnOk, OnErr, IfOk, IfErr, IfSome};
+ghost use Rattle.std.specs.Prelude.{◌≡◌, ◌<◌, true, None, Some, length, slice_get, is_some, option_map, OnOk, OnErr, IfOk, IfErr, IfSome};
 ghost use Rattle.dna_links.specs.LookUps as tests;
 ghost use Rattle.dna_links.specs.Links.{number_of};
 ghost use Rattle.dna_links.specs.WireLinks.{new_wire_links};
@@ -51,19 +51,14 @@ pub struct Links<W: Window<Piece, 4096> + Drop> {
 }
 
 impl<W: Window<Piece, 4096> + Drop> Model for Links<W> {
-    ghost use Rattle.std.specs.Prelude.{nat_eq};
-    ghost use Rattle.std.specs.Ordering.{nat_cmp};
-    ghost use Rattle.std.specs.BTreeMap.{get};
-    ghost use Rattle.std.specs.HashMap as hashed;
     ghost use Rattle.dna_links.specs.WireLinks.{WireLinks};
-    ghost use Rattle.nsp_link.specs.inner.Index.{IsIndexed, times};
+    ghost use Rattle.nsp_link.specs.inner.Indexing.{AreIndexed};
 
     ghost Value = { WireLinks };
 
     ghost view = { λ l. record { node = l.node; peer = l.peer; links = l.links.items } };
 
-    ghost invariant = { λ l. IsIndexed l.links.items (λ q. get nat_cmp l.index.holders q) (λ q. get nat_cmp l.index.callers q)
-        (λ q. times (hashed.get nat_eq l.index.reached q)) l.index.waiting };
+    ghost invariant = { λ l. AreIndexed l.links.items l.index };
 }
 
 impl<W: Window<Piece, 4096> + Drop> Links<W> {
@@ -94,11 +89,8 @@ impl<W: Window<Piece, 4096> + Drop> Links<W> {
         ensures given { result ≡ given_at own far self.now }
         ensures below { IfSome result (λ given. given.acknowledged < 4096) }
     {
-        let Some(number) = self.find(LinkTest::ActedOn { own, far }) else {
+        let Some((_number, link)) = self.found(LinkTest::ActedOn { own, far }) else {
             return None;
-        };
-        let Some(link) = self.link(number) else {
-            unreachable!();
         };
         Some(link.given())
     }
@@ -113,18 +105,28 @@ impl<W: Window<Piece, 4096> + Drop> Links<W> {
         passing(&self.links, test, self.index.candidate(test))
     }
 
+    // The same link, with its number.
+    #[inline(always)]
+    fn found(&self, test: LinkTest) -> Option<(usize, &Link<W>)>
+        requires { is_of_one test ≡ true }
+        ensures number { option_map (λ found. found.0) result ≡ number_of test self.now }
+        ensures link { IfSome result (λ found. slice_get self.now.links found.0 ≡ Some found.1.now) }
+        ensures within { IfSome result (λ found. found.0 < length self.now.links) }
+    {
+        let Some(number) = self.find(test) else {
+            return None;
+        };
+        let Some(link) = self.links.get(number) else {
+            unreachable!();
+        };
+        Some((number, link))
+    }
+
     // Whether a live link has this far address.
     fn is_live_to(&self, far: u16) -> bool
         ensures { result ≡ is_some (number_of (LinkTest.LiveTo far) self.now) }
     {
         self.index.times(far) != 0
-    }
-
-    // The link with this number.
-    fn link(&self, number: usize) -> Option<&Link<W>>
-        ensures { option_copied result ≡ slice_get self.now.links number }
-    {
-        self.links.get(number)
     }
 }
 

@@ -6,6 +6,7 @@ ghost use Rattle.nsp_link.specs.Phases as phases;
 use dna_links::Phase;
 
 /// Whether a link is in the phase that a message asks for: Calling, Confirming, RUN or DI.
+#[inline(always)]
 pub fn is_in(wanted: Phase, phase: Phase) -> bool
     ensures { result ≡ phases.is_in wanted phase }
 {

@@ -1,12 +1,11 @@
 -- What a link that changes in its place makes of the links that live.
-use Rattle.std.proofs.Common.{◌≡◌, ℕ, zero, suc, ◌<◌, ◌≤◌, Option, Some, None, Bool, true, false, Result, Ok, Err, OnOk, List, [], ◌∷◌, ◌++◌, length}
+use Rattle.std.proofs.Common.{◌≡◌, ℕ, zero, suc, ◌<◌, Option, Some, None, Bool, true, false, Result, Ok, Err, OnOk, List, [], ◌∷◌, ◌++◌, length}
 use Rattle.std.proofs.Common.{get_or, set, refl, sym, subst, ap, ◌∙◌, arith, cond, IfErr}
 use Rattle.std.specs.Prelude.{slice_get, slice_set}
 use Rattle.std.proofs.lemmas.Option.{slice_get_read, same_Some}
-use Rattle.dna_links.specs.declared.port.Port.{Port}
 use Rattle.dna_links.specs.LookUps.{is_live}
 use Rattle.dna_play.specs.LinkOwed.{LinkOwed, EndConfirm, Turn, retried}
-use Rattle.dna_play.specs.NextSent.{LinkEnd, LinkChoice, OfLink, link_choice, turn_of}
+use Rattle.dna_play.specs.NextSent.{LinkEnd, OfLink, link_choice, turn_of}
 use Rattle.dna_play.specs.Kept.{KeptLinks, live_ends}
 use Rattle.dna_packet.specs.Nsp.{SegmentValue}
 use Rattle.dna_play.specs.KeptLinks.{Delivering, after_sent, begun, changed, delivering_at, ended, sent_at, took_segment, turn_sent, without_whole}
@@ -14,156 +13,170 @@ use Rattle.player_end.specs.declared.fault.StepFault.{StepFault}
 use Rattle.player_end.specs.declared.fault.StepFault.TheVariants.{BadStep, Full, OutOfMemory}
 use Rattle.player_end.specs.Stepping.{Stopped}
 use Rattle.player_end.specs.inner.Delivering.{delivers_at, lines_of}
-use Rattle.dna_play.proofs.Stored.LiveLists.{place_in, filter_get, filter_set, filter_drop, filter_push}
+use Rattle.dna_play.proofs.Stored.LiveLists.{filter_get, filter_set, filter_drop, filter_push}
 use Rattle.player_end.specs.inner.Index.{LivesAt, among_live, live_of, place_among}
 use Rattle.player_end.specs.inner.Links.{changed_to, gone, retried_end, with_change}
 use Rattle.player_end.specs.inner.Index.{IsIndexed}
 use Rattle.player_end.proofs.Indexed.{Knows, changed_indexed, same_indexed, set_indexed}
-use Rattle.player_end.proofs.Keeping.{Keeps, as_made}
+use Rattle.player_end.proofs.Keeping.{Keeps, same_port}
 use Rattle.player_end.proofs.Searching.{lives, place_same}
 use Rattle.player_end.proofs.Turns.{chosen_stands}
 
-module _ (items : List LinkEnd) (confirms : List EndConfirm) (s : KeptLinks) (is : record { links = items; confirms = confirms } ≡ s) (n : ℕ)
-    (l : LinkEnd) (within : n < length s.links) (there : l ≡ get_or items n l) where
-  pub shown_within : n < length items
-  shown_within = subst (λ (t : KeptLinks). n < length t.links) (sym is) within
+pub map_ok : {A E P Q : Type 0} (r : Result A E) → (P → Q) → OnOk r P → OnOk r Q
+map_ok (Ok x) f h = f h
+map_ok (Err e) f h = h
 
-  pub link_there : slice_get items n ≡ Some l
-  link_there = slice_get_read items (length items) n l refl shown_within there
+-- what is whole of a link goes to the user
+lines_links : (b : Bool) (links : KeptLinks) (x t : List ℕ) → ◌≡◌ {A = Option (List ℕ)} (cond b (Some x) None) (Some t) →
+    ◌≡◌ {A = Option (KeptLinks × List ℕ)} (cond b (Some (links, x)) None) (Some (links, t))
+lines_links true links x t e = ap (λ (y : List ℕ). Some (links, y)) (same_Some x t e)
+lines_links false links x t e = absurd cc
 
-  pub link_found : slice_get s.links n ≡ Some l
-  link_found = ap (λ (t : KeptLinks). slice_get t.links n) (sym is) ∙ link_there
+lines_stop : (b : Bool) (links : KeptLinks) (x : List ℕ) (fault : StepFault) → Stopped {M = List ℕ} (cond b (Some x) None) fault →
+    Stopped {M = KeptLinks × List ℕ} (cond b (Some (links, x)) None) fault
+lines_stop true links x BadStep h = absurd cc
+lines_stop false links x BadStep h = refl
+lines_stop b links x Full h = h
+lines_stop b links x OutOfMemory h = tt
 
-  pub same_link : (link : LinkEnd) → slice_get s.links n ≡ Some link → l ≡ link
+-- one of the links of an end, at its number, where it lives
+pub record InPlace (items : List LinkEnd) (confirms : List EndConfirm) (s : KeptLinks) (n : ℕ) (l : LinkEnd) : Type 0 where
+  pub is : record { links = items; confirms = confirms } ≡ s
+  pub within : n < length s.links
+  pub there : l ≡ get_or items n l
+  pub live : LivesAt n s
+
+pub in_place : {items : List LinkEnd} {confirms : List EndConfirm} {s : KeptLinks} {n : ℕ} {l : LinkEnd} →
+    record { links = items; confirms = confirms } ≡ s → n < length s.links → l ≡ get_or items n l → LivesAt n s → InPlace items confirms s n l
+in_place is within there live = record { is = is; within = within; there = there; live = live }
+
+module _ {items : List LinkEnd} {confirms : List EndConfirm} {s : KeptLinks} {n : ℕ} {l : LinkEnd} (at : InPlace items confirms s n l) where
+  shown_within : n < length items
+  shown_within = subst (λ (t : KeptLinks). n < length t.links) (sym at.is) at.within
+
+  link_there : slice_get items n ≡ Some l
+  link_there = slice_get_read items (length items) n l refl shown_within at.there
+
+  link_found : slice_get s.links n ≡ Some l
+  link_found = ap (λ (t : KeptLinks). slice_get t.links n) (sym at.is) ∙ link_there
+
+  same_link : (link : LinkEnd) → slice_get s.links n ≡ Some link → l ≡ link
   same_link link e = same_Some l link (sym link_found ∙ e)
 
-  module _ (live : LivesAt n s) where
-    pub l_lives : is_live l.port.phase ≡ true
-    l_lives = live l link_found
+  pub l_lives : is_live l.port.phase ≡ true
+  l_lives = at.live l link_found
 
-    abbrev with_it : LinkEnd → KeptLinks
-    with_it m = record { links = set items n m; confirms = confirms }
+  abbrev with_it : LinkEnd → KeptLinks
+  with_it m = record { links = set items n m; confirms = confirms }
 
-    pub set_made : (m : LinkEnd) → is_live m.port.phase ≡ true → live_of (with_it m) ≡ changed (place_among n s.links) m (live_of s)
-    set_made m still =
-        ap (λ (all : List LinkEnd). record { links = all; confirms = confirms }) (filter_set lives items n l m link_there l_lives still)
-        ∙ ap (λ (k : ℕ). changed k m (live_of (record { links = items; confirms = confirms }))) (sym (place_same n items))
-        ∙ ap (λ (t : KeptLinks). changed (place_among n t.links) m (live_of t)) is
+  set_made : (m : LinkEnd) → is_live m.port.phase ≡ true → live_of (with_it m) ≡ changed (place_among n s.links) m (live_of s)
+  set_made m still =
+      ap (λ (all : List LinkEnd). record { links = all; confirms = confirms }) (filter_set lives items n l m link_there l_lives still)
+      ∙ ap (λ (k : ℕ). changed k m (live_of (record { links = items; confirms = confirms }))) (sym (place_same n items))
+      ∙ ap (λ (t : KeptLinks). changed (place_among n t.links) m (live_of t)) at.is
 
-    -- it is the change of the link that is there
-    pub live_made : (f : LinkEnd → LinkEnd) (m : LinkEnd) → m ≡ f l → is_live m.port.phase ≡ true → (link : LinkEnd) →
-        slice_get s.links n ≡ Some link → live_of (with_it m) ≡ changed (place_among n s.links) (f link) (live_of s)
-    live_made f m e still link found =
-        set_made m still ∙ ap (λ (k : LinkEnd). changed (place_among n s.links) k (live_of s)) (e ∙ ap f (same_link link found))
+  -- it is the change of the link that is there
+  pub live_made : (f : LinkEnd → LinkEnd) {m : LinkEnd} → m ≡ f l → is_live m.port.phase ≡ true → (link : LinkEnd) →
+      slice_get s.links n ≡ Some link → live_of (with_it m) ≡ changed (place_among n s.links) (f link) (live_of s)
+  live_made f {m} e still link found =
+      set_made m still ∙ ap (λ (k : LinkEnd). changed (place_among n s.links) k (live_of s)) (e ∙ ap f (same_link link found))
 
-    -- the index stays one
-    module _ (h c : Knows) (marks marks' : List ℕ) (index : IsIndexed items h c marks) (marked : marks' ≡ slice_set marks n 1) (m : LinkEnd)
-        (still : is_live m.port.phase ≡ true) where
+  -- likewise where it keeps its addresses and lives on
+  pub kept_made : (f : LinkEnd → LinkEnd) {m : LinkEnd} → Keeps l m → m ≡ f l → (link : LinkEnd) →
+      slice_get s.links n ≡ Some link → live_of (with_it m) ≡ changed (place_among n s.links) (f link) (live_of s)
+  kept_made f keeps e link found = live_made f e (keeps.live l_lives) link found
+
+  pub kept_if_ok : {A E : Type 0} (r : Result A E) (f : LinkEnd → LinkEnd) {m : LinkEnd} → Keeps l m → OnOk r (m ≡ f l) → (link : LinkEnd) →
+      slice_get s.links n ≡ Some link → OnOk r (live_of (with_it m) ≡ changed (place_among n s.links) (f link) (live_of s))
+  kept_if_ok r f keeps made link found = map_ok r (λ e. kept_made f keeps e link found) made
+
+  -- ---- the index stays one
+
+  module _ {h c : Knows} {marks : List ℕ} (index : IsIndexed items h c marks) where
+    module _ {marks' : List ℕ} (marked : marks' ≡ slice_set marks n 1) where
       -- where it has the addresses that it had
-      pub index_made : m.port.own ≡ l.port.own → m.port.far ≡ l.port.far → IsIndexed (set items n m) h c marks'
-      index_made own far =
+      pub index_made : {m : LinkEnd} → Keeps l m → IsIndexed (set items n m) h c marks'
+      index_made {m} keeps =
           subst (λ (ms : List ℕ). IsIndexed (set items n m) h c ms) (sym marked)
-          (same_indexed items h c marks index n m shown_within still l link_there own far)
+          (same_indexed items h c marks index n m shown_within (keeps.live l_lives) l link_there keeps.own keeps.far)
 
       -- where it gets an own address
-      pub index_own : (h' : Knows) (own : ℕ) → m.port.own ≡ Some own → m.port.far ≡ l.port.far → h' own n ≡ true →
-          ((q k : ℕ) → h q k ≡ true → h' q k ≡ true) → IsIndexed (set items n m) h' c marks'
-      index_own h' own is far known more =
+      pub index_own : {h' : Knows} {own : ℕ} (m : LinkEnd) → is_live m.port.phase ≡ true → m.port.own ≡ Some own → m.port.far ≡ l.port.far →
+          h' own n ≡ true → ((q k : ℕ) → h q k ≡ true → h' q k ≡ true) → IsIndexed (set items n m) h' c marks'
+      index_own {h'} {own} m still is far known more =
           subst (λ (ms : List ℕ). IsIndexed (set items n m) h' c ms) (sym marked)
           (changed_indexed items h c marks index n m shown_within still h' c
           (λ q e. ap (λ (a : ℕ). h' a n) (same_Some q own (sym e ∙ is)) ∙ known) (λ q e. index.far n q l link_there (sym far ∙ e)) more (λ q k e. e))
 
       -- where it gets to know a far one
-      pub index_far : (c' : Knows) (far : ℕ) → m.port.far ≡ Some far → m.port.own ≡ l.port.own → c' far n ≡ true →
-          ((q k : ℕ) → c q k ≡ true → c' q k ≡ true) → IsIndexed (set items n m) h c' marks'
-      index_far c' far is own known more =
+      pub index_far : {c' : Knows} {far : ℕ} (m : LinkEnd) → is_live m.port.phase ≡ true → m.port.far ≡ Some far → m.port.own ≡ l.port.own →
+          c' far n ≡ true → ((q k : ℕ) → c q k ≡ true → c' q k ≡ true) → IsIndexed (set items n m) h c' marks'
+      index_far {c'} {far} m still is own known more =
           subst (λ (ms : List ℕ). IsIndexed (set items n m) h c' ms) (sym marked)
           (changed_indexed items h c marks index n m shown_within still h c' (λ q e. index.own n q l link_there (sym own ∙ e))
           (λ q e. ap (λ (a : ℕ). c' a n) (same_Some q far (sym e ∙ is)) ∙ known) (λ q k e. e) more)
 
-    -- it is a change that leaves its addresses
-    module _ (m k : LinkEnd) (e : m ≡ k) (keeps : Keeps l k) where
-      pub kept_live : is_live m.port.phase ≡ true
-      kept_live = (as_made l m k e keeps).live l_lives
-
-      pub kept_index : (h c : Knows) (marks marks' : List ℕ) → IsIndexed items h c marks → marks' ≡ slice_set marks n 1 →
-          IsIndexed (set items n m) h c marks'
-      kept_index h c marks marks' index marked =
-          let same = as_made l m k e keeps in index_made h c marks marks' index marked m kept_live same.own same.far
-
-    -- it has ended, and no address of it is known
-    pub gone_index : (h c h' c' : Knows) (marks : List ℕ) → IsIndexed items h c marks →
-        ((q k : ℕ) → (k ≡ n → ⊥) → h q k ≡ true → h' q k ≡ true) → ((q k : ℕ) → (k ≡ n → ⊥) → c q k ≡ true → c' q k ≡ true) →
-        (m : LinkEnd) → m ≡ gone → IsIndexed (set items n m) h' c' marks
-    gone_index h c h' c' marks index owns fars m e =
+    -- where it has ended, and no address of it is known
+    pub gone_index : {h' c' : Knows} → ((q k : ℕ) → (k ≡ n → ⊥) → h q k ≡ true → h' q k ≡ true) →
+        ((q k : ℕ) → (k ≡ n → ⊥) → c q k ≡ true → c' q k ≡ true) → {m : LinkEnd} → m ≡ gone → IsIndexed (set items n m) h' c' marks
+    gone_index {h'} {c'} owns fars {m} e =
         subst (λ (k : LinkEnd). IsIndexed (set items n k) h' c' marks) (sym e)
         (set_indexed items h c marks index n gone h' c' marks (λ q is. absurd cc) (λ q is. absurd cc) owns fars (λ turn is. absurd cc)
         (λ turn is. absurd cc) (λ k other is. is) refl)
 
-    -- it ends
-    pub ended_made : (m : LinkEnd) → is_live m.port.phase ≡ false → live_of (with_it m) ≡ ended (place_among n s.links) (live_of s)
-    ended_made m over =
-        ap (λ (all : List LinkEnd). record { links = all; confirms = confirms }) (filter_drop lives items n l m link_there l_lives over)
-        ∙ ap (λ (k : ℕ). ended k (live_of (record { links = items; confirms = confirms }))) (sym (place_same n items))
-        ∙ ap (λ (t : KeptLinks). ended (place_among n t.links) (live_of t)) is
+  -- it ends
+  pub ended_made : {m : LinkEnd} → m ≡ gone → live_of (with_it m) ≡ ended (place_among n s.links) (live_of s)
+  ended_made {m} over =
+      ap (λ (all : List LinkEnd). record { links = all; confirms = confirms }) (filter_drop lives items n l m link_there l_lives
+      (ap (λ (k : LinkEnd). is_live k.port.phase) over))
+      ∙ ap (λ (k : ℕ). ended k (live_of (record { links = items; confirms = confirms }))) (sym (place_same n items))
+      ∙ ap (λ (t : KeptLinks). ended (place_among n t.links) (live_of t)) at.is
 
-    -- a segment comes, and what it makes whole goes to the user
-    lines_links : (b : Bool) (links : KeptLinks) (x t : List ℕ) → ◌≡◌ {A = Option (List ℕ)} (cond b (Some x) None) (Some t) →
-        ◌≡◌ {A = Option (KeptLinks × List ℕ)} (cond b (Some (links, x)) None) (Some (links, t))
-    lines_links true links x t e = ap (λ (y : List ℕ). Some (links, y)) (same_Some x t e)
-    lines_links false links x t e = absurd cc
+  -- a segment comes, and what it makes whole goes to the user
+  module _ (seg : SegmentValue) (own : ℕ) (text : List ℕ) (r : Result (Unit {0}) StepFault) (link : LinkEnd)
+      (found : slice_get s.links n ≡ Some link) where
+    abbrev delivering : Delivering
+    delivering = delivering_at (place_among n s.links) (took_segment seg link) (live_of s)
 
-    lines_stop : (b : Bool) (links : KeptLinks) (x : List ℕ) (fault : StepFault) → Stopped {M = List ℕ} (cond b (Some x) None) fault →
-        Stopped {M = KeptLinks × List ℕ} (cond b (Some (links, x)) None) fault
-    lines_stop true links x BadStep h = absurd cc
-    lines_stop false links x BadStep h = refl
-    lines_stop b links x Full h = h
-    lines_stop b links x OutOfMemory h = tt
-
-    module _ (seg : SegmentValue) (own : ℕ) (text t : List ℕ) (r : Result (Unit {0}) StepFault) (m : LinkEnd)
-        (link : LinkEnd) (found : slice_get s.links n ≡ Some link) where
-      abbrev delivering : Delivering
-      delivering = delivering_at (place_among n s.links) (took_segment seg link) (live_of s)
-
-      pub received_made : is_live m.port.phase ≡ true → OnOk r (lines_of own text (took_segment seg l).variables.pieces ≡ Some t) →
-          OnOk r (m ≡ without_whole (took_segment seg l)) → OnOk r (delivers_at own text delivering ≡ Some (live_of (with_it m), t))
-      received_made still = go r
-        where
-          go : (x : Result (Unit {0}) StepFault) → OnOk x (lines_of own text (took_segment seg l).variables.pieces ≡ Some t) →
-              OnOk x (m ≡ without_whole (took_segment seg l)) → OnOk x (delivers_at own text delivering ≡ Some (live_of (with_it m), t))
-          go (Ok u) lines left =
-              lines_links _ delivering.links _ t
-              (ap (λ (k : LinkEnd). lines_of own text (took_segment seg k).variables.pieces) (sym (same_link link found)) ∙ lines)
-              ∙ ap (λ (links : KeptLinks). Some (links, t)) (sym (live_made (λ k. without_whole (took_segment seg k)) m left still link found))
-          go (Err e) lines left = lines
-
-      pub received_stops : IfErr r (λ fault. Stopped (lines_of own text (took_segment seg l).variables.pieces) fault) →
-          IfErr r (λ fault. Stopped (delivers_at own text delivering) fault)
-      received_stops h = go r h
-        where
-          go : (x : Result (Unit {0}) StepFault) → IfErr x (λ fault. Stopped (lines_of own text (took_segment seg l).variables.pieces) fault) →
-              IfErr x (λ fault. Stopped (delivers_at own text delivering) fault)
-          go (Ok u) g = g
-          go (Err fault) g = lines_stop _ delivering.links _ fault
-              (subst (λ (k : LinkEnd). Stopped (lines_of own text (took_segment seg k).variables.pieces) fault) (same_link link found) g)
-
-    -- its timer runs out
-    retried_port : (m : LinkEnd) → retried_end l ≡ Some m → m.port ≡ l.port
-    retried_port m e = go (retried l.port.phase) e
+    pub received_made : (t : List ℕ) {m : LinkEnd} → Keeps l m → OnOk r (lines_of own text (took_segment seg l).variables.pieces ≡ Some t) →
+        OnOk r (m ≡ without_whole (took_segment seg l)) → OnOk r (delivers_at own text delivering ≡ Some (live_of (with_it m), t))
+    received_made t {m} keeps = go r
       where
-        go : (o : Option (LinkOwed → LinkOwed)) → with_change o l ≡ Some m → m.port ≡ l.port
-        go None h = absurd cc
-        go (Some change) h = ap (λ (k : LinkEnd). k.port) (sym (same_Some (record l { owed = change l.owed }) m h))
+        go : (x : Result (Unit {0}) StepFault) → OnOk x (lines_of own text (took_segment seg l).variables.pieces ≡ Some t) →
+            OnOk x (m ≡ without_whole (took_segment seg l)) → OnOk x (delivers_at own text delivering ≡ Some (live_of (with_it m), t))
+        go (Ok u) lines left =
+            lines_links _ delivering.links _ t
+            (ap (λ (k : LinkEnd). lines_of own text (took_segment seg k).variables.pieces) (sym (same_link link found)) ∙ lines)
+            ∙ ap (λ (links : KeptLinks). Some (links, t)) (sym (kept_made (λ k. without_whole (took_segment seg k)) keeps left link found))
+        go (Err e) lines left = lines
 
-    pub retry_made : (r : Bool) (m : LinkEnd) → (r ≡ true → retried_end l ≡ Some m) → (link : LinkEnd) → slice_get s.links n ≡ Some link → r ≡ true →
-        changed_to (place_among n s.links) (retried_end link) (live_of s) ≡ Some (live_of (with_it m))
-    retry_made r m h link found e =
-        ap (λ (o : Option LinkEnd). changed_to (place_among n s.links) o (live_of s)) (ap retried_end (sym (same_link link found)) ∙ h e)
-        ∙ ap Some (sym (set_made m (ap (λ (p : Port). is_live p.phase) (retried_port m (h e)) ∙ l_lives)))
+    pub received_stops : IfErr r (λ fault. Stopped (lines_of own text (took_segment seg l).variables.pieces) fault) →
+        IfErr r (λ fault. Stopped (delivers_at own text delivering) fault)
+    received_stops h = go r h
+      where
+        go : (x : Result (Unit {0}) StepFault) → IfErr x (λ fault. Stopped (lines_of own text (took_segment seg l).variables.pieces) fault) →
+            IfErr x (λ fault. Stopped (delivers_at own text delivering) fault)
+        go (Ok u) g = g
+        go (Err fault) g = lines_stop _ delivering.links _ fault
+            (subst (λ (k : LinkEnd). Stopped (lines_of own text (took_segment seg k).variables.pieces) fault) (same_link link found) g)
 
-    pub retried_same : (r : Bool) (m : LinkEnd) → (r ≡ true → retried_end l ≡ Some m) → (r ≡ false → m ≡ l) → m.port ≡ l.port
-    retried_same true m made same = retried_port m (made refl)
-    retried_same false m made same = ap (λ (k : LinkEnd). k.port) (same refl)
+  -- its timer runs out
+  retry_port : (m : LinkEnd) → retried_end l ≡ Some m → Keeps l m
+  retry_port m e = same_port (go (retried l.port.phase) e)
+    where
+      go : (o : Option (LinkOwed → LinkOwed)) → with_change o l ≡ Some m → m.port ≡ l.port
+      go None h = absurd cc
+      go (Some change) h = ap (λ (k : LinkEnd). k.port) (sym (same_Some (record l { owed = change l.owed }) m h))
+
+  pub retry_made : (r : Bool) (m : LinkEnd) → (r ≡ true → retried_end l ≡ Some m) → (link : LinkEnd) → slice_get s.links n ≡ Some link → r ≡ true →
+      changed_to (place_among n s.links) (retried_end link) (live_of s) ≡ Some (live_of (with_it m))
+  retry_made r m made link found e =
+      ap (λ (o : Option LinkEnd). changed_to (place_among n s.links) o (live_of s)) (ap retried_end (sym (same_link link found)) ∙ made e)
+      ∙ ap Some (sym (set_made m ((retry_port m (made e)).live l_lives)))
+
+  pub retry_keeps : (r : Bool) (m : LinkEnd) → (r ≡ true → retried_end l ≡ Some m) → (r ≡ false → m ≡ l) → Keeps l m
+  retry_keeps true m made same = retry_port m (made refl)
+  retry_keeps false m made same = same_port (ap (λ (k : LinkEnd). k.port) (same refl))
 
   pub no_retry : (r : Bool) → (r ≡ false → retried l.port.phase ≡ None) → (link : LinkEnd) → slice_get s.links n ≡ Some link → r ≡ false →
       retried link.port.phase ≡ None
@@ -176,10 +189,6 @@ pub begun_made : (items : List LinkEnd) (confirms : List EndConfirm) (s : KeptLi
 begun_made items confirms s is link live =
     ap (λ (all : List LinkEnd). record { links = all; confirms = confirms }) (filter_push lives items link live)
     ∙ ap (λ (t : KeptLinks). begun link (live_of t)) is
-
-pub map_ok : {A E P Q : Type 0} (r : Result A E) → (P → Q) → OnOk r P → OnOk r Q
-map_ok (Ok x) f h = f h
-map_ok (Err e) f h = h
 
 -- one of them sent this
 module _ (s : KeptLinks) (n : ℕ) (turn : Turn) (chosen : link_choice s.confirms s.links ≡ Some (OfLink n turn)) where

@@ -1,5 +1,5 @@
 -- What changes a link and leaves it the addresses that it has.
-use Rattle.std.proofs.Common.{◌≡◌, ℕ, Bool, true, false, Option, Some, None, List, Result, Ok, Err, OnOk, refl, sym, ap, ◌∙◌}
+use Rattle.std.proofs.Common.{◌≡◌, ℕ, Bool, true, false, Option, Some, None, List, Result, Ok, Err, OnOk, refl, ap, ◌∙◌}
 use Rattle.std.specs.Prelude.{OnErr}
 use Rattle.std.specs.Prelude.{slice_get}
 use Rattle.dna_links.specs.declared.port.Phase.{Phase}
@@ -17,24 +17,24 @@ pub record Keeps (l m : LinkEnd) : Type 0 where
   pub own : m.port.own ≡ l.port.own
   pub far : m.port.far ≡ l.port.far
 
-pub same_port : (l m : LinkEnd) → m.port ≡ l.port → Keeps l m
-same_port l m e = record {
+pub same_port : {l m : LinkEnd} → m.port ≡ l.port → Keeps l m
+same_port e = record {
   live = λ h. ap (λ (p : Port). is_live p.phase) e ∙ h;
   own = ap (λ (p : Port). p.own) e;
   far = ap (λ (p : Port). p.far) e;
 }
 
-pub as_made : (l m k : LinkEnd) → m ≡ k → Keeps l k → Keeps l m
-as_made l m k e keeps = record {
+pub as_made : {l m k : LinkEnd} → m ≡ k → Keeps l k → Keeps l m
+as_made e keeps = record {
   live = λ h. ap (λ (x : LinkEnd). is_live x.port.phase) e ∙ keeps.live h;
   own = ap (λ (x : LinkEnd). x.port.own) e ∙ keeps.own;
   far = ap (λ (x : LinkEnd). x.port.far) e ∙ keeps.far;
 }
 
 -- it is made, or nothing changes
-pub either_made : {A E : Type 0} (l m k : LinkEnd) (r : Result A E) → OnOk r (m ≡ k) → OnErr r (m ≡ l) → Keeps l k → Keeps l m
-either_made l m k (Ok x) ok err keeps = as_made l m k ok keeps
-either_made l m k (Err e) ok err keeps = same_port l m (ap (λ (x : LinkEnd). x.port) err)
+pub either_made : {A E : Type 0} (r : Result A E) {l m k : LinkEnd} → OnOk r (m ≡ k) → OnErr r (m ≡ l) → Keeps l k → Keeps l m
+either_made (Ok x) ok err keeps = as_made ok keeps
+either_made (Err e) ok err keeps = same_port (ap (λ (x : LinkEnd). x.port) err)
 
 called_port : (phase : Phase) (l : LinkEnd) → (called_again phase l).port ≡ l.port
 called_port Calling l = refl
@@ -45,17 +45,17 @@ called_port Disconnecting l = refl
 called_port Ended l = refl
 
 pub keeps_called : (l : LinkEnd) → Keeps l (called_again l.port.phase l)
-keeps_called l = same_port l (called_again l.port.phase l) (called_port l.port.phase l)
+keeps_called l = same_port (called_port l.port.phase l)
 
 confirmed_port : (b : Bool) (l : LinkEnd) → (confirmed_again b l).port ≡ l.port
 confirmed_port true l = refl
 confirmed_port false l = refl
 
 pub keeps_confirmed : (l : LinkEnd) → Keeps l (confirmed_again (is_running l.port.phase) l)
-keeps_confirmed l = same_port l (confirmed_again (is_running l.port.phase) l) (confirmed_port (is_running l.port.phase) l)
+keeps_confirmed l = same_port (confirmed_port (is_running l.port.phase) l)
 
 pub keeps_handed : (message : List ℕ) (l : LinkEnd) → Keeps l (handed message l)
-keeps_handed message l = same_port l (handed message l) refl
+keeps_handed message l = same_port refl
 
 gave_port : (o : Option Piece) (l : LinkEnd) → (gave o l).port ≡ l.port
 gave_port (Some p) l = refl
@@ -70,7 +70,7 @@ by_port DataAckTurn l = refl
 by_port SegmentTurn l = gave_port (slice_get l.variables.outstanding l.owed.ahead) l
 
 pub keeps_sent : (turn : Turn) (l : LinkEnd) → Keeps l (turn_sent turn l)
-keeps_sent turn l = same_port l (turn_sent turn l) (by_port turn l)
+keeps_sent turn l = same_port (by_port turn l)
 
 pub keeps_acted : (l : LinkEnd) → Keeps l (acted_on l.variables l)
 keeps_acted l = record { live = λ h. refl; own = refl; far = refl }

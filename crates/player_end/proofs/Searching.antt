@@ -6,7 +6,7 @@ use Rattle.std.proofs.lemmas.Option.{same_Some}
 use Rattle.dna_links.specs.declared.port.Port.{Port}
 use Rattle.dna_links.specs.declared.port.LinkTest.{LinkTest}
 use Rattle.dna_links.specs.declared.port.LinkTest.TheVariants.{HasAddress, LiveAt, TheLink, LiveTo, OpenedAt, CallingAt, CalledBy, BegunBy, ActedOn}
-use Rattle.dna_links.specs.LookUps.{passes, is_live, is_at}
+use Rattle.dna_links.specs.LookUps.{passes, is_live}
 use Rattle.dna_play.specs.NextSent.{LinkEnd, LinkChoice, Confirms, OfLink}
 use Rattle.dna_play.specs.Kept.{KeptLinks, live_ends}
 use Rattle.dna_play.specs.KeptLinks.{place_of, at_place, on_end, with_end}

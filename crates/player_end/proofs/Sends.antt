@@ -1,7 +1,5 @@
 -- What an end sends, by what is chosen of all links that it keeps: the same of those that live.
-use Rattle.std.proofs.Common.{◌≡◌, Bool, true, false, Option, Some, None, option_map, List, Result, Ok, Err, refl, sym, subst, ap, ◌∙◌, IsSome}
-use Rattle.dna_station.specs.WireStation.{StationVariables}
-use Rattle.dna_play.specs.Owed.{Owed}
+use Rattle.std.proofs.Common.{◌≡◌, false, Option, Some, None, option_map, List, Err, refl, sym, subst, ap, ◌∙◌, IsSome}
 use Rattle.dna_play.specs.NextSent.{LinkEnd, LinkChoice, Choice, SendStrt, SendStack, SendNak, SendRep, SendAgain, SendNew, SendAck, choice}
 use Rattle.dna_play.specs.NextSent.{link_choice}
 use Rattle.dna_play.specs.Kept.{KeptLinks, KeptEnd, live_ends}

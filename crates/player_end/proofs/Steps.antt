@@ -1,9 +1,8 @@
 -- What a step of the user makes of an end that keeps all links that ever were.
-use Rattle.std.proofs.Common.{◌≡◌, ℕ, ◌+◌, ◌<◌, ◌≤◌, Bool, true, false, ◌&&◌, cond, nat_lt, nat_le, Option, Some, None, List, [], ◌∷◌, ◌++◌, length}
-use Rattle.std.proofs.Common.{Result, Ok, Err, OnOk, IsOk, refl, sym, subst, ap, ◌∙◌, lt-ltb, le-leb}
+use Rattle.std.proofs.Common.{◌≡◌, ℕ, ◌+◌, ◌<◌, ◌≤◌, Bool, true, ◌&&◌, cond, nat_le, Some, List, [], ◌++◌, length}
+use Rattle.std.proofs.Common.{Result, Ok, Err, refl, sym, ap, ◌∙◌, lt-ltb, le-leb}
 use Rattle.std.specs.Prelude.{slice_get}
 use Rattle.std.proofs.lemmas.List.{append-nil}
-use Rattle.std.proofs.lemmas.Option.{same_Some}
 use Rattle.capture.specs.declared.event.Event.{Event}
 use Rattle.capture.specs.declared.event.Event.TheVariants as events
 use Rattle.capture.specs.declared.hint.HintForm.TheVariants.{Number}
@@ -13,14 +12,12 @@ use Rattle.capture.specs.Text.{record_line}
 use Rattle.dna_station.specs.declared.head.Head.{Head}
 use Rattle.dna_links.specs.declared.port.LinkTest.TheVariants.{LiveAt, CalledBy}
 use Rattle.dna_links.specs.LookUps.{is_connected, takes_messages}
-use Rattle.dna_play.specs.LinkOwed.{LinkOwed, retried}
 use Rattle.dna_play.specs.NextSent.{LinkEnd}
 use Rattle.dna_play.specs.Stepped.{Stop, BadStep, Full}
 use Rattle.dna_play.specs.Kept.{KeptStation, KeptLinks, KeptEnd}
 use Rattle.dna_play.specs.KeptLinks.{changed, closed, handed, place_of}
-use Rattle.dna_play.specs.KeptPlay.{KeptStepped, answers, closes, giving, hands_in, if_so, made, retries, retrying, silent, with_links}
+use Rattle.dna_play.specs.KeptPlay.{KeptStepped, answers, closes, giving, hands_in, if_so, made, with_links}
 use Rattle.player_end.specs.inner.Index.{live_of, place_among}
-use Rattle.player_end.specs.inner.Links.{changed_to, retried_end, with_change}
 use Rattle.player_end.specs.inner.Sending.{end_with}
 use Rattle.player_end.specs.Stepping.{with_lines}
 use Rattle.player_end.proofs.Searching.{with_passed}

@@ -14,7 +14,7 @@ use Rattle.dna_play.proofs.Stored.Choices.{link_choice_live, link_message_live, 
 use Rattle.player_end.specs.inner.Index.{AreMarked, among_live}
 use Rattle.player_end.specs.inner.Links.{turn_there}
 use Rattle.player_end.specs.inner.Marks.{IsUnmarkedBelow}
-use Rattle.player_end.proofs.Places.{set_here, set_else, stands_within}
+use Rattle.player_end.proofs.Places.{set_here, set_else}
 use Rattle.player_end.proofs.Searching.{among_same, among_chosen}
 
 abbrev NoTurns : List LinkEnd → ℕ → Type 0

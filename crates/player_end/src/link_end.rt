@@ -2,6 +2,7 @@
 
 ghost use Rattle.std.specs.Prelude.{◌≡◌, true, false, Some, None, OnOk, OnErr};
 ghost use Rattle.dna_play.specs.LinkOwed as model;
+ghost use Rattle.dna_play.specs.KeptLinks.{no_segments};
 ghost use Rattle.dna_play.specs.KeptLinks as kept;
 ghost use Rattle.player_end.specs.inner.Links.{gone, retried_end};
 ghost use Rattle.player_end.specs.inner.Owing.{turn_view};
@@ -58,55 +59,51 @@ impl<V: Window<GivenPiece, 4096> + Drop> LinkEnd<V> {
     pub fn opened(alloc: Global, own: u16) -> Self
         ensures { result ≡ kept.opened own }
     {
-        let mut owed = LinkOwed::nothing();
-        owed.owe(Turn::Initiate);
-        LinkEnd {
-            port: Port {
-                phase: Phase::Calling,
-                opened: true,
-                own: Some(own),
-                far: None,
-            },
-            unsent: Unsent::new(alloc),
-            outstanding: Outstanding::new(),
-            received: Seq::of(0),
-            pieces: Received::new(alloc),
-            owed,
-        }
+        let port = Port {
+            phase: Phase::Calling,
+            opened: true,
+            own: Some(own),
+            far: None,
+        };
+        let mut link = LinkEnd::empty(alloc, port);
+        link.owe(Turn::Initiate);
+        link
     }
 
     /// A link that a CI begins, with this far address: it owes a connect acknowledgement. Takes no memory.
     pub fn called(alloc: Global, far: u16) -> Self
         ensures { result ≡ kept.called far }
     {
-        let mut owed = LinkOwed::nothing();
-        owed.owe(Turn::ConnectAck);
-        LinkEnd {
-            port: Port {
-                phase: Phase::Called,
-                opened: false,
-                own: None,
-                far: Some(far),
-            },
-            unsent: Unsent::new(alloc),
-            outstanding: Outstanding::new(),
-            received: Seq::of(0),
-            pieces: Received::new(alloc),
-            owed,
-        }
+        let port = Port {
+            phase: Phase::Called,
+            opened: false,
+            own: None,
+            far: Some(far),
+        };
+        let mut link = LinkEnd::empty(alloc, port);
+        link.owe(Turn::ConnectAck);
+        link
     }
 
     /// One that has ended: no look-up finds it, and it has nothing to send. Takes no memory.
     pub fn gone(alloc: Global) -> Self
         ensures { result ≡ gone }
     {
+        let port = Port {
+            phase: Phase::Ended,
+            opened: false,
+            own: None,
+            far: None,
+        };
+        LinkEnd::empty(alloc, port)
+    }
+
+    // One with this port, that has no segment and owes nothing.
+    fn empty(alloc: Global, port: Port) -> Self
+        ensures { result ≡ record { port = port; variables = no_segments; owed = model.nothing } }
+    {
         LinkEnd {
-            port: Port {
-                phase: Phase::Ended,
-                opened: false,
-                own: None,
-                far: None,
-            },
+            port,
             unsent: Unsent::new(alloc),
             outstanding: Outstanding::new(),
             received: Seq::of(0),

@@ -1,13 +1,13 @@
 //! The links of an end.
 
-ghost use Rattle.std.specs.Prelude.{◌≡◌, ◌<◌, ℕ, Some, true, length, slice_get, option_copied, OnOk, OnErr, IfSome};
-ghost use Rattle.dna_links.specs.LookUps.{is_live};
+ghost use Rattle.std.specs.Prelude.{◌≡◌, ◌<◌, ℕ, Some, true, length, slice_get, option_map, OnOk, OnErr, IfSome};
+ghost use Rattle.dna_links.specs.LookUps.{is_live, passes};
 ghost use Rattle.dna_play.specs.NextSent.{LinkEnd as KeptLink};
 ghost use Rattle.dna_play.specs.Kept.{no_kept_links};
 ghost use Rattle.dna_play.specs.KeptLinks.{place_of};
 ghost use Rattle.dna_play.specs.KeptLinks as kept;
 ghost use Rattle.player_end.specs.inner.Addresses.{has};
-ghost use Rattle.player_end.specs.inner.Index.{LivesAt, far_asked, live_of, needs_life, own_asked, place_among};
+ghost use Rattle.player_end.specs.inner.Index.{LivesAt, live_of, needs_life, place_among};
 
 mod arriving;
 mod composing;
@@ -66,53 +66,50 @@ impl<V: Window<GivenPiece, 4096> + Drop> LinkEnds<V> {
         }
     }
 
-    /// The number of the first link that passes a test which no link passes that has ended.
-    pub fn find(&self, test: LinkTest) -> Option<usize>
+    /// The first link that passes a test which no link passes that has ended, and its number.
+    pub fn found(&self, test: LinkTest) -> Option<(usize, &LinkEnd<V>)>
+        requires { needs_life test ≡ true }
+        ensures number { option_map (λ found. found.0) result ≡ place_of test self.now.links }
+        ensures link { IfSome result (λ found. slice_get self.now.links found.0 ≡ Some found.1.now) }
+        ensures within { IfSome result (λ found. found.0 < length self.now.links) }
+        ensures lives { IfSome result (λ found. LivesAt found.0 self.now) }
+    {
+        let Some(number) = self.find(test) else {
+            return None;
+        };
+        let Some(link) = self.links.get(number) else {
+            unreachable!();
+        };
+        Some((number, link))
+    }
+
+    // Its number.
+    fn find(&self, test: LinkTest) -> Option<usize>
         requires { needs_life test ≡ true }
         ensures number { result ≡ place_of test self.now.links }
         ensures within { IfSome result (λ number. number < length self.now.links) }
         ensures lives { IfSome result (λ number. LivesAt number self.now) }
     {
+        let (addresses, address) = self.known_by(test);
+        first_in(&self.links, addresses, address, test)
+    }
+
+    // The addresses among which each link is known that passes this test, and the one which it has there.
+    fn known_by(&self, test: LinkTest) -> (&Addresses, u16)
+        ensures { (number : ℕ) (link : KeptLink) → slice_get self.now.links number ≡ Some link → passes test link.port ≡ true
+            → has result.0.now.pairs result.1 number ≡ true }
+    {
         match test {
-            LinkTest::HasAddress { own } => self.find_by_own(test, own),
-            LinkTest::LiveAt { own } => self.find_by_own(test, own),
-            LinkTest::TheLink { own, .. } => self.find_by_own(test, own),
-            LinkTest::OpenedAt { own } => self.find_by_own(test, own),
-            LinkTest::CallingAt { own } => self.find_by_own(test, own),
-            LinkTest::ActedOn { own, .. } => self.find_by_own(test, own),
-            LinkTest::LiveTo { far } => self.find_by_far(test, far),
-            LinkTest::CalledBy { far } => self.find_by_far(test, far),
-            LinkTest::BegunBy { far } => self.find_by_far(test, far),
+            LinkTest::HasAddress { own }
+            | LinkTest::LiveAt { own }
+            | LinkTest::TheLink { own, .. }
+            | LinkTest::OpenedAt { own }
+            | LinkTest::CallingAt { own }
+            | LinkTest::ActedOn { own, .. } => (&self.owns, own),
+            LinkTest::LiveTo { far } | LinkTest::CalledBy { far } | LinkTest::BegunBy { far } => {
+                (&self.fars, far)
+            }
         }
-    }
-
-    // The same, of a test that asks for this own address.
-    fn find_by_own(&self, test: LinkTest, own: u16) -> Option<usize>
-        requires needs { needs_life test ≡ true }
-        requires asks { own_asked test ≡ Some own }
-        ensures number { result ≡ place_of test self.now.links }
-        ensures within { IfSome result (λ number. number < length self.now.links) }
-        ensures lives { IfSome result (λ number. LivesAt number self.now) }
-    {
-        first_in(&self.links, &self.owns, own, test)
-    }
-
-    // The same, of a test that asks for this far address.
-    fn find_by_far(&self, test: LinkTest, far: u16) -> Option<usize>
-        requires needs { needs_life test ≡ true }
-        requires asks { far_asked test ≡ Some far }
-        ensures number { result ≡ place_of test self.now.links }
-        ensures within { IfSome result (λ number. number < length self.now.links) }
-        ensures lives { IfSome result (λ number. LivesAt number self.now) }
-    {
-        first_in(&self.links, &self.fars, far, test)
-    }
-
-    /// The link with this number.
-    pub fn link(&self, number: usize) -> Option<&LinkEnd<V>>
-        ensures { option_copied result ≡ slice_get self.now.links number }
-    {
-        self.links.get(number)
     }
 
     // A link begins, and may have something to send. Where memory is refused, nothing changes.

@@ -1,13 +1,15 @@
 //! What an arrival does to the links.
 
-ghost use Rattle.std.specs.Prelude.{◌≡◌, ◌<◌, ◌==◌, ◌&&◌, Ok, Some, true, false, OnOk, OnErr, IfOk, IfErr};
+ghost use Rattle.std.specs.Prelude.{◌≡◌, ◌<◌, ◌==◌, ◌&&◌, Bool, Ok, Some, true, false, length, slice_get, option_map};
+ghost use Rattle.std.specs.Prelude.{OnOk, OnErr, IfOk, IfErr, IfSome};
 ghost use Rattle.std.specs.List.{AllByRecursion};
 ghost use Rattle.dna_packet.specs.AckWord.{IsAckWord};
 ghost use Rattle.dna_packet.specs.Nsp.{segment_view};
 ghost use Rattle.dna_packet.specs.Nsp as nsp;
 ghost use Rattle.dna_links.specs.Arriving.{of_partner, message_arrived, ends_link};
 ghost use Rattle.dna_links.specs.Arriving as arriving;
-ghost use Rattle.dna_links.specs.WireFlow.{wire_flows};
+ghost use Rattle.dna_links.specs.Links.{LinkOf, number_of};
+ghost use Rattle.dna_links.specs.WireFlow.{WireFlow, wire_flows};
 ghost use Rattle.dna_links.specs.WireLinks.{wire_links_arrived};
 ghost use Rattle.nsp_link.specs.Fault.{IsFault};
 ghost use Rattle.nsp_link.specs.PartnerRules.{partner_rule};
@@ -15,6 +17,7 @@ ghost use Rattle.nsp_link.specs.Phases.{arrival_takes_memory, holds_segment, beg
 
 use super::Links;
 use super::partner::{is_for, is_of_pair};
+use crate::link::Link;
 use crate::{LinkFault, LinkRefusal, LinkTag, Piece};
 use dna_links::LinkTest;
 use dna_packet::{ConnectConfirm, ConnectInitiate, DataAck, Nsp, Segment};
@@ -123,13 +126,10 @@ impl<W: Window<Piece, 4096> + Drop> Links<W> {
             (record { tag = tag; known = tt })) false fault) }
         ensures err { OnErr result (self.new ≡ self.old) }
     {
-        let Some(number) = self.find(LinkTest::CallingAt {
+        let Some((number, _link)) = self.found(LinkTest::CallingAt {
             own: message.dstaddr,
         }) else {
             return Ok(());
-        };
-        let Some(_link) = self.link(number) else {
-            unreachable!();
         };
         if !is_for::<OF_PAIR>(number, tag) {
             return Err(LinkFault::Refused(LinkRefusal::CrossedLink));
@@ -151,17 +151,37 @@ impl<W: Window<Piece, 4096> + Drop> Links<W> {
             self.old) false fault) }
         ensures err { OnErr result (self.new ≡ self.old) }
     {
-        let Some(number) = self.find(LinkTest::ActedOn { own, far }) else {
+        let acting = self.acting::<OF_PAIR>(own, far, tag)?;
+        let Some((number, _link)) = acting else {
             return Ok(());
         };
-        let Some(link) = self.link(number) else {
-            unreachable!();
+        self.run_at(number);
+        Ok(())
+    }
+
+    // The link that acts on a message with these addresses, and its number, if there is one: it is of its pair.
+    #[inline(always)]
+    #[tactic(auto, using(crate::proofs::Found::found_links))]
+    fn acting<const OF_PAIR: bool>(
+        &self,
+        own: u16,
+        far: u16,
+        tag: LinkTag,
+    ) -> Result<Option<(usize, &Link<W>)>, LinkFault>
+        ensures number { IfOk result (λ found. option_map (λ f. f.0) found ≡ number_of (LinkTest.ActedOn own far) self.now) }
+        ensures link { IfOk result (λ found. IfSome found (λ f. slice_get self.now.links f.0 ≡ Some f.1.now)) }
+        ensures within { IfOk result (λ found. IfSome found (λ f. f.0 < length self.now.links)) }
+        ensures pair { IfOk result (λ found. IfSome found (λ f. partner_rule OF_PAIR (arriving.is_of_pair f.0 f.1.now.partner tag) ≡ true)) }
+        ensures refused { (takes : LinkOf WireFlow → WireFlow) → IfErr result (λ fault. (memory : Bool) →
+            IsFault (arriving.acted_on wire_flows (partner_rule OF_PAIR) own far tag takes self.now) memory fault) }
+    {
+        let Some((number, link)) = self.found(LinkTest::ActedOn { own, far }) else {
+            return Ok(None);
         };
         if !is_of_pair::<OF_PAIR>(number, link.partner(), tag) {
             return Err(LinkFault::Refused(LinkRefusal::CrossedLink));
         }
-        self.run_at(number);
-        Ok(())
+        Ok(Some((number, link)))
     }
 
     // A data acknowledgement.
@@ -178,19 +198,10 @@ impl<W: Window<Piece, 4096> + Drop> Links<W> {
             message.now.srcaddr message.now.acks.items) (record { tag = tag; known = tt })) false fault) }
         ensures err { OnErr result (self.new ≡ self.old) }
     {
-        let test = LinkTest::ActedOn {
-            own: message.dstaddr,
-            far: message.srcaddr,
-        };
-        let Some(number) = self.find(test) else {
+        let acting = self.acting::<OF_PAIR>(message.dstaddr, message.srcaddr, tag)?;
+        let Some((number, _link)) = acting else {
             return Ok(());
         };
-        let Some(link) = self.link(number) else {
-            unreachable!();
-        };
-        if !is_of_pair::<OF_PAIR>(number, link.partner(), tag) {
-            return Err(LinkFault::Refused(LinkRefusal::CrossedLink));
-        }
         self.take_acks_at(number, &message.acks);
         Ok(())
     }
@@ -211,19 +222,10 @@ impl<W: Window<Piece, 4096> + Drop> Links<W> {
             (holds_segment self.old (segment_view segment.now)) fault) }
         ensures err { OnErr result (self.new ≡ self.old) }
     {
-        let test = LinkTest::ActedOn {
-            own: segment.dstaddr,
-            far: segment.srcaddr,
-        };
-        let Some(number) = self.find(test) else {
+        let acting = self.acting::<OF_PAIR>(segment.dstaddr, segment.srcaddr, tag)?;
+        let Some((number, _link)) = acting else {
             return Ok(());
         };
-        let Some(link) = self.link(number) else {
-            unreachable!();
-        };
-        if !is_of_pair::<OF_PAIR>(number, link.partner(), tag) {
-            return Err(LinkFault::Refused(LinkRefusal::CrossedLink));
-        }
         let Ok(()) = self.take_segment_at(number, segment) else {
             return Err(LinkFault::OutOfMemory);
         };
@@ -259,18 +261,12 @@ impl<W: Window<Piece, 4096> + Drop> Links<W> {
     fn end(&mut self, own: u16, far: u16)
         ensures { self.new ≡ ends_link wire_flows of_partner own far self.old }
     {
-        if let Some(number) = self.find(LinkTest::TheLink { own, far }) {
-            let Some(_link) = self.link(number) else {
-                unreachable!();
-            };
+        if let Some((number, _link)) = self.found(LinkTest::TheLink { own, far }) {
             self.end_at(number);
             return;
         }
-        let Some(number) = self.find(LinkTest::CallingAt { own }) else {
+        let Some((number, _link)) = self.found(LinkTest::CallingAt { own }) else {
             return;
-        };
-        let Some(_link) = self.link(number) else {
-            unreachable!();
         };
         self.end_at(number);
     }

@@ -12,7 +12,8 @@ ghost use Rattle.dna_links.specs.Links.{LinkOf, begun, changed, freed, forgotten
 ghost use Rattle.dna_links.specs.User.{opened, answered};
 ghost use Rattle.dna_links.specs.Arriving.{of_partner, called};
 ghost use Rattle.dna_links.specs.WireFlow.{WireFlow, wire_flows};
-ghost use Rattle.nsp_link.specs.inner.Index.{IsIndexed, forgotten_at, times, counted, lives_to};
+ghost use Rattle.nsp_link.specs.inner.Index.{forgotten_at, times, counted, lives_to};
+ghost use Rattle.nsp_link.specs.inner.Indexing.{AreIndexed};
 
 use super::Links;
 use crate::index::Index;
@@ -104,11 +105,9 @@ fn called_at<W: Window<Piece, 4096> + Drop>(
     segsize: u16,
     tag: LinkTag,
 ) -> Result<(), AllocError>
-    requires index { IsIndexed links.old.items (λ q. get nat_cmp index.old.holders q) (λ q. get nat_cmp index.old.callers q)
-        (λ q. times (hashed.get nat_eq index.old.reached q)) index.old.waiting }
+    requires index { AreIndexed links.old.items index.old }
     requires free { counted (lives_to far) links.old.items ≡ 0 }
-    ensures index { IsIndexed links.new.items (λ q. get nat_cmp index.new.holders q) (λ q. get nat_cmp index.new.callers q)
-        (λ q. times (hashed.get nat_eq index.new.reached q)) index.new.waiting }
+    ensures index { AreIndexed links.new.items index.new }
     ensures ok { OnOk result (links.new.items ≡ links.old.items ++ called wire_flows of_partner far segsize tag ∷ []) }
     ensures err { OnErr result (links.new.items ≡ links.old.items) }
 {
@@ -145,12 +144,10 @@ fn opened_at<W: Window<Piece, 4096> + Drop>(
     index: &mut Index,
     own: u16,
 ) -> Result<(), AllocError>
-    requires index { IsIndexed links.old.items (λ q. get nat_cmp index.old.holders q) (λ q. get nat_cmp index.old.callers q)
-        (λ q. times (hashed.get nat_eq index.old.reached q)) index.old.waiting }
+    requires index { AreIndexed links.old.items index.old }
     requires dead { (number : ℕ) (link : LinkOf WireFlow) → get nat_cmp index.old.holders own ≡ Some number
         → slice_get links.old.items number ≡ Some link → is_live link.port.phase ≡ false }
-    ensures index { IsIndexed links.new.items (λ q. get nat_cmp index.new.holders q) (λ q. get nat_cmp index.new.callers q)
-        (λ q. times (hashed.get nat_eq index.new.reached q)) index.new.waiting }
+    ensures index { AreIndexed links.new.items index.new }
     ensures ok { OnOk result (links.new.items ≡ forgotten_at (get nat_cmp index.old.holders own) links.old.items ++ opened wire_flows own ∷ []) }
     ensures err { OnErr result (links.new.items ≡ links.old.items) }
 {
@@ -187,8 +184,7 @@ fn answered_at<W: Window<Piece, 4096> + Drop>(
     phase: Phase,
     own: u16,
 ) -> Result<(), AllocError>
-    requires index { IsIndexed links.old.items (λ q. get nat_cmp index.old.holders q) (λ q. get nat_cmp index.old.callers q)
-        (λ q. times (hashed.get nat_eq index.old.reached q)) index.old.waiting }
+    requires index { AreIndexed links.old.items index.old }
     requires dead { (number : ℕ) (link : LinkOf WireFlow) → get nat_cmp index.old.holders own ≡ Some number
         → slice_get links.old.items number ≡ Some link → is_live link.port.phase ≡ false }
     requires within { number < length links.old.items }
@@ -196,8 +192,7 @@ fn answered_at<W: Window<Piece, 4096> + Drop>(
     requires live { is_live phase ≡ true }
     requires answers { is_called phase ≡ false }
     requires known { is_calling phase ≡ false }
-    ensures index { IsIndexed links.new.items (λ q. get nat_cmp index.new.holders q) (λ q. get nat_cmp index.new.callers q)
-        (λ q. times (hashed.get nat_eq index.new.reached q)) index.new.waiting }
+    ensures index { AreIndexed links.new.items index.new }
     ensures ok { (link : LinkOf WireFlow) → slice_get links.old.items number ≡ Some link
         → OnOk result (links.new.items ≡ slice_set (forgotten_at (get nat_cmp index.old.holders own) links.old.items) number
         (answered wire_flows phase own link)) }

@@ -7,7 +7,7 @@ ghost use Rattle.std.specs.List.{AllByRecursion};
 ghost use Rattle.dna_packet.specs.AckWord.{IsAckWord};
 ghost use Rattle.dna_packet.specs.Nsp.{segment_view};
 ghost use Rattle.dna_links.specs.Links.{LinkOf, changed, in_phase, with_flow, ended};
-ghost use Rattle.dna_links.specs.LookUps.{is_live, is_calling, is_at};
+ghost use Rattle.dna_links.specs.LookUps.{is_calling, is_at};
 ghost use Rattle.dna_links.specs.User.{delivered};
 ghost use Rattle.dna_links.specs.Sending.{carries, segment_of, truth_of};
 ghost use Rattle.dna_links.specs.Arriving.{of_partner, confirmed, running};
@@ -15,6 +15,7 @@ ghost use Rattle.dna_links.specs.WireFlow.{WireFlow, wire_flows, hands_in, deliv
 ghost use Rattle.nsp_link.specs.Fault.{IsFault};
 ghost use Rattle.nsp_link.specs.Flow.{is_held};
 ghost use Rattle.nsp_link.specs.inner.Index.{times};
+ghost use Rattle.nsp_link.specs.inner.Indexing.{LivesAt};
 
 use super::Links;
 use crate::index::Index;
@@ -28,7 +29,7 @@ impl<W: Window<Piece, 4096> + Drop> Links<W> {
     // The user closes the link with this number.
     pub(super) fn close_link(&mut self, number: usize)
         requires within { number < length self.old.links }
-        requires live { (link : LinkOf WireFlow) → slice_get self.old.links number ≡ Some link → is_live link.port.phase ≡ true }
+        requires live { LivesAt number self.old }
         ensures { (link : LinkOf WireFlow) → slice_get self.old.links number ≡ Some link
             → self.new ≡ changed number (in_phase Phase.Disconnecting link) self.old }
     {
@@ -38,7 +39,7 @@ impl<W: Window<Piece, 4096> + Drop> Links<W> {
     // A message is handed in to the link with this number. Where memory is refused, nothing changes.
     pub(super) fn hand_in_at(&mut self, number: usize, message: &[u8]) -> Result<(), AllocError>
         requires within { number < length self.old.links }
-        requires live { (link : LinkOf WireFlow) → slice_get self.old.links number ≡ Some link → is_live link.port.phase ≡ true }
+        requires live { LivesAt number self.old }
         ensures ok { (link : LinkOf WireFlow) → slice_get self.old.links number ≡ Some link
             → OnOk result (self.new ≡ changed number (with_flow (hands_in message.now link.flow) link) self.old) }
         ensures err { OnErr result (self.new ≡ self.old) }
@@ -64,7 +65,7 @@ impl<W: Window<Piece, 4096> + Drop> Links<W> {
         segment: &Segment,
     ) -> Result<(), LinkFault>
         requires within { number < length self.old.links }
-        requires live { (link : LinkOf WireFlow) → slice_get self.old.links number ≡ Some link → is_live link.port.phase ≡ true }
+        requires live { LivesAt number self.old }
         requires acks { AllByRecursion IsAckWord segment.now.acks.items }
         requires segnum { segment.now.number < 4096 }
         ensures ok { (link : LinkOf WireFlow) → slice_get self.old.links number ≡ Some link
@@ -85,7 +86,7 @@ impl<W: Window<Piece, 4096> + Drop> Links<W> {
         words: &[AckWord],
     ) -> Result<(), LinkRefusal>
         requires within { number < length self.old.links }
-        requires live { (link : LinkOf WireFlow) → slice_get self.old.links number ≡ Some link → is_live link.port.phase ≡ true }
+        requires live { LivesAt number self.old }
         requires acks { AllByRecursion IsAckWord words.now }
         ensures ok { (link : LinkOf WireFlow) → slice_get self.old.links number ≡ Some link
             → OnOk result (carries wire_flows self.old number link (sends_acks words.now link.flow)
@@ -113,7 +114,7 @@ impl<W: Window<Piece, 4096> + Drop> Links<W> {
     // The link with this number runs.
     pub(super) fn run_at(&mut self, number: usize)
         requires within { number < length self.old.links }
-        requires live { (link : LinkOf WireFlow) → slice_get self.old.links number ≡ Some link → is_live link.port.phase ≡ true }
+        requires live { LivesAt number self.old }
         ensures { (link : LinkOf WireFlow) → slice_get self.old.links number ≡ Some link
             → self.new ≡ changed number (running wire_flows of_partner (λ l. l.flow) link) self.old }
     {
@@ -123,7 +124,7 @@ impl<W: Window<Piece, 4096> + Drop> Links<W> {
     // Acknowledgement words come on the link with this number, and it runs.
     pub(super) fn take_acks_at(&mut self, number: usize, words: &[AckWord])
         requires within { number < length self.old.links }
-        requires live { (link : LinkOf WireFlow) → slice_get self.old.links number ≡ Some link → is_live link.port.phase ≡ true }
+        requires live { LivesAt number self.old }
         requires acks { AllByRecursion IsAckWord words.now }
         ensures { (link : LinkOf WireFlow) → slice_get self.old.links number ≡ Some link
             → self.new ≡ changed number (running wire_flows of_partner (λ l. takes_acks words.now tt l.flow) link) self.old }
@@ -138,7 +139,7 @@ impl<W: Window<Piece, 4096> + Drop> Links<W> {
         segment: &Segment,
     ) -> Result<(), AllocError>
         requires within { number < length self.old.links }
-        requires live { (link : LinkOf WireFlow) → slice_get self.old.links number ≡ Some link → is_live link.port.phase ≡ true }
+        requires live { LivesAt number self.old }
         requires acks { AllByRecursion IsAckWord segment.now.acks.items }
         requires segnum { segment.now.number < 4096 }
         ensures ok { (link : LinkOf WireFlow) → slice_get self.old.links number ≡ Some link
@@ -154,7 +155,7 @@ impl<W: Window<Piece, 4096> + Drop> Links<W> {
     // The link with this number is over.
     pub(super) fn end_at(&mut self, number: usize)
         requires within { number < length self.old.links }
-        requires live { (link : LinkOf WireFlow) → slice_get self.old.links number ≡ Some link → is_live link.port.phase ≡ true }
+        requires live { LivesAt number self.old }
         ensures { (link : LinkOf WireFlow) → slice_get self.old.links number ≡ Some link
             → self.new ≡ changed number (ended wire_flows link) self.old }
     {

@@ -20,11 +20,8 @@ impl<W: Window<Piece, 4096> + Drop> Links<W> {
         requires { segment.now.number < 4096 }
         ensures { option_copied result ≡ spec.due_at_links (segment_view segment.now) self.now }
     {
-        let Some(number) = self.find(the_link(segment.srcaddr, segment.dstaddr)) else {
+        let Some((number, link)) = self.found(the_link(segment.srcaddr, segment.dstaddr)) else {
             return None;
-        };
-        let Some(link) = self.link(number) else {
-            unreachable!();
         };
         link.segment_due(segment)
     }
@@ -35,11 +32,8 @@ impl<W: Window<Piece, 4096> + Drop> Links<W> {
     pub fn delivery_due(&self, own: u16) -> Option<&[u8]>
         ensures { option_copied result ≡ spec.due_to_user own self.now }
     {
-        let Some(number) = self.find(LinkTest::HasAddress { own }) else {
+        let Some((number, link)) = self.found(LinkTest::HasAddress { own }) else {
             return None;
-        };
-        let Some(link) = self.link(number) else {
-            unreachable!();
         };
         link.front_due()
     }

@@ -98,11 +98,8 @@ impl<W: Window<Piece, 4096> + Drop> Links<W> {
         requires { is_of_one test ≡ true }
         ensures { result ≡ spec.failed_phase test allowed self.now }
     {
-        let Some(number) = self.find(test) else {
+        let Some((number, link)) = self.found(test) else {
             return Some(FailedLinkSending::NoLink(self.missing(test)));
-        };
-        let Some(link) = self.link(number) else {
-            unreachable!();
         };
         let seen = link.port().phase;
         if is_in(allowed, seen) {
@@ -121,11 +118,8 @@ impl<W: Window<Piece, 4096> + Drop> Links<W> {
         ensures { result ≡ spec.failed_message self.now (nsp.ConnectAck dst) }
     {
         let test = LinkTest::BegunBy { far: dst };
-        let Some(number) = self.find(test) else {
+        let Some((number, _link)) = self.found(test) else {
             return Some(FailedLinkSending::NoLink(self.missing(test)));
-        };
-        let Some(_link) = self.link(number) else {
-            unreachable!();
         };
         None
     }
@@ -135,11 +129,8 @@ impl<W: Window<Piece, 4096> + Drop> Links<W> {
     fn failed_end(&self, src: u16, dst: u16) -> Option<FailedLinkSending>
         ensures { result ≡ spec.failed_end src dst self.now }
     {
-        let Some(number) = self.find(the_link(src, dst)) else {
+        let Some((number, _link)) = self.found(the_link(src, dst)) else {
             return None;
-        };
-        let Some(_link) = self.link(number) else {
-            unreachable!();
         };
         Some(FailedLinkSending::Live {
             link: number as u64,
@@ -156,11 +147,8 @@ impl<W: Window<Piece, 4096> + Drop> Links<W> {
             own: message.srcaddr,
             far: message.dstaddr,
         };
-        let Some(number) = self.find(test) else {
+        let Some((number, link)) = self.found(test) else {
             return Some(FailedLinkSending::NoLink(self.missing(test)));
-        };
-        let Some(link) = self.link(number) else {
-            unreachable!();
         };
         let seen = link.port().phase;
         if is_running(seen) {
@@ -184,11 +172,8 @@ impl<W: Window<Piece, 4096> + Drop> Links<W> {
             own: segment.srcaddr,
             far: segment.dstaddr,
         };
-        let Some(number) = self.find(test) else {
+        let Some((number, link)) = self.found(test) else {
             return Some(FailedLinkSending::NoLink(self.missing(test)));
-        };
-        let Some(link) = self.link(number) else {
-            unreachable!();
         };
         let seen = link.port().phase;
         if is_running(seen) {

@@ -82,11 +82,8 @@ impl<W: Window<Piece, 4096> + Drop> Links<W> {
     fn failed_call(&self, own: u16, seen: LinkTag) -> Option<FailedLinkArrival>
         ensures { result ≡ spec.failed_call own seen self.now }
     {
-        let Some(number) = self.find(LinkTest::CallingAt { own }) else {
+        let Some((number, _link)) = self.found(LinkTest::CallingAt { own }) else {
             return None;
-        };
-        let Some(_link) = self.link(number) else {
-            unreachable!();
         };
         if is_for::<true>(number, seen) {
             return None;
@@ -102,11 +99,8 @@ impl<W: Window<Piece, 4096> + Drop> Links<W> {
     fn failed_pair(&self, own: u16, far: u16, seen: LinkTag) -> Option<FailedLinkArrival>
         ensures { result ≡ spec.failed_pair own far seen self.now }
     {
-        let Some(number) = self.find(LinkTest::ActedOn { own, far }) else {
+        let Some((number, link)) = self.found(LinkTest::ActedOn { own, far }) else {
             return None;
-        };
-        let Some(link) = self.link(number) else {
-            unreachable!();
         };
         let partner = link.partner();
         if is_of_pair::<true>(number, partner, seen) {

@@ -43,11 +43,8 @@ impl<W: Window<Piece, 4096> + Drop> Links<W> {
     fn failed_address(&self, own: u16) -> Option<FailedLinkEvent>
         ensures { result ≡ spec.failed_address own self.now }
     {
-        let Some(number) = self.find(LinkTest::LiveAt { own }) else {
+        let Some((number, _link)) = self.found(LinkTest::LiveAt { own }) else {
             return None;
-        };
-        let Some(_link) = self.link(number) else {
-            unreachable!();
         };
         Some(FailedLinkEvent::AddressInUse {
             own,
@@ -61,11 +58,8 @@ impl<W: Window<Piece, 4096> + Drop> Links<W> {
         ensures { result ≡ spec.failed_answer partner own self.now }
     {
         let test = LinkTest::CalledBy { far: partner };
-        let Some(number) = self.find(test) else {
+        let Some((number, _link)) = self.found(test) else {
             return Some(FailedLinkEvent::NoLink(self.missing(test)));
-        };
-        let Some(_link) = self.link(number) else {
-            unreachable!();
         };
         self.failed_address(own)
     }
@@ -76,11 +70,8 @@ impl<W: Window<Piece, 4096> + Drop> Links<W> {
         ensures { result ≡ spec.failed_handing_in own self.now }
     {
         let test = LinkTest::LiveAt { own };
-        let Some(number) = self.find(test) else {
+        let Some((number, link)) = self.found(test) else {
             return Some(FailedLinkEvent::NoLink(self.missing(test)));
-        };
-        let Some(link) = self.link(number) else {
-            unreachable!();
         };
         let seen = link.port().phase;
         if takes_messages(seen) {
@@ -98,11 +89,8 @@ impl<W: Window<Piece, 4096> + Drop> Links<W> {
         ensures { result ≡ spec.failed_close own self.now }
     {
         let test = LinkTest::LiveAt { own };
-        let Some(number) = self.find(test) else {
+        let Some((number, link)) = self.found(test) else {
             return Some(FailedLinkEvent::NoLink(self.missing(test)));
-        };
-        let Some(link) = self.link(number) else {
-            unreachable!();
         };
         let seen = link.port().phase;
         if is_connected(seen) {
@@ -120,11 +108,8 @@ impl<W: Window<Piece, 4096> + Drop> Links<W> {
         ensures { result ≡ spec.failed_event self.now (user.Up own message.now) }
     {
         let test = LinkTest::HasAddress { own };
-        let Some(number) = self.find(test) else {
+        let Some((number, link)) = self.found(test) else {
             return Some(FailedLinkEvent::NoLink(self.missing(test)));
-        };
-        let Some(link) = self.link(number) else {
-            unreachable!();
         };
         link.failed_delivery(number as u64, message)
     }

@@ -1,12 +1,12 @@
 //! What the node of the links may send.
 
-ghost use Rattle.std.specs.Prelude.{◌≡◌, ◌<◌, Ok, Some, true, false, OnOk, OnErr, IfOk, IfErr};
+ghost use Rattle.std.specs.Prelude.{◌≡◌, ◌<◌, ℕ, Bool, Result, Ok, Err, Some, true, false, length, slice_get, OnOk, OnErr, IfOk, IfErr};
 ghost use Rattle.std.specs.List.{AllByRecursion};
 ghost use Rattle.dna_packet.specs.AckWord.{IsAckWord};
 ghost use Rattle.dna_packet.specs.Nsp.{segment_view};
 ghost use Rattle.dna_packet.specs.Nsp as nsp;
-ghost use Rattle.dna_links.specs.Links.{LinkOf};
-ghost use Rattle.dna_links.specs.Sending.{message_sent};
+ghost use Rattle.dna_links.specs.Links.{LinkOf, check, number_of, with_link};
+ghost use Rattle.dna_links.specs.Sending.{Sent, message_sent};
 ghost use Rattle.dna_links.specs.Sending as sending;
 ghost use Rattle.dna_links.specs.WireFlow.{WireFlow, wire_flows};
 ghost use Rattle.nsp_link.specs.Fault.{IsFault};
@@ -20,7 +20,6 @@ use crate::phase::is_in;
 use crate::{LinkFault, LinkRefusal, LinkTag, Piece};
 use dna_links::{LinkTest, Phase};
 use dna_packet::{DataAck, Nsp, Segment};
-use link_segments::is_running;
 use wire_base::Window;
 
 // The tag of a message of no link.
@@ -118,16 +117,30 @@ impl<W: Window<Piece, 4096> + Drop> Links<W> {
             ≡ Ok (record { links = self.now; truth = record { tag = tag; known = tt } })) }
         ensures refused { IfErr result (λ fault. IsFault (sending.in_its_phase wire_flows test (is_in phase) self.now) false fault) }
     {
-        let Some(number) = self.find(test) else {
+        let (number, link) = self.found_in(test, phase)?;
+        Ok(tag_of(number, link))
+    }
+
+    // The link that this test finds, in this phase, and its number.
+    #[inline(always)]
+    #[tactic(auto, using(crate::proofs::Found::found_links))]
+    fn found_in(&self, test: LinkTest, phase: Phase) -> Result<(usize, &Link<W>), LinkFault>
+        requires { is_of_one test ≡ true }
+        ensures number { IfOk result (λ found. number_of test self.now ≡ Some found.0) }
+        ensures link { IfOk result (λ found. slice_get self.now.links found.0 ≡ Some found.1.now) }
+        ensures within { IfOk result (λ found. found.0 < length self.now.links) }
+        ensures phase { IfOk result (λ found. is_in phase found.1.now.port.phase ≡ true) }
+        ensures refused { (next : ℕ → LinkOf WireFlow → Result (Sent WireFlow (Unit {0})) LinkRefusal) → IfErr result (λ fault. (memory : Bool) →
+            IsFault (with_link test self.now (Err LinkRefusal.NoLink)
+            (λ number link. check (is_in phase link.port.phase) LinkRefusal.LinkState (next number link))) memory fault) }
+    {
+        let Some((number, link)) = self.found(test) else {
             return Err(LinkFault::Refused(LinkRefusal::NoLink));
-        };
-        let Some(link) = self.link(number) else {
-            unreachable!();
         };
         if !is_in(phase, link.port().phase) {
             return Err(LinkFault::Refused(LinkRefusal::LinkState));
         }
-        Ok(tag_of(number, link))
+        Ok((number, link))
     }
 
     // A connect acknowledgement.
@@ -137,11 +150,8 @@ impl<W: Window<Piece, 4096> + Drop> Links<W> {
             ≡ Ok (record { links = self.now; truth = record { tag = tag; known = tt } })) }
         ensures refused { IfErr result (λ fault. IsFault (message_sent wire_flows self.now (nsp.ConnectAck dst)) false fault) }
     {
-        let Some(number) = self.find(LinkTest::BegunBy { far: dst }) else {
+        let Some((number, link)) = self.found(LinkTest::BegunBy { far: dst }) else {
             return Err(LinkFault::Refused(LinkRefusal::NoLink));
-        };
-        let Some(link) = self.link(number) else {
-            unreachable!();
         };
         Ok(tag_of(number, link))
     }
@@ -160,15 +170,7 @@ impl<W: Window<Piece, 4096> + Drop> Links<W> {
             own: message.srcaddr,
             far: message.dstaddr,
         };
-        let Some(number) = self.find(test) else {
-            return Err(LinkFault::Refused(LinkRefusal::NoLink));
-        };
-        let Some(link) = self.link(number) else {
-            unreachable!();
-        };
-        if !is_running(link.port().phase) {
-            return Err(LinkFault::Refused(LinkRefusal::LinkState));
-        }
+        let (number, link) = self.found_in(test, Phase::Running)?;
         let tag = tag_of(number, link);
         match self.send_acks_at(number, &message.acks) {
             Ok(()) => Ok(tag),
@@ -191,15 +193,7 @@ impl<W: Window<Piece, 4096> + Drop> Links<W> {
             own: segment.srcaddr,
             far: segment.dstaddr,
         };
-        let Some(number) = self.find(test) else {
-            return Err(LinkFault::Refused(LinkRefusal::NoLink));
-        };
-        let Some(link) = self.link(number) else {
-            unreachable!();
-        };
-        if !is_running(link.port().phase) {
-            return Err(LinkFault::Refused(LinkRefusal::LinkState));
-        }
+        let (number, link) = self.found_in(test, Phase::Running)?;
         let tag = tag_of(number, link);
         match self.send_segment_at(number, segment) {
             Ok(()) => Ok(tag),
@@ -215,20 +209,14 @@ impl<W: Window<Piece, 4096> + Drop> Links<W> {
         ensures refused { IfErr result (λ fault. IsFault (message_sent wire_flows self.old (nsp.DisconnectConfirm dst src reason)) false fault) }
         ensures err { OnErr result (self.new ≡ self.old) }
     {
-        if let Some(number) = self.find(LinkTest::TheLink { own: src, far: dst }) {
-            let Some(_link) = self.link(number) else {
-                unreachable!();
-            };
+        if let Some((number, _link)) = self.found(LinkTest::TheLink { own: src, far: dst }) {
             return Err(LinkFault::Refused(LinkRefusal::LinkState));
         }
         if src != 0 {
             return Ok(NO_LINK);
         }
-        let Some(number) = self.find(LinkTest::CalledBy { far: dst }) else {
+        let Some((number, link)) = self.found(LinkTest::CalledBy { far: dst }) else {
             return Ok(NO_LINK);
-        };
-        let Some(link) = self.link(number) else {
-            unreachable!();
         };
         let tag = tag_of(number, link);
         self.end_at(number);

@@ -51,11 +51,8 @@ impl<W: Window<Piece, 4096> + Drop> Links<W> {
         ensures refused { IfErr result (λ fault. IsFault (wire_links_user self.old (user.Close own)) false fault) }
         ensures err { OnErr result (self.new ≡ self.old) }
     {
-        let Some(number) = self.find(LinkTest::LiveAt { own }) else {
+        let Some((number, link)) = self.found(LinkTest::LiveAt { own }) else {
             return Err(LinkFault::Refused(LinkRefusal::NoLink));
-        };
-        let Some(link) = self.link(number) else {
-            unreachable!();
         };
         if !is_connected(link.port().phase) {
             return Err(LinkFault::Refused(LinkRefusal::LinkState));
@@ -71,11 +68,8 @@ impl<W: Window<Piece, 4096> + Drop> Links<W> {
         ensures refused { IfErr result (λ fault. IsFault (wire_links_user self.old (user.In own message.now)) true fault) }
         ensures err { OnErr result (self.new ≡ self.old) }
     {
-        let Some(number) = self.find(LinkTest::LiveAt { own }) else {
+        let Some((number, link)) = self.found(LinkTest::LiveAt { own }) else {
             return Err(LinkFault::Refused(LinkRefusal::NoLink));
-        };
-        let Some(link) = self.link(number) else {
-            unreachable!();
         };
         if !takes_messages(link.port().phase) {
             return Err(LinkFault::Refused(LinkRefusal::LinkState));
@@ -93,11 +87,8 @@ impl<W: Window<Piece, 4096> + Drop> Links<W> {
         ensures refused { IfErr result (λ fault. IsFault (wire_links_user self.old (user.Up own message.now)) false fault) }
         ensures err { OnErr result (self.new ≡ self.old) }
     {
-        let Some(number) = self.find(LinkTest::HasAddress { own }) else {
+        let Some((number, _link)) = self.found(LinkTest::HasAddress { own }) else {
             return Err(LinkFault::Refused(LinkRefusal::NoLink));
-        };
-        let Some(_link) = self.link(number) else {
-            unreachable!();
         };
         if !self.deliver_at(number, message) {
             return Err(LinkFault::Refused(LinkRefusal::WrongDelivery));
@@ -112,10 +103,7 @@ impl<W: Window<Piece, 4096> + Drop> Links<W> {
         ensures refused { IfErr result (λ fault. IsFault (wire_links_user self.old (user.Open own)) true fault) }
         ensures err { OnErr result (self.new ≡ self.old) }
     {
-        if let Some(number) = self.find(LinkTest::LiveAt { own }) {
-            let Some(_link) = self.link(number) else {
-                unreachable!();
-            };
+        if let Some((number, _link)) = self.found(LinkTest::LiveAt { own }) {
             return Err(LinkFault::Refused(LinkRefusal::AddressInUse));
         }
         let Ok(()) = self.begin_opened(own) else {
@@ -134,16 +122,10 @@ impl<W: Window<Piece, 4096> + Drop> Links<W> {
         ensures refused { IfErr result (λ fault. IsFault (user.answers wire_flows phase partner own self.old) true fault) }
         ensures err { OnErr result (self.new ≡ self.old) }
     {
-        let Some(number) = self.find(LinkTest::CalledBy { far: partner }) else {
+        let Some((number, _link)) = self.found(LinkTest::CalledBy { far: partner }) else {
             return Err(LinkFault::Refused(LinkRefusal::NoLink));
         };
-        let Some(_link) = self.link(number) else {
-            unreachable!();
-        };
-        if let Some(other) = self.find(LinkTest::LiveAt { own }) {
-            let Some(_other) = self.link(other) else {
-                unreachable!();
-            };
+        if let Some((other, _other)) = self.found(LinkTest::LiveAt { own }) {
             return Err(LinkFault::Refused(LinkRefusal::AddressInUse));
         }
         let Ok(()) = self.answer_at(number, phase, own) else {

@@ -97,11 +97,8 @@ impl<W: Window<HeldPacket, 256> + Drop, V: Window<GivenPiece, 4096> + Drop> End<
         ensures stop { IfErr result (λ fault. StopMeans (kept.accepts self.old partner) fault) }
         ensures memory { result ≡ Err StepFault.OutOfMemory → IsOk (kept.accepts self.old partner) }
     {
-        let Some(number) = self.links.find(LinkTest::CalledBy { far: partner }) else {
+        let Some((number, _link)) = self.links.found(LinkTest::CalledBy { far: partner }) else {
             return Err(StepFault::BadStep);
-        };
-        let Some(_link) = self.links.link(number) else {
-            unreachable!();
         };
         let Some(link) = self.next_address() else {
             return Err(StepFault::Full);
@@ -125,11 +122,8 @@ impl<W: Window<HeldPacket, 256> + Drop, V: Window<GivenPiece, 4096> + Drop> End<
         ensures stop { IfErr result (λ fault. StopMeans (kept.rejects self.old partner) fault) }
         ensures memory { result ≡ Err StepFault.OutOfMemory → IsOk (kept.rejects self.old partner) }
     {
-        let Some(number) = self.links.find(LinkTest::CalledBy { far: partner }) else {
+        let Some((number, _link)) = self.links.found(LinkTest::CalledBy { far: partner }) else {
             return Err(StepFault::BadStep);
-        };
-        let Some(_link) = self.links.link(number) else {
-            unreachable!();
         };
         let Some(link) = self.next_address() else {
             return Err(StepFault::Full);
@@ -158,11 +152,8 @@ impl<W: Window<HeldPacket, 256> + Drop, V: Window<GivenPiece, 4096> + Drop> End<
         ensures stop { IfErr result (λ fault. StopMeans (kept.hands_in self.old link message.now) fault) }
         ensures memory { result ≡ Err StepFault.OutOfMemory → IsOk (kept.hands_in self.old link message.now) }
     {
-        let Some(number) = self.links.find(LinkTest::LiveAt { own: link }) else {
+        let Some((number, found)) = self.links.found(LinkTest::LiveAt { own: link }) else {
             return Err(StepFault::BadStep);
-        };
-        let Some(found) = self.links.link(number) else {
-            unreachable!();
         };
         if !takes_messages(found.port().phase) {
             return Err(StepFault::BadStep);
@@ -183,11 +174,8 @@ impl<W: Window<HeldPacket, 256> + Drop, V: Window<GivenPiece, 4096> + Drop> End<
         ensures stop { IfErr result (λ fault. StopMeans (kept.closes self.old link) fault) }
         ensures memory { result ≡ Err StepFault.OutOfMemory → IsOk (kept.closes self.old link) }
     {
-        let Some(number) = self.links.find(LinkTest::LiveAt { own: link }) else {
+        let Some((number, found)) = self.links.found(LinkTest::LiveAt { own: link }) else {
             return Err(StepFault::BadStep);
-        };
-        let Some(found) = self.links.link(number) else {
-            unreachable!();
         };
         if !is_connected(found.port().phase) {
             return Err(StepFault::BadStep);
@@ -205,11 +193,8 @@ impl<W: Window<HeldPacket, 256> + Drop, V: Window<GivenPiece, 4096> + Drop> End<
         ensures stop { IfErr result (λ fault. StopMeans (kept.retries self.old link) fault) }
         ensures memory { result ≡ Err StepFault.OutOfMemory → ⊥ }
     {
-        let Some(number) = self.links.find(LinkTest::LiveAt { own: link }) else {
+        let Some((number, _found)) = self.links.found(LinkTest::LiveAt { own: link }) else {
             return Err(StepFault::BadStep);
-        };
-        let Some(_found) = self.links.link(number) else {
-            unreachable!();
         };
         if !self.links.retry_at(number) {
             return Err(StepFault::BadStep);

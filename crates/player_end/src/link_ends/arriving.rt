@@ -87,12 +87,9 @@ impl<V: Window<GivenPiece, 4096> + Drop> LinkEnds<V> {
             (kept.begun (kept.called far) (live_of self.old)) (λ place link. kept.changed place (kept.called_again link.port.phase link)
             (live_of self.old))) }
     {
-        let Some(number) = self.find(LinkTest::LiveTo { far }) else {
+        let Some((number, _link)) = self.found(LinkTest::LiveTo { far }) else {
             let link = LinkEnd::called(self.alloc, far);
             return self.begin(link);
-        };
-        let Some(_link) = self.link(number) else {
-            unreachable!();
         };
         self.call_again_at(number);
         Ok(())
@@ -113,17 +110,11 @@ impl<V: Window<GivenPiece, 4096> + Drop> LinkEnds<V> {
     fn connect_confirm(&mut self, own: u16, far: u16) -> Result<(), AllocError>
         ensures { OnOk result (live_of self.new ≡ kept.confirm_came own far (live_of self.old)) }
     {
-        if let Some(number) = self.find(LinkTest::CallingAt { own }) {
-            let Some(_link) = self.link(number) else {
-                unreachable!();
-            };
+        if let Some((number, _link)) = self.found(LinkTest::CallingAt { own }) {
             return self.confirm_at(number, far);
         }
-        let Some(number) = self.find(LinkTest::TheLink { own, far }) else {
+        let Some((number, _link)) = self.found(LinkTest::TheLink { own, far }) else {
             return Ok(());
-        };
-        let Some(_link) = self.link(number) else {
-            unreachable!();
         };
         self.confirm_again_at(number);
         Ok(())
@@ -183,18 +174,12 @@ impl<V: Window<GivenPiece, 4096> + Drop> LinkEnds<V> {
             (live_of self.old) ≡ otherwise }
         ensures same { result ≡ false → self.new ≡ self.old }
     {
-        if let Some(number) = self.find(LinkTest::TheLink { own, far }) {
-            let Some(_link) = self.link(number) else {
-                unreachable!();
-            };
+        if let Some((number, _link)) = self.found(LinkTest::TheLink { own, far }) {
             self.end_at(number);
             return true;
         }
-        let Some(number) = self.find(LinkTest::CallingAt { own }) else {
+        let Some((number, _link)) = self.found(LinkTest::CallingAt { own }) else {
             return false;
-        };
-        let Some(_link) = self.link(number) else {
-            unreachable!();
         };
         self.end_at(number);
         true
@@ -205,11 +190,8 @@ impl<V: Window<GivenPiece, 4096> + Drop> LinkEnds<V> {
     fn act(&mut self, own: u16, far: u16)
         ensures { live_of self.new ≡ kept.acts own far (λ link. kept.acted_on link.variables link) (live_of self.old) }
     {
-        let Some(number) = self.find(LinkTest::ActedOn { own, far }) else {
+        let Some((number, _link)) = self.found(LinkTest::ActedOn { own, far }) else {
             return;
-        };
-        let Some(_link) = self.link(number) else {
-            unreachable!();
         };
         self.act_at(number);
     }
@@ -230,11 +212,8 @@ impl<V: Window<GivenPiece, 4096> + Drop> LinkEnds<V> {
         requires { AllByRecursion IsAckWord words.now }
         ensures { live_of self.new ≡ kept.acts own far (kept.took_acks words.now) (live_of self.old) }
     {
-        let Some(number) = self.find(LinkTest::ActedOn { own, far }) else {
+        let Some((number, _link)) = self.found(LinkTest::ActedOn { own, far }) else {
             return;
-        };
-        let Some(_link) = self.link(number) else {
-            unreachable!();
         };
         self.take_acks_at(number, words);
     }
@@ -261,14 +240,11 @@ impl<V: Window<GivenPiece, 4096> + Drop> LinkEnds<V> {
             (arrives (nsp.DataSegment (segment_view segment.now)) (live_of self.old))) fault) }
     {
         let own = segment.dstaddr;
-        let Some(number) = self.find(LinkTest::ActedOn {
+        let Some((number, _link)) = self.found(LinkTest::ActedOn {
             own,
             far: segment.srcaddr,
         }) else {
             return Ok(());
-        };
-        let Some(_link) = self.link(number) else {
-            unreachable!();
         };
         self.take_segment_at(number, segment, text)
     }

@@ -7,17 +7,14 @@ use Rattle.dna_links.specs.WireFlow.{wire_flows}
 use Rattle.nsp_link.specs.inner.Index.{times}
 use Rattle.nsp_link.proofs.Indexed.{some_wait, few_reached}
 use Rattle.nsp_link.proofs.Giving.{one_link}
-use Rattle.nsp_link.proofs.Change.{link_there, link_found, confirmed_index, change_made}
+use Rattle.nsp_link.proofs.Change.{in_place, link_there, link_found, confirmed_index, change_made}
 use Rattle.nsp_link.proofs.links.Links.confirm_at.Goals as goal
 
 pub stop_waiting-requires : goal.stop_waiting-requires
 stop_waiting-requires g c =
-    let l = c.self.inside in
+    let at = in_place c.self.view_is c.requires.within c.index.ensures in
     let k = c.index.result.now in
-    some_wait l.links.items _ _ _ _ c.self.invariant c.args.number k k
-    (link_there l.node l.peer l.links.items c.args.self.now c.self.view_is c.args.number c.index.result.now c.requires.within c.index.ensures)
-    (c.requires.calling k (link_found l.node l.peer l.links.items c.args.self.now c.self.view_is c.args.number c.index.result.now
-    c.requires.within c.index.ensures))
+    some_wait c.self.inside.links.items _ _ _ _ c.self.invariant c.args.number k k (link_there at) (c.requires.calling k (link_found at))
 
 pub reach-requires-clause-few : goal.reach-requires-clause-few
 reach-requires-clause-few g c =
@@ -28,20 +25,17 @@ reach-requires-clause-few g c =
 
 pub invariant_of-self : goal.invariant_of-self
 invariant_of-self g c =
-    let l = c.self.inside in
+    let items = c.self.inside.links.items in
+    let at = in_place c.self.view_is c.requires.within c.index.ensures in
     let far = c.args.far in
     let k = c.index.result.now in
-    let there = link_there l.node l.peer l.links.items c.args.self.now c.self.view_is c.args.number c.index.result.now c.requires.within
-    c.index.ensures in
-    let calling = c.requires.calling k (link_found l.node l.peer l.links.items c.args.self.now c.self.view_is c.args.number c.index.result.now
-    c.requires.within c.index.ensures) in
+    let calling = c.requires.calling k (link_found at) in
     let same : c.index_mut.result.now ≡ k =
-    one_link l.links.items l.links.items c.args.number c.index_mut.result.now k k refl c.index_mut.ensures.value there refl in
-    confirmed_index l.node l.peer l.links.items c.args.self.now c.self.view_is c.args.number c.index.result.now c.requires.within c.index.ensures
-    _ _ _ _ _ _ _ _ c.self.invariant
+    one_link items items c.args.number c.index_mut.result.now k k refl c.index_mut.ensures.value (link_there at) refl in
+    confirmed_index at c.self.invariant
     (λ q. ap (λ (m : BTreeMap ℕ ℕ). get nat_cmp m q) (c.reach.ensures.holders ∙ c.stop_waiting.ensures.holders))
     (λ q. ap (λ (m : BTreeMap ℕ ℕ). get nat_cmp m q) (c.reach.ensures.callers ∙ c.stop_waiting.ensures.callers))
-    far c.args.segsize c.args.tag c.confirm.new.self calling (c.port-port.ensures.calling calling)
+    far c.args.segsize c.args.tag calling (c.port-port.ensures.calling calling)
     (c.confirm.ensures ∙ ap (confirmed wire_flows of_partner far c.args.segsize c.args.tag) same)
     (ap suc c.reach.ensures.waiting ∙ c.stop_waiting.ensures.waiting)
     (λ q. c.reach.ensures.reached q ∙ ap (λ (n : ℕ). cond (eqb far q) (suc n) n)
@@ -49,6 +43,5 @@ invariant_of-self g c =
 
 pub returns : goal.returns
 returns g c =
-    let l = c.self.inside in
-    change_made l.node l.peer l.links.items c.args.self.now c.self.view_is c.args.number c.index_mut.result.now c.requires.within
-    c.index_mut.ensures.value (confirmed wire_flows of_partner c.args.far c.args.segsize c.args.tag) c.confirm.new.self c.confirm.ensures
+    change_made (in_place c.self.view_is c.requires.within c.index_mut.ensures.value)
+    (confirmed wire_flows of_partner c.args.far c.args.segsize c.args.tag) c.confirm.ensures

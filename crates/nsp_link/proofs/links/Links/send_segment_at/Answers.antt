@@ -1,30 +1,22 @@
-use Rattle.std.proofs.Common.{ap}
+use Rattle.std.proofs.Common.{IfErr}
 use Rattle.dna_packet.specs.Nsp.{segment_view}
-use Rattle.dna_links.specs.Links.{LinkOf}
 use Rattle.dna_links.specs.Sending.{segment_of}
-use Rattle.dna_links.specs.WireFlow.{WireFlow, wire_flows, is_new}
-use Rattle.nsp_link.proofs.Change.{kept_indexed, carry_made, fault_made, map_ok}
+use Rattle.dna_links.specs.WireFlow.{wire_flows, is_new}
+use Rattle.nsp_link.specs.Fault.{IsFault}
+use Rattle.nsp_link.proofs.Change.{in_place, kept_indexed, carried_if_ok, holds_there}
 use Rattle.nsp_link.proofs.links.Links.send_segment_at.Goals as goal
 
 pub invariant_of-self : goal.invariant_of-self
 invariant_of-self g c =
-    let l = c.self.inside in
-    kept_indexed l.node l.peer l.links.items c.args.self.now c.self.view_is c.args.number c.index_mut.result.now c.requires.within
-    c.index_mut.ensures.value _ _ _ _ c.send_segment.new.self c.self.invariant
-    (ap (λ (m : LinkOf WireFlow). m.port) c.send_segment.ensures.rest)
+    kept_indexed (in_place c.self.view_is c.requires.within c.index_mut.ensures.value) c.self.invariant c.send_segment.ensures.rest
 
 pub returns-clause-ok : goal.returns-clause-ok
-returns-clause-ok g c = λ link there.
-    let l = c.self.inside in
-    map_ok c.send_segment.result
-    (λ e. carry_made l.node l.peer l.links.items c.args.self.now c.self.view_is c.args.number c.index_mut.result.now c.requires.within
-    c.index_mut.ensures.value (segment_of wire_flows (segment_view c.args.segment.now)) c.send_segment.new.self c.send_segment.ensures.rest e link
-    there) c.send_segment.ensures.ok
+returns-clause-ok g c =
+    carried_if_ok (in_place c.self.view_is c.requires.within c.index_mut.ensures.value) c.send_segment.result
+    (segment_of wire_flows (segment_view c.args.segment.now)) c.send_segment.ensures.rest c.send_segment.ensures.ok
 
 pub returns-clause-refused : goal.returns-clause-refused
-returns-clause-refused g c = λ link there.
-    let l = c.self.inside in
-    fault_made l.node l.peer l.links.items c.args.self.now c.self.view_is c.args.number c.index_mut.result.now c.requires.within
-    c.index_mut.ensures.value (segment_of wire_flows (segment_view c.args.segment.now))
-    (λ (k : LinkOf WireFlow). is_new (segment_view c.args.segment.now) k.flow.kept) c.send_segment.result c.send_segment.ensures.refused link
-    there
+returns-clause-refused g c =
+    holds_there (in_place c.self.view_is c.requires.within c.index_mut.ensures.value)
+    (λ k. IfErr c.send_segment.result (λ fault. IsFault (segment_of wire_flows (segment_view c.args.segment.now) k)
+    (is_new (segment_view c.args.segment.now) k.flow.kept) fault)) c.send_segment.ensures.refused

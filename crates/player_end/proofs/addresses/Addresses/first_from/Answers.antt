@@ -1,4 +1,3 @@
-use Rattle.std.proofs.Common.{◌≡◌, arith}
 use Rattle.player_end.proofs.Pairs.{none_there, none_before}
 use Rattle.player_end.proofs.addresses.Addresses.first_from.Goals as goal
 

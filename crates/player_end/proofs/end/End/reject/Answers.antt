@@ -1,4 +1,4 @@
-use Rattle.std.proofs.Common.{◌≡◌, sym, ap, ◌∙◌}
+use Rattle.std.proofs.Common.{sym, ap, ◌∙◌}
 use Rattle.capture.specs.declared.event.Event.TheVariants as events
 use Rattle.dna_links.specs.declared.port.Phase.TheVariants.{Disconnecting}
 use Rattle.dna_play.specs.LinkOwed.{DisconnectTurn}
@@ -12,10 +12,10 @@ use Rattle.player_end.proofs.end.End.reject.Goals as goal
 pub returns-clause-ok : goal.returns-clause-ok
 returns-clause-ok g c =
     let i = c.self.inside in
-    let link = c.in-Some-link._link.now in
+    let link = c.in-Some._link.now in
     ap (λ (x : KeptEnd). with_lines c.args.text.now.items (rejects x c.args.partner)) (sym c.self.view_is)
     ∙ answers_lines i.head i.station i.links i.addresses i.passed c.args.partner c.in-Some.number link (sym c.in-Some.ensures.number)
-    (sym c.in-Some-link.ensures) (answered Disconnecting DisconnectTurn) (events.Reject c.args.partner) c.in-Some-next_address.link
+    c.in-Some.ensures.link (answered Disconnecting DisconnectTurn) (events.Reject c.args.partner) c.in-Some-next_address.link
     (rw (sym c.self.view_is) at c.in-Some-next_address.ensures.next)
     (rw (sym c.self.view_is) at c.in-Some-next_address.ensures.room) c.answer_at.new.self c.args.text.now.items c.put.new.text.items
-    (c.in-Ok.ensures link (sym c.in-Some-link.ensures)) c.in_ok-put.ensures.ok
+    (c.in-Ok.ensures link c.in-Some.ensures.link) c.in_ok-put.ensures.ok

@@ -1,11 +1,10 @@
 use Rattle.std.proofs.Common.{◌≡◌, false, rules, Some, refl, sym, subst, ap, ◌∙◌}
 use Rattle.std.specs.Option.{option_map}
-use Rattle.dna_play.specs.Kept.{KeptEnd, KeptLinks}
+use Rattle.dna_play.specs.Kept.{KeptLinks}
 use Rattle.dna_play.specs.KeptPlay.{sends, sends_choice}
-use Rattle.dna_play.specs.NextSent.{SendNew, choice, link_choice}
+use Rattle.dna_play.specs.NextSent.{choice, link_choice}
 use Rattle.player_end.specs.declared.choice.Choice.{Choice}
 use Rattle.player_end.specs.inner.Composing.{is_new}
-use Rattle.player_end.specs.inner.Index.{among_live}
 use Rattle.player_end.specs.inner.Owing.{choice_view, link_choice_view}
 use Rattle.player_end.specs.inner.Sending.{end_with, sends_new}
 use Rattle.player_end.specs.Stepping.{HasUnit}

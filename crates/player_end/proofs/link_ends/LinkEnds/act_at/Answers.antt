@@ -1,24 +1,15 @@
 use Rattle.dna_play.specs.NextSent.{LinkEnd}
 use Rattle.dna_play.specs.KeptLinks.{acted_on}
-use Rattle.player_end.specs.inner.Addresses.{has}
-use Rattle.player_end.proofs.Change.{live_made, kept_live, kept_index}
-use Rattle.player_end.proofs.Keeping.{keeps_acted}
+use Rattle.player_end.proofs.Change.{in_place, index_made, kept_made}
+use Rattle.player_end.proofs.Keeping.{as_made, keeps_acted}
 use Rattle.player_end.proofs.link_ends.LinkEnds.act_at.Goals as goal
 
 pub invariant_of-self : goal.invariant_of-self
 invariant_of-self g c =
-    let l = c.self.inside in
-    kept_index l.links.items l.confirms.items c.args.self.now c.self.view_is c.args.number c.index_mut.result.now c.requires.within
-    c.index_mut.ensures.value
-    c.requires.lives c.act.new.self _ c.act.ensures (keeps_acted c.index_mut.result.now) (has l.owns.pairs) (has l.fars.pairs) l.marks.marks.items _
-    c.self.invariant c.mark.ensures
+    index_made (in_place c.self.view_is c.requires.within c.index_mut.ensures.value c.requires.lives) c.self.invariant c.mark.ensures
+    (as_made c.act.ensures (keeps_acted c.index_mut.result.now))
 
 pub returns : goal.returns
 returns g c =
-    let l = c.self.inside in
-    live_made l.links.items l.confirms.items c.args.self.now c.self.view_is c.args.number c.index_mut.result.now c.requires.within
-    c.index_mut.ensures.value
-    c.requires.lives (λ (k : LinkEnd). acted_on k.variables k) c.act.new.self c.act.ensures
-    (kept_live l.links.items l.confirms.items c.args.self.now c.self.view_is c.args.number c.index_mut.result.now c.requires.within
-    c.index_mut.ensures.value
-    c.requires.lives c.act.new.self _ c.act.ensures (keeps_acted c.index_mut.result.now))
+    kept_made (in_place c.self.view_is c.requires.within c.index_mut.ensures.value c.requires.lives) (λ (k : LinkEnd). acted_on k.variables k)
+    (as_made c.act.ensures (keeps_acted c.index_mut.result.now)) c.act.ensures

@@ -4,7 +4,7 @@ use Rattle.dna_play.specs.NextSent.{LinkEnd}
 use Rattle.dna_play.specs.KeptLinks.{answered}
 use Rattle.player_end.specs.inner.Addresses.{has}
 use Rattle.player_end.specs.inner.Owing.{turn_view}
-use Rattle.player_end.proofs.Change.{index_own, live_made}
+use Rattle.player_end.proofs.Change.{in_place, index_own, live_made}
 use Rattle.player_end.proofs.Indexed.{more_indexed}
 use Rattle.player_end.proofs.link_ends.LinkEnds.answer_at.Goals as goal
 
@@ -16,18 +16,13 @@ invariant_of-self g c =
 
 pub invariant_of-self-2 : goal.invariant_of-self-2
 invariant_of-self-2 g c =
-    let l = c.self.inside in
-    index_own l.links.items l.confirms.items c.args.self.now c.self.view_is c.args.number c.index_mut.result.now c.requires.within
-    c.index_mut.ensures.value
-    c.requires.lives (has l.owns.pairs) (has l.fars.pairs) l.marks.marks.items _ c.self.invariant c.mark.ensures c.answer.new.self
-    (ap (λ (k : LinkEnd). is_live k.port.phase) c.answer.ensures ∙ c.requires.phase) (has c.insert.new.self.pairs) c.args.own
+    index_own (in_place c.self.view_is c.requires.within c.index_mut.ensures.value c.requires.lives) c.self.invariant c.mark.ensures c.answer.new.self
+    (ap (λ (k : LinkEnd). is_live k.port.phase) c.answer.ensures ∙ c.requires.phase)
     (ap (λ (k : LinkEnd). k.port.own) c.answer.ensures) (ap (λ (k : LinkEnd). k.port.far) c.answer.ensures) c.in_ok-insert.ensures.this
     c.insert.ensures.others
 
 pub returns : goal.returns
 returns g c =
-    let l = c.self.inside in
-    live_made l.links.items l.confirms.items c.args.self.now c.self.view_is c.args.number c.index_mut.result.now c.requires.within
-    c.index_mut.ensures.value
-    c.requires.lives (answered c.args.phase (turn_view c.args.turn) c.args.own) c.answer.new.self c.answer.ensures
+    live_made (in_place c.self.view_is c.requires.within c.index_mut.ensures.value c.requires.lives)
+    (answered c.args.phase (turn_view c.args.turn) c.args.own) c.answer.ensures
     (ap (λ (k : LinkEnd). is_live k.port.phase) c.answer.ensures ∙ c.requires.phase)

@@ -1,24 +1,15 @@
 use Rattle.dna_play.specs.NextSent.{LinkEnd}
 use Rattle.dna_play.specs.KeptLinks.{called_again}
-use Rattle.player_end.specs.inner.Addresses.{has}
-use Rattle.player_end.proofs.Change.{live_made, kept_live, kept_index}
-use Rattle.player_end.proofs.Keeping.{keeps_called}
+use Rattle.player_end.proofs.Change.{in_place, index_made, kept_made}
+use Rattle.player_end.proofs.Keeping.{as_made, keeps_called}
 use Rattle.player_end.proofs.link_ends.LinkEnds.call_again_at.Goals as goal
 
 pub invariant_of-self : goal.invariant_of-self
 invariant_of-self g c =
-    let l = c.self.inside in
-    kept_index l.links.items l.confirms.items c.args.self.now c.self.view_is c.args.number c.index_mut.result.now c.requires.within
-    c.index_mut.ensures.value
-    c.requires.lives c.call_again.new.self _ c.call_again.ensures (keeps_called c.index_mut.result.now) (has l.owns.pairs) (has l.fars.pairs)
-    l.marks.marks.items _ c.self.invariant c.mark.ensures
+    index_made (in_place c.self.view_is c.requires.within c.index_mut.ensures.value c.requires.lives) c.self.invariant c.mark.ensures
+    (as_made c.call_again.ensures (keeps_called c.index_mut.result.now))
 
 pub returns : goal.returns
 returns g c =
-    let l = c.self.inside in
-    live_made l.links.items l.confirms.items c.args.self.now c.self.view_is c.args.number c.index_mut.result.now c.requires.within
-    c.index_mut.ensures.value
-    c.requires.lives (λ (k : LinkEnd). called_again k.port.phase k) c.call_again.new.self c.call_again.ensures
-    (kept_live l.links.items l.confirms.items c.args.self.now c.self.view_is c.args.number c.index_mut.result.now c.requires.within
-    c.index_mut.ensures.value
-    c.requires.lives c.call_again.new.self _ c.call_again.ensures (keeps_called c.index_mut.result.now))
+    kept_made (in_place c.self.view_is c.requires.within c.index_mut.ensures.value c.requires.lives) (λ (k : LinkEnd). called_again k.port.phase k)
+    (as_made c.call_again.ensures (keeps_called c.index_mut.result.now)) c.call_again.ensures

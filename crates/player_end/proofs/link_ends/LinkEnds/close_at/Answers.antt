@@ -1,23 +1,14 @@
 use Rattle.dna_play.specs.KeptLinks.{closed}
-use Rattle.player_end.specs.inner.Addresses.{has}
-use Rattle.player_end.proofs.Change.{live_made, kept_live, kept_index}
-use Rattle.player_end.proofs.Keeping.{keeps_closed}
+use Rattle.player_end.proofs.Change.{in_place, index_made, kept_made}
+use Rattle.player_end.proofs.Keeping.{as_made, keeps_closed}
 use Rattle.player_end.proofs.link_ends.LinkEnds.close_at.Goals as goal
 
 pub invariant_of-self : goal.invariant_of-self
 invariant_of-self g c =
-    let l = c.self.inside in
-    kept_index l.links.items l.confirms.items c.args.self.now c.self.view_is c.args.number c.index_mut.result.now c.requires.within
-    c.index_mut.ensures.value
-    c.requires.lives c.close.new.self _ c.close.ensures (keeps_closed c.index_mut.result.now) (has l.owns.pairs) (has l.fars.pairs)
-    l.marks.marks.items _ c.self.invariant c.mark.ensures
+    index_made (in_place c.self.view_is c.requires.within c.index_mut.ensures.value c.requires.lives) c.self.invariant c.mark.ensures
+    (as_made c.close.ensures (keeps_closed c.index_mut.result.now))
 
 pub returns : goal.returns
 returns g c =
-    let l = c.self.inside in
-    live_made l.links.items l.confirms.items c.args.self.now c.self.view_is c.args.number c.index_mut.result.now c.requires.within
-    c.index_mut.ensures.value
-    c.requires.lives closed c.close.new.self c.close.ensures
-    (kept_live l.links.items l.confirms.items c.args.self.now c.self.view_is c.args.number c.index_mut.result.now c.requires.within
-    c.index_mut.ensures.value
-    c.requires.lives c.close.new.self _ c.close.ensures (keeps_closed c.index_mut.result.now))
+    kept_made (in_place c.self.view_is c.requires.within c.index_mut.ensures.value c.requires.lives) closed
+    (as_made c.close.ensures (keeps_closed c.index_mut.result.now)) c.close.ensures

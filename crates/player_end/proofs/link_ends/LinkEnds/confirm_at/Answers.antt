@@ -3,7 +3,7 @@ use Rattle.dna_links.specs.LookUps.{is_live}
 use Rattle.dna_play.specs.NextSent.{LinkEnd}
 use Rattle.dna_play.specs.KeptLinks.{confirmed}
 use Rattle.player_end.specs.inner.Addresses.{has}
-use Rattle.player_end.proofs.Change.{index_far, live_made}
+use Rattle.player_end.proofs.Change.{in_place, index_far, live_made}
 use Rattle.player_end.proofs.Indexed.{more_indexed}
 use Rattle.player_end.proofs.link_ends.LinkEnds.confirm_at.Goals as goal
 
@@ -15,17 +15,12 @@ invariant_of-self g c =
 
 pub invariant_of-self-2 : goal.invariant_of-self-2
 invariant_of-self-2 g c =
-    let l = c.self.inside in
-    index_far l.links.items l.confirms.items c.args.self.now c.self.view_is c.args.number c.index_mut.result.now c.requires.within
-    c.index_mut.ensures.value
-    c.requires.lives (has l.owns.pairs) (has l.fars.pairs) l.marks.marks.items _ c.self.invariant c.mark.ensures c.confirm.new.self
-    (ap (λ (k : LinkEnd). is_live k.port.phase) c.confirm.ensures) (has c.insert.new.self.pairs) c.args.far
+    index_far (in_place c.self.view_is c.requires.within c.index_mut.ensures.value c.requires.lives) c.self.invariant c.mark.ensures c.confirm.new.self
+    (ap (λ (k : LinkEnd). is_live k.port.phase) c.confirm.ensures)
     (ap (λ (k : LinkEnd). k.port.far) c.confirm.ensures) (ap (λ (k : LinkEnd). k.port.own) c.confirm.ensures) c.in_ok-insert.ensures.this
     c.insert.ensures.others
 
 pub returns : goal.returns
 returns g c =
-    let l = c.self.inside in
-    live_made l.links.items l.confirms.items c.args.self.now c.self.view_is c.args.number c.index_mut.result.now c.requires.within
-    c.index_mut.ensures.value
-    c.requires.lives (confirmed c.args.far) c.confirm.new.self c.confirm.ensures (ap (λ (k : LinkEnd). is_live k.port.phase) c.confirm.ensures)
+    live_made (in_place c.self.view_is c.requires.within c.index_mut.ensures.value c.requires.lives) (confirmed c.args.far)
+    c.confirm.ensures (ap (λ (k : LinkEnd). is_live k.port.phase) c.confirm.ensures)

@@ -1,5 +1,4 @@
-use Rattle.std.proofs.Common.{◌≡◌, ℕ, List, Some, refl, sym, subst, ap, ◌∙◌, IfErr}
-use Rattle.std.specs.Prelude.{slice_get}
+use Rattle.std.proofs.Common.{ℕ, List, Some, refl, sym, subst, ap, ◌∙◌, IfErr}
 use Rattle.std.proofs.lemmas.List.{append-nil}
 use Rattle.dna_packet.specs.Nsp.{DataSegment, segment_view}
 use Rattle.dna_links.specs.declared.port.LinkTest.TheVariants.{ActedOn}
@@ -9,8 +8,7 @@ use Rattle.player_end.specs.inner.Delivering.{delivers}
 use Rattle.player_end.specs.inner.Index.{live_of}
 use Rattle.player_end.specs.Stepping.{Stopped}
 use Rattle.player_end.proofs.Change.{map_ok}
-use Rattle.player_end.proofs.Places.{none_within}
-use Rattle.player_end.proofs.Searching.{with_found, with_none}
+use Rattle.player_end.proofs.Searching.{with_passed, with_none}
 use Rattle.player_end.proofs.link_ends.LinkEnds.segment_came.Goals as goal
 
 pub returns-in_default-clause-ok : goal.returns-in_default-clause-ok
@@ -21,29 +19,20 @@ returns-in_default-clause-ok g c =
     (λ place (l : LinkEnd). delivering_at place (took_segment seg l) (live_of s)) refl (sym c.in_default.ensures.number))
     ∙ ap (λ (t : List ℕ). Some (live_of s, t)) (append-nil c.args.text.now.items)
 
-pub unreachable-requires : goal.unreachable-requires
-unreachable-requires g c = none_within c.args.self.now.links c.in-Some.number c.in-Some.ensures.within c.in_default-link.ensures
-
 pub returns-clause-ok : goal.returns-clause-ok
 returns-clause-ok g c =
     let s = c.args.self.now in
     let seg = segment_view c.args.segment.now in
-    let number = c.in-Some.number in
-    let link = c.in-Some-link._link.now in
-    let at : slice_get s.links number ≡ Some link = sym c.in-Some-link.ensures in
     map_ok c.take_segment_at.result (λ e. ap (delivers (DataSegment seg) c.args.text.now.items)
-    (with_found (ActedOn seg.dstaddr seg.srcaddr) s (delivering_none (live_of s))
-    (λ place (l : LinkEnd). delivering_at place (took_segment seg l) (live_of s)) number link refl (sym c.in-Some.ensures.number) at
-    (c.in-Some.ensures.lives link at)) ∙ e) (c.take_segment_at.ensures.ok link at)
+    (with_passed (ActedOn seg.dstaddr seg.srcaddr) s (delivering_none (live_of s))
+    (λ place (l : LinkEnd). delivering_at place (took_segment seg l) (live_of s)) _ _ refl (sym c.in-Some.ensures.number) c.in-Some.ensures.link) ∙ e)
+    (c.take_segment_at.ensures.ok _ c.in-Some.ensures.link)
 
 pub returns-clause-stop : goal.returns-clause-stop
 returns-clause-stop g c =
     let s = c.args.self.now in
     let seg = segment_view c.args.segment.now in
-    let number = c.in-Some.number in
-    let link = c.in-Some-link._link.now in
-    let at : slice_get s.links number ≡ Some link = sym c.in-Some-link.ensures in
     subst (λ (d : Delivering). IfErr c.take_segment_at.result (λ fault. Stopped (delivers (DataSegment seg) c.args.text.now.items d) fault))
-    (sym (with_found (ActedOn seg.dstaddr seg.srcaddr) s (delivering_none (live_of s))
-    (λ place (l : LinkEnd). delivering_at place (took_segment seg l) (live_of s)) number link refl (sym c.in-Some.ensures.number) at
-    (c.in-Some.ensures.lives link at))) (c.take_segment_at.ensures.stop link at)
+    (sym (with_passed (ActedOn seg.dstaddr seg.srcaddr) s (delivering_none (live_of s))
+    (λ place (l : LinkEnd). delivering_at place (took_segment seg l) (live_of s)) _ _ refl (sym c.in-Some.ensures.number) c.in-Some.ensures.link))
+    (c.take_segment_at.ensures.stop _ c.in-Some.ensures.link)

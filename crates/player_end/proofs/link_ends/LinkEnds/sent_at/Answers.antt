@@ -1,34 +1,15 @@
 use Rattle.dna_play.specs.KeptLinks.{turn_sent}
-use Rattle.player_end.specs.inner.Addresses.{has}
 use Rattle.player_end.specs.inner.Owing.{turn_view}
-use Rattle.player_end.proofs.Change.{l_lives, live_made, index_made, map_ok}
+use Rattle.player_end.proofs.Change.{in_place, index_made, kept_if_ok}
 use Rattle.player_end.proofs.Keeping.{either_made, keeps_sent}
 use Rattle.player_end.proofs.link_ends.LinkEnds.sent_at.Goals as goal
 
 pub invariant_of-self : goal.invariant_of-self
 invariant_of-self g c =
-    let l = c.self.inside in
-    let k = c.index_mut.result.now in
-    let turn = turn_view c.args.turn in
-    let kept = either_made k c.sent-made.new.self (turn_sent turn k) c.sent-made.result c.sent-made.ensures.ok c.sent-made.ensures.err
-    (keeps_sent turn k) in
-    index_made l.links.items l.confirms.items c.args.self.now c.self.view_is c.args.number c.index_mut.result.now c.requires.within
-    c.index_mut.ensures.value
-    c.requires.lives (has l.owns.pairs) (has l.fars.pairs) l.marks.marks.items _ c.self.invariant c.mark.ensures c.sent-made.new.self
-    (kept.live (l_lives l.links.items l.confirms.items c.args.self.now c.self.view_is c.args.number c.index_mut.result.now c.requires.within
-    c.index_mut.ensures.value c.requires.lives)) kept.own kept.far
+    index_made (in_place c.self.view_is c.requires.within c.index_mut.ensures.value c.requires.lives) c.self.invariant c.mark.ensures
+    (either_made c.sent-made.result c.sent-made.ensures.ok c.sent-made.ensures.err (keeps_sent (turn_view c.args.turn) c.index_mut.result.now))
 
 pub returns : goal.returns
-returns g c = λ link there.
-    let l = c.self.inside in
-    let k = c.index_mut.result.now in
-    let turn = turn_view c.args.turn in
-    let kept = either_made k c.sent-made.new.self (turn_sent turn k) c.sent-made.result c.sent-made.ensures.ok c.sent-made.ensures.err
-    (keeps_sent turn k) in
-    map_ok c.sent-made.result
-    (λ e. live_made l.links.items l.confirms.items c.args.self.now c.self.view_is c.args.number c.index_mut.result.now c.requires.within
-    c.index_mut.ensures.value
-    c.requires.lives (turn_sent turn) c.sent-made.new.self e
-    (kept.live (l_lives l.links.items l.confirms.items c.args.self.now c.self.view_is c.args.number c.index_mut.result.now c.requires.within
-    c.index_mut.ensures.value
-    c.requires.lives)) link there) c.sent-made.ensures.ok
+returns g c =
+    kept_if_ok (in_place c.self.view_is c.requires.within c.index_mut.ensures.value c.requires.lives) c.sent-made.result (turn_sent (turn_view c.args.turn))
+    (either_made c.sent-made.result c.sent-made.ensures.ok c.sent-made.ensures.err (keeps_sent (turn_view c.args.turn) c.index_mut.result.now)) c.sent-made.ensures.ok

@@ -1,4 +1,4 @@
-use Rattle.std.proofs.Common.{◌≡◌, ℕ, Bool, sym, ◌∙◌, arith}
+use Rattle.std.proofs.Common.{sym, ◌∙◌, arith}
 use Rattle.player_end.specs.inner.Addresses.{has}
 use Rattle.player_end.proofs.Finding.{found_first, found_behind, no_more, none_between, none_through, passed_within}
 use Rattle.player_end.proofs.link_ends.finding.first_in.Goals as goal

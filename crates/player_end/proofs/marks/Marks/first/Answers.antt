@@ -1,4 +1,4 @@
-use Rattle.std.proofs.Common.{◌≡◌, ℕ, ◌-◌, List, length, take, drop, ap, ◌∙◌, arith, length-drop, sym, subst, ◌≤◌, le_refl}
+use Rattle.std.proofs.Common.{◌≡◌, ℕ, ◌-◌, List, length, take, drop, ap, ◌∙◌, arith, length-drop}
 use Rattle.std.proofs.lemmas.List.{take_all}
 use Rattle.player_end.proofs.Marked.{none_marked, none_before, marked_here}
 use Rattle.player_end.proofs.marks.Marks.first.Goals as goal
