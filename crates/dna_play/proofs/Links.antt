@@ -12,6 +12,7 @@ pub mod Fits
 pub mod Made
 pub mod Phases
 -- all this is kept
+pub mod Goes
 pub mod SegmentSent
 pub mod Stage
 pub mod UserDebts

@@ -110,8 +110,8 @@ module _ (s : Links) where
   pub arrived_count : (m : NspValue) (truth : LinkTruth Numbers) (left : Links) → ArrivedDid true_flows of_partner s m truth left →
       deliveries left.links ≡ deliveries s.links
   arrived_count m truth left Ignores = refl
-  arrived_count m truth left (Begins far segsize none) = pushed_count s.links (called true_flows of_partner far segsize truth.tag) refl
-  arrived_count m truth left (Confirms own far segsize number link found for) =
+  arrived_count m truth left (Begins far segsize is none) = pushed_count s.links (called true_flows of_partner far segsize truth.tag) refl
+  arrived_count m truth left (Confirms own far segsize number link is found for) =
       set_same_count s.links number link (confirmed true_flows of_partner far segsize truth.tag link) found.there refl
   arrived_count m truth left (Ends test number link found) = set_same_count s.links number link (ended true_flows link) found.there refl
   arrived_count m truth left (TakesSegment own far segment number link is found pair) =

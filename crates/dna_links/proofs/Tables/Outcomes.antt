@@ -30,6 +30,12 @@ has_numbers (DataSegment segment) = true
 has_numbers (DataAck dst src acks) = true
 has_numbers m = false
 
+-- a CI or a CC with this source and this SEGSIZE
+abbrev pub Connects : NspValue → (src segsize : ℕ) → Type 0
+Connects (ConnectInitiate retransmitted src services info segsize user_data) own size = (src ≡ own) × (segsize ≡ size)
+Connects (ConnectConfirm dst src services info segsize user_data) own size = (src ≡ own) × (segsize ≡ size)
+Connects m own size = ⊥
+
 prefix_passes : {X : Type 0} (test : X → Bool) (xs : List X) (x : X) → slice_get xs (prefix_len (λ (y : X). not (test y)) xs) ≡ Some x → test x ≡ true
 prefix_passes test [] x at = absurd cc
 prefix_passes {X} test (y ∷ xs) x at = go (prefix_passes test xs x) (test y) refl at
@@ -265,8 +271,8 @@ module _ {D K : Type 0} (flows : Flows D K) where
 
   pub data ArrivedDid (rule : PartnerRule) (s : LinksOf D) (m : NspValue) (truth : LinkTruth K) : LinksOf D → Type 0 where
     Ignores : ArrivedDid rule s m truth s
-    Begins : (far segsize : ℕ) → number_of (LiveTo far) s ≡ None → ArrivedDid rule s m truth (begun (called flows rule far segsize truth.tag) s)
-    Confirms : (own far segsize number : ℕ) (link : LinkOf D) → IsFound (CallingAt own) s number link → rule (is_for number truth.tag) ≡ true →
+    Begins : (far segsize : ℕ) → Connects m far segsize → number_of (LiveTo far) s ≡ None → ArrivedDid rule s m truth (begun (called flows rule far segsize truth.tag) s)
+    Confirms : (own far segsize number : ℕ) (link : LinkOf D) → Connects m far segsize → IsFound (CallingAt own) s number link → rule (is_for number truth.tag) ≡ true →
         ArrivedDid rule s m truth (changed number (confirmed flows rule far segsize truth.tag link) s)
     Ends : (test : LinkTest) (number : ℕ) (link : LinkOf D) → IsFound test s number link →
         ArrivedDid rule s m truth (changed number (ended flows link) s)
@@ -314,7 +320,7 @@ module _ {D K : Type 0} (flows : Flows D K) where
     came_did : (m : NspValue) → message_arrived flows rule s m truth ≡ Ok left → ArrivedDid rule s m truth left
     came_did (ConnectInitiate retransmitted src services info segsize user_data) e =
         looked (LiveTo src) s (Ok (begun (called flows rule src segsize truth.tag) s)) (λ number link. Ok s) (Ok left) e
-        (λ missing e. did_arrive _ _ (Begins src segsize missing) e) (λ number link found e. did_arrive _ _ Ignores e)
+        (λ missing e. did_arrive _ _ (Begins src segsize (refl, refl) missing) e) (λ number link found e. did_arrive _ _ Ignores e)
     came_did (ConnectAck dst) e = did_arrive _ _ Ignores e
     came_did (NoOperation rest) e = did_arrive _ _ Ignores e
     came_did (ConnectConfirm dst src services info segsize user_data) e =
@@ -322,7 +328,7 @@ module _ {D K : Type 0} (flows : Flows D K) where
         (λ number link. check (rule (is_for number truth.tag)) CrossedLink
         (Ok (changed number (confirmed flows rule src segsize truth.tag link) s))) (Ok left) e
         (λ missing e. did_arrive _ _ Ignores e)
-        (λ number link found e. let c = checked _ _ _ left e in did_arrive _ _ (Confirms dst src segsize number link found c.0) c.1)
+        (λ number link found e. let c = checked _ _ _ left e in did_arrive _ _ (Confirms dst src segsize number link (refl, refl) found c.0) c.1)
     came_did (DisconnectInitiate dst src reason user_data) e = did_arrive _ _ (ends_did _ dst src _ refl) e
     came_did (DisconnectConfirm dst src reason) e = did_arrive _ _ (ends_did _ dst src _ refl) e
     came_did (DataSegment segment) e =

@@ -16,8 +16,7 @@ use Rattle.dna_play.specs.HasLine.{are_bytes}
 use Rattle.dna_play.specs.Player.{End, end_step, makes, links_of, after_record}
 use Rattle.dna_play.specs.Player as player
 use Rattle.dna_play.specs.Stepped.{Stepped}
-use Rattle.dna_play.specs.Receipt.{carried, after_receipt, receives, can_keep, comes, is_damage}
-use Rattle.dna_play.specs.Receipt.{damaged}
+use Rattle.dna_play.specs.Receipt.{carried, after_receipt, receives, can_keep, comes, is_damage, damaged}
 use Rattle.dna_station.proofs.Bounds.Numbers.{is_data}
 use Rattle.dna_play.proofs.Played.Cases.{made_case, AllOf, each, then_each}
 use Rattle.dna_play.proofs.Played.PlayLines.{bytes_tested}

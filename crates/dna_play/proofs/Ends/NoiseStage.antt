@@ -4,7 +4,6 @@ use Rattle.two_nodes.specs.Nodes.{Made, stepped, answered, advance}
 use Rattle.ddcmp_msg.specs.Reading.{ReadingValue, reading}
 use Rattle.ddcmp_msg.specs.Reading as read_as
 use Rattle.capture.specs.declared.record.Record.TheVariants.{Noise}
-use Rattle.dna_station.specs.Book.{HeaderBad, DataBad}
 use Rattle.dna_station.specs.StationBook.{after_arrival}
 use Rattle.dna_node.specs.Rules.{by_bytes}
 use Rattle.dna_node.specs.Layers.{layers_machine}

@@ -16,8 +16,7 @@ use Rattle.dna_links.specs.TrueLinks.{Links, links_sent}
 use Rattle.dna_links.specs.CutFlow.{IsOrdered}
 use Rattle.dna_links.specs.Runs.{SentMessage}
 use Rattle.dna_play.specs.LinkOwed.{LinkOwed, EndConfirm, Turn, SegmentTurn, variables_of, all_still_owed}
-use Rattle.dna_play.specs.NextSent.{LinkEnd, LinkChoice, Confirms, OfLink, Choice, SendNew}
-use Rattle.dna_play.specs.NextSent.{first_turn, link_choice, without_turn}
+use Rattle.dna_play.specs.NextSent.{LinkEnd, LinkChoice, Confirms, OfLink, Choice, SendNew, first_turn, link_choice, without_turn}
 use Rattle.dna_play.specs.Compose.{address, piece_to_send, segment_with, turn_message, message_at, link_message, message_of}
 use Rattle.dna_play.specs.Player.{End, station_of, links_of, link_ends_of, after_record}
 use Rattle.dna_play.specs.Player as player

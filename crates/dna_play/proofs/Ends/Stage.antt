@@ -122,7 +122,7 @@ with_left own left = stepped own (record own.state { station = record own.state.
 
 module _ (e : End) (h : Stage e) (numbers : HasNumbers (links_of e.half).links) where
   pub link_event_stage : (others : LinkList) → AreAddressed (links_of e.half).links others e.addresses → (event : LinkEventValue) (left : Links) →
-      EventFits (links_of e.half) h.links.fit event → IsHigher e.addresses (given_address event) →
+      EventFits event → IsHigher e.addresses (given_address event) →
       higher e.addresses (given_address event) ≤ MAX_LINK → links_user (links_of e.half) event ≡ Ok left →
       Stage (record (after_record e (with_left e.half left)) { addresses = higher e.addresses (given_address event) })
   link_event_stage others addressed event left fits less few does_it = record {

@@ -20,9 +20,8 @@ use Rattle.dna_station.specs.Station.{wire}
 use Rattle.dna_station.specs.WireStation.{HeldPacket, StationVariables, WireStation, wire_after_event}
 use Rattle.dna_station.specs.WireBook.{acknowledges, wire_acknowledged_by, wire_responded, wire_is_next, wire_does, wire_book, wire_after_sending}
 use Rattle.dna_station.specs.WireBook.{wire_after_arrival}
-use Rattle.dna_play.specs.Owed.{Owed, Debt, OwesRep, OwesNak, with_debt, data_debt}
-use Rattle.dna_play.specs.Owed.{rep_debt, damage_debt, same_state, can_take, message_debt, arrival_debt}
-use Rattle.dna_play.specs.Owed.{still_owed}
+use Rattle.dna_play.specs.Owed.{Owed, Debt, OwesRep, OwesNak, with_debt, data_debt, rep_debt, damage_debt, same_state, can_take, message_debt}
+use Rattle.dna_play.specs.Owed.{arrival_debt, still_owed}
 use Rattle.dna_play.specs.NextSent.{LinkEnd, Choice, SendStrt, SendStack, SendNak, SendRep, SendAgain, SendNew, SendAck, after_choice}
 use Rattle.dna_play.specs.Compose.{no_flags, data_with, packet_again, new_data, packet_with, link_message, message_of}
 use Rattle.dna_station.proofs.Steps.Effects.{kept_by_all}

@@ -12,8 +12,8 @@ use Rattle.dna_play.proofs.Played.Facts.{Facts, Later}
 use Rattle.dna_play.proofs.Ends.Stage.{Stage, Known}
 use Rattle.dna_play.proofs.Ends.ComesStage.{unit_staged, damage_staged}
 use Rattle.dna_play.proofs.Ends.NoiseStage.{noise_staged}
-use Rattle.dna_play.proofs.Ends.UserStages.{Staged, open_staged, accept_staged, reject_staged, close_staged, in_staged, start_staged}
-use Rattle.dna_play.proofs.Ends.UserStages.{halt_staged, timed_staged, retried_staged, sends_staged}
+use Rattle.dna_play.proofs.Ends.UserStages.{Staged, open_staged, accept_staged, reject_staged, close_staged, in_staged, start_staged, halt_staged}
+use Rattle.dna_play.proofs.Ends.UserStages.{timed_staged, retried_staged, sends_staged}
 
 module _ (own other : End) (h : Stage own) (theirs : Stage other) (later : Later own other) where
   pub facts_now : Facts own other

@@ -1,7 +1,6 @@
 -- That an end of the player does what its user says, lets its timers run out, and sends what it has chosen keeps what holds of it, with what it owes
 -- then.
-use Rattle.std.proofs.Common.{◌≡◌, ℕ, ◌<◌, ◌+◌, ◌≤◌, true, Option, Some, None, List, length, Result, refl}
-use Rattle.std.proofs.Common.{sym, subst, arith}
+use Rattle.std.proofs.Common.{◌≡◌, ℕ, ◌<◌, ◌+◌, ◌≤◌, true, Option, Some, None, List, length, Result, refl, sym, subst, arith}
 use Rattle.std.specs.Prelude.{nat_le}
 use Rattle.std.proofs.lemmas.Bool.{and_parts}
 use Rattle.ddcmp_msg.specs.Spelling.{spelling}
@@ -22,8 +21,7 @@ use Rattle.dna_node.specs.Content.{link_event}
 use Rattle.dna_play.specs.Script.{Start, Halt, Open, Accept, Reject, In, Close, Retry}
 use Rattle.dna_play.specs.HasLine.{numbers_fit, are_bytes, has_line}
 use Rattle.dna_play.specs.Owed.{Debt, OwesStrt, timer_debt}
-use Rattle.dna_play.specs.LinkOwed.{LinkOwed, EndConfirm, LinkDebt, NoDebt, Owes, OwesConfirm, Turn, InitiateTurn, ConfirmTurn, DisconnectTurn}
-use Rattle.dna_play.specs.LinkOwed.{retried}
+use Rattle.dna_play.specs.LinkOwed.{LinkOwed, LinkDebt, NoDebt, Owes, InitiateTurn, ConfirmTurn, DisconnectTurn, retried}
 use Rattle.dna_play.specs.NextSent.{Choice, link_choice, choice}
 use Rattle.dna_play.specs.Player.{End, makes, station_of, links_of, link_ends_of, after_record}
 use Rattle.dna_play.specs.Player as player
@@ -35,9 +33,8 @@ use Rattle.dna_play.proofs.Played.Steps.{PlayHalf}
 use Rattle.dna_links.proofs.Tables.Outcomes.{IsFound, UserDid, user_did}
 use Rattle.dna_play.proofs.Links.Fits.{EventFits}
 use Rattle.dna_play.proofs.Ends.OwedPays.{debt_pays}
-use Rattle.dna_play.proofs.Links.Debts.{DebtFits}
 use Rattle.dna_play.proofs.Links.UserDebts.{open_debt, accept_debt, reject_debt, close_debt}
-use Rattle.dna_play.proofs.Links.Stage.{debt_holds}
+use Rattle.dna_play.proofs.Links.Stage.{debt_holds, DebtHolds}
 use Rattle.dna_play.proofs.Ends.Sends.{IsSound, goes}
 use Rattle.dna_play.proofs.Ends.Stage.{Stage, Known, with_left, sound_of, link_event_stage, start_event_stage, halt_event_stage, timer_stage}
 use Rattle.dna_play.proofs.Ends.Stage.{retry_stage}
@@ -51,12 +48,11 @@ Staged = AllOf (λ (stepped : Stepped). Stage stepped.end)
 -- ---- one thing more is owed
 
 module _ (e : End) (h : Stage e) where
-  link_debt_stage : (debt : LinkDebt) → DebtFits (links_of e.half).links debt → ((confirm : EndConfirm) → debt ≡ OwesConfirm confirm → ⊥) →
-      Stage (links_owing_more debt e)
-  link_debt_stage debt fits never = record {
+  link_debt_stage : (debt : LinkDebt) → DebtHolds (links_of e.half).links e.addresses debt → Stage (links_owing_more debt e)
+  link_debt_stage debt holds = record {
     pays = h.pays;
     packets = h.packets;
-    links = debt_holds (links_of e.half).links e.addresses e.links_owed h.links debt fits (λ confirm is. absurd (never confirm is));
+    links = debt_holds (links_of e.half).links e.addresses e.links_owed h.links debt holds;
     plain = h.plain;
     few = h.few;
     ahead = h.ahead;
@@ -79,21 +75,17 @@ module _ (own other : End) (h : Stage own) (theirs : Stage other) (known : Known
   -- ---- the user of the links
 
   event_left : (event : Event) (value : LinkEventValue) (debt : LinkDebt) → link_event event ≡ Some value →
-      (has_line (User event) ≡ true → EventFits s h.links.fit value) → IsHigher own.addresses (given_address value) →
-      higher own.addresses (given_address value) ≤ MAX_LINK → ((left : Links) → UserDid true_flows s value left → DebtFits left.links debt) →
-      ((confirm : EndConfirm) → debt ≡ OwesConfirm confirm → ⊥) → (half : PlayHalf) → makes own.half other.half (User event) ≡ Some half →
+      (has_line (User event) ≡ true → EventFits value) → IsHigher own.addresses (given_address value) →
+      higher own.addresses (given_address value) ≤ MAX_LINK →
+      ((left : Links) → UserDid true_flows s value left → DebtHolds left.links (higher own.addresses (given_address value)) debt) → (half : PlayHalf) → makes own.half other.half (User event) ≡ Some half →
       Stage (links_owing_more debt (after_record (with_address own (higher own.addresses (given_address value))) half))
-  event_left event value debt is fits less few owes never half e =
+  event_left event value debt is fits less few owes half e =
       let m = link_event_made own.half other.half half event value is e in
       let top = higher own.addresses (given_address value) in
       subst (λ (x : PlayHalf). Stage (links_owing_more debt (after_record (with_address own top) x))) m.is
       (link_debt_stage (after_record (with_address own top) (with_left own.half m.left))
       (link_event_stage own h known.numbers (links_of other.half).links known.addressed value m.left (fits m.lined) less few m.does_it)
-      debt (owes m.left (user_did true_flows s m.left value m.does_it)) never)
-
-  -- a debt of a turn is none of a DC
-  no_confirm : (number : ℕ) (turn : Turn) (confirm : EndConfirm) → Owes number turn ≡ OwesConfirm confirm → ⊥
-  no_confirm number turn confirm e = cc
+      debt (owes m.left (user_did true_flows s m.left value m.does_it)))
 
   user_staged : (e : End) (event : Event) (more : End → End) →
       ((half : PlayHalf) → makes e.half other.half (User event) ≡ Some half → Stage (more (after_record e half))) →
@@ -114,8 +106,7 @@ module _ (own other : End) (h : Stage own) (theirs : Stage other) (known : Known
   open_staged = given_staged (λ address. events.Open address) (Owes (length s.links) InitiateTurn) (λ less.
       let address = own.addresses + 1 in
       event_left (events.Open address) (of_links.Open address) (Owes (length s.links) InitiateTurn) refl (λ lined. tt) (omega arith) (omega arith)
-      (λ left did. open_debt s (links_of other.half).links own.addresses known.addressed address left (omega arith) did)
-      (no_confirm (length s.links) InitiateTurn))
+      (λ left did. open_debt s (links_of other.half).links own.addresses known.addressed address left (omega arith) did))
 
   pub accept_staged : (partner : ℕ) → Staged (plays own other.half (Accept partner))
   unfolding plays
@@ -124,8 +115,7 @@ module _ (own other : End) (h : Stage own) (theirs : Stage other) (known : Known
       let address = own.addresses + 1 in
       event_left (events.Accept partner address) (of_links.Accept partner address) (Owes number ConfirmTurn) refl (λ lined. tt) (omega arith)
       (omega arith)
-      (λ left did. accept_debt s (links_of other.half).links own.addresses known.addressed partner address number link left found (omega arith) did)
-      (no_confirm number ConfirmTurn)))
+      (λ left did. accept_debt s (links_of other.half).links own.addresses known.addressed partner address number link left found (omega arith) did)))
 
   pub reject_staged : (partner : ℕ) → Staged (plays own other.half (Reject partner))
   unfolding plays
@@ -134,22 +124,20 @@ module _ (own other : End) (h : Stage own) (theirs : Stage other) (known : Known
       let address = own.addresses + 1 in
       event_left (events.Reject partner address) (of_links.Reject partner address) (Owes number DisconnectTurn) refl (λ lined. tt) (omega arith)
       (omega arith)
-      (λ left did. reject_debt s (links_of other.half).links own.addresses known.addressed partner address number link left found (omega arith) did)
-      (no_confirm number DisconnectTurn)))
+      (λ left did. reject_debt s (links_of other.half).links own.addresses known.addressed partner address number link left found (omega arith) did)))
 
   pub close_staged : (address : ℕ) → Staged (plays own other.half (Close address))
   unfolding plays
   close_staged address = link_case Staged (LiveAt address) s _ (λ none. tt) (λ number link found.
       user_staged own (events.Close address) (links_owing_more (Owes number DisconnectTurn))
       (event_left (events.Close address) (of_links.Close address) (Owes number DisconnectTurn) refl (λ lined. tt) tt h.few
-      (λ left did. close_debt s (links_of other.half).links own.addresses known.addressed address number link left found did)
-      (no_confirm number DisconnectTurn)))
+      (λ left did. close_debt s (links_of other.half).links own.addresses known.addressed address number link left found did)))
 
   pub in_staged : (address : ℕ) (message : List ℕ) → Staged (plays own other.half (In address message))
   unfolding plays
   in_staged address message = user_staged own (events.In address message) no_more
       (event_left (events.In address message) (of_links.In address message) NoDebt refl (line_bytes (events.In address message)) tt h.few
-      (λ left did. tt) (λ confirm e. cc))
+      (λ left did. tt))
     where
       line_bytes : (event : Event) → has_line (User event) ≡ true → are_bytes (record_bytes (User event)) ≡ true
       line_bytes event e =

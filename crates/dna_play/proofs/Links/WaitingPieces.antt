@@ -195,9 +195,9 @@ module _ (s : Links) where
   pub arrived_waits : (m : NspValue) (truth : LinkTruth Numbers) (left : Links) → ArrivedDid true_flows of_anyone s m truth left →
       waiting left.links ≤ waiting s.links + 1
   arrived_waits m truth left Ignores = omega arith
-  arrived_waits m truth left (Begins far segsize none) =
+  arrived_waits m truth left (Begins far segsize is none) =
       let e = begun_waits s.links (called true_flows of_anyone far segsize truth.tag) refl in omega arith
-  arrived_waits m truth left (Confirms own far segsize number link found for) =
+  arrived_waits m truth left (Confirms own far segsize number link is found for) =
       let e = set_same_waits s.links number link (confirmed true_flows of_anyone far segsize truth.tag link) found.there refl in omega arith
   arrived_waits m truth left (Ends test number link found) =
       let e = set_same_waits s.links number link (ended true_flows link) found.there refl in omega arith

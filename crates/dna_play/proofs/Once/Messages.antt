@@ -19,8 +19,8 @@ use Rattle.dna_links.specs.TrueFlow.{TrueFlow, Numbers, true_flows}
 use Rattle.dna_links.specs.TrueLinks.{Links}
 use Rattle.dna_links.proofs.Runs.Reads.{at_is}
 use Rattle.dna_links.proofs.Tables.Outcomes.{looked, checked, SentDid, OfNone, Stays, EndsCalled, Segment, Acks}
-use Rattle.dna_play.proofs.Once.Addresses.{LinkList, Owner, owner_kept, KeepsAddresses, AreAddressed, kept_keeps}
-use Rattle.dna_play.proofs.Once.Addresses.{set_addressed, push_unnamed, push_keeps, LeavesAddressed, one_kept}
+use Rattle.dna_play.proofs.Once.Addresses.{LinkList, Owner, owner_kept, KeepsAddresses, AreAddressed, kept_keeps, set_addressed, push_unnamed}
+use Rattle.dna_play.proofs.Once.Addresses.{push_keeps, LeavesAddressed, one_kept}
 
 -- the address of the sender's link in a message, and that of the link it is for; a DC names a link that is over
 abbrev pub source : NspValue → Option ℕ

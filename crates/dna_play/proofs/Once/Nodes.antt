@@ -4,11 +4,10 @@ use Rattle.std.specs.Prelude.{slice_get}
 use Rattle.std.proofs.lemmas.Bool.{and_parts}
 use Rattle.std.proofs.lemmas.Option.{same_Some}
 use Rattle.dna_links.specs.declared.port.LinkTest.TheVariants.{HasAddress}
-use Rattle.dna_links.specs.Links.{changed, forgotten, freed}
+use Rattle.dna_links.specs.Links.{changed, forgotten, freed, LinkTruth}
 use Rattle.dna_links.specs.User.{LinkEventValue}
 use Rattle.dna_links.specs.Sending.{Sent}
-use Rattle.dna_links.specs.Arriving.{PartnerRule}
-use Rattle.dna_links.specs.Links.{LinkTruth}
+use Rattle.dna_links.specs.Arriving.{PartnerRule, of_partner}
 use Rattle.dna_packet.specs.Nsp.{NspValue}
 use Rattle.dna_links.specs.TrueFlow.{TrueFlow, Numbers, true_flows}
 use Rattle.dna_links.specs.TrueLinks.{Links}
@@ -17,7 +16,6 @@ use Rattle.dna_links.specs.Runs.{new_world}
 use Rattle.two_nodes.proofs.NumberedSteps.{at_pushed}
 use Rattle.dna_links.proofs.Tables.Outcomes.{looked, checked, user_did, sent_did, arrived_did, UserDid, Opens, Accepts, Rejects, HandsIn, Delivers}
 use Rattle.dna_links.proofs.Tables.Outcomes.{Closes, SentDid, OfNone, Stays, EndsCalled, Segment, Acks, ArrivedDid, Ignores}
-use Rattle.dna_links.specs.Arriving.{of_partner}
 
 -- the addresses of both nodes
 pub record AtNodes (s : Links) (node peer : ℕ) : Type 0 where

@@ -1,5 +1,5 @@
 -- What a script plays is a run of nodes that ask no rule on tags, and each record has a line.
-use Rattle.std.proofs.Common.{◌≡◌, ℕ, ◌+◌, Bool, true, false, Some, None, List, [], ◌∷◌, ◌++◌, Ok, Err, refl, cond, subst, sym, ap, ◌∙◌, append_assoc}
+use Rattle.std.proofs.Common.{◌≡◌, ℕ, Bool, true, false, Some, None, List, [], ◌∷◌, ◌++◌, Ok, Err, refl, cond, subst, sym, ap, ◌∙◌, append_assoc}
 use Rattle.std.proofs.Common.{append-nil}
 use Rattle.std.specs.List.{AllByRecursion}
 use Rattle.two_nodes.specs.Nodes.{World, Run, Done, Outcome, Made, Waits, Refused, advance, exchanged_world}
@@ -22,8 +22,8 @@ use Rattle.dna_node.proofs.OnTop.{OnTop, follows}
 use Rattle.dna_play.proofs.Played.PlayLines.{line_told}
 use Rattle.dna_play.proofs.Played.Steps.{PlayHalf, MakesAll, Nothing, First}
 use Rattle.dna_play.proofs.Played.StepMakes.{Good, plays_good}
-use Rattle.dna_play.proofs.Played.Reached.{exchanged_ends, exchanged_script, after_a, Reached, NoStep, StepOfA, StepOfB}
-use Rattle.dna_play.proofs.Played.Reached.{whole_reached, stopped_reached}
+use Rattle.dna_play.proofs.Played.Reached.{exchanged_ends, exchanged_script, after_a, Reached, NoStep, StepOfA, StepOfB, whole_reached}
+use Rattle.dna_play.proofs.Played.Reached.{stopped_reached}
 
 -- ---- one record
 

@@ -1,6 +1,6 @@
 -- A step of a script is bad only where its rule says so, and full only where the addresses of its end are used up.
-use Rattle.std.proofs.Common.{◌≡◌, ℕ, ◌+◌, ◌<◌, ◌≤◌, Bool, true, false, ◌&&◌, nat_lt, ltb-true, lt-ltb, le-leb, leb-true, Option}
-use Rattle.std.proofs.Common.{Some, None, List, length, Result, Ok, refl, sym, ap, ap₂, ◌∙◌, subst, arith}
+use Rattle.std.proofs.Common.{◌≡◌, ℕ, ◌+◌, ◌<◌, ◌≤◌, Bool, true, false, ◌&&◌, nat_lt, ltb-true, lt-ltb, le-leb, leb-true, Option, Some, None, List}
+use Rattle.std.proofs.Common.{length, Result, Ok, refl, sym, ap, ap₂, ◌∙◌, subst, arith}
 use Rattle.std.specs.Prelude.{slice_get, slice_index, nat_le}
 use Rattle.ddcmp_msg.specs.Reading.{reading}
 use Rattle.std.proofs.lemmas.Bool.{and_parts}
@@ -16,7 +16,6 @@ use Rattle.dna_station.specs.declared.state.State.{State}
 use Rattle.dna_station.specs.declared.state.State.TheVariants.{Halted, Istrt, Astrt}
 use Rattle.dna_station.specs.declared.state.State.TheVariants as states
 use Rattle.dna_links.specs.declared.port.Phase.{Phase}
-use Rattle.dna_links.specs.declared.port.Phase.TheVariants.{Running}
 use Rattle.dna_links.specs.declared.port.LinkTest.TheVariants.{LiveAt, CalledBy}
 use Rattle.dna_links.specs.LookUps.{is_live, is_called, is_at}
 use Rattle.dna_links.specs.Links.{LinkOf, number_of}

@@ -12,8 +12,8 @@ use Rattle.dna_play.specs.PlayRun.{starts_of, StartsOnce}
 use Rattle.dna_play.specs.KeptPlayed.{KeptMade, KeptPlayed, KeptStopped, with_records, kept_plays_step, kept_plays_all, kept_play}
 use Rattle.dna_play.specs.KeptPlayed as keeping
 use Rattle.dna_play.specs.KeptRun.{kept_pair, kept_played, kept_of}
-use Rattle.dna_play.proofs.Played.Reached.{after_a, after_b, Reached, NoStep, StepOfA, StepOfB, each_later, step_of_a, step_of_b}
-use Rattle.dna_play.proofs.Played.Reached.{whole_reached, stopped_reached}
+use Rattle.dna_play.proofs.Played.Reached.{after_a, after_b, Reached, NoStep, StepOfA, StepOfB, each_later, step_of_a, step_of_b, whole_reached}
+use Rattle.dna_play.proofs.Played.Reached.{stopped_reached}
 use Rattle.dna_play.proofs.Stored.Now.{now_at}
 use Rattle.dna_play.proofs.Stored.Pairs.{GoesAlong, step_along}
 use Rattle.dna_play.proofs.Stored.Steps.{step_kept}

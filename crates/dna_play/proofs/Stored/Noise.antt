@@ -1,6 +1,5 @@
 -- Bytes that nobody sent: the same of an end of the player and of what its node keeps.
-use Rattle.std.proofs.Common.{◌≡◌, ℕ, Bool, true, Option, Some, List, [], ◌∷◌, length, Result, Ok, Err, refl, sym, ap, ap₂, ◌∙◌, inl}
-use Rattle.std.proofs.Common.{inr}
+use Rattle.std.proofs.Common.{◌≡◌, ℕ, Bool, true, Option, Some, List, [], ◌∷◌, length, Result, Ok, Err, refl, sym, ap, ap₂, ◌∙◌, inl, inr}
 use Rattle.std.specs.Prelude.{nat_le}
 use Rattle.std.proofs.lemmas.Bool.{and_parts}
 use Rattle.ddcmp_msg.specs.Message.{MessageValue}
@@ -8,7 +7,6 @@ use Rattle.ddcmp_msg.specs.Reading.{ReadingValue, reading}
 use Rattle.ddcmp_msg.specs.Reading as read_as
 use Rattle.capture.specs.declared.limit.TheConstants.{MAX_UNIT}
 use Rattle.capture.specs.declared.record.Record.TheVariants as recorded
-use Rattle.dna_station.specs.Book.{HeaderBad, DataBad}
 use Rattle.dna_play.specs.HasLine.{numbers_fit, are_bytes, has_line}
 use Rattle.dna_play.specs.Script.{Noise}
 use Rattle.dna_play.specs.Player.{End, makes, station_of, links_of, after_record}

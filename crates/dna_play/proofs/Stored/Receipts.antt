@@ -12,7 +12,7 @@ use Rattle.capture.specs.declared.record.Record.TheVariants.{Received}
 use Rattle.dna_station.specs.declared.refusal.StepRefusal.{StepRefusal}
 use Rattle.dna_station.specs.declared.refusal.StationRefusal.TheVariants.{CrossedPeriod}
 use Rattle.dna_node.specs.Rules.{judged, by_bytes}
-use Rattle.dna_station.specs.Book.{ArrivalValue, Sound, HeaderBad, DataBad, body_of, keep_refusal}
+use Rattle.dna_station.specs.Book.{ArrivalValue, Sound, body_of, keep_refusal}
 use Rattle.dna_station.specs.Bounds.{IsWithin}
 use Rattle.dna_station.specs.Station.{Station}
 use Rattle.dna_station.specs.StationBook.{arrival_refusal, after_arrival}

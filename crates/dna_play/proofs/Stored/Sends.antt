@@ -19,8 +19,8 @@ use Rattle.dna_station.specs.WireStation.{StationVariables}
 use Rattle.dna_node.specs.Layers.{LayersUnit}
 use Rattle.dna_play.specs.Script.{Send}
 use Rattle.dna_play.specs.LinkOwed.{LinkOwed, LinksOwed, EndConfirm, Turn, ConnectAckTurn}
-use Rattle.dna_play.specs.NextSent.{LinkEnd, LinkChoice, Confirms, OfLink, turn_of, link_choice, without_turn, after_link_choice}
-use Rattle.dna_play.specs.NextSent.{Choice, SendNew, choice, after_choice}
+use Rattle.dna_play.specs.NextSent.{LinkEnd, LinkChoice, Confirms, OfLink, turn_of, link_choice, without_turn, after_link_choice, Choice, SendNew}
+use Rattle.dna_play.specs.NextSent.{choice, after_choice}
 use Rattle.dna_play.specs.Compose.{link_message, message_at, turn_message, message_of}
 use Rattle.dna_play.specs.Player.{End, makes, links_of, station_of, link_ends_of, after_record}
 use Rattle.dna_play.specs.Player as player
@@ -36,8 +36,7 @@ use Rattle.dna_play.specs.KeptRun.{bytes_of, kept_stepped, IsKept}
 use Rattle.dna_play.proofs.Played.Steps.{PlayHalf}
 use Rattle.dna_play.proofs.Played.Facts.{Facts}
 use Rattle.dna_links.proofs.Tables.Outcomes.{checked}
-use Rattle.dna_play.proofs.Links.Pays.{phase_of, OwedFits, IsDue, DueFlag, DueSegment, turn_due}
-use Rattle.dna_play.proofs.Links.Pays.{running_is}
+use Rattle.dna_play.proofs.Links.Pays.{phase_of, OwedFits, IsDue, DueFlag, DueSegment, turn_due, running_is}
 use Rattle.dna_play.proofs.Links.Choices.{IsChosen, end_at, first_chosen}
 use Rattle.dna_play.proofs.Links.Stage.{left_links}
 use Rattle.dna_play.proofs.Ends.SendMakes.{sent_left, again_after, first_after}

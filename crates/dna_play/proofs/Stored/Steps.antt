@@ -4,8 +4,8 @@ use Rattle.std.specs.Prelude.{slice_index}
 use Rattle.capture.specs.declared.event.Event.TheVariants as events
 use Rattle.capture.specs.declared.record.Record.TheVariants.{User}
 use Rattle.capture.specs.declared.record.Record.TheVariants as recorded
-use Rattle.dna_play.specs.Script.{StepValue, ScriptStep, Start, Halt, Timer, Send, Deliver, Refuse, Lose, Damage, Noise, Open, Accept, Reject}
-use Rattle.dna_play.specs.Script.{In, Close, Retry}
+use Rattle.dna_play.specs.Script.{StepValue, ScriptStep, Start, Halt, Timer, Send, Deliver, Refuse, Lose, Damage, Noise, Open, Accept, Reject, In}
+use Rattle.dna_play.specs.Script.{Close, Retry}
 use Rattle.dna_play.specs.ScriptText.{IsStep, NumbersFit, step_bytes, most_bytes}
 use Rattle.dna_play.specs.Player.{End}
 use Rattle.dna_play.specs.KeptRun.{IsKept}

@@ -14,7 +14,7 @@ use Rattle.dna_links.specs.declared.port.LinkTest.{LinkTest}
 use Rattle.dna_links.specs.declared.port.LinkTest.TheVariants.{TheLink, OpenedAt, BegunBy, CalledBy}
 use Rattle.dna_links.specs.LookUps.{is_live, is_calling, is_confirming, is_running, is_disconnecting, is_at, has_both}
 use Rattle.dna_links.specs.Flow.{Sending, REACH, wire, distance}
-use Rattle.dna_links.specs.Pieces.{Piece, piece_of, is_next_piece, without_piece}
+use Rattle.dna_links.specs.Pieces.{Piece, piece_of, is_next_piece, without_piece, next_piece}
 use Rattle.dna_links.specs.Links.{LinkOf, check, with_link, changed, with_flow}
 use Rattle.dna_links.specs.Sending.{Sent, of_no_link, unchanged, ending, confirms_end, carries, in_run, in_its_phase, segment_of, message_sent}
 use Rattle.dna_links.specs.TrueFlow.{TrueFlow, Numbers, Named, true_flows, highest_given, highest_received, all_named, is_new, is_repeat, sending}
@@ -24,7 +24,6 @@ use Rattle.dna_links.specs.CutFlow.{IsOrdered}
 use Rattle.dna_play.specs.LinkOwed.{LinkOwed, Turn, ConnectAckTurn, InitiateTurn, ConfirmTurn, DisconnectTurn, DataAckTurn, SegmentTurn, variables_of}
 use Rattle.dna_play.specs.NextSent.{LinkEnd}
 use Rattle.dna_play.specs.Compose.{ack_of, address, piece_to_send, segment_with, turn_message}
-use Rattle.dna_links.specs.Pieces.{next_piece}
 use Rattle.dna_play.specs.KeptLinks.{gave, gave_by}
 use Rattle.dna_play.proofs.Links.FlowDid.{SegmentDid, GivesIt, GivesAgain, segment_did, acks_did}
 use Rattle.dna_links.proofs.Tables.Outcomes.{looked, checked}
