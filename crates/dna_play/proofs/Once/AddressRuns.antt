@@ -22,7 +22,7 @@ use Rattle.dna_links.specs.Runs.{sends, keeps, new_world}
 use Rattle.dna_play.proofs.Once.Orderly.{higher, highest, AddressesRise, highest-join}
 use Rattle.two_nodes.proofs.NumberedSteps.{at_pushed}
 use Rattle.dna_links.proofs.Runs.Reads.{at_is}
-use Rattle.dna_links.proofs.Tables.Outcomes.{IsFound, looked, checked, user_did, sent_did}
+use Rattle.dna_links.proofs.Tables.Outcomes.{IsFound, looked, checked, user_did, sent_did, arrived_did}
 use Rattle.dna_play.proofs.Once.Addresses.{KeepsAddresses, AreAddressed, none_addressed, addressed_beside, user_addressed}
 use Rattle.dna_play.proofs.Once.Messages.{source, target, IsAddressed, message_kept, sent_from, sent_stays, came_stays}
 
@@ -89,7 +89,7 @@ module _ (own other : LinkSide) (most others : ℕ) (h : IsAddressedSide own oth
   step_left left events rise SendsNone = sends_left own.links None h.links (λ i n o. o) (λ u e. absurd cc)
   step_left left events rise (Keeps place unit links ahead there does) =
       let l = came_stays own.links other.links.links most h.links unit.truth unit.packet.message links (theirs.told place unit there).from
-      (checked _ _ _ links does).1 in
+      (arrived_did true_flows of_partner own.links links unit.truth unit.packet does) in
       links_left links (place + 1) most l.addressed l.keeps
   step_left left events rise (KeepsNone place ahead there) = links_left own.links (place + 1) most h.links (λ i n o. o)
 
