@@ -13,7 +13,7 @@ pub mod Made
 pub mod Phases
 -- all this is kept
 pub mod Goes
-pub mod SegmentSent
+pub mod Turns
 pub mod Stage
 pub mod UserDebts
 -- pieces that wait

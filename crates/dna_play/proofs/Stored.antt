@@ -20,7 +20,6 @@ pub mod Opened
 pub mod LinkComes
 pub mod Segments
 pub mod Receipts
-pub mod Turns
 pub mod Sends
 -- so both play a script to the same captures
 pub mod Steps

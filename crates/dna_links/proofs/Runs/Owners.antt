@@ -143,7 +143,7 @@ module _ (events : List LinkEventValue) (s : Links) (o : AreOwned events s.links
       AreOwned events made.links.links
   sent_owned m made sound (OfNone none) = o
   sent_owned m made sound (Stays number link none there) = o
-  sent_owned m made sound (EndsCalled far number link none found) =
+  sent_owned m made sound (EndsCalled far reason number link none is found) =
       one_owned number link (ended true_flows link) found.there refl refl refl (λ c. absurd cc) (λ live. absurd cc)
   sent_owned m made sound (Segment segment number link sent is found run does) =
       let t = (segment_sent link.flow (sound number link found.there) link.segsize segment sent does).sends in

@@ -221,7 +221,7 @@ module _ (own other : LinkSide) (h : IsSoundSide own other) (theirs : IsSoundSid
       (other_sent link.flow (flow.sends_other link.flow) refl (h.ends number link there).flow) refl (λ c. c) (grows_same own.links.links) there
       (only_same number link there)
       (λ x e. let t = ap has_numbers e in absurd cc) (no_words packet (truth_of true_flows number link (flow.sends_other link.flow)) none)
-  message_sent packet made (EndsCalled far number link none found) =
+  message_sent packet made (EndsCalled far reason number link none is found) =
       changed_sent packet (flow.sends_other link.flow) number link (ended true_flows link) found.there
       (other_sent link.flow (flow.sends_other link.flow) refl (h.ends number link found.there).flow) refl (λ c. absurd cc)
       (λ x e. let t = ap has_numbers e in absurd cc) (no_words packet (truth_of true_flows number link (flow.sends_other link.flow)) none)

@@ -1,6 +1,6 @@
 -- What each table of the links comes to, over any flow: what is left of the links is one of a few things.
 use Rattle.std.proofs.Common.{◌≡◌, ℕ, zero, suc, ◌+◌, ◌<◌, Bool, true, false, not, ◌==◌, nat_lt, cond, Option, Some, None, List, [], ◌∷◌, length}
-use Rattle.std.proofs.Common.{Result, Ok, Err, refl, ap, ◌∙◌, subst, arith, ltb-true, ltb-false, position, one-add}
+use Rattle.std.proofs.Common.{Result, Ok, Err, refl, ap, ◌∙◌, subst, arith, eqb-true, ltb-true, ltb-false, position, one-add}
 use Rattle.std.specs.Prelude.{slice_get}
 use Rattle.std.specs.List.{prefix_len}
 use Rattle.std.proofs.lemmas.Option.{cond_some, slice_get_within}
@@ -185,7 +185,8 @@ module _ {D K : Type 0} (flows : Flows D K) where
     OfNone : has_numbers m ≡ false → SentDid s m (of_no_link flows s)
     Stays : (number : ℕ) (link : LinkOf D) → has_numbers m ≡ false → slice_get s.links number ≡ Some link →
         SentDid s m (unchanged flows s number link)
-    EndsCalled : (far number : ℕ) (link : LinkOf D) → has_numbers m ≡ false → IsFound (CalledBy far) s number link →
+    EndsCalled : (far reason number : ℕ) (link : LinkOf D) → has_numbers m ≡ false → m ≡ DisconnectConfirm far 0 reason →
+        IsFound (CalledBy far) s number link →
         SentDid s m (ending flows s number link)
     Segment : (segment : SegmentValue) (number : ℕ) (link : LinkOf D) (sent : Sending D K) → m ≡ DataSegment segment →
         IsFound (TheLink segment.srcaddr segment.dstaddr) s number link →
@@ -228,20 +229,21 @@ module _ {D K : Type 0} (flows : Flows D K) where
         (λ number link found e. let c = checked _ _ _ left e in
         carries_did m number link (sends link) (λ sent is. d number link sent found c.0 is) c.1)
 
-    called_ends : (m : NspValue) (dst : ℕ) (r : Sent D K) → has_numbers m ≡ false →
-        with_link (CalledBy dst) s (of_no_link flows s) (λ number link. ending flows s number link) ≡ r → SentDid s m r
-    called_ends m dst r none e =
+    called_ends : (dst src reason : ℕ) (r : Sent D K) → src ≡ 0 →
+        with_link (CalledBy dst) s (of_no_link flows s) (λ number link. ending flows s number link) ≡ r → SentDid s (DisconnectConfirm dst src reason) r
+    called_ends dst src reason r none e =
         looked (CalledBy dst) s (of_no_link flows s) (λ number link. ending flows s number link) r e
-        (λ missing e. subst (λ (x : Sent D K). SentDid s m x) e (OfNone none))
-        (λ number link found e. subst (λ (x : Sent D K). SentDid s m x) e (EndsCalled dst number link none found))
+        (λ missing e. subst (λ (x : Sent D K). SentDid s (DisconnectConfirm dst src reason) x) e (OfNone refl))
+        (λ number link found e. subst (λ (x : Sent D K). SentDid s (DisconnectConfirm dst src reason) x) e
+        (EndsCalled dst reason number link refl (ap (λ (n : ℕ). DisconnectConfirm dst n reason) none) found))
 
-    end_did : (m : NspValue) (src dst : ℕ) → has_numbers m ≡ false → SentDid s m (confirms_end flows s src dst)
-    end_did m src dst none = go (src == 0)
+    end_did : (dst src reason : ℕ) → SentDid s (DisconnectConfirm dst src reason) (confirms_end flows s src dst)
+    end_did dst src reason = go (src == 0) refl
       where
-        go : (b : Bool) → SentDid s m
+        go : (b : Bool) → (src == 0) ≡ b → SentDid s (DisconnectConfirm dst src reason)
             (cond b (with_link (CalledBy dst) s (of_no_link flows s) (λ number link. ending flows s number link)) (of_no_link flows s))
-        go true = called_ends m dst _ none refl
-        go false = OfNone none
+        go true e = called_ends dst src reason _ (eqb-true src 0 e) refl
+        go false e = OfNone refl
 
     message_did : (m : NspValue) → message_sent flows s m ≡ Ok left → SentDid s m left
     message_did (ConnectInitiate retransmitted src services info segsize user_data) e = phase_did _ (OpenedAt src) is_calling refl e
@@ -252,7 +254,7 @@ module _ {D K : Type 0} (flows : Flows D K) where
     message_did (DisconnectInitiate dst src reason user_data) e = phase_did _ (TheLink src dst) is_disconnecting refl e
     message_did (DisconnectConfirm dst src reason) e =
         looked (TheLink src dst) s (Ok (confirms_end flows s src dst)) (λ number link. Err LinkState) (Ok left) e
-        (λ missing e. did_send (DisconnectConfirm dst src reason) _ (end_did (DisconnectConfirm dst src reason) src dst refl) e)
+        (λ missing e. did_send (DisconnectConfirm dst src reason) _ (end_did dst src reason) e)
         (λ number link found e. absurd cc)
     message_did (DataSegment segment) e =
         run_did (DataSegment segment) segment.srcaddr segment.dstaddr (segment_of flows segment)

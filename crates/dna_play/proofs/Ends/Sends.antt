@@ -1,12 +1,12 @@
 -- An end of the player that has a unit to send sends it: where what is said of the end holds, `send` is no bad step.
-use Rattle.std.proofs.Common.{◌≡◌, ℕ, ◌+◌, ◌<◌, ◌^◌, Bool, true, false, Option, Some, None, List, [], ◌∷◌, length, Ok, refl, sym, ap, ◌∙◌, subst}
-use Rattle.std.proofs.Common.{arith, length-drop}
+use Rattle.std.proofs.Common.{◌≡◌, ℕ, ◌+◌, ◌<◌, ◌^◌, Bool, true, false, Option, Some, None, List, length, Ok, refl, sym, ap, ◌∙◌, subst, arith}
+use Rattle.std.proofs.Common.{length-drop}
 use Rattle.std.specs.Prelude.{slice_get}
 use Rattle.std.proofs.lemmas.Option.{same_Some}
 use Rattle.std.proofs.lemmas.Bool.{eqb-false}
 use Rattle.ddcmp_msg.specs.Message.{MessageValue, Ack, Nak, Rep, Strt, Stack}
 use Rattle.ddcmp_msg.specs.Spelling.{spelling}
-use Rattle.dna_packet.specs.Nsp.{NspValue, DisconnectConfirm}
+use Rattle.dna_packet.specs.Nsp.{NspValue}
 use Rattle.capture.specs.declared.record.Record.TheVariants.{Sent}
 use Rattle.dna_station.specs.declared.head.Head.{Head}
 use Rattle.dna_station.specs.declared.state.State.{State}
@@ -22,11 +22,10 @@ use Rattle.dna_links.specs.Sending as links_sending
 use Rattle.dna_links.specs.TrueFlow.{TrueFlow, Numbers}
 use Rattle.dna_links.specs.TrueLinks.{links_sent}
 use Rattle.dna_links.specs.CutFlow as flows
-use Rattle.dna_play.specs.LinkOwed.{EndConfirm, Turn}
-use Rattle.dna_play.specs.NextSent.{LinkEnd, LinkChoice, Confirms, OfLink, Choice, SendStrt, SendStack, SendNak, SendRep, SendAgain, SendNew, SendAck}
-use Rattle.dna_play.specs.NextSent.{first_turn, link_choice, choice}
-use Rattle.dna_play.specs.Compose.{no_flags, start_flags, address, packet_again, new_data, packet_with, turn_message, message_at, link_message}
-use Rattle.dna_play.specs.Compose.{message_of, data_with}
+use Rattle.dna_play.specs.LinkOwed.{EndConfirm}
+use Rattle.dna_play.specs.NextSent.{LinkEnd, LinkChoice, Choice, SendStrt, SendStack, SendNak, SendRep, SendAgain, SendNew, SendAck, link_choice}
+use Rattle.dna_play.specs.NextSent.{choice}
+use Rattle.dna_play.specs.Compose.{no_flags, start_flags, address, packet_again, new_data, packet_with, link_message, message_of, data_with}
 use Rattle.dna_play.specs.Player.{End, makes, station_of, links_of, link_ends_of}
 use Rattle.dna_play.specs.Player as player
 use Rattle.dna_play.specs.Stepped.{Stepped, made}
@@ -37,7 +36,7 @@ use Rattle.dna_play.proofs.Played.Steps.{PlayHalf}
 use Rattle.dna_play.proofs.Ends.StationPays.{IsPayable, IsChosen, ByStrt, ByStack, ByNak, ByRep, ByAgain, ByNew, ByAck, chosen, chosen_may}
 use Rattle.dna_links.proofs.Runs.Owners.{there_is}
 use Rattle.dna_play.proofs.Once.Addresses.{LinkList, AreAddressed}
-use Rattle.dna_play.proofs.Links.Choices.{end_at, LinksPay, composed, first_chosen}
+use Rattle.dna_play.proofs.Links.Choices.{LinksPay, IsAsked, OfTurn, OfConfirm, asked_of, asked_may}
 use Rattle.dna_play.proofs.Links.Fits.{AllFit, turn_plain}
 use Rattle.dna_play.proofs.Ends.UnitLines.{IsOfBytes, PacketFits, packet_fits, MessageFits, confirm_fits, turn_message_fits}
 use Rattle.dna_play.proofs.Ends.SendMakes.{sent_left, is_made, again_after, sends_old, first_after, packet_of, packet_sent, sends_new, PacketsFit}
@@ -92,38 +91,12 @@ module _ (e : End) (other : PlayHalf) (h : IsSound e) where
 
   -- ---- a message of the links
 
-  turn_fits : (number : ℕ) (turn : Turn) (message : NspValue) → message_at (slice_get (link_ends_of e) number) turn ≡ Some message →
-      MessageFits message
-  turn_fits number turn message is = go (slice_get (link_ends_of e) number) refl is
-    where
-      go : (o : Option LinkEnd) → slice_get (link_ends_of e) number ≡ o → message_at o turn ≡ Some message → MessageFits message
-      go None there is = absurd cc
-      go (Some it) there is =
-          let at = end_at (links_of e.half).links e.links_owed.links number it there in
-          let small = h.small number at.link at.there in
-          subst MessageFits (same_Some (turn_message turn it) message is)
-          (subst (λ (x : LinkEnd). MessageFits (turn_message turn x)) at.is
-          (turn_message_fits at.link at.owes small.own small.far turn (turn_plain at.link at.owes turn (h.links_fit number at.link at.there).flow)))
-
-  message_fits : (c : LinkChoice) (message : NspValue) → asked ≡ Some c → link_message c ends ≡ Some message → MessageFits message
-  message_fits (OfLink number turn) message is e' = turn_fits number turn message e'
-  message_fits (Confirms confirm) message is e' =
-      subst MessageFits (same_Some (DisconnectConfirm confirm.dst confirm.src confirm.reason) message e') (go e.links_owed.confirms refl is)
-    where
-      no_confirm : (from : ℕ) (list : List LinkEnd) → first_turn from list ≡ Some (Confirms confirm) → ⊥
-      no_confirm from list e' = first_chosen from list (Confirms confirm) e'
-
-      go : (confirms : List EndConfirm) → e.links_owed.confirms ≡ confirms → link_choice confirms (link_ends_of e) ≡ Some (Confirms confirm) →
-          MessageFits (DisconnectConfirm confirm.dst confirm.src confirm.reason)
-      go [] are e' = absurd (no_confirm 0 (link_ends_of e) e')
-      go (first ∷ later) are e' =
-          let small = h.confirms_small 0 first (ap (λ (l : List EndConfirm). slice_get l 0) are) in
-          let same : first ≡ confirm = same_confirm (same_Some (Confirms first) (Confirms confirm) e') in
-          subst (λ (x : EndConfirm). MessageFits (DisconnectConfirm x.dst x.src x.reason)) same
-          (confirm_fits first.dst first.src first.reason small.dst small.src small.reason)
-        where
-          same_confirm : Confirms first ≡ Confirms confirm → first ≡ confirm
-          same_confirm e' = cc
+  message_fits : (c : LinkChoice) (message : NspValue) → IsAsked (links_of e.half).links e.links_owed c message → MessageFits message
+  message_fits c message (OfTurn number turn l o there owes due) =
+      let small = h.small number l there in
+      turn_message_fits l o small.own small.far turn (turn_plain l o turn (h.links_fit number l there).flow)
+  message_fits c message (OfConfirm confirm first) =
+      let small = h.confirms_small 0 confirm first in confirm_fits confirm.dst confirm.src confirm.reason small.dst small.src small.reason
 
   -- ---- what is chosen is there
 
@@ -141,7 +114,7 @@ module _ (e : End) (other : PlayHalf) (h : IsSound e) where
   pub data Goes (c : Choice) : Type 0 where
     GoesOld : (m : MessageValue) → message_of c head k ends ≡ Some m → IsOfBytes m → ((one : LinkChoice) → c ≡ SendNew one → ⊥) →
         makes e.half other (Sent (spelling m)) ≡ Some (sent_left e.half other m (again_after e.half other m)) → Goes c
-    GoesNew : (one : LinkChoice) → c ≡ SendNew one → asked ≡ Some one → (message : NspValue) → link_message one ends ≡ Some message →
+    GoesNew : (one : LinkChoice) → c ≡ SendNew one → (message : NspValue) → IsAsked (links_of e.half).links e.links_owed one message →
         (m : MessageValue) → message_of c head k ends ≡ Some m → IsOfBytes m →
         (packet : Carried) (made : links_sending.Sent TrueFlow Numbers) → packet.message ≡ message → links_sent (links_of e.half) packet ≡ Ok made →
         makes e.half other (Sent (spelling m)) ≡ Some (sent_left e.half other m (first_after e.half other m packet made)) → Goes c
@@ -171,20 +144,21 @@ module _ (e : End) (other : PlayHalf) (h : IsSound e) where
       let there = again_there old in
       goes_old SendAgain (data_with k (there.0).body) is (ap (packet_again k) there.1) (λ one e'. cc) (gives_as (there.0).body false old)
   goes_chosen state c is (ByNew one new room one_is) =
-      let x = composed (links_of e.half) h.others h.most h.addressed e.links_owed h.links_pay h.numbers one one_is in
-      let f = message_fits one x.message one_is x.is in
+      let x = asked_of (links_of e.half).links e.links_owed one one_is in
+      let may = asked_may (links_of e.half) h.others h.most h.addressed e.links_owed h.links_pay h.numbers one x.message x.is in
+      let f = message_fits one x.message x.is in
       let m = data_with k (packet_with head x.message) in
-      let put : message_of (SendNew one) head k ends ≡ Some m = ap (new_data k head) x.is in
+      let put : message_of (SendNew one) head k ends ≡ Some m = ap (new_data k head) x.put in
       let b = message_of_bytes station h.packets (SendNew one) head ends m
       (λ other_one e' message is'.
       let same = same_Some x.message message
-      (sym x.is ∙ subst (λ (y : LinkChoice). link_message y ends ≡ Some message) (sym (same_new one other_one e')) is') in
+      (sym x.put ∙ subst (λ (y : LinkChoice). link_message y ends ≡ Some message) (sym (same_new one other_one e')) is') in
       subst (λ (y : NspValue). PacketFits (packet_with head y)) same (packet_fits head x.message f.bytes f.short)) put in
-      GoesNew one refl one_is x.message x.is m put b (packet_of e.half other head h.head_own h.head_peer h.node h.peer x.message) (x.may).0 refl
-      (packet_sent e.half other head h.head_own h.head_peer h.node h.peer x.message x.may)
-      (is_made e.half other m b (first_after e.half other m (packet_of e.half other head h.head_own h.head_peer h.node h.peer x.message) (x.may).0)
+      GoesNew one refl x.message x.is m put b (packet_of e.half other head h.head_own h.head_peer h.node h.peer x.message) may.0 refl
+      (packet_sent e.half other head h.head_own h.head_peer h.node h.peer x.message may)
+      (is_made e.half other m b (first_after e.half other m (packet_of e.half other head h.head_own h.head_peer h.node h.peer x.message) may.0)
       (sends_new e.half other head h.head_own h.head_peer h.node h.peer m (allowed (SendNew one) m is put)
-      (gives_as (packet_with head x.message) true new) x.message f x.may refl))
+      (gives_as (packet_with head x.message) true new) x.message f may refl))
     where
       same_new : (a b : LinkChoice) → SendNew a ≡ SendNew b → a ≡ b
       same_new a b e' = cc
@@ -203,4 +177,4 @@ module _ (e : End) (other : PlayHalf) (h : IsSound e) where
     where
       go : Goes c → (stepped : Stepped) × (sends e other ≡ Ok stepped)
       go (GoesOld m put b never made_it) = sent_step c m _ is put made_it
-      go (GoesNew one same one_is message link_is m put b packet made of_it does_it made_it) = sent_step c m _ is put made_it
+      go (GoesNew one same message asked m put b packet made of_it does_it made_it) = sent_step c m _ is put made_it

@@ -64,7 +64,7 @@ acks_go f words sent e =
     same_numbers f sent.flow (ap (λ (x : TrueFlow). x.unsent) is) (ap (λ (x : TrueFlow). x.given) is) (ap (λ (x : TrueFlow). x.acknowledged) is)
 
 pub segment_goes : (f g : TrueFlow) (s : SegmentValue) → PieceFits (piece_of s) → SegmentDid f s g → FlowGoes f g
-segment_goes f g s this (GivesIt last) = record {
+segment_goes f g s this (GivesIt last new) = record {
   fits = λ h. record {
     unsent = left_fits (piece_of s) f.unsent.messages h.unsent;
     given = all_pushed (λ i p. PieceFits p) f.given (piece_of s) this h.given;

@@ -108,21 +108,56 @@ abbrev pub AllMove : LinkList → LinkList → Type 0
 AllMove links left = (i : ℕ) (l k : LinkOf TrueFlow) → slice_get links i ≡ Some l → slice_get left i ≡ Some k →
     IsOrdered l.flow × FlowMoves l.flow k.flow
 
+-- what a link owes still: nothing, if it owed nothing before
+data StillAt (before : LinkList) (owed : List LinkOwed) (i : ℕ) (k : LinkOf TrueFlow) : LinkOwed → Type 0 where
+  NoneOwed : StillAt before owed i k nothing
+  Still : (l : LinkOf TrueFlow) (o : LinkOwed) → slice_get before i ≡ Some l → slice_get owed i ≡ Some o → StillAt before owed i k (still_owed l k o)
+
+-- with one more link in front
+one_later : (before further : LinkList) (owed more : List LinkOwed) (i : ℕ) (k : LinkOf TrueFlow) (o : LinkOwed) →
+    ((l : LinkOf TrueFlow) → slice_get before i ≡ Some l → slice_get further (suc i) ≡ Some l) →
+    ((x : LinkOwed) → slice_get owed i ≡ Some x → slice_get more (suc i) ≡ Some x) → StillAt before owed i k o → StillAt further more (suc i) k o
+one_later before further owed more i k o links owes NoneOwed = NoneOwed
+one_later before further owed more i k o links owes (Still l x at there) = Still l x (links l at) (owes x there)
+
+still_at : (before after : LinkList) (owed : List LinkOwed) (i : ℕ) (k : LinkOf TrueFlow) (o : LinkOwed) → slice_get after i ≡ Some k →
+    slice_get (all_still_owed before after owed) i ≡ Some o → StillAt before owed i k o
+still_at before [] owed i k o at owes = absurd cc
+still_at [] (link ∷ later) owed zero k o at owes = subst (StillAt [] owed 0 k) (same_Some nothing o owes) NoneOwed
+still_at [] (link ∷ later) owed (suc i) k o at owes =
+    one_later [] [] [] owed i k o (λ l there. absurd cc) (λ x there. absurd cc) (still_at [] later [] i k o at owes)
+still_at (was ∷ before) (link ∷ later) [] zero k o at owes = subst (StillAt (was ∷ before) [] 0 k) (same_Some nothing o owes) NoneOwed
+still_at (was ∷ before) (link ∷ later) [] (suc i) k o at owes =
+    one_later before (was ∷ before) [] [] i k o (λ l there. there) (λ x there. absurd cc) (still_at before later [] i k o at owes)
+still_at (was ∷ before) (link ∷ later) (first ∷ owed) zero k o at owes =
+    subst (StillAt (was ∷ before) (first ∷ owed) 0 k)
+    (ap (λ (x : LinkOf TrueFlow). still_owed was x first) (sym (same_Some link k at)) ∙ same_Some (still_owed was link first) o owes)
+    (Still was first refl refl)
+still_at (was ∷ before) (link ∷ later) (first ∷ owed) (suc i) k o at owes =
+    one_later before (was ∷ before) owed (first ∷ owed) i k o (λ l there. there) (λ x there. there) (still_at before later owed i k o at owes)
+
 pub all_still : (before after : LinkList) (owed : List LinkOwed) → AllOwed before owed → AllMove before after →
     AllOwed after (all_still_owed before after owed)
-all_still before [] owed all move i k o at owes = absurd cc
-all_still [] (link ∷ later) owed all move zero k o at owes = subst (OwedFits k) (same_Some nothing o owes) (nothing_fits k)
-all_still [] (link ∷ later) owed all move (suc i) k o at owes =
-    all_still [] later [] (λ i l o at owes. absurd cc) (λ i l k at then_at. absurd cc) i k o at owes
-all_still (was ∷ before) (link ∷ later) [] all move zero k o at owes = subst (OwedFits k) (same_Some nothing o owes) (nothing_fits k)
-all_still (was ∷ before) (link ∷ later) [] all move (suc i) k o at owes =
-    all_still before later [] (λ i l o at owes. absurd cc) (λ i l k at then_at. move (suc i) l k at then_at) i k o at owes
-all_still (was ∷ before) (link ∷ later) (first ∷ owed) all move zero k o at owes =
-    let m = move 0 was link refl refl in
-    subst (λ (x : LinkOf TrueFlow). OwedFits x o) (same_Some link k at)
-    (subst (OwedFits link) (same_Some (still_owed was link first) o owes) (still_fits was link first m.0 m.1 (all 0 was first refl refl)))
-all_still (was ∷ before) (link ∷ later) (first ∷ owed) all move (suc i) k o at owes =
-    all_still before later owed (λ i l o at owes. all (suc i) l o at owes) (λ i l k at then_at. move (suc i) l k at then_at) i k o at owes
+all_still before after owed all move i k o at owes = go o (still_at before after owed i k o at owes)
+  where
+    go : (o : LinkOwed) → StillAt before owed i k o → OwedFits k o
+    go o NoneOwed = nothing_fits k
+    go o (Still l x there was) = let m = move i l k there at in still_fits l k x m.0 m.1 (all i l x there was)
+
+-- no more of a link's segments are sent in the go than before
+pub ahead_less : (before after : LinkList) (owed : List LinkOwed) (i : ℕ) (k : LinkOf TrueFlow) (o left : LinkOwed) → slice_get after i ≡ Some k →
+    slice_get owed i ≡ Some o → slice_get (all_still_owed before after owed) i ≡ Some left → left.ahead ≤ o.ahead
+ahead_less before after owed i k o left at there owes = go left (still_at before after owed i k left at owes)
+  where
+    lowered_ahead : (b : Bool) (n : ℕ) (x : LinkOwed) → (owing.lowered n (unless_left b x)).ahead ≤ x.ahead
+    lowered_ahead true n x = omega arith
+    lowered_ahead false n x = omega arith
+
+    go : (left : LinkOwed) → StillAt before owed i k left → left.ahead ≤ o.ahead
+    go left NoneOwed = omega arith
+    go left (Still l x was owed_there) =
+        let less = lowered_ahead (same_phase l.port.phase k.port.phase) (distance (variables_of l).acknowledged (variables_of k).acknowledged) x in
+        subst (λ (y : LinkOwed). (still_owed l k x).ahead ≤ y.ahead) (same_Some x o (sym owed_there ∙ there)) less
 
 -- there is one for each link
 pub still_counted : (before after : LinkList) (owed : List LinkOwed) → length (all_still_owed before after owed) ≡ length after

@@ -12,9 +12,7 @@ use Rattle.dna_links.specs.TrueLinks.{Links}
 use Rattle.dna_links.specs.CutFlow.{IsOrdered}
 use Rattle.dna_links.specs.Captures.{given_address}
 use Rattle.dna_play.specs.LinkOwed as owing
-use Rattle.dna_play.specs.LinkOwed.{LinkOwed, LinksOwed, EndConfirm, Turn, LinkDebt, NoDebt, Owes, OwesConfirm, with_turn, with_debt}
-use Rattle.dna_play.specs.LinkOwed.{all_still_owed}
-use Rattle.dna_play.specs.NextSent.{LinkChoice, Confirms, OfLink, without_turn, after_link_choice}
+use Rattle.dna_play.specs.LinkOwed.{LinkOwed, LinksOwed, EndConfirm, LinkDebt, NoDebt, Owes, OwesConfirm, with_turn, with_debt, all_still_owed}
 use Rattle.dna_links.proofs.Runs.Sides.{all_pushed, all_set}
 use Rattle.dna_play.proofs.Once.Orderly.{IsHigher, higher}
 use Rattle.dna_links.proofs.Tables.Outcomes as outcomes
@@ -120,7 +118,7 @@ module _ (s : Links) (most : ℕ) (owed : LinksOwed) (h : LinkHolds s.links most
   pub sent_holds : (m : NspValue) (made : Sent TrueFlow Numbers) → IsPlain m → SentDid true_flows s m made → Holds made.links most
   sent_holds m made plain (OfNone none) = same_holds
   sent_holds m made plain (Stays n l none there) = same_holds
-  sent_holds m made plain (EndsCalled far n l none found) = set_holds n l _ most found.there (omega arith) (ended_goes most l)
+  sent_holds m made plain (EndsCalled far reason n l none is found) = set_holds n l _ most found.there (omega arith) (ended_goes most l)
   sent_holds m made plain (Segment segment n l sent is found run does) = set_holds n l _ most found.there (omega arith)
       (flow_goes most l sent.flow (segment_goes l.flow sent.flow segment (subst IsPlain is plain)
       (segment_did l.flow l.segsize segment sent does)))
@@ -175,12 +173,9 @@ module _ (links : LinkList) (most : ℕ) (owed : LinksOwed) (h : LinkHolds links
       LinkHolds links most (owing.changed number change owed)
   change_holds number change here = record { fit = h.fit; owes = one_changed links number change owed here h.owes; confirms = h.confirms }
 
-  pub choice_holds : (c : LinkChoice) →
-      ((number : ℕ) (turn : Turn) → c ≡ OfLink number turn → (l : LinkOf TrueFlow) (o : LinkOwed) → slice_get links number ≡ Some l →
-      slice_get owed.links number ≡ Some o → OwedFits l (without_turn turn o)) →
-      LinkHolds links most (after_link_choice c owed)
-  choice_holds (Confirms confirm) here =
-      record { fit = h.fit; owes = h.owes; confirms = λ i c at. h.confirms (i + 1) c (behind owed.confirms i c at) }
+  -- the oldest DC is sent
+  pub first_sent_holds : LinkHolds links most (record owed { confirms = drop 1 owed.confirms })
+  first_sent_holds = record { fit = h.fit; owes = h.owes; confirms = λ i c at. h.confirms (i + 1) c (behind owed.confirms i c at) }
     where
       behind : (xs : List EndConfirm) (i : ℕ) (c : EndConfirm) → slice_get (drop 1 xs) i ≡ Some c → slice_get xs (i + 1) ≡ Some c
       behind [] i c at = absurd cc
@@ -188,4 +183,3 @@ module _ (links : LinkList) (most : ℕ) (owed : LinksOwed) (h : LinkHolds links
         where
           more : (i : ℕ) → i + 1 ≡ suc i
           more i = omega arith
-  choice_holds (OfLink number turn) here = change_holds number (without_turn turn) (here number turn refl)

@@ -169,7 +169,7 @@ module _ (s : Links) (others : LinkList) (most : ℕ) (h : AreAddressed s.links 
   pub sent_stays : (m : NspValue) (made : Sent TrueFlow Numbers) → SentDid true_flows s m made → Stays' made.links
   sent_stays m made (OfNone none) = same_links
   sent_stays m made (Stays number link none there) = same_links
-  sent_stays m made (EndsCalled far number link none found) = ended_kept number link found.there
+  sent_stays m made (EndsCalled far reason number link none is found) = ended_kept number link found.there
   sent_stays m made (Segment segment number link sent is found run does) = with_flow_kept number link sent.flow found.there
   sent_stays m made (Acks dst src acks number link sent is found run does) = with_flow_kept number link sent.flow found.there
 

@@ -45,7 +45,7 @@ module _ (s : Links) where
   sent_at : (m : NspValue) (made : Sent TrueFlow Numbers) → SentDid true_flows s m made → Same made.links
   sent_at m made (OfNone none) = same
   sent_at m made (Stays number link none there) = same
-  sent_at m made (EndsCalled far number link none found) = record { node_is = refl; peer_is = refl }
+  sent_at m made (EndsCalled far reason number link none is found) = record { node_is = refl; peer_is = refl }
   sent_at m made (Segment segment number link sent is found run does) = record { node_is = refl; peer_is = refl }
   sent_at m made (Acks dst src acks number link sent is found run does) = record { node_is = refl; peer_is = refl }
 

@@ -29,10 +29,11 @@ use Rattle.dna_play.specs.KeptRun.{kept_stepped, IsKept}
 use Rattle.dna_links.proofs.Tables.Outcomes.{IsFound, UserDid, HandsIn, Closes, looked}
 use Rattle.dna_play.proofs.Links.Made.{close_line, in_goes, close_goes}
 use Rattle.dna_play.proofs.Stored.Timers.{kept_silent}
-use Rattle.dna_play.proofs.Stored.LiveEnds.{end_of, owed_beside, still_same, still_in_phase}
+use Rattle.dna_play.proofs.Stored.LiveEnds.{owed_beside, still_same, still_in_phase}
 use Rattle.dna_play.proofs.Stored.LiveLinks.{live_at_lives, owed_set, record_set, record_changed, end_missing, end_found, look_kept}
 use Rattle.dna_play.proofs.Stored.Now.{KeptNow}
 use Rattle.dna_play.proofs.Stored.Made.{s, event_kept, refused_kept, place}
+use Rattle.dna_play.proofs.Links.Choices.{end_of}
 
 module _ (own other : End) (now : KeptNow own other) where
   abbrev links : Links

@@ -27,12 +27,13 @@ use Rattle.dna_play.specs.KeptPlay as keeping
 use Rattle.dna_play.specs.KeptRun.{kept_stepped, IsKept}
 use Rattle.dna_links.proofs.Tables.Outcomes.{IsFound}
 use Rattle.dna_play.proofs.Links.Made.{open_line, accept_line, reject_line, open_goes, accept_goes, reject_goes}
-use Rattle.dna_play.proofs.Stored.LiveEnds.{end_of, still_in_phase}
+use Rattle.dna_play.proofs.Stored.LiveEnds.{still_in_phase}
 use Rattle.dna_play.proofs.Stored.LiveLinks.{called_by_lives, record_changed, record_begun, look_kept}
 use Rattle.dna_play.proofs.Stored.Now.{KeptNow}
 use Rattle.dna_links.specs.declared.port.Phase.{Phase}
 use Rattle.dna_links.specs.LookUps.{is_live}
 use Rattle.dna_play.proofs.Stored.Made.{s, known, event_kept, giving_kept, place}
+use Rattle.dna_play.proofs.Links.Choices.{end_of}
 
 module _ (own other : End) (now : KeptNow own other) where
   abbrev links : Links

@@ -46,10 +46,11 @@ use Rattle.dna_links.proofs.Runs.Sides.{set_same}
 use Rattle.dna_play.proofs.Links.Pays.{found_at, with_found}
 use Rattle.dna_play.proofs.Links.Stage.{left_links}
 use Rattle.dna_play.proofs.Ends.UpsFollow.{AllLined, AreDistinct, IsLined}
-use Rattle.dna_play.proofs.Stored.LiveEnds.{end_of, Counted, with_owed, owed_beside, left_changed}
+use Rattle.dna_play.proofs.Stored.LiveEnds.{Counted, with_owed, owed_beside, left_changed}
 use Rattle.dna_play.proofs.Stored.LiveLinks.{kept_links, place_among, acted_on_lives, live_set, record_same, end_missing, end_found}
 use Rattle.dna_play.proofs.Stored.LinkComes.{NoSegment, message_kept, acted_end}
 use Rattle.dna_play.proofs.Stored.Deliveries.{flow_got, with_links, gets_made}
+use Rattle.dna_play.proofs.Links.Choices.{end_of}
 
 -- each message that is whole has a line
 lined_short : (address : ℕ) (messages : List (List ℕ)) → AllLined address messages → all_short messages ≡ true
