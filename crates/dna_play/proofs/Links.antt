@@ -15,6 +15,5 @@ pub mod Phases
 pub mod Goes
 pub mod Turns
 pub mod Stage
-pub mod UserDebts
 -- pieces that wait
 pub mod WaitingPieces

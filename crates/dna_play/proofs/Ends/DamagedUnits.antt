@@ -15,8 +15,7 @@ use Rattle.ddcmp_msg.specs.ReadingRule.{IsReading}
 use Rattle.dna_play.specs.HasLine.{are_bytes}
 use Rattle.dna_station.specs.Book.{ArrivalValue}
 use Rattle.dna_station.specs.Book as book
-use Rattle.dna_play.specs.Player.{End}
-use Rattle.dna_play.specs.Receipt.{can_keep, is_damage, damaged}
+use Rattle.dna_play.specs.Receipt.{is_damage, damaged}
 use Rattle.dna_play.specs.StepRule.{IsNoise}
 use Rattle.dna_play.proofs.Played.PlayLines.{bytes_told}
 
@@ -37,11 +36,6 @@ arrival_of OfData = book.DataBad
 pub damage_of : (bytes : List ℕ) → IsNoise bytes → (d : ShownDamage) × (reading bytes ≡ read_of d)
 damage_of bytes (inl e) = (OfHeader, e)
 damage_of bytes (inr e) = (OfData, e)
-
--- it is not kept
-pub never_kept : (own : End) (d : ShownDamage) → can_keep own (read_of d) ≡ false
-never_kept own OfHeader = refl
-never_kept own OfData = refl
 
 -- a list about one of its places
 record SplitAt (bytes : List ℕ) (place : ℕ) : Type 0 where

@@ -1,4 +1,4 @@
--- An end of the player that has a unit to send sends it: where what is said of the end holds, `send` is no bad step.
+-- An end of the player that has a unit to send sends it: where what is said of the end holds, its node makes what is chosen.
 use Rattle.std.proofs.Common.{◌≡◌, ℕ, ◌+◌, ◌<◌, ◌^◌, Bool, true, false, Option, Some, None, List, length, Ok, refl, sym, ap, ◌∙◌, subst, arith}
 use Rattle.std.proofs.Common.{length-drop}
 use Rattle.std.specs.Prelude.{slice_get}
@@ -28,8 +28,6 @@ use Rattle.dna_play.specs.NextSent.{choice}
 use Rattle.dna_play.specs.Compose.{no_flags, start_flags, address, packet_again, new_data, packet_with, link_message, message_of, data_with}
 use Rattle.dna_play.specs.Player.{End, makes, station_of, links_of, link_ends_of}
 use Rattle.dna_play.specs.Player as player
-use Rattle.dna_play.specs.Stepped.{Stepped, made}
-use Rattle.dna_play.specs.Play.{after_sending, sends_message, sends_choice, sends}
 use Rattle.dna_station.proofs.Cut.Sending.{all_length, sending_refusal_same, first_same}
 use Rattle.dna_station.proofs.Cut.Node.{unlabelled_bodies}
 use Rattle.dna_play.proofs.Played.Steps.{PlayHalf}
@@ -165,16 +163,3 @@ module _ (e : End) (other : PlayHalf) (h : IsSound e) where
 
   pub goes : (c : Choice) → choice k e.owed asked ≡ Some c → Goes c
   goes c is = goes_chosen k.state c is (chosen k e.owed asked c k.state is)
-
-  -- an end that has a unit to send sends it
-  sent_step : (c : Choice) (m : MessageValue) (half : PlayHalf) → choice k e.owed asked ≡ Some c → message_of c head k ends ≡ Some m →
-      makes e.half other (Sent (spelling m)) ≡ Some half → (stepped : Stepped) × (sends e other ≡ Ok stepped)
-  sent_step c m half is put made_it =
-      (_, ap (sends_choice e other) is ∙ ap (sends_message e other c) put ∙ ap (made e (Sent (spelling m)) (after_sending c)) made_it)
-
-  pub send_goes : (c : Choice) → choice k e.owed asked ≡ Some c → (stepped : Stepped) × (sends e other ≡ Ok stepped)
-  send_goes c is = go (goes c is)
-    where
-      go : Goes c → (stepped : Stepped) × (sends e other ≡ Ok stepped)
-      go (GoesOld m put b never made_it) = sent_step c m _ is put made_it
-      go (GoesNew one same message asked m put b packet made of_it does_it made_it) = sent_step c m _ is put made_it

@@ -1,6 +1,6 @@
 -- What holds of an end of the player at any time of a script, with what is known of both in a run that is checked: all that it chooses it may
 -- send; and that it is kept by what its user does and by its timers.
-use Rattle.std.proofs.Common.{◌≡◌, ℕ, ◌<◌, ◌≤◌, ◌^◌, Option, Some, None, Ok, refl, sym, ap, ◌∙◌, subst, arith}
+use Rattle.std.proofs.Common.{◌≡◌, ℕ, ◌<◌, ◌≤◌, ◌^◌, Option, Some, None, Ok, refl, sym, ap, ◌∙◌, subst, arith, Result}
 use Rattle.std.specs.Prelude.{slice_get}
 use Rattle.std.proofs.lemmas.Option.{same_Some}
 use Rattle.two_nodes.specs.Nodes.{stepped}
@@ -22,16 +22,16 @@ use Rattle.dna_links.specs.CutFlow.{IsOrdered, IsAnswered}
 use Rattle.dna_links.specs.Captures.{given_address}
 use Rattle.dna_links.specs.Runs.{SentMessage}
 use Rattle.dna_node.specs.Layers.{stations}
-use Rattle.dna_play.specs.Owed.{Debt, timer_debt}
-use Rattle.dna_play.specs.LinkOwed.{LinkOwed, InitiateTurn, ConfirmTurn, DisconnectTurn, retried, changed}
+use Rattle.dna_play.specs.Owed.{Debt, timer_debt, OwesStrt}
+use Rattle.dna_play.specs.LinkOwed.{LinkOwed, InitiateTurn, ConfirmTurn, DisconnectTurn, retried, changed, LinkDebt}
 use Rattle.dna_play.specs.Compose.{address}
 use Rattle.dna_play.specs.Player.{End, station_of, links_of, after_record, new_end}
 use Rattle.dna_play.specs.Player as player
-use Rattle.dna_play.specs.Stepped.{owing_more}
+use Rattle.dna_play.specs.Stepped.{owing_more, Stop, Stepped, links_owing_more}
 use Rattle.dna_play.proofs.Once.Orderly.{IsHigher, higher}
 use Rattle.dna_play.proofs.Played.Steps.{PlayHalf}
 use Rattle.dna_play.proofs.Once.Checked.{IsReady}
-use Rattle.dna_play.proofs.Ends.OwedPays.{timer_pays, none_owed}
+use Rattle.dna_play.proofs.Ends.OwedPays.{timer_pays, none_owed, debt_pays}
 use Rattle.dna_links.proofs.Tables.Outcomes.{user_did}
 use Rattle.dna_play.proofs.Once.Addresses.{LinkList, AreAddressed}
 use Rattle.dna_play.proofs.Links.Pays.{OwedFits}
@@ -41,7 +41,9 @@ use Rattle.dna_play.proofs.Links.Confirms.{done_over}
 use Rattle.dna_play.proofs.Ends.SendMakes.{PacketsFit}
 use Rattle.dna_play.proofs.Ends.Sends.{IsSound}
 use Rattle.dna_play.proofs.Ends.StationStage.{StationPays, unchanged_stage, start_stage, halt_stage, event_packets}
-use Rattle.dna_play.proofs.Links.Stage.{LinkHolds, same_holds, user_holds, change_holds}
+use Rattle.dna_play.proofs.Links.Stage.{LinkHolds, same_holds, user_holds, change_holds, DebtHolds, debt_holds}
+use Rattle.dna_play.specs.Receipt.{passing}
+use Rattle.dna_play.proofs.Played.Cases.{AllOf}
 
 pub record Stage (e : End) : Type 0 where
   pub pays : StationPays (station_of e.half) e.owed
@@ -199,3 +201,33 @@ module _ (e : End) (h : Stage e) where
     few = h.few;
     ahead = h.ahead;
   }
+
+-- ---- one thing more is owed
+
+module _ (e : End) (h : Stage e) where
+  pub link_debt_stage : (debt : LinkDebt) → DebtHolds (links_of e.half).links e.addresses debt → Stage (links_owing_more debt e)
+  link_debt_stage debt holds = record {
+    pays = h.pays;
+    packets = h.packets;
+    links = debt_holds (links_of e.half).links e.addresses e.links_owed h.links debt holds;
+    plain = h.plain;
+    few = h.few;
+    ahead = h.ahead;
+  }
+
+  pub strt_stage : Stage (owing_more (Some OwesStrt) e)
+  strt_stage = record {
+    pays = debt_pays (player.variables_of e.half) (station_of e.half).causes e.owed (Some OwesStrt) (λ reason is. absurd cc) (λ is. absurd cc) h.pays;
+    packets = h.packets;
+    links = h.links;
+    plain = h.plain;
+    few = h.few;
+    ahead = h.ahead;
+  }
+
+  pub passing_stage : Stage (passing e)
+  passing_stage = record { pays = h.pays; packets = h.packets; links = h.links; plain = h.plain; few = h.few; ahead = let a = h.ahead in omega arith }
+
+-- what holds of the end that a step leaves, if it leaves one
+abbrev pub Staged : Result Stepped Stop → Type 0
+Staged = AllOf (λ (stepped : Stepped). Stage stepped.end)

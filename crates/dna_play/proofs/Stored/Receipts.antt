@@ -1,7 +1,7 @@
 -- What comes to an end of the player is the same of what its node keeps: a unit as it was sent, with a buffer or without one, or damaged; with what
 -- its user gets then.
 use Rattle.std.proofs.Common.{◌≡◌, ℕ, ◌+◌, Bool, true, false, ◌&&◌, cond, Option, Some, None, List, [], ◌∷◌, length, drop, Result, Ok, Err, refl, sym}
-use Rattle.std.proofs.Common.{ap, ap₂, ◌∙◌, subst, le-leb}
+use Rattle.std.proofs.Common.{ap, ap₂, ◌∙◌, subst, le-leb, nat_lt, nat_le, ltb-true, leb-true, lt-ltb}
 use Rattle.std.specs.Prelude.{slice_get}
 use Rattle.ddcmp_msg.specs.Reading.{ReadingValue, reading}
 use Rattle.ddcmp_msg.specs.Reading as read_as
@@ -28,7 +28,7 @@ use Rattle.dna_node.specs.Content.{content}
 use Rattle.dna_node.specs.LayersPair.{side_of}
 use Rattle.dna_node.specs.Layers.{LayersTruth, LayersUnit}
 use Rattle.dna_play.specs.Owed.{Debt, arrival_debt, can_take, with_debt}
-use Rattle.dna_play.specs.Script.{Deliver, Refuse, Damage}
+use Rattle.dna_play.specs.Script.{Deliver, Refuse, Damage, StepValue}
 use Rattle.dna_play.specs.Player.{End, makes, links_of, station_of, after_record}
 use Rattle.dna_play.specs.Player as player
 use Rattle.dna_play.specs.Stepped.{Stop, BadStep, Stepped, made}
@@ -38,9 +38,9 @@ use Rattle.dna_play.specs.Play.{plays}
 use Rattle.dna_play.specs.Kept.{KeptStation, KeptLinks, kept}
 use Rattle.dna_play.specs.KeptStation as of_station
 use Rattle.dna_play.specs.KeptLinks.{Delivering}
-use Rattle.dna_play.specs.KeptPlay.{KeptStepped, kept_plays, arrived, up_address, ups, came_as}
+use Rattle.dna_play.specs.KeptPlay.{KeptStepped, arrived, up_address, ups, came_as, with_next}
 use Rattle.dna_play.specs.KeptPlay as keeping
-use Rattle.dna_play.specs.KeptRun.{bytes_of, kept_stepped, IsKept}
+use Rattle.dna_play.specs.KeptRun.{bytes_of, coming}
 use Rattle.dna_station.proofs.Cut.Arriving.{arrival_refusal_same}
 use Rattle.dna_station.proofs.Bounds.Numbers.{is_data}
 use Rattle.dna_node.proofs.LayersRead.{packet_in}
@@ -53,19 +53,23 @@ use Rattle.dna_play.proofs.Played.Facts.{Facts}
 use Rattle.dna_play.proofs.Once.Checked.{meets_it}
 use Rattle.dna_play.proofs.Ends.DamagedUnits.{Damaged, damage_is_seen, ShownDamage, OfHeader, OfData, read_of, arrival_of, damage_of}
 use Rattle.dna_play.proofs.Ends.ReceiptMakes.{came_left, damage_made, taken_is_data, within, unit_made}
-use Rattle.dna_play.proofs.Ends.ReceiptStage.{unit_stage}
+use Rattle.dna_play.proofs.Ends.ReceiptStage.{unit_stage, hurt_stage}
 use Rattle.dna_play.proofs.Ends.StationStage.{cut_of, left_owed}
-use Rattle.dna_play.proofs.Ends.Stage.{Stage}
-use Rattle.dna_play.proofs.Ends.ComesStage.{from_here, can_be, are_bytes_of}
+use Rattle.dna_play.proofs.Ends.Stage.{Stage, Staged}
 use Rattle.dna_play.proofs.Played.Runs.{line_makes}
 use Rattle.dna_play.proofs.Ends.ComesLined.{unit_line, damaged_line}
-use Rattle.dna_play.proofs.Ends.StepStages.{facts_now}
-use Rattle.dna_play.proofs.Stored.Timers.{none_behind, on_line}
+use Rattle.dna_play.proofs.Stored.Timers.{none_behind}
 use Rattle.dna_play.proofs.Stored.LiveLinks.{record_same}
-use Rattle.dna_play.proofs.Stored.Now.{KeptNow}
+use Rattle.dna_play.proofs.Stored.Now.{KeptNow, facts_of}
 use Rattle.dna_play.proofs.Stored.Stations.{station_with, sound_came, damage_came, can_keep_same}
 use Rattle.dna_play.proofs.Stored.Deliveries.{with_links}
 use Rattle.dna_play.proofs.Stored.Segments.{left_half, left_end, Got, nothing_got, message_got}
+use Rattle.dna_play.proofs.Stored.Right.{IsRight, never_full, unit_right}
+use Rattle.dna_play.proofs.Ends.ComesStage.{received_staged}
+use Rattle.dna_play.specs.StepRule.{Asks, gives_address, IsHurt}
+use Rattle.std.proofs.lemmas.Bool.{and_parts}
+use Rattle.std.proofs.lemmas.Option.{same_Some}
+use Rattle.dna_play.proofs.Played.PlayLines.{bytes_tested}
 
 module _ (own other : End) (now : KeptNow own other) where
   abbrev s : Links
@@ -81,7 +85,7 @@ module _ (own other : End) (now : KeptNow own other) where
   live = (kept own).links
 
   facts : Facts own other
-  facts = facts_now own other now.stage now.theirs now.later
+  facts = facts_of now
 
   ordered : (i : ℕ) (l : LinkOf TrueFlow) → slice_get s.links i ≡ Some l → IsOrdered l.flow
   ordered i l at = (facts.known.numbers i l at).0
@@ -95,6 +99,7 @@ module _ (own other : End) (now : KeptNow own other) where
     makes_it : makes own.half other.half (Received own.passed is_kept bytes) ≡ Some (left_half own left links)
     after : station_with (cut_of left).variables (with_debt (arrival_debt k read is_kept) (left_owed station left own.owed))
         ≡ of_station.after_arrival read is_kept (kept own).station
+    stage : Stage (after_receipt own read is_kept (after_record own (left_half own left links)))
     got : Got own other.half now.counted ordered (Received own.passed is_kept bytes ∷ []) left (arrival_debt k read is_kept)
         (left_end own left (arrival_debt k read is_kept) (carried is_kept read) links) (carried is_kept read)
 
@@ -124,26 +129,35 @@ module _ (own other : End) (now : KeptNow own other) where
       records = r ∷ ups (up_address (carried is_kept read)) delivering.messages;
     })
 
-    made_kept : kept_stepped own (receiving.receives own other.half bytes read is_kept) ≡ keeping.receives (kept own) bytes read is_kept
-    made_kept =
-        ap (kept_stepped own) is_made
-        ∙ ap₂ (λ (x : KeptStation) (y : KeptLinks). step x y (drop (length own.half.sent) (bytes_of own.half.sent))) x.after x.got.links
-        ∙ ap (step (of_station.after_arrival read is_kept (kept own).station) delivering.links) (none_behind own.half.sent)
-        ∙ sym (ap (λ (b : Bool). cond b (step (of_station.after_arrival read is_kept (kept own).station) delivering.links []) (Err BadStep))
-        x.got.short)
-        ∙ sym (ap (λ (b : Bool). cond b
-        (came_as (kept own) r (of_station.after_arrival read is_kept (kept own).station) (up_address (carried is_kept read)) delivering)
-        (Err BadStep))
-        (le-leb own.passed MAX_HINT now.few))
+    receipt_right : (value : StepValue) → Asks own other.half value → gives_address value ≡ false →
+        IsRight own other value (keeping.receives (kept own) bytes read is_kept) (receiving.receives own other.half bytes read is_kept)
+    receipt_right value asks no_address = subst (IsRight own other value (keeping.receives (kept own) bytes read is_kept)) (sym is_made) (record {
+      stage = subst Staged is_made (received_staged own other now.later bytes read is_kept (λ half e.
+          subst (λ (h : PlayHalf). Stage (after_receipt own read is_kept (after_record own h)))
+          (same_Some (left_half own x.left x.links) half (sym x.makes_it ∙ e)) x.stage));
+      asks = asks;
+      room = never_full own other value no_address;
+      same = ap₂ (λ (x : KeptStation) (y : KeptLinks). step x y (drop (length own.half.sent) (bytes_of own.half.sent))) x.after x.got.links
+          ∙ ap (step (of_station.after_arrival read is_kept (kept own).station) delivering.links) (none_behind own.half.sent)
+          ∙ sym (ap (λ (b : Bool). cond b (step (of_station.after_arrival read is_kept (kept own).station) delivering.links []) (Err BadStep))
+          x.got.short)
+          ∙ sym (ap (λ (b : Bool). cond b
+          (came_as (kept own) r (of_station.after_arrival read is_kept (kept own).station) (up_address (carried is_kept read)) delivering)
+          (Err BadStep))
+          (le-leb own.passed MAX_HINT now.few));
+    })
 
   -- ---- a unit that is on the line
 
   module _ (unit : LayersUnit) (there : slice_get other.half.sent own.passed ≡ Some unit) where
-    abbrev from : is_data unit.message ≡ true → (u : SentMessage) → unit.known.carried ≡ Some u → (u.packet.src ≡ s.peer) × (u.packet.dst ≡ s.node)
-    from = from_here own other now.later now.stage now.theirs facts unit there
-
     told : reading unit.bytes ≡ read_as.Sound unit.message
     told = facts.reads own.passed unit there
+
+    from : is_data unit.message ≡ true → (u : SentMessage) → unit.known.carried ≡ Some u → (u.packet.src ≡ s.peer) × (u.packet.dst ≡ s.node)
+    from d u is = facts.from unit.known.station.place u (facts.known.ready.told.told own.passed unit there d ∙ ap Some is)
+
+    can_be : (buffer : Bool) → (buffer && receiving.can_keep own (reading unit.bytes)) ≡ true → can_take k unit.message ≡ true
+    can_be buffer e = sym (ap (receiving.can_keep own) told) ∙ (and_parts buffer (receiving.can_keep own (reading unit.bytes)) e).1
 
     is_within : IsWithin station unit.message unit.known.station
     is_within = within own.half other.half own.passed unit there now.stage.ahead facts.known.ready facts.known.bounded
@@ -218,15 +232,11 @@ module _ (own other : End) (now : KeptNow own other) where
         subst (λ (r : Result (Option Carried) StepRefusal). GotOf true (carried_in r) now_links) (sym e)
         (one_got u now_links is (can refl) does after (stage (KeptOne u now_links is does)))
 
-    abbrev IsSame : Bool → ReadingValue → Type 0
-    IsSame is_kept read =
-        kept_stepped own (receiving.receives own other.half unit.bytes read is_kept) ≡ keeping.receives (kept own) unit.bytes read is_kept
-
     unit_received : (buffer : Bool) →
         IsReceived unit.bytes (read_as.Sound unit.message) (buffer && receiving.can_keep own (reading unit.bytes))
     unit_received buffer =
         let is_kept = buffer && receiving.can_keep own (reading unit.bytes) in
-        let can = can_be own other now.later now.stage now.theirs facts unit there buffer in
+        let can = can_be buffer in
         let u = unit_made own.half other.half own.passed unit there now.stage.ahead facts.known.ready facts.known.bounded
         from is_kept can in
         let line = unit_line own other facts now.few unit there is_kept in
@@ -239,24 +249,19 @@ module _ (own other : End) (now : KeptNow own other) where
           links = u.links;
           makes_it = makes_it;
           after = sound_came station own.owed facts.known.bounded.ordered unit.message unit.known.station is_kept is_within;
+          stage = stage_left is_kept can u.links u.met_as;
           got = got_of is_kept can u.links u.met_as after (stage_left is_kept can u.links) (met_as_read is_kept can);
         }
 
-    unit_kept : (buffer : Bool) → kept_stepped own (receiving.comes own other.half buffer unit.bytes) ≡ keeping.comes (kept own) buffer unit.bytes
-    unit_kept buffer =
+    unit_right_by : (value : StepValue) (buffer : Bool) → Asks own other.half value → gives_address value ≡ false →
+        IsRight own other value (keeping.comes (kept own) buffer unit.bytes) (receiving.comes own other.half buffer unit.bytes)
+    unit_right_by value buffer asks no_address =
         let is_kept = buffer && receiving.can_keep own (reading unit.bytes) in
-        subst (IsSame is_kept) (sym told) (made_kept unit.bytes (read_as.Sound unit.message) is_kept (unit_received buffer))
-        ∙ ap (λ (b : Bool). keeping.receives (kept own) unit.bytes (reading unit.bytes) (buffer && b)) (can_keep_same own (reading unit.bytes))
-
-    -- so it is no bad step
-    pub unit_made_to : (buffer : Bool) → (stepped : Stepped) × (receiving.comes own other.half buffer unit.bytes ≡ Ok stepped)
-    unit_made_to buffer =
-        let is_kept = buffer && receiving.can_keep own (reading unit.bytes) in
-        let x = unit_received buffer in (
-          received unit.bytes (read_as.Sound unit.message) is_kept x,
-          ap (λ (read : ReadingValue). receiving.receives own other.half unit.bytes read is_kept) told
-              ∙ is_made unit.bytes (read_as.Sound unit.message) is_kept x,
-        )
+        subst (λ (b : Bool). IsRight own other value (keeping.receives (kept own) unit.bytes (reading unit.bytes) (buffer && b))
+        (receiving.comes own other.half buffer unit.bytes)) (can_keep_same own (reading unit.bytes))
+        (subst (λ (read : ReadingValue). IsRight own other value (keeping.receives (kept own) unit.bytes read is_kept)
+        (receiving.receives own other.half unit.bytes read is_kept)) (sym told)
+        (receipt_right unit.bytes (read_as.Sound unit.message) is_kept (unit_received buffer) value asks no_address))
 
     -- ---- it comes damaged
 
@@ -265,7 +270,7 @@ module _ (own other : End) (now : KeptNow own other) where
       hurt = damaged place value unit.bytes
 
       differs : Damaged place value unit.bytes
-      differs = damage_is_seen unit.message unit.bytes place value (are_bytes_of own other now.later now.stage now.theirs facts unit there) told is
+      differs = damage_is_seen unit.message unit.bytes place value (bytes_tested unit.bytes (facts.lined own.passed unit there).spelling.bytes) told is
 
       bad_received : (d : ShownDamage) → reading hurt ≡ read_of d → IsReceived hurt (read_of d) false
       bad_received d e =
@@ -277,48 +282,64 @@ module _ (own other : End) (now : KeptNow own other) where
             links = s;
             makes_it = line_makes own.half other.half (Received own.passed false hurt) (left_half own after s) line makes_it;
             after = damage_came station own.owed d;
+            stage = hurt_stage own other now.stage now.theirs facts.known unit there now.stage.ahead d;
             got = nothing_got own other.half now.counted ordered (Received own.passed false hurt ∷ []) after (arrival_debt k (read_of d) false)
                 (left_end own after (arrival_debt k (read_of d) false) None s) None live refl refl
                 (record_same s.links own.links_owed now.counted);
           }
 
-      -- it is made, and is the same of both
-      record HurtSame (read : ReadingValue) : Type 0 where
-        same : kept_stepped own (receiving.receives own other.half hurt read (true && receiving.can_keep own read))
-            ≡ keeping.receives (kept own) hurt read (true && of_station.can_keep read (kept own).station)
-        made_to : (stepped : Stepped) × (receiving.receives own other.half hurt read (true && receiving.can_keep own read) ≡ Ok stepped)
-
-      hurt_same : (d : ShownDamage) → IsReceived hurt (read_of d) false → HurtSame (read_of d)
-      hurt_same OfHeader x =
-          record { same = made_kept hurt read_as.HeaderBad false x; made_to = (_, is_made hurt read_as.HeaderBad false x) }
-      hurt_same OfData x = record { same = made_kept hurt read_as.DataBad false x; made_to = (_, is_made hurt read_as.DataBad false x) }
-
-      damage_comes : HurtSame (reading hurt)
-      damage_comes = let d = damage_of hurt differs.shows in subst HurtSame (sym d.1) (hurt_same d.0 (bad_received d.0 d.1))
-
-      pub damage_made_to : (stepped : Stepped) × (receiving.comes own other.half true hurt ≡ Ok stepped)
-      damage_made_to = damage_comes.made_to
+      comes_hurt : IsHurt place value unit → IsRight own other (Damage place value)
+          (keeping.comes (kept own) true (damaged place value unit.bytes)) (receiving.comes own other.half true (damaged place value unit.bytes))
+      comes_hurt asks =
+          let d = damage_of hurt differs.shows in
+          subst (λ (read : ReadingValue). IsRight own other (Damage place value)
+          (keeping.receives (kept own) hurt read (true && of_station.can_keep read (kept own).station))
+          (receiving.receives own other.half hurt read (true && receiving.can_keep own read))) (sym d.1) (go d.0 (bad_received d.0 d.1))
+        where
+          go : (d : ShownDamage) → IsReceived hurt (read_of d) false → IsRight own other (Damage place value)
+              (keeping.receives (kept own) hurt (read_of d) (true && of_station.can_keep (read_of d) (kept own).station))
+              (receiving.receives own other.half hurt (read_of d) (true && receiving.can_keep own (read_of d)))
+          go OfHeader x = receipt_right hurt read_as.HeaderBad false x (Damage place value) (unit, there, asks) refl
+          go OfData x = receipt_right hurt read_as.DataBad false x (Damage place value) (unit, there, asks) refl
 
   -- ---- the steps
 
-  pub deliver_kept : IsKept own other.half Deliver
-  unfolding plays kept_plays
-  deliver_kept = on_line own other.half (receiving.comes own other.half true) (keeping.comes (kept own) true)
-      (λ unit there. unit_kept unit there true)
+  pub deliver_right : IsRight own other Deliver (with_next (coming own other.half) (keeping.comes (kept own) true)) (plays own other.half Deliver)
+  unfolding plays
+  deliver_right = unit_right own other now Deliver (receiving.comes own other.half true) (keeping.comes (kept own) true) (λ asks. asks)
+      (λ unit there. unit_right_by unit there Deliver true (unit, there) refl)
 
-  pub refuse_kept : IsKept own other.half Refuse
-  unfolding plays kept_plays
-  refuse_kept = on_line own other.half (receiving.comes own other.half false) (keeping.comes (kept own) false)
-      (λ unit there. unit_kept unit there false)
+  pub refuse_right : IsRight own other Refuse (with_next (coming own other.half) (keeping.comes (kept own) false)) (plays own other.half Refuse)
+  unfolding plays
+  refuse_right = unit_right own other now Refuse (receiving.comes own other.half false) (keeping.comes (kept own) false) (λ asks. asks)
+      (λ unit there. unit_right_by unit there Refuse false (unit, there) refl)
 
-  pub damage_kept : (place value : ℕ) → IsKept own other.half (Damage place value)
-  unfolding plays kept_plays
-  damage_kept place value = on_line own other.half
+  hurt_of : (place value : ℕ) (unit : LayersUnit) → is_damage place value unit.bytes ≡ true → IsHurt place value unit
+  hurt_of place value unit is =
+      let p = and_parts (nat_lt place (length unit.bytes)) (nat_le 1 value && nat_le value 255) is in let q =
+      and_parts (nat_le 1 value) (nat_le value 255) p.1 in
+      record { inside = ltb-true place (length unit.bytes) p.0; least = leb-true 1 value q.0; most = leb-true value 255 q.1 }
+
+  is_hurt : (place value : ℕ) (unit : LayersUnit) → IsHurt place value unit → is_damage place value unit.bytes ≡ true
+  is_hurt place value unit hurt =
+      ap₂ (λ (b c : Bool). b && c) (lt-ltb place (length unit.bytes) hurt.inside)
+      (ap₂ (λ (b c : Bool). b && c) (le-leb 1 value hurt.least) (le-leb value 255 hurt.most))
+
+  pub damage_right : (place value : ℕ) → IsRight own other (Damage place value)
+      (with_next (coming own other.half) (keeping.comes_damaged (kept own) place value)) (plays own other.half (Damage place value))
+  unfolding plays
+  damage_right place value = unit_right own other now (Damage place value)
       (λ bytes. cond (is_damage place value bytes) (receiving.comes own other.half true (damaged place value bytes)) (Err BadStep))
-      (keeping.comes_damaged (kept own) place value) (λ unit there. go unit there (is_damage place value unit.bytes) refl)
+      (keeping.comes_damaged (kept own) place value) (λ asks. (asks.0, asks.1)) (λ unit there. go unit there (is_damage place value unit.bytes) refl)
     where
       go : (unit : LayersUnit) → slice_get other.half.sent own.passed ≡ Some unit → (b : Bool) → is_damage place value unit.bytes ≡ b →
-          kept_stepped own (cond b (receiving.comes own other.half true (damaged place value unit.bytes)) (Err BadStep))
-          ≡ cond b (keeping.comes (kept own) true (damaged place value unit.bytes)) (Err BadStep)
-      go unit there true is = (damage_comes unit there place value is).same
-      go unit there false is = refl
+          IsRight own other (Damage place value)
+          (cond b (keeping.comes (kept own) true (damaged place value unit.bytes)) (Err BadStep))
+          (cond b (receiving.comes own other.half true (damaged place value unit.bytes)) (Err BadStep))
+      go unit there true is = comes_hurt unit there place value is (hurt_of place value unit is)
+      go unit there false whole = (
+        λ asks.
+            let same : asks.0 ≡ unit = same_Some asks.0 unit (sym asks.1 ∙ there) in
+            let e = sym (is_hurt place value unit (subst (IsHurt place value) same asks.2)) ∙ whole in cc,
+        refl,
+      )

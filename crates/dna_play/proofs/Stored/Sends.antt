@@ -28,9 +28,9 @@ use Rattle.dna_play.specs.Kept.{KeptStation, KeptLinks, kept, live_ends}
 use Rattle.dna_play.specs.KeptStation as of_station
 use Rattle.dna_play.specs.KeptLinks.{sent_at}
 use Rattle.dna_play.specs.KeptLinks as of_links
-use Rattle.dna_play.specs.KeptPlay.{KeptStepped, kept_plays}
+use Rattle.dna_play.specs.KeptPlay.{KeptStepped}
 use Rattle.dna_play.specs.KeptPlay as keeping
-use Rattle.dna_play.specs.KeptRun.{bytes_of, kept_stepped, IsKept}
+use Rattle.dna_play.specs.KeptRun.{bytes_of, kept_stepped}
 use Rattle.dna_play.proofs.Played.Steps.{PlayHalf}
 use Rattle.dna_play.proofs.Played.Facts.{Facts}
 use Rattle.dna_links.proofs.Tables.Outcomes.{SentDid, sent_did}
@@ -40,13 +40,14 @@ use Rattle.dna_play.proofs.Links.Stage.{left_links}
 use Rattle.dna_play.proofs.Ends.SendMakes.{sent_left, again_after, first_after}
 use Rattle.dna_play.proofs.Ends.Sends.{IsSound, Goes, GoesOld, GoesNew, goes}
 use Rattle.dna_play.proofs.Ends.Stage.{sound_of}
-use Rattle.dna_play.proofs.Ends.StepStages.{facts_now}
 use Rattle.dna_play.proofs.Stored.LiveEnds.{still_same, left_same, ends_get}
 use Rattle.dna_play.proofs.Stored.LiveLinks.{kept_links, place_among, live_there, record_changed, record_same}
-use Rattle.dna_play.proofs.Stored.Now.{KeptNow}
+use Rattle.dna_play.proofs.Stored.Now.{KeptNow, facts_of}
 use Rattle.dna_play.proofs.Stored.Stations.{station_sent}
 use Rattle.dna_play.proofs.Stored.Choices.{lives, NoneOfEnded, among_live, link_choice_live, kept_choice, choice_live, NamesLive, message_live}
 use Rattle.dna_play.proofs.Links.Turns.{TurnMade, turn_made, links_stay}
+use Rattle.dna_play.proofs.Stored.Right.{IsRight, never_full}
+use Rattle.dna_play.proofs.Ends.SendStage.{goes_stage}
 
 -- ---- what a turn says of its link
 
@@ -95,7 +96,7 @@ module _ (own other : End) (now : KeptNow own other) where
   ends = link_ends_of own
 
   facts : Facts own other
-  facts = facts_now own other now.stage now.theirs now.later
+  facts = facts_of now
 
   sound : IsSound own
   sound = sound_of own other now.stage now.theirs facts.known
@@ -232,12 +233,23 @@ module _ (own other : End) (now : KeptNow own other) where
       (one_kept sent one message asked (subst (λ (x : NspValue). SentDid true_flows s x sent) of_it (sent_did true_flows s sent packet does_it)))
       makes_it
 
-  pub send_kept : IsKept own other.half Send
-  unfolding plays kept_plays
-  send_kept = go (choice k own.owed asked) refl
-    where
-      go : (o : Option Choice) → choice k own.owed asked ≡ o → kept_stepped own (sends own other.half) ≡ keeping.sends (kept own)
-      go None none =
-          ap (λ (o : Option Choice). kept_stepped own (sends_choice own other.half o)) none
-          ∙ sym (ap (keeping.sends_choice (kept own)) (choices ∙ ap (option_map (kept_choice (link_ends_of own))) none))
-      go (Some c) is = by_goes c is (goes own other.half sound c is)
+  -- what is chosen is sent; else there is nothing to send
+  choice_right : (o : Option Choice) → choice k own.owed asked ≡ o → IsRight own other Send (keeping.sends (kept own)) (sends_choice own other.half o)
+  choice_right None none = (
+    λ asks. let e = sym none ∙ asks.1 in cc,
+    sym (ap (keeping.sends_choice (kept own)) (choices ∙ ap (option_map (kept_choice (link_ends_of own))) none)),
+  )
+  choice_right (Some c) is =
+      let g = goes own other.half sound c is in
+      let l = goes_stage own other.half sound now.stage facts.known.numbers (links_of other.half).links facts.known.addressed c g in
+      let result = ap (sends_message own other.half c) l.put ∙ ap (made own (Sent (spelling l.m)) (after_sending c)) l.makes_it in
+      subst (IsRight own other Send (keeping.sends (kept own))) (sym result) (record {
+        stage = l.stage;
+        asks = (c, is);
+        room = never_full own other Send refl;
+        same = ap (kept_stepped own) (sym (ap (sends_choice own other.half) is ∙ result)) ∙ by_goes c is g;
+      })
+
+  pub send_right : IsRight own other Send (keeping.sends (kept own)) (plays own other.half Send)
+  unfolding plays
+  send_right = choice_right (choice k own.owed asked) refl
