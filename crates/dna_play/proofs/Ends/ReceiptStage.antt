@@ -1,34 +1,27 @@
 -- That an end of the player takes what comes keeps what holds of it.
-use Rattle.std.proofs.Common.{◌≡◌, ◌≤◌, Bool, true, false, Option, Some, Result, Ok, refl, sym, ap, ◌∙◌, subst, arith}
+use Rattle.std.proofs.Common.{◌≡◌, ◌≤◌, Bool, true, false, Option, Some, Ok, ap, ◌∙◌, arith}
 use Rattle.std.specs.Prelude.{slice_get}
-use Rattle.ddcmp_msg.specs.Reading.{ReadingValue, reading}
 use Rattle.ddcmp_msg.specs.Reading as read_as
 use Rattle.dna_packet.specs.Nsp.{NspValue}
-use Rattle.dna_station.specs.declared.refusal.StepRefusal.{StepRefusal}
-use Rattle.dna_station.specs.Book.{Sound, body_of}
+use Rattle.dna_station.specs.Book.{Sound}
 use Rattle.dna_station.specs.Bounds.{IsWithin}
 use Rattle.dna_station.specs.StationBook.{after_arrival}
-use Rattle.dna_links.specs.Links.{Carried}
 use Rattle.dna_links.specs.Arriving.{of_anyone}
 use Rattle.dna_links.specs.TrueFlow.{true_flows}
 use Rattle.dna_links.specs.TrueLinks.{Links, links_arrived}
 use Rattle.dna_links.specs.Runs.{SentMessage}
-use Rattle.dna_node.specs.Rules.{by_bytes}
-use Rattle.dna_node.specs.Content.{content}
 use Rattle.dna_node.specs.Layers.{LayersUnit}
 use Rattle.dna_play.specs.LinkOwed.{message_debt, with_debt}
 use Rattle.dna_play.specs.Player.{End, station_of, links_of, after_record}
-use Rattle.dna_play.specs.Receipt.{carried_in, carried, carried_debt, after_receipt}
+use Rattle.dna_play.specs.Receipt.{carried, carried_debt, after_receipt}
 use Rattle.dna_station.proofs.Cut.Node.{arrival_packets}
 use Rattle.dna_station.proofs.Bounds.Numbers.{is_data}
-use Rattle.dna_node.proofs.LayersRead.{packet_in}
-use Rattle.dna_node.proofs.OnTop.{IsMet, NotKept, KeptNone, KeptOne}
 use Rattle.dna_links.proofs.Tables.Outcomes.{checked, arrived_did}
 use Rattle.dna_play.proofs.Once.Messages.{IsAddressed, source, target}
 use Rattle.dna_play.proofs.Links.Fits.{IsPlain}
 use Rattle.dna_play.proofs.Links.Confirms.{end_done}
 use Rattle.dna_play.proofs.Links.Debts.{came_debt, EndsHold}
-use Rattle.dna_play.proofs.Ends.ReceiptMakes.{came_left, hurt_left}
+use Rattle.dna_play.proofs.Ends.ReceiptMakes.{came_left, hurt_left, HasCome, NoneCame, OneCame}
 use Rattle.dna_play.proofs.Ends.DamagedUnits.{ShownDamage, read_of, arrival_of}
 use Rattle.dna_play.proofs.Ends.StationStage.{sound_stage, damage_stage, arrived_packets}
 use Rattle.dna_play.proofs.Links.Stage.{LinkHolds, left_links, same_holds, came_holds, debt_holds}
@@ -66,44 +59,30 @@ module _ (own other : End) (h : Stage own) (theirs : Stage other) (known : Known
       (message_debt s m) (came_debt s own.addresses of_anyone u.truth left m (ends_hold m u.truth.tag told) (checked _ _ _ left does).1)
 
   module _ (unit : LayersUnit) (there : slice_get other.half.sent own.passed ≡ Some unit) (ahead : own.half.state.front ≤ own.passed) where
-    links_stage : (kept : Bool) (links : Links) → (kept ≡ true → is_data unit.message ≡ true) →
-        (kept ≡ true → content (body_of unit.message) ≡ Ok (packet_in unit.known.carried)) →
-        IsMet by_bytes s unit.known.carried kept links →
-        LinkHolds links.links own.addresses
-        (with_debt (carried_debt s (carried kept (read_as.Sound unit.message))) (left_links s.links links.links own.links_owed))
-    links_stage false links taken is_read NotKept = same_holds s own.addresses own.links_owed h.links (ordered_of s.links known.numbers)
-    links_stage true links taken is_read (KeptNone is) =
-        let e = is_read refl ∙ ap (λ (o : Option SentMessage). Ok (packet_in o)) is in
-        subst (λ (r : Result (Option Carried) StepRefusal). LinkHolds s.links own.addresses
-        (with_debt (carried_debt s (carried_in r)) (left_links s.links s.links own.links_owed))) (sym e)
-        (same_holds s own.addresses own.links_owed h.links (ordered_of s.links known.numbers))
-    links_stage true links taken is_read (KeptOne u left is does) =
-        let e = is_read refl ∙ ap (λ (o : Option SentMessage). Ok (packet_in o)) is in
+    links_stage : (kept : Bool) (message : Option NspValue) (links : Links) → (kept ≡ true → is_data unit.message ≡ true) →
+        HasCome s unit kept message links →
+        LinkHolds links.links own.addresses (with_debt (carried_debt s message) (left_links s.links links.links own.links_owed))
+    links_stage kept message links taken NoneCame = same_holds s own.addresses own.links_owed h.links (ordered_of s.links known.numbers)
+    links_stage kept message links taken (OneCame u left keeps is does) =
         let place = unit.known.station.place in
-        let at = known.ready.told.told own.passed unit there (taken refl) ∙ ap Some is in
-        subst (λ (r : Result (Option Carried) StepRefusal). LinkHolds left.links own.addresses
-        (with_debt (carried_debt s (carried_in r)) (left_links s.links left.links own.links_owed))) (sym e)
-        (message_holds u left (theirs.plain place u at) (known.ready.other_addressed.told place u at) does)
+        let at = known.ready.told.told own.passed unit there (taken keeps) ∙ ap Some is in
+        message_holds u left (theirs.plain place u at) (known.ready.other_addressed.told place u at) does
 
     -- ---- the end after a unit as it was sent
 
     pub unit_stage : (kept : Bool) (links : Links) → (kept ≡ true → is_data unit.message ≡ true) →
-        reading unit.bytes ≡ read_as.Sound unit.message → IsWithin (station_of own.half) unit.message unit.known.station →
-        (kept ≡ true → content (body_of unit.message) ≡ Ok (packet_in unit.known.carried)) → IsMet by_bytes s unit.known.carried kept links →
-        Stage (after_receipt own (reading unit.bytes) kept
+        IsWithin (station_of own.half) unit.message unit.known.station →
+        HasCome s unit kept (carried kept (read_as.Sound unit.message)) links → Stage (after_receipt own (read_as.Sound unit.message) kept
         (after_record own (came_left own.half other.half own.passed unit there ahead (Sound unit.message unit.known) kept links)))
-    unit_stage kept links taken told within is_read met_as =
-        subst (λ (r : ReadingValue). Stage
-        (after_receipt own r kept (after_record own
-        (came_left own.half other.half own.passed unit there ahead (Sound unit.message unit.known) kept links)))) (sym told) (record {
-          pays = sound_stage (station_of own.half) own.owed h.pays known.bounded.ordered unit.message unit.known.station kept within;
-          packets = arrived_packets (station_of own.half) (after_arrival (station_of own.half) (Sound unit.message unit.known.station) kept)
-              (arrival_packets (station_of own.half) (Sound unit.message unit.known.station) kept) h.packets;
-          links = links_stage kept links taken is_read met_as;
-          plain = h.plain;
-          few = h.few;
-          ahead = omega arith;
-        })
+    unit_stage kept links taken within came = record {
+      pays = sound_stage (station_of own.half) own.owed h.pays known.bounded.ordered unit.message unit.known.station kept within;
+      packets = arrived_packets (station_of own.half) (after_arrival (station_of own.half) (Sound unit.message unit.known.station) kept)
+          (arrival_packets (station_of own.half) (Sound unit.message unit.known.station) kept) h.packets;
+      links = links_stage kept (carried kept (read_as.Sound unit.message)) links taken came;
+      plain = h.plain;
+      few = h.few;
+      ahead = omega arith;
+    }
 
     -- ---- the end after a damaged one
 

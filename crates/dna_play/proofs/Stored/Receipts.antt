@@ -1,7 +1,7 @@
 -- What comes to an end of the player is the same of what its node keeps: a unit as it was sent, with a buffer or without one, or damaged; with what
 -- its user gets then.
 use Rattle.std.proofs.Common.{◌≡◌, ℕ, ◌+◌, Bool, true, false, ◌&&◌, cond, Option, Some, None, List, [], ◌∷◌, length, drop, Result, Ok, Err, refl, sym}
-use Rattle.std.proofs.Common.{ap, ap₂, ◌∙◌, subst, le-leb, nat_lt, nat_le, ltb-true, leb-true, lt-ltb}
+use Rattle.std.proofs.Common.{ap, ap₂, ◌∙◌, subst, le-leb}
 use Rattle.std.specs.Prelude.{slice_get}
 use Rattle.ddcmp_msg.specs.Reading.{ReadingValue, reading}
 use Rattle.ddcmp_msg.specs.Reading as read_as
@@ -9,30 +9,27 @@ use Rattle.dna_packet.specs.Nsp.{NspValue}
 use Rattle.capture.specs.declared.limit.TheConstants.{MAX_HINT}
 use Rattle.capture.specs.declared.record.Record.{Record}
 use Rattle.capture.specs.declared.record.Record.TheVariants.{Received}
-use Rattle.dna_station.specs.declared.refusal.StepRefusal.{StepRefusal}
 use Rattle.dna_station.specs.declared.refusal.StationRefusal.TheVariants.{CrossedPeriod}
-use Rattle.dna_node.specs.Rules.{judged, by_bytes}
-use Rattle.dna_station.specs.Book.{ArrivalValue, Sound, body_of, keep_refusal}
+use Rattle.dna_node.specs.Rules.{judged}
+use Rattle.dna_station.specs.Book.{Sound, keep_refusal}
 use Rattle.dna_station.specs.Bounds.{IsWithin}
 use Rattle.dna_station.specs.Station.{Station}
 use Rattle.dna_station.specs.StationBook.{arrival_refusal, after_arrival}
 use Rattle.dna_station.specs.WireStation.{StationVariables}
 use Rattle.dna_station.specs.WireNode.{unlabelled}
-use Rattle.dna_links.specs.Links.{LinkOf, Carried}
-use Rattle.dna_links.specs.Arriving.{of_anyone}
+use Rattle.dna_links.specs.Links.{LinkOf}
 use Rattle.dna_links.specs.TrueFlow.{TrueFlow}
-use Rattle.dna_links.specs.TrueLinks.{Links, links_arrived}
+use Rattle.dna_links.specs.TrueLinks.{Links}
 use Rattle.dna_links.specs.CutFlow.{IsOrdered}
 use Rattle.dna_links.specs.Runs.{SentMessage}
-use Rattle.dna_node.specs.Content.{content}
 use Rattle.dna_node.specs.LayersPair.{side_of}
-use Rattle.dna_node.specs.Layers.{LayersTruth, LayersUnit}
+use Rattle.dna_node.specs.Layers.{LayersUnit}
 use Rattle.dna_play.specs.Owed.{Debt, arrival_debt, can_take, with_debt}
 use Rattle.dna_play.specs.Script.{Deliver, Refuse, Damage, StepValue}
 use Rattle.dna_play.specs.Player.{End, makes, links_of, station_of, after_record}
 use Rattle.dna_play.specs.Player as player
 use Rattle.dna_play.specs.Stepped.{Stop, BadStep, Stepped, made}
-use Rattle.dna_play.specs.Receipt.{carried_in, carried, after_receipt, then_gets, is_damage, damaged}
+use Rattle.dna_play.specs.Receipt.{carried, after_receipt, then_gets, is_damage, damaged}
 use Rattle.dna_play.specs.Receipt as receiving
 use Rattle.dna_play.specs.Play.{plays}
 use Rattle.dna_play.specs.Kept.{KeptStation, KeptLinks, kept}
@@ -43,16 +40,15 @@ use Rattle.dna_play.specs.KeptPlay as keeping
 use Rattle.dna_play.specs.KeptRun.{bytes_of, coming}
 use Rattle.dna_station.proofs.Cut.Arriving.{arrival_refusal_same}
 use Rattle.dna_station.proofs.Bounds.Numbers.{is_data}
-use Rattle.dna_node.proofs.LayersRead.{packet_in}
-use Rattle.dna_node.proofs.OnTop.{IsMet, NotKept, KeptNone, KeptOne}
 use Rattle.dna_links.proofs.Tables.Outcomes.{checked}
 use Rattle.dna_play.proofs.Once.AddressRuns.{anyone_same}
 use Rattle.dna_play.proofs.Played.Steps.{PlayHalf, Nothing, First}
 use Rattle.dna_play.proofs.Played.Order.{quiet}
 use Rattle.dna_play.proofs.Played.Facts.{Facts}
 use Rattle.dna_play.proofs.Once.Checked.{meets_it}
-use Rattle.dna_play.proofs.Ends.DamagedUnits.{Damaged, damage_is_seen, ShownDamage, OfHeader, OfData, read_of, arrival_of, damage_of}
-use Rattle.dna_play.proofs.Ends.ReceiptMakes.{came_left, damage_made, taken_is_data, within, unit_made}
+use Rattle.dna_play.proofs.Ends.DamagedUnits.{Damaged, damage_is_seen, ShownDamage, OfHeader, OfData, read_of, arrival_of, damage_of, hurt_of}
+use Rattle.dna_play.proofs.Ends.DamagedUnits.{is_hurt}
+use Rattle.dna_play.proofs.Ends.ReceiptMakes.{damage_made, taken_is_data, within, unit_made, HasCome, NoneCame, OneCame}
 use Rattle.dna_play.proofs.Ends.ReceiptStage.{unit_stage, hurt_stage}
 use Rattle.dna_play.proofs.Ends.StationStage.{cut_of, left_owed}
 use Rattle.dna_play.proofs.Ends.Stage.{Stage, Staged}
@@ -160,8 +156,8 @@ module _ (own other : End) (now : KeptNow own other) where
     can_be buffer e = sym (ap (receiving.can_keep own) told) ∙ (and_parts buffer (receiving.can_keep own (reading unit.bytes)) e).1
 
     is_within : IsWithin station unit.message unit.known.station
-    is_within = within own.half other.half own.passed unit there now.stage.ahead facts.known.ready facts.known.bounded
-        from
+    is_within = within own.half other.half own.passed unit there now.stage.ahead facts.known.ready facts.known.bounded from
+        (facts.packets own.passed unit there)
 
     -- the judge takes it too
     judged_takes : can_take k unit.message ≡ true → arrival_refusal judged.periods station (Sound unit.message unit.known.station) true ≡ None
@@ -169,9 +165,6 @@ module _ (own other : End) (now : KeptNow own other) where
         arrival_refusal_same (unlabelled {L = Unit {0}} station.packets) judged.periods station unit.message unit.known.station true (λ e. is_within)
         ∙ ap₂ (λ (met takes : Bool). cond met (keep_refusal takes true) (Some CrossedPeriod))
         (meets_it own.half other.half facts.known.ready own.passed unit there) can
-
-    abbrev sound : ArrivalValue LayersTruth
-    sound = Sound unit.message unit.known
 
     abbrev left : Bool → Station
     left is_kept = after_arrival station (Sound unit.message unit.known.station) is_kept
@@ -182,75 +175,45 @@ module _ (own other : End) (now : KeptNow own other) where
     abbrev first : Bool → List Record
     first is_kept = Received own.passed is_kept unit.bytes ∷ []
 
-    abbrev GotOf : Bool → Option NspValue → Links → Type 0
-    GotOf is_kept message links = Got own other.half now.counted ordered (first is_kept) (left is_kept) (owes is_kept)
+    -- what the user gets then
+    got_of : (is_kept : Bool) (message : Option NspValue) (links : Links) → (is_kept ≡ true → can_take k unit.message ≡ true) →
+        HasCome s unit is_kept message links → Facts (after_record own (left_half own (left is_kept) links)) other →
+        Stage (after_receipt own (read_as.Sound unit.message) is_kept (after_record own (left_half own (left is_kept) links))) →
+        Got own other.half now.counted ordered (first is_kept) (left is_kept) (owes is_kept)
         (left_end own (left is_kept) (owes is_kept) message links) message
-
-    nothing_of : (is_kept : Bool) → GotOf is_kept None s
-    nothing_of is_kept = nothing_got own other.half now.counted ordered (first is_kept) (left is_kept) (owes is_kept)
-        (left_end own (left is_kept) (owes is_kept) None s) None live refl refl (record_same s.links own.links_owed now.counted)
-
-    module _ (is_kept : Bool) (can : is_kept ≡ true → can_take k unit.message ≡ true) where
-      abbrev half_with : Links → PlayHalf
-      half_with links = came_left own.half other.half own.passed unit there now.stage.ahead sound is_kept links
-
-      met_as_read : is_kept ≡ true → content (body_of unit.message) ≡ Ok (packet_in unit.known.carried)
-      met_as_read e = facts.packets own.passed unit there (taken_is_data k unit.message (can e))
-
-      stage_left : (links : Links) → IsMet by_bytes s unit.known.carried is_kept links →
-          Stage (after_receipt own (read_as.Sound unit.message) is_kept (after_record own (half_with links)))
-      stage_left links met_as = subst (λ (r : ReadingValue). Stage (after_receipt own r is_kept (after_record own (half_with links)))) told
-          (unit_stage own other now.stage now.theirs facts.known unit there now.stage.ahead is_kept links
-          (λ e. taken_is_data k unit.message (can e)) told is_within met_as_read met_as)
-
-    one_got : (u : SentMessage) (links : Links) → unit.known.carried ≡ Some u → can_take k unit.message ≡ true →
-        links_arrived of_anyone s u.packet u.truth ≡ Ok links → Facts (after_record own (left_half own (left true) links)) other →
-        Stage (after_receipt own (read_as.Sound unit.message) true (after_record own (left_half own (left true) links))) →
-        GotOf true (Some u.packet.message) links
-    one_got u links is can does after stage =
+    got_of is_kept message links can NoneCame after stage = nothing_got own other.half now.counted ordered (first is_kept) (left is_kept)
+        (owes is_kept) (left_end own (left is_kept) (owes is_kept) None s) None live refl refl (record_same s.links own.links_owed now.counted)
+    got_of is_kept message links can (OneCame u now_links keeps is does) after stage =
         let ready = facts.known.ready in
-        let at = ready.told.told own.passed unit there (taken_is_data k unit.message can) ∙ ap Some is in
+        let takes = can keeps in
+        let at = ready.told.told own.passed unit there (taken_is_data k unit.message takes) ∙ ap Some is in
         let same = anyone_same (side_of own.half ready.front) (side_of other.half ready.of_other) ready.most ready.most_of_other ready.addressed
         ready.other_addressed u (ready.other_addressed.told unit.known.station.place u at) in
-        message_got own other.half now.counted ordered (first true) (left true) (owes true) u.truth links u.packet.message
-        (facts.near own.passed unit there now.stage.ahead (judged_takes can) u is) (checked _ _ _ links (sym same ∙ does)).1
+        message_got own other.half now.counted ordered (first is_kept) (left is_kept) (owes is_kept) u.truth now_links u.packet.message
+        (facts.near own.passed unit there now.stage.ahead (judged_takes takes) u is) (checked _ _ _ now_links (sym same ∙ does)).1
         after.known.addressed.distinct (after.whole u.packet.message) stage.pays.rep
-
-    got_of : (is_kept : Bool) → (is_kept ≡ true → can_take k unit.message ≡ true) → (links : Links) →
-        IsMet by_bytes s unit.known.carried is_kept links →
-        Facts (after_record own (left_half own (left is_kept) links)) other →
-        (IsMet by_bytes s unit.known.carried is_kept links →
-        Stage (after_receipt own (read_as.Sound unit.message) is_kept (after_record own (left_half own (left is_kept) links)))) →
-        (is_kept ≡ true → content (body_of unit.message) ≡ Ok (packet_in unit.known.carried)) →
-        GotOf is_kept (carried is_kept (read_as.Sound unit.message)) links
-    got_of false can links NotKept after stage is_read = nothing_of false
-    got_of true can links (KeptNone is) after stage is_read =
-        let e = is_read refl ∙ ap (λ (o : Option SentMessage). Ok (packet_in o)) is in
-        subst (λ (r : Result (Option Carried) StepRefusal). GotOf true (carried_in r) s) (sym e) (nothing_of true)
-    got_of true can links (KeptOne u now_links is does) after stage is_read =
-        let e = is_read refl ∙ ap (λ (o : Option SentMessage). Ok (packet_in o)) is in
-        subst (λ (r : Result (Option Carried) StepRefusal). GotOf true (carried_in r) now_links) (sym e)
-        (one_got u now_links is (can refl) does after (stage (KeptOne u now_links is does)))
 
     unit_received : (buffer : Bool) →
         IsReceived unit.bytes (read_as.Sound unit.message) (buffer && receiving.can_keep own (reading unit.bytes))
     unit_received buffer =
         let is_kept = buffer && receiving.can_keep own (reading unit.bytes) in
         let can = can_be buffer in
-        let u = unit_made own.half other.half own.passed unit there now.stage.ahead facts.known.ready facts.known.bounded
-        from is_kept can in
+        let u = unit_made own.half other.half own.passed unit there now.stage.ahead facts.known.ready facts.known.bounded from
+        (facts.packets own.passed unit there) is_kept can in
         let line = unit_line own other facts now.few unit there is_kept in
         let makes_it = line_makes own.half other.half (Received own.passed is_kept unit.bytes) (left_half own (left is_kept) u.links) line
         u.makes_it in
         let after = now.later (after_record own (left_half own (left is_kept) u.links)) (first is_kept) (First makes_it Nothing)
         (quiet own (Received own.passed is_kept unit.bytes) refl refl) in
+        let stage = unit_stage own other now.stage now.theirs facts.known unit there now.stage.ahead is_kept u.links
+        (λ e. taken_is_data k unit.message (can e)) is_within u.came in
         record {
           left = left is_kept;
           links = u.links;
           makes_it = makes_it;
           after = sound_came station own.owed facts.known.bounded.ordered unit.message unit.known.station is_kept is_within;
-          stage = stage_left is_kept can u.links u.met_as;
-          got = got_of is_kept can u.links u.met_as after (stage_left is_kept can u.links) (met_as_read is_kept can);
+          stage = stage;
+          got = got_of is_kept (carried is_kept (read_as.Sound unit.message)) u.links can u.came after stage;
         }
 
     unit_right_by : (value : StepValue) (buffer : Bool) → Asks own other.half value → gives_address value ≡ false →
@@ -313,17 +276,6 @@ module _ (own other : End) (now : KeptNow own other) where
   unfolding plays
   refuse_right = unit_right own other now Refuse (receiving.comes own other.half false) (keeping.comes (kept own) false) (λ asks. asks)
       (λ unit there. unit_right_by unit there Refuse false (unit, there) refl)
-
-  hurt_of : (place value : ℕ) (unit : LayersUnit) → is_damage place value unit.bytes ≡ true → IsHurt place value unit
-  hurt_of place value unit is =
-      let p = and_parts (nat_lt place (length unit.bytes)) (nat_le 1 value && nat_le value 255) is in let q =
-      and_parts (nat_le 1 value) (nat_le value 255) p.1 in
-      record { inside = ltb-true place (length unit.bytes) p.0; least = leb-true 1 value q.0; most = leb-true value 255 q.1 }
-
-  is_hurt : (place value : ℕ) (unit : LayersUnit) → IsHurt place value unit → is_damage place value unit.bytes ≡ true
-  is_hurt place value unit hurt =
-      ap₂ (λ (b c : Bool). b && c) (lt-ltb place (length unit.bytes) hurt.inside)
-      (ap₂ (λ (b c : Bool). b && c) (le-leb 1 value hurt.least) (le-leb value 255 hurt.most))
 
   pub damage_right : (place value : ℕ) → IsRight own other (Damage place value)
       (with_next (coming own other.half) (keeping.comes_damaged (kept own) place value)) (plays own other.half (Damage place value))
