@@ -3,9 +3,7 @@ use Rattle.std.proofs.Common.{◌≡◌, ℕ, ◌+◌, ◌≤◌, ◌⊎◌, inl
 use Rattle.std.specs.Prelude.{slice_get}
 use Rattle.std.proofs.lemmas.Option.{same_Some}
 use Rattle.ddcmp_msg.specs.Message.{MessageValue}
-use Rattle.ddcmp_msg.specs.Spelling.{spelling}
 use Rattle.dna_packet.specs.Nsp.{NspValue}
-use Rattle.capture.specs.declared.record.Record.TheVariants.{Sent}
 use Rattle.dna_links.specs.Links.{LinkOf, Carried}
 use Rattle.dna_links.specs.Sending as links_sending
 use Rattle.dna_links.specs.TrueFlow.{TrueFlow, Numbers, true_flows}
@@ -19,43 +17,39 @@ use Rattle.dna_play.specs.Player.{End, station_of, links_of, link_ends_of, after
 use Rattle.dna_play.specs.Player as player
 use Rattle.dna_play.specs.Play.{after_sending}
 use Rattle.two_nodes.proofs.NumberedSteps.{at_pushed}
-use Rattle.dna_play.proofs.Played.Steps.{PlayHalf}
 use Rattle.dna_links.proofs.Tables.Outcomes.{sent_did, SentDid}
-use Rattle.dna_play.proofs.Once.Addresses.{LinkList, AreAddressed}
 use Rattle.dna_play.proofs.Links.Choices.{end_of, IsAsked, OfTurn, OfConfirm}
 use Rattle.dna_play.proofs.Links.Fits.{IsPlain, turn_plain}
 use Rattle.dna_play.proofs.Links.Owing.{sent_turn_fits, ahead_less}
 use Rattle.dna_play.proofs.Ends.UnitLines.{IsOfBytes}
 use Rattle.dna_play.proofs.Ends.SendMakes.{sent_left, again_after, first_after}
-use Rattle.dna_play.proofs.Ends.Sends.{IsSound, Goes, GoesOld, GoesNew}
 use Rattle.dna_play.proofs.Ends.StationStage.{sent_stage, sent_packets}
 use Rattle.dna_play.proofs.Links.Stage.{LinkHolds, left_links, same_holds, sent_holds, first_sent_holds, change_holds}
-use Rattle.dna_play.proofs.Ends.Stage.{Stage, HasNumbers}
+use Rattle.dna_play.proofs.Ends.Stage.{Stage, Known}
 use Rattle.dna_links.proofs.Runs.Sides.{set_same}
 use Rattle.dna_play.specs.KeptLinks.{gave_by}
 use Rattle.dna_play.proofs.Links.Turns.{TurnMade, turn_made, gave_ahead}
 
-module _ (e : End) (other : PlayHalf) (sound : IsSound e) (h : Stage e) (numbers : HasNumbers (links_of e.half).links) (others : LinkList)
-    (addressed : AreAddressed (links_of e.half).links others e.addresses) where
+module _ (own other : End) (h : Stage own) (known : Known own other) where
   abbrev s : Links
-  s = links_of e.half
+  s = links_of own.half
 
   abbrev ends : List LinkEnd
-  ends = link_ends_of e
+  ends = link_ends_of own
 
   ordered : (i : ℕ) (l : LinkOf TrueFlow) → slice_get s.links i ≡ Some l → IsOrdered l.flow
-  ordered i l at = (numbers i l at).0
+  ordered i l at = (known.numbers i l at).0
 
   -- ---- a unit without a new packet
 
-  stage_again : (c : Choice) → ((one : LinkChoice) → c ≡ SendNew one → ⊥) → (m : MessageValue) →
-      message_of c e.half.state.head (player.variables_of e.half) ends ≡ Some m → IsOfBytes m →
-      Stage (after_sending c (after_record e (sent_left e.half other m (again_after e.half other m))))
+  pub stage_again : (c : Choice) → ((one : LinkChoice) → c ≡ SendNew one → ⊥) → (m : MessageValue) →
+      message_of c own.half.state.head (player.variables_of own.half) ends ≡ Some m → IsOfBytes m →
+      Stage (after_sending c (after_record own (sent_left own.half other.half m (again_after own.half other.half m))))
   stage_again (SendNew one) never m put b = absurd (never one refl)
   stage_again c never m put b = record {
-    pays = sent_stage (station_of e.half) e.owed h.pays sound.ordered c e.half.state.head ends m put;
-    packets = sent_packets (station_of e.half) m b h.packets;
-    links = same_holds s e.addresses e.links_owed h.links ordered;
+    pays = sent_stage (station_of own.half) own.owed h.pays known.bounded.ordered c own.half.state.head ends m put;
+    packets = sent_packets (station_of own.half) m b h.packets;
+    links = same_holds s own.addresses own.links_owed h.links ordered;
     plain = h.plain;
     few = h.few;
     ahead = h.ahead;
@@ -64,25 +58,25 @@ module _ (e : End) (other : PlayHalf) (sound : IsSound e) (h : Stage e) (numbers
   -- ---- a new packet
 
   -- a message that is asked is of the player
-  message_plain : (c : LinkChoice) (message : NspValue) → IsAsked s.links e.links_owed c message → IsPlain message
+  message_plain : (c : LinkChoice) (message : NspValue) → IsAsked s.links own.links_owed c message → IsPlain message
   message_plain c message (OfTurn number turn l o there owes due) = turn_plain l o turn (h.links.fit number l there).flow
   message_plain c message (OfConfirm confirm first) = tt
 
   -- what is sent is owed no more
-  asked_holds : (one : LinkChoice) (message : NspValue) → IsAsked s.links e.links_owed one message → (made : links_sending.Sent TrueFlow Numbers) →
-      SentDid true_flows s message made → LinkHolds made.links.links e.addresses (left_links s.links made.links.links e.links_owed) →
-      LinkHolds made.links.links e.addresses (after_link_choice one (left_links s.links made.links.links e.links_owed))
+  asked_holds : (one : LinkChoice) (message : NspValue) → IsAsked s.links own.links_owed one message → (made : links_sending.Sent TrueFlow Numbers) →
+      SentDid true_flows s message made → LinkHolds made.links.links own.addresses (left_links s.links made.links.links own.links_owed) →
+      LinkHolds made.links.links own.addresses (after_link_choice one (left_links s.links made.links.links own.links_owed))
   asked_holds one message (OfConfirm confirm first) made did holds =
-      first_sent_holds made.links.links e.addresses (left_links s.links made.links.links e.links_owed) holds
+      first_sent_holds made.links.links own.addresses (left_links s.links made.links.links own.links_owed) holds
   asked_holds one message (OfTurn number turn l o there owes due) made did holds =
       let t = turn_made s made number l o there (ordered number l there) (h.links.fit number l there).shape (h.links.owes number l o there owes)
-      addressed.distinct turn due did in
-      change_holds made.links.links e.addresses (left_links s.links made.links.links e.links_owed) holds number (without_turn turn)
+      known.addressed.distinct turn due did in
+      change_holds made.links.links own.addresses (left_links s.links made.links.links own.links_owed) holds number (without_turn turn)
       (λ k left at then_owes. sent_turn_fits k left turn (λ seg. more t k left at then_owes seg) (holds.owes number k left at then_owes))
     where
       -- a segment that has gone is among those sent in this go
       more : TurnMade s made number l o turn → (k : LinkOf TrueFlow) (left : LinkOwed) → slice_get made.links.links number ≡ Some k →
-          slice_get (all_still_owed s.links made.links.links e.links_owed.links) number ≡ Some left → turn ≡ SegmentTurn →
+          slice_get (all_still_owed s.links made.links.links own.links_owed.links) number ≡ Some left → turn ≡ SegmentTurn →
           left.ahead + 1 ≤ length (variables_of k).outstanding
       more t k left at then_owes seg =
           let is : t.left ≡ k = same_Some t.left k (sym (ap (λ (x : Links). slice_get x.links number) t.links ∙ set_same s.links number l t.left there)
@@ -91,53 +85,30 @@ module _ (e : End) (other : PlayHalf) (sound : IsSound e) (h : Stage e) (numbers
           let counted : length (variables_of k).outstanding ≡ length (gave_by SegmentTurn (end_of l o)).variables.outstanding =
           ap (λ (x : LinkOf TrueFlow). length (variables_of x).outstanding) (sym is)
           ∙ ap (λ (x : LinkEnd). length x.variables.outstanding) (t.is ∙ ap (λ (x : Turn). gave_by x (end_of l o)) seg) in
-          let less = ahead_less s.links made.links.links e.links_owed.links number k o left at owes then_owes in
+          let less = ahead_less s.links made.links.links own.links_owed.links number k o left at owes then_owes in
           omega arith
 
-  module _ (one : LinkChoice) (message : NspValue) (asked : IsAsked s.links e.links_owed one message) (packet : Carried)
-      (made : links_sending.Sent TrueFlow Numbers) (of_it : packet.message ≡ message) (does_it : links_sent (links_of e.half) packet ≡ Ok made) where
+  module _ (one : LinkChoice) (message : NspValue) (asked : IsAsked s.links own.links_owed one message) (packet : Carried)
+      (made : links_sending.Sent TrueFlow Numbers) (of_it : packet.message ≡ message) (does_it : links_sent (links_of own.half) packet ≡ Ok made) where
     did : SentDid true_flows s message made
     did = subst (λ (x : NspValue). SentDid true_flows s x made) of_it (sent_did true_flows s made packet does_it)
 
-    stage_first : (m : MessageValue) → message_of (SendNew one) e.half.state.head (player.variables_of e.half) ends ≡ Some m → IsOfBytes m →
-        Stage (after_sending (SendNew one) (after_record e (sent_left e.half other m (first_after e.half other m packet made))))
+    pub stage_first : (m : MessageValue) → message_of (SendNew one) own.half.state.head (player.variables_of own.half) ends ≡ Some m → IsOfBytes m →
+        Stage (after_sending (SendNew one) (after_record own (sent_left own.half other.half m (first_after own.half other.half m packet made))))
     stage_first m put b = record {
-      pays = sent_stage (station_of e.half) e.owed h.pays sound.ordered (SendNew one) e.half.state.head ends m put;
-      packets = sent_packets (station_of e.half) m b h.packets;
-      links = asked_holds one message asked made did (sent_holds s e.addresses e.links_owed h.links ordered message made
+      pays = sent_stage (station_of own.half) own.owed h.pays known.bounded.ordered (SendNew one) own.half.state.head ends m put;
+      packets = sent_packets (station_of own.half) m b h.packets;
+      links = asked_holds one message asked made did (sent_holds s own.addresses own.links_owed h.links ordered message made
           (message_plain one message asked) did);
-      plain = λ k u at. go k u (at_pushed e.half.state.station.messages (Some (record { packet = packet; truth = made.truth })) (Some u) k at);
+      plain = λ k u at. go k u (at_pushed own.half.state.station.messages (Some (record { packet = packet; truth = made.truth })) (Some u) k at);
       few = h.few;
       ahead = h.ahead;
     }
       where
         go : (k : ℕ) (u : SentMessage) →
-            (slice_get e.half.state.station.messages k ≡ Some (Some u)) ⊎
-            ((k ≡ length e.half.state.station.messages) × (Some (record { packet = packet; truth = made.truth }) ≡ Some u)) →
+            (slice_get own.half.state.station.messages k ≡ Some (Some u)) ⊎
+            ((k ≡ length own.half.state.station.messages) × (Some (record { packet = packet; truth = made.truth }) ≡ Some u)) →
             IsPlain u.packet.message
         go k u (inl at) = h.plain k u at
         go k u (inr is) = subst (λ (x : SentMessage). IsPlain x.packet.message) (same_Some (record { packet = packet; truth = made.truth }) u is.1)
             (subst IsPlain (sym of_it) (message_plain one message asked))
-
-  -- ---- what is chosen
-
-  -- the end after the unit that goes
-  pub record Leaves (c : Choice) : Type 0 where
-    pub m : MessageValue
-    pub half : PlayHalf
-    pub put : message_of c e.half.state.head (player.variables_of e.half) ends ≡ Some m
-    pub makes_it : player.makes e.half other (Sent (spelling m)) ≡ Some half
-    pub stage : Stage (after_sending c (after_record e half))
-
-  pub goes_stage : (c : Choice) → Goes e other sound c → Leaves c
-  goes_stage c (GoesOld m put b never made_it) = record { m = m; half = _; put = put; makes_it = made_it; stage = stage_again c never m put b }
-  goes_stage c (GoesNew one same message asked m put b packet made of_it does_it made_it) = record {
-    m = m;
-    half = _;
-    put = put;
-    makes_it = made_it;
-    stage = subst (λ (x : Choice). Stage (after_sending x (after_record e (sent_left e.half other m (first_after e.half other m packet made)))))
-        (sym same)
-        (stage_first one message asked packet made of_it does_it m
-        (ap (λ (x : Choice). message_of x e.half.state.head (player.variables_of e.half) (link_ends_of e)) (sym same) ∙ put) b);
-  }

@@ -1,6 +1,6 @@
 -- What holds of the links of an end of the player is kept by each thing that happens: they fit, what they owe goes with them, each DC names a link
 -- that is over, and what they sent is of the player.
-use Rattle.std.proofs.Common.{◌≡◌, ℕ, ◌+◌, ◌≤◌, true, Some, List, [], ◌∷◌, drop, suc, refl, ap, ◌∙◌, arith, ◌<◌, ◌&&◌, eqb, sym, subst, eq-eqb}
+use Rattle.std.proofs.Common.{◌≡◌, ℕ, ◌+◌, ◌≤◌, true, Some, List, [], ◌∷◌, drop, suc, refl, ap, ◌∙◌, arith, ◌<◌, ◌&&◌, eqb, sym, subst, eq-eqb, ◌^◌}
 use Rattle.std.specs.Prelude.{slice_get, is_some}
 use Rattle.dna_packet.specs.Nsp.{NspValue}
 use Rattle.dna_links.specs.Links.{LinkOf, LinkTruth, begun, changed, in_phase, freed}
@@ -23,7 +23,6 @@ use Rattle.dna_play.proofs.Links.Pays.{OwedFits, fits_in, phase_of}
 use Rattle.dna_play.proofs.Links.Fits.{AllFit, EventFits, IsPlain, LinkFits, empty_fits, plain_size}
 use Rattle.dna_play.proofs.Links.Owing.{AllOwed, Moves, turn_fits, all_still, one_changed, same_move, set_move, push_move}
 use Rattle.dna_play.proofs.Links.Confirms.{IsDone, IsPast}
-use Rattle.dna_play.proofs.Ends.Sends.{IsSmall}
 use Rattle.std.proofs.lemmas.Bool.{and_parts}
 use Rattle.std.proofs.lemmas.Option.{same_Some}
 use Rattle.dna_links.specs.declared.port.Phase.{Phase}
@@ -34,6 +33,12 @@ use Rattle.dna_links.specs.Pieces.{SEGSIZE}
 use Rattle.dna_play.proofs.Links.FlowDid.{segment_did}
 use Rattle.dna_play.proofs.Links.Goes.{Goes, flow_goes, ended_goes, answered_goes, connected_goes, runs_on, confirmed_goes, stays_as_it_is}
 use Rattle.dna_play.proofs.Links.Goes.{handed_goes, delivered_goes, acks_go, segment_goes, took_acks, took_segment}
+
+-- its addresses and its reason are words
+pub record IsSmall (confirm : EndConfirm) : Type 0 where
+  pub dst : confirm.dst < 2 ^ 16
+  pub src : confirm.src < 2 ^ 16
+  pub reason : confirm.reason < 2 ^ 16
 
 -- a DC that is owed
 pub record ConfirmHolds (links : LinkList) (most : ℕ) (confirm : EndConfirm) : Type 0 where

@@ -23,7 +23,7 @@ use Rattle.dna_play.specs.Compose.{message_of}
 use Rattle.dna_play.specs.Player.{End, makes, links_of, station_of, link_ends_of, after_record}
 use Rattle.dna_play.specs.Player as player
 use Rattle.dna_play.specs.Stepped.{Stop, made}
-use Rattle.dna_play.specs.Play.{after_sending, sends_message, sends_choice, sends, plays}
+use Rattle.dna_play.specs.Play.{after_sending, sends_message, sends_choice, plays}
 use Rattle.dna_play.specs.Kept.{KeptStation, KeptLinks, kept, live_ends}
 use Rattle.dna_play.specs.KeptStation as of_station
 use Rattle.dna_play.specs.KeptLinks.{sent_at}
@@ -38,8 +38,8 @@ use Rattle.dna_play.proofs.Links.Pays.{phase_of, OwedFits, IsDue, DueFlag, DueSe
 use Rattle.dna_play.proofs.Links.Choices.{end_at, end_of, IsAsked, OfTurn, OfConfirm}
 use Rattle.dna_play.proofs.Links.Stage.{left_links}
 use Rattle.dna_play.proofs.Ends.SendMakes.{sent_left, again_after, first_after}
-use Rattle.dna_play.proofs.Ends.Sends.{IsSound, Goes, GoesOld, GoesNew, goes}
-use Rattle.dna_play.proofs.Ends.Stage.{sound_of}
+use Rattle.dna_play.proofs.Ends.Sends.{Goes, GoesOld, GoesNew, goes}
+use Rattle.dna_play.proofs.Ends.Stage.{Stage}
 use Rattle.dna_play.proofs.Stored.LiveEnds.{still_same, left_same, ends_get}
 use Rattle.dna_play.proofs.Stored.LiveLinks.{kept_links, place_among, live_there, record_changed, record_same}
 use Rattle.dna_play.proofs.Stored.Now.{KeptNow, facts_of}
@@ -47,7 +47,7 @@ use Rattle.dna_play.proofs.Stored.Stations.{station_sent}
 use Rattle.dna_play.proofs.Stored.Choices.{lives, NoneOfEnded, among_live, link_choice_live, kept_choice, choice_live, NamesLive, message_live}
 use Rattle.dna_play.proofs.Links.Turns.{TurnMade, turn_made, links_stay}
 use Rattle.dna_play.proofs.Stored.Right.{IsRight, never_full}
-use Rattle.dna_play.proofs.Ends.SendStage.{goes_stage}
+use Rattle.dna_play.proofs.Ends.SendStage.{stage_again, stage_first}
 
 -- ---- what a turn says of its link
 
@@ -97,9 +97,6 @@ module _ (own other : End) (now : KeptNow own other) where
 
   facts : Facts own other
   facts = facts_of now
-
-  sound : IsSound own
-  sound = sound_of own other now.stage now.theirs facts.known
 
   ended : NoneOfEnded (link_ends_of own)
   ended i e turn there has =
@@ -180,10 +177,14 @@ module _ (own other : End) (now : KeptNow own other) where
     step station links units =
         Ok (record { end = record (kept own) { station = station; links = links }; sent = units; records = Sent (spelling m) ∷ [] })
 
-    of_true : (half : PlayHalf) → makes own.half other.half (Sent (spelling m)) ≡ Some half →
-        sends own other.half ≡ Ok (record { end = after_sending c (after_record own half); records = Sent (spelling m) ∷ [] })
-    of_true half makes_it =
-        ap (sends_choice own other.half) is ∙ ap (sends_message own other.half c) put ∙ ap (made own (Sent (spelling m)) (after_sending c)) makes_it
+    -- this half is left
+    sent_right : (half : PlayHalf) → makes own.half other.half (Sent (spelling m)) ≡ Some half → Stage (after_sending c (after_record own half)) →
+        kept_stepped own (Ok (record { end = after_sending c (after_record own half); records = Sent (spelling m) ∷ [] })) ≡ keeping.sends (kept own) →
+        IsRight own other Send (keeping.sends (kept own)) (sends_choice own other.half (Some c))
+    sent_right half makes_it stage same =
+        subst (IsRight own other Send (keeping.sends (kept own)))
+        (sym (ap (sends_message own other.half c) put ∙ ap (made own (Sent (spelling m)) (after_sending c)) makes_it))
+        (record { stage = stage; asks = (c, is); room = never_full own other Send refl; same = same })
 
     of_kept : ((one : LinkChoice) → c ≡ SendNew one → NamesLive (link_ends_of own) one) →
         keeping.sends (kept own) ≡ step (of_station.after_sent (kept_choice (link_ends_of own) c) m (kept own).station)
@@ -192,46 +193,52 @@ module _ (own other : End) (now : KeptNow own other) where
         ap (keeping.sends_choice (kept own)) (choices ∙ ap (option_map (kept_choice (link_ends_of own))) is)
         ∙ ap (keeping.sends_message (kept own) (kept_choice (link_ends_of own) c)) (message_live (link_ends_of own) c named head k ∙ put)
 
-    old_kept : IsOld c → makes own.half other.half (Sent (spelling m)) ≡ Some (sent_left own.half other.half m (again_after own.half other.half m)) →
-        kept_stepped own (sends own other.half) ≡ keeping.sends (kept own)
-    old_kept old makes_it =
-        let half = sent_left own.half other.half m (again_after own.half other.half m) in
+    abbrev old_half : PlayHalf
+    old_half = sent_left own.half other.half m (again_after own.half other.half m)
+
+    old_kept : IsOld c →
+        kept_stepped own (Ok (record { end = after_sending c (after_record own old_half); records = Sent (spelling m) ∷ [] })) ≡ keeping.sends
+        (kept own)
+    old_kept old =
         let unit : LayersUnit = record { bytes = spelling m; message = m; known = (again_after own.half other.half m).1 } in
-        ap (kept_stepped own) (of_true half makes_it)
-        ∙ ap (λ (e : End). kept_stepped own (Ok (record { end = e; records = Sent (spelling m) ∷ [] }))) (old_sending c old (after_record own half))
+        ap (λ (e : End). kept_stepped own (Ok (record { end = e; records = Sent (spelling m) ∷ [] }))) (old_sending c old (after_record own old_half))
         ∙ ap₂ (λ (station : KeptStation) (units : List (List ℕ)). step station (kept_links s.links (left_links s.links s.links owed)) units)
-        (station_sent (station_of own.half) own.owed sound.ordered c m) (one_behind own.half.sent unit)
+        (station_sent (station_of own.half) own.owed facts.known.bounded.ordered c m) (one_behind own.half.sent unit)
         ∙ ap (λ (links : KeptLinks). step (of_station.after_sent c m (kept own).station) links (spelling m ∷ []))
         (record_same s.links owed now.counted ∙ sym (old_links c old (kept own).links))
         ∙ ap (λ (x : Choice). step (of_station.after_sent x m (kept own).station) (keeping.links_sent x (kept own).links) (spelling m ∷ []))
         (sym (old_choice c old (link_ends_of own)))
         ∙ sym (of_kept (λ one e. absurd (old one e)))
 
-  new_kept : (one : LinkChoice) (m : MessageValue) → choice k own.owed asked ≡ Some (SendNew one) → message_of (SendNew one) head k ends ≡ Some m →
-      (packet : Carried) (sent : links_sending.Sent TrueFlow Numbers) → OneKept sent one →
-      makes own.half other.half (Sent (spelling m)) ≡ Some (sent_left own.half other.half m (first_after own.half other.half m packet sent)) →
-      kept_stepped own (sends own other.half) ≡ keeping.sends (kept own)
-  new_kept one m is put packet sent h makes_it =
-      let half = sent_left own.half other.half m (first_after own.half other.half m packet sent) in
-      let unit : LayersUnit = record { bytes = spelling m; message = m; known = (first_after own.half other.half m packet sent).1 } in
-      ap (kept_stepped own) (of_true (SendNew one) m is put half makes_it)
-      ∙ ap₂ (λ (station : KeptStation) (units : List (List ℕ)). step (SendNew one) m is put station
-      (kept_links sent.links.links (after_link_choice one (left sent))) units)
-      (station_sent (station_of own.half) own.owed sound.ordered (SendNew one) m) (one_behind own.half.sent unit)
-      ∙ ap (λ (links : KeptLinks). step (SendNew one) m is put (of_station.after_sent (SendNew one) m (kept own).station) links (spelling m ∷ []))
-      h.links
-      ∙ sym (of_kept (SendNew one) m is put (λ x e. subst (NamesLive (link_ends_of own)) (same x e) h.named))
-    where
-      same : (x : LinkChoice) → SendNew one ≡ SendNew x → one ≡ x
-      same x e = cc
+  module _ (one : LinkChoice) (m : MessageValue) (is : choice k own.owed asked ≡ Some (SendNew one))
+      (put : message_of (SendNew one) head k ends ≡ Some m) (packet : Carried) (sent : links_sending.Sent TrueFlow Numbers) where
+    abbrev new_half : PlayHalf
+    new_half = sent_left own.half other.half m (first_after own.half other.half m packet sent)
 
-  by_goes : (c : Choice) → choice k own.owed asked ≡ Some c → Goes own other.half sound c →
-      kept_stepped own (sends own other.half) ≡ keeping.sends (kept own)
-  by_goes c is (GoesOld m put b old makes_it) = old_kept c m is put old makes_it
-  by_goes c is (GoesNew one same message asked m put b packet sent of_it does_it makes_it) =
-      new_kept one m (is ∙ ap Some same) (ap (λ (x : Choice). message_of x head k ends) (sym same) ∙ put) packet sent
-      (one_kept sent one message asked (subst (λ (x : NspValue). SentDid true_flows s x sent) of_it (sent_did true_flows s sent packet does_it)))
-      makes_it
+    new_kept : OneKept sent one →
+        kept_stepped own (Ok (record { end = after_sending (SendNew one) (after_record own new_half); records = Sent (spelling m) ∷ [] }))
+        ≡ keeping.sends (kept own)
+    new_kept h =
+        let unit : LayersUnit = record { bytes = spelling m; message = m; known = (first_after own.half other.half m packet sent).1 } in
+        ap₂ (λ (station : KeptStation) (units : List (List ℕ)). step (SendNew one) m is put station
+        (kept_links sent.links.links (after_link_choice one (left sent))) units)
+        (station_sent (station_of own.half) own.owed facts.known.bounded.ordered (SendNew one) m) (one_behind own.half.sent unit)
+        ∙ ap (λ (links : KeptLinks). step (SendNew one) m is put (of_station.after_sent (SendNew one) m (kept own).station) links (spelling m ∷ []))
+        h.links
+        ∙ sym (of_kept (SendNew one) m is put (λ x e. subst (NamesLive (link_ends_of own)) (same x e) h.named))
+      where
+        same : (x : LinkChoice) → SendNew one ≡ SendNew x → one ≡ x
+        same x e = cc
+
+  by_goes : (c : Choice) → choice k own.owed asked ≡ Some c → Goes own other now.stage now.theirs facts.known c →
+      IsRight own other Send (keeping.sends (kept own)) (sends_choice own other.half (Some c))
+  by_goes c is (GoesOld _ m put b old makes_it) =
+      sent_right c m is put _ makes_it (stage_again own other now.stage facts.known c old m put b) (old_kept c m is put old)
+  by_goes c is (GoesNew one message asked m put b packet sent of_it does_it makes_it) =
+      let did = subst (λ (x : NspValue). SentDid true_flows s x sent) of_it (sent_did true_flows s sent packet does_it) in
+      sent_right (SendNew one) m is put _ makes_it
+      (stage_first own other now.stage facts.known one message asked packet sent of_it does_it m put b)
+      (new_kept one m is put packet sent (one_kept sent one message asked did))
 
   -- what is chosen is sent; else there is nothing to send
   choice_right : (o : Option Choice) → choice k own.owed asked ≡ o → IsRight own other Send (keeping.sends (kept own)) (sends_choice own other.half o)
@@ -239,16 +246,7 @@ module _ (own other : End) (now : KeptNow own other) where
     λ asks. let e = sym none ∙ asks.1 in cc,
     sym (ap (keeping.sends_choice (kept own)) (choices ∙ ap (option_map (kept_choice (link_ends_of own))) none)),
   )
-  choice_right (Some c) is =
-      let g = goes own other.half sound c is in
-      let l = goes_stage own other.half sound now.stage facts.known.numbers (links_of other.half).links facts.known.addressed c g in
-      let result = ap (sends_message own other.half c) l.put ∙ ap (made own (Sent (spelling l.m)) (after_sending c)) l.makes_it in
-      subst (IsRight own other Send (keeping.sends (kept own))) (sym result) (record {
-        stage = l.stage;
-        asks = (c, is);
-        room = never_full own other Send refl;
-        same = ap (kept_stepped own) (sym (ap (sends_choice own other.half) is ∙ result)) ∙ by_goes c is g;
-      })
+  choice_right (Some c) is = by_goes c is (goes own other now.stage now.theirs facts.known c is)
 
   pub send_right : IsRight own other Send (keeping.sends (kept own)) (plays own other.half Send)
   unfolding plays
