@@ -152,10 +152,10 @@ module _ (s : Links) (others : LinkList) (most : ℕ) (h : AreAddressed s.links 
 
   -- and the links keep their addresses
   abbrev Stays' : Links → Type 0
-  Stays' left = LeavesAddressed s.links others left.links most
+  Stays' left = LeavesAddressed s others left most
 
-  same_links : Stays' s
-  same_links = record { addressed = h; keeps = λ i a o. o }
+  pub same_links : Stays' s
+  same_links = record { addressed = h; keeps = λ i a o. o; nodes = record { node_is = refl; peer_is = refl } }
 
   with_flow_kept : (number : ℕ) (link : LinkOf TrueFlow) (f : TrueFlow) → slice_get s.links number ≡ Some link →
       Stays' (changed number (with_flow f link) s)
@@ -190,6 +190,7 @@ module _ (s : Links) (others : LinkList) (most : ℕ) (h : AreAddressed s.links 
           addressed = push_unnamed s.links k others most refl
               (λ a e. subst (Owner others truth.tag.link) (same_Some far a e) (from far (connects_from m far segsize is))) h;
           keeps = push_keeps s.links k;
+          nodes = record { node_is = refl; peer_is = refl };
         }
     came_stays m left from (Confirms own far segsize number link is found may) =
         let k = confirmed true_flows of_partner far segsize truth.tag link in
@@ -197,6 +198,7 @@ module _ (s : Links) (others : LinkList) (most : ℕ) (h : AreAddressed s.links 
           addressed = set_addressed s.links number link k found.there others most refl
               (λ a e. subst (Owner others truth.tag.link) (same_Some far a e) (from far (connects_from m far segsize is))) (λ c. absurd cc) h;
           keeps = kept_keeps s.links number link k found.there refl;
+          nodes = record { node_is = refl; peer_is = refl };
         }
     came_stays m left from (Ends test number link found) = ended_kept number link found.there
     came_stays m left from (TakesSegment own far segment number link is found may) = acted_kept own far number link _ found
