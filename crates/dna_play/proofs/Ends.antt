@@ -15,7 +15,6 @@ pub mod Stage
 pub mod ReceiptStage
 pub mod User
 pub mod SendStage
-pub mod ComesStage
 -- messages that are whole go to the user
 pub mod UpsFollow
 -- records of what comes have lines

@@ -34,7 +34,7 @@ pub record FlowGoes (f g : TrueFlow) : Type 0 where
   pub fits : FlowFits f → FlowFits g
   pub moves : IsOrdered f → FlowMoves f g
 
-same_numbers : (f g : TrueFlow) → g.unsent ≡ f.unsent → g.given ≡ f.given → g.acknowledged ≡ f.acknowledged → FlowGoes f g
+pub same_numbers : (f g : TrueFlow) → g.unsent ≡ f.unsent → g.given ≡ f.given → g.acknowledged ≡ f.acknowledged → FlowGoes f g
 same_numbers f g unsent given acknowledged = record {
   fits = λ h. record {
     unsent = subst (λ (u : Unsent). AllBytes u.messages) (sym unsent) h.unsent;

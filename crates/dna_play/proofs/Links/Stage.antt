@@ -1,9 +1,10 @@
 -- What holds of the links of an end of the player is kept by each thing that happens: they fit, what they owe goes with them, each DC names a link
 -- that is over, and what they sent is of the player.
 use Rattle.std.proofs.Common.{◌≡◌, ℕ, ◌+◌, ◌≤◌, true, Some, List, [], ◌∷◌, drop, suc, refl, ap, ◌∙◌, arith, ◌<◌, ◌&&◌, eqb, sym, subst, eq-eqb, ◌^◌}
-use Rattle.std.specs.Prelude.{slice_get, is_some}
+use Rattle.std.proofs.Common.{◌⊎◌, inl, inr}
+use Rattle.std.specs.Prelude.{slice_get, is_some, slice_set}
 use Rattle.dna_packet.specs.Nsp.{NspValue}
-use Rattle.dna_links.specs.Links.{LinkOf, LinkTruth, begun, changed, in_phase, freed}
+use Rattle.dna_links.specs.Links.{LinkOf, LinkTruth, begun, changed, in_phase, freed, with_flow}
 use Rattle.dna_links.specs.User.{LinkEventValue, opened, answered}
 use Rattle.dna_links.specs.Sending.{Sent}
 use Rattle.dna_links.specs.Arriving.{PartnerRule, called}
@@ -13,7 +14,7 @@ use Rattle.dna_links.specs.CutFlow.{IsOrdered}
 use Rattle.dna_links.specs.Captures.{given_address}
 use Rattle.dna_play.specs.LinkOwed as owing
 use Rattle.dna_play.specs.LinkOwed.{LinkOwed, LinksOwed, EndConfirm, LinkDebt, NoDebt, Owes, OwesConfirm, with_turn, with_debt, all_still_owed}
-use Rattle.dna_links.proofs.Runs.Sides.{all_pushed, all_set}
+use Rattle.dna_links.proofs.Runs.Sides.{all_pushed, all_set, at_set}
 use Rattle.dna_play.proofs.Once.Orderly.{IsHigher, higher}
 use Rattle.dna_links.proofs.Tables.Outcomes as outcomes
 use Rattle.dna_links.proofs.Tables.Outcomes.{UserDid, SentDid, ArrivedDid, IsFound, Opens, Accepts, Rejects, HandsIn, Delivers, Closes, OfNone, Stays}
@@ -32,7 +33,7 @@ use Rattle.dna_links.specs.LookUps.{is_at, is_called, is_calling, is_connected, 
 use Rattle.dna_links.specs.Pieces.{SEGSIZE}
 use Rattle.dna_play.proofs.Links.FlowDid.{segment_did}
 use Rattle.dna_play.proofs.Links.Goes.{Goes, flow_goes, ended_goes, answered_goes, connected_goes, runs_on, confirmed_goes, stays_as_it_is}
-use Rattle.dna_play.proofs.Links.Goes.{handed_goes, delivered_goes, acks_go, segment_goes, took_acks, took_segment}
+use Rattle.dna_play.proofs.Links.Goes.{handed_goes, delivered_goes, acks_go, segment_goes, took_acks, took_segment, FlowGoes}
 
 -- its addresses and its reason are words
 pub record IsSmall (confirm : EndConfirm) : Type 0 where
@@ -188,3 +189,27 @@ module _ (links : LinkList) (most : ℕ) (owed : LinksOwed) (h : LinkHolds links
         where
           more : (i : ℕ) → i + 1 ≡ suc i
           more i = omega arith
+
+  -- the flow of a link changes, and no more
+  pub flow_holds : (n : ℕ) (l : LinkOf TrueFlow) (f : TrueFlow) → slice_get links n ≡ Some l → FlowGoes l.flow f →
+      ((o : LinkOwed) → OwedFits l o → OwedFits (with_flow f l) o) → LinkHolds (slice_set links n (with_flow f l)) most owed
+  flow_holds n l f there changes same =
+      let goes = flow_goes most l f changes in
+      record {
+        fit = all_set (λ i k. LinkFits k) links n (with_flow f l) (goes.fits (h.fit n l there)) h.fit;
+        owes = λ i k o at owes. of_place i k o owes (at_set links n i (with_flow f l) k at);
+        confirms = λ i confirm at. let c = h.confirms i confirm at in record {
+          done = record {
+            given = c.done.given;
+            over = all_set (λ j m. IsPast confirm m) links n (with_flow f l) (goes.past confirm c.done.given (c.done.over n l there)) c.done.over;
+          };
+          small = c.small;
+          some = c.some;
+        };
+      }
+    where
+      of_place : (i : ℕ) (k : LinkOf TrueFlow) (o : LinkOwed) → slice_get owed.links i ≡ Some o →
+          ((i ≡ n) × (with_flow f l ≡ k)) ⊎ ((i ≡ n → ⊥) × (slice_get links i ≡ Some k)) → OwedFits k o
+      of_place i k o owes (inl e) = subst (λ (x : LinkOf TrueFlow). OwedFits x o) e.1
+          (same o (h.owes n l o there (ap (slice_get owed.links) (sym e.0) ∙ owes)))
+      of_place i k o owes (inr e) = h.owes i k o e.1 owes

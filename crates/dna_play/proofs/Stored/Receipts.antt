@@ -51,7 +51,7 @@ use Rattle.dna_play.proofs.Ends.DamagedUnits.{is_hurt}
 use Rattle.dna_play.proofs.Ends.ReceiptMakes.{damage_made, taken_is_data, within, unit_made, HasCome, NoneCame, OneCame}
 use Rattle.dna_play.proofs.Ends.ReceiptStage.{unit_stage, hurt_stage}
 use Rattle.dna_play.proofs.Ends.StationStage.{cut_of, left_owed}
-use Rattle.dna_play.proofs.Ends.Stage.{Stage, Staged}
+use Rattle.dna_play.proofs.Ends.Stage.{Stage}
 use Rattle.dna_play.proofs.Played.Runs.{line_makes}
 use Rattle.dna_play.proofs.Ends.ComesLined.{unit_line, damaged_line}
 use Rattle.dna_play.proofs.Stored.Timers.{none_behind}
@@ -61,7 +61,6 @@ use Rattle.dna_play.proofs.Stored.Stations.{station_with, sound_came, damage_cam
 use Rattle.dna_play.proofs.Stored.Deliveries.{with_links}
 use Rattle.dna_play.proofs.Stored.Segments.{left_half, left_end, Got, nothing_got, message_got}
 use Rattle.dna_play.proofs.Stored.Right.{IsRight, never_full, unit_right}
-use Rattle.dna_play.proofs.Ends.ComesStage.{received_staged}
 use Rattle.dna_play.specs.StepRule.{Asks, gives_address, IsHurt}
 use Rattle.std.proofs.lemmas.Bool.{and_parts}
 use Rattle.std.proofs.lemmas.Option.{same_Some}
@@ -128,9 +127,7 @@ module _ (own other : End) (now : KeptNow own other) where
     receipt_right : (value : StepValue) → Asks own other.half value → gives_address value ≡ false →
         IsRight own other value (keeping.receives (kept own) bytes read is_kept) (receiving.receives own other.half bytes read is_kept)
     receipt_right value asks no_address = subst (IsRight own other value (keeping.receives (kept own) bytes read is_kept)) (sym is_made) (record {
-      stage = subst Staged is_made (received_staged own other now.later bytes read is_kept (λ half e.
-          subst (λ (h : PlayHalf). Stage (after_receipt own read is_kept (after_record own h)))
-          (same_Some (left_half own x.left x.links) half (sym x.makes_it ∙ e)) x.stage));
+      stage = x.got.stage x.stage;
       asks = asks;
       room = never_full own other value no_address;
       same = ap₂ (λ (x : KeptStation) (y : KeptLinks). step x y (drop (length own.half.sent) (bytes_of own.half.sent))) x.after x.got.links
