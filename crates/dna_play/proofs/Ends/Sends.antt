@@ -1,8 +1,6 @@
 -- An end of the player that has a unit to send sends it: where what is said of the end holds, its node makes what is chosen.
-use Rattle.std.proofs.Common.{◌≡◌, ℕ, ◌+◌, ◌<◌, ◌^◌, Bool, true, false, Option, Some, None, List, length, Ok, refl, sym, ap, ◌∙◌, subst, arith}
-use Rattle.std.proofs.Common.{length-drop}
+use Rattle.std.proofs.Common.{◌≡◌, ℕ, ◌+◌, ◌<◌, ◌^◌, Bool, true, false, Option, Some, None, List, length, Ok, refl, sym, ap, ◌∙◌, arith, length-drop}
 use Rattle.std.specs.Prelude.{slice_get}
-use Rattle.std.proofs.lemmas.Option.{same_Some}
 use Rattle.std.proofs.lemmas.Bool.{eqb-false}
 use Rattle.ddcmp_msg.specs.Message.{MessageValue, Ack, Nak, Rep, Strt, Stack}
 use Rattle.ddcmp_msg.specs.Spelling.{spelling}
@@ -22,18 +20,18 @@ use Rattle.dna_links.specs.TrueFlow.{TrueFlow, Numbers}
 use Rattle.dna_links.specs.TrueLinks.{links_sent}
 use Rattle.dna_play.specs.NextSent.{LinkEnd, LinkChoice, Choice, SendStrt, SendStack, SendNak, SendRep, SendAgain, SendNew, SendAck, link_choice}
 use Rattle.dna_play.specs.NextSent.{choice}
-use Rattle.dna_play.specs.Compose.{no_flags, start_flags, address, packet_again, new_data, packet_with, link_message, message_of, data_with}
+use Rattle.dna_play.specs.Compose.{no_flags, start_flags, address, packet_again, new_data, packet_with, message_of, data_with}
 use Rattle.dna_play.specs.Player.{End, makes, station_of, links_of, link_ends_of}
 use Rattle.dna_play.specs.Player as player
 use Rattle.dna_station.proofs.Cut.Sending.{all_length, sending_refusal_same, first_same}
 use Rattle.dna_station.proofs.Cut.Node.{unlabelled_bodies}
-use Rattle.dna_play.proofs.Ends.StationPays.{IsChosen, ByStrt, ByStack, ByNak, ByRep, ByAgain, ByNew, ByAck, chosen, chosen_may}
+use Rattle.dna_play.proofs.Ends.StationPays.{IsChosen, ByStrt, ByStack, ByNak, ByRep, ByAgain, ByNew, ByAck, chosen, chosen_may, put_is}
 use Rattle.dna_links.proofs.Runs.Owners.{there_is}
 use Rattle.dna_play.proofs.Links.Choices.{LinksPay, IsAsked, OfTurn, OfConfirm, asked_of, asked_may}
 use Rattle.dna_play.proofs.Links.Fits.{turn_plain}
-use Rattle.dna_play.proofs.Ends.UnitLines.{IsOfBytes, PacketFits, packet_fits, MessageFits, confirm_fits, turn_message_fits}
-use Rattle.dna_play.proofs.Ends.SendMakes.{sent_left, is_made, again_after, sends_old, first_after, packet_of, packet_sent, sends_new}
-use Rattle.dna_play.proofs.Ends.SendMakes.{message_of_bytes}
+use Rattle.dna_play.proofs.Ends.UnitLines.{IsOfBytes, packet_fits, MessageFits, confirm_fits, turn_message_fits}
+use Rattle.dna_play.proofs.Ends.SendMakes.{sent_left, is_made, again_after, sends_old, first_after, packet_of, packet_sent, sends_new, put_of_bytes}
+use Rattle.dna_play.proofs.Ends.SendMakes.{data_of_bytes}
 use Rattle.dna_play.proofs.Ends.Stage.{Stage, Known}
 use Rattle.dna_play.proofs.Links.Confirms.{done_over}
 
@@ -113,7 +111,7 @@ module _ (own other : End) (h : Stage own) (theirs : Stage other) (known : Known
   goes_old : (c : Choice) (m : MessageValue) → choice k own.owed asked ≡ Some c → message_of c head k ends ≡ Some m →
       ((one : LinkChoice) → c ≡ SendNew one → ⊥) → gives_number station m ≡ false → Goes c
   goes_old c m is put never old =
-      let b = message_of_bytes station h.packets c head ends m (λ one e'. absurd (never one e')) put in
+      let b = put_of_bytes station h.packets c head ends m (λ one e'. absurd (never one e')) (put_is k head ends m c put) in
       GoesOld c m put b never (is_made own.half other.half m b (again_after own.half other.half m) (sends_old own.half other.half m (allowed c m is put) old))
 
   -- of a number that was given, and of one that was not
@@ -135,19 +133,12 @@ module _ (own other : End) (h : Stage own) (theirs : Stage other) (known : Known
       let f = message_fits one x.message x.is in
       let m = data_with k (packet_with head x.message) in
       let put : message_of (SendNew one) head k ends ≡ Some m = ap (new_data k head) x.put in
-      let b = message_of_bytes station h.packets (SendNew one) head ends m
-      (λ other_one e' message is'.
-      let same = same_Some x.message message
-      (sym x.put ∙ subst (λ (y : LinkChoice). link_message y ends ≡ Some message) (sym (same_new one other_one e')) is') in
-      subst (λ (y : NspValue). PacketFits (packet_with head y)) same (packet_fits head x.message f.bytes f.short)) put in
+      let b = data_of_bytes station (packet_with head x.message) (packet_fits head x.message f.bytes f.short) in
       GoesNew one x.message x.is m put b (packet_of own.half other.half head known.head_own known.head_peer known.node known.peer x.message) may.0 refl
       (packet_sent own.half other.half head known.head_own known.head_peer known.node known.peer x.message may)
       (is_made own.half other.half m b (first_after own.half other.half m (packet_of own.half other.half head known.head_own known.head_peer known.node known.peer x.message) may.0)
       (sends_new own.half other.half head known.head_own known.head_peer known.node known.peer m (allowed (SendNew one) m is put)
       (gives_as (packet_with head x.message) true new) x.message f may refl))
-    where
-      same_new : (a b : LinkChoice) → SendNew a ≡ SendNew b → a ≡ b
-      same_new a b e' = cc
 
   pub goes : (c : Choice) → choice k own.owed asked ≡ Some c → Goes c
   goes c is = goes_chosen k.state c is (chosen k own.owed asked c k.state is)
