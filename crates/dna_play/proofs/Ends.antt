@@ -15,12 +15,7 @@ pub mod Stage
 pub mod ReceiptStage
 pub mod User
 pub mod SendStage
-pub mod UserStages
-pub mod ComesStage
 -- messages that are whole go to the user
 pub mod UpsFollow
 -- records of what comes have lines
 pub mod ComesLined
--- noise, and each step
-pub mod NoiseStage
-pub mod StepStages

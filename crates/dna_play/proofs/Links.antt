@@ -12,8 +12,8 @@ pub mod Fits
 pub mod Made
 pub mod Phases
 -- all this is kept
-pub mod SegmentSent
+pub mod Goes
+pub mod Turns
 pub mod Stage
-pub mod UserDebts
 -- pieces that wait
 pub mod WaitingPieces

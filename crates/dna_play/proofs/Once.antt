@@ -9,6 +9,5 @@ pub mod Starts
 pub mod Meets
 -- so nodes with both rules make the same
 pub mod Checked
--- which node a message and a unit are from
-pub mod Nodes
+-- what a unit that was sent reads as
 pub mod Units

@@ -20,7 +20,6 @@ pub mod Few
 pub mod FewRecords
 -- the next step goes by its rule
 pub mod Stages
-pub mod StepRuled
 pub mod Ruled
 -- what was sent stays
 pub mod SentGrows

@@ -5,7 +5,8 @@ pub mod LiveEnds
 pub mod LiveLinks
 -- what is known when a step is made
 pub mod Now
--- each step is the same of both: timers, the user and his messages
+-- each step goes by its rule, keeps what holds, and is the same of both: timers, the user and his messages
+pub mod Right
 pub mod Timers
 pub mod Made
 pub mod Deliveries
@@ -20,7 +21,6 @@ pub mod Opened
 pub mod LinkComes
 pub mod Segments
 pub mod Receipts
-pub mod Turns
 pub mod Sends
 -- so both play a script to the same captures
 pub mod Steps

@@ -24,7 +24,7 @@ by_its_rule text r stop line h once s =
     let fits : IsScript (with_step r.script s.step) = (one_more text r.come s.later r.script s.step h.read s.few s.fits s.spelled).fits in
     let same : kept_plays_step (kept_pair so_far) s.step ≡ Err stop =
     ap (λ (p : KeptPlayed). kept_plays_step p.pair s.step) found.1.keeps ∙ s.stops in
-    let stops : plays_step so_far s.step ≡ Err stop = stops_too r.script read.node_a read.node_b read.few so_far found.1.makes once s.step stop s.fits
+    let stops : plays_step so_far s.step ≡ Err stop = stops_too r.script read so_far found.1.makes once s.step stop s.fits
     same in
     record {
       so_far = so_far;

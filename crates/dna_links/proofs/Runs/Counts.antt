@@ -99,7 +99,7 @@ module _ (s : Links) where
       deliveries made.links.links ≡ deliveries s.links
   sent_count m made sound (OfNone none) = refl
   sent_count m made sound (Stays number link none there) = refl
-  sent_count m made sound (EndsCalled far number link none found) = set_same_count s.links number link (ended true_flows link) found.there refl
+  sent_count m made sound (EndsCalled far reason number link none is found) = set_same_count s.links number link (ended true_flows link) found.there refl
   sent_count m made sound (Segment segment number link sent is found run does) =
       set_same_count s.links number link (with_flow sent.flow link) found.there
       (segment_sent link.flow (sound number link found.there) link.segsize segment sent does).sends.delivered
@@ -110,8 +110,8 @@ module _ (s : Links) where
   pub arrived_count : (m : NspValue) (truth : LinkTruth Numbers) (left : Links) → ArrivedDid true_flows of_partner s m truth left →
       deliveries left.links ≡ deliveries s.links
   arrived_count m truth left Ignores = refl
-  arrived_count m truth left (Begins far segsize none) = pushed_count s.links (called true_flows of_partner far segsize truth.tag) refl
-  arrived_count m truth left (Confirms own far segsize number link found for) =
+  arrived_count m truth left (Begins far segsize is none) = pushed_count s.links (called true_flows of_partner far segsize truth.tag) refl
+  arrived_count m truth left (Confirms own far segsize number link is found for) =
       set_same_count s.links number link (confirmed true_flows of_partner far segsize truth.tag link) found.there refl
   arrived_count m truth left (Ends test number link found) = set_same_count s.links number link (ended true_flows link) found.there refl
   arrived_count m truth left (TakesSegment own far segment number link is found pair) =

@@ -143,7 +143,7 @@ module _ (events : List LinkEventValue) (s : Links) (o : AreOwned events s.links
       AreOwned events made.links.links
   sent_owned m made sound (OfNone none) = o
   sent_owned m made sound (Stays number link none there) = o
-  sent_owned m made sound (EndsCalled far number link none found) =
+  sent_owned m made sound (EndsCalled far reason number link none is found) =
       one_owned number link (ended true_flows link) found.there refl refl refl (λ c. absurd cc) (λ live. absurd cc)
   sent_owned m made sound (Segment segment number link sent is found run does) =
       let t = (segment_sent link.flow (sound number link found.there) link.segsize segment sent does).sends in
@@ -157,13 +157,13 @@ module _ (events : List LinkEventValue) (s : Links) (o : AreOwned events s.links
   pub arrived_owned : (m : NspValue) (truth : LinkTruth Numbers) (left : Links) → ArrivedDid true_flows of_partner s m truth left →
       AreOwned events left.links
   arrived_owned m truth left Ignores = o
-  arrived_owned m truth left (Begins far segsize none) =
+  arrived_owned m truth left (Begins far segsize is none) =
       let l = called true_flows of_partner far segsize truth.tag in
       owned_links (s.links ++ l ∷ []) (let e = length-append s.links (l ∷ []) in omega arith)
       (all_pushed (λ (i : ℕ) (l : LinkOf TrueFlow). IsOwned events (o.place_of i) l) s.links l
       (subst (λ (p : Option ℕ). IsOwned events p l) (sym place_beyond)
       (record { read = record { handed = refl; up = refl }; holds = refl; called = λ c. refl; fresh = λ live none. refl })) o.owned)
-  arrived_owned m truth left (Confirms own far segsize number link found for) =
+  arrived_owned m truth left (Confirms own far segsize number link is found for) =
       let calling = (and_parts (is_calling link.port.phase) (is_at link.port.own own) found.passed).0 in
       one_owned number link (confirmed true_flows of_partner far segsize truth.tag link) found.there refl refl refl (λ c. absurd cc)
       (λ live none. (o.owned number link found.there).fresh (calling_live link.port.phase calling) none)

@@ -216,7 +216,7 @@ module _ (own other : LinkSide) (h : IsSoundSide own other) (theirs : IsSoundSid
       (other_sent link.flow (h.ends number link there).flow) refl (λ c. c) (grows_same own.links.links) there
       (only_same number link there)
       (λ x e. let t = ap has_numbers e in absurd cc) (no_words packet (truth_of true_flows number link (flow.sends_other link.flow)) none)
-  message_sent packet made (EndsCalled far number link none found) =
+  message_sent packet made (EndsCalled far reason number link none is found) =
       changed_sent packet (flow.sends_other link.flow) number link (ended true_flows link) found.there
       (other_sent link.flow (h.ends number link found.there).flow) refl (λ c. absurd cc)
       (λ x e. let t = ap has_numbers e in absurd cc) (no_words packet (truth_of true_flows number link (flow.sends_other link.flow)) none)
@@ -302,14 +302,14 @@ module _ (own other : LinkSide) (h : IsSoundSide own other) (theirs : IsSoundSid
 
   pub message_kept : (left : Links) → ArrivedDid true_flows of_partner own.links u.packet.message u.truth left → StaySound (keeps own left k) other
   message_kept left Ignores = nothing_kept own other h theirs k (Some u) ahead there
-  message_kept left (Begins far segsize none) =
+  message_kept left (Begins far segsize is none) =
       let l = called true_flows of_partner far segsize u.truth.tag in
       after_keeping own other h theirs k (Some u) ahead there (begun l own.links)
       (grows_pushed own.links.links own.links.links l (grows_same own.links.links))
       (all_pushed (λ (i : ℕ) (l : LinkOf TrueFlow). IsSoundEnd own.sent other.sent (k + 1) other.links.links i l) own.links.links l
       (end_new (keeps own own.links k) other (none_kept own other h theirs k (Some u) ahead there) (length own.links.links) l (omega arith) refl
       (λ c. absurd cc) (sender_there u.truth.tag.link refl)) now)
-  message_kept left (Confirms address far segsize number link found for) =
+  message_kept left (Confirms address far segsize number link is found for) =
       one_kept number link (confirmed true_flows of_partner far segsize u.truth.tag link) found.there refl
       (confirmed_sound far segsize number link found.there (and_parts (is_calling link.port.phase) (is_at link.port.own address) found.passed).0)
   message_kept left (Ends test number link found) =

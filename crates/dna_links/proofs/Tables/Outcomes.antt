@@ -1,6 +1,6 @@
 -- What each table of the links comes to, over any flow: what is left of the links is one of a few things.
 use Rattle.std.proofs.Common.{◌≡◌, ℕ, zero, suc, ◌+◌, ◌<◌, Bool, true, false, not, ◌==◌, nat_lt, cond, Option, Some, None, List, [], ◌∷◌, length}
-use Rattle.std.proofs.Common.{Result, Ok, Err, refl, ap, ◌∙◌, subst, arith, ltb-true, ltb-false, position, one-add}
+use Rattle.std.proofs.Common.{Result, Ok, Err, refl, ap, ◌∙◌, subst, arith, eqb-true, ltb-true, ltb-false, position, one-add}
 use Rattle.std.specs.Prelude.{slice_get}
 use Rattle.std.specs.List.{prefix_len}
 use Rattle.std.proofs.lemmas.Option.{cond_some, slice_get_within}
@@ -29,6 +29,12 @@ abbrev pub has_numbers : NspValue → Bool
 has_numbers (DataSegment segment) = true
 has_numbers (DataAck dst src acks) = true
 has_numbers m = false
+
+-- a CI or a CC with this source and this SEGSIZE
+abbrev pub Connects : NspValue → (src segsize : ℕ) → Type 0
+Connects (ConnectInitiate retransmitted src services info segsize user_data) own size = (src ≡ own) × (segsize ≡ size)
+Connects (ConnectConfirm dst src services info segsize user_data) own size = (src ≡ own) × (segsize ≡ size)
+Connects m own size = ⊥
 
 prefix_passes : {X : Type 0} (test : X → Bool) (xs : List X) (x : X) → slice_get xs (prefix_len (λ (y : X). not (test y)) xs) ≡ Some x → test x ≡ true
 prefix_passes test [] x at = absurd cc
@@ -179,7 +185,8 @@ module _ {D K : Type 0} (flows : Flows D K) where
     OfNone : has_numbers m ≡ false → SentDid s m (of_no_link flows s)
     Stays : (number : ℕ) (link : LinkOf D) → has_numbers m ≡ false → slice_get s.links number ≡ Some link →
         SentDid s m (unchanged flows s number link)
-    EndsCalled : (far number : ℕ) (link : LinkOf D) → has_numbers m ≡ false → IsFound (CalledBy far) s number link →
+    EndsCalled : (far reason number : ℕ) (link : LinkOf D) → has_numbers m ≡ false → m ≡ DisconnectConfirm far 0 reason →
+        IsFound (CalledBy far) s number link →
         SentDid s m (ending flows s number link)
     Segment : (segment : SegmentValue) (number : ℕ) (link : LinkOf D) (sent : Sending D K) → m ≡ DataSegment segment →
         IsFound (TheLink segment.srcaddr segment.dstaddr) s number link →
@@ -222,20 +229,21 @@ module _ {D K : Type 0} (flows : Flows D K) where
         (λ number link found e. let c = checked _ _ _ left e in
         carries_did m number link (sends link) (λ sent is. d number link sent found c.0 is) c.1)
 
-    called_ends : (m : NspValue) (dst : ℕ) (r : Sent D K) → has_numbers m ≡ false →
-        with_link (CalledBy dst) s (of_no_link flows s) (λ number link. ending flows s number link) ≡ r → SentDid s m r
-    called_ends m dst r none e =
+    called_ends : (dst src reason : ℕ) (r : Sent D K) → src ≡ 0 →
+        with_link (CalledBy dst) s (of_no_link flows s) (λ number link. ending flows s number link) ≡ r → SentDid s (DisconnectConfirm dst src reason) r
+    called_ends dst src reason r none e =
         looked (CalledBy dst) s (of_no_link flows s) (λ number link. ending flows s number link) r e
-        (λ missing e. subst (λ (x : Sent D K). SentDid s m x) e (OfNone none))
-        (λ number link found e. subst (λ (x : Sent D K). SentDid s m x) e (EndsCalled dst number link none found))
+        (λ missing e. subst (λ (x : Sent D K). SentDid s (DisconnectConfirm dst src reason) x) e (OfNone refl))
+        (λ number link found e. subst (λ (x : Sent D K). SentDid s (DisconnectConfirm dst src reason) x) e
+        (EndsCalled dst reason number link refl (ap (λ (n : ℕ). DisconnectConfirm dst n reason) none) found))
 
-    end_did : (m : NspValue) (src dst : ℕ) → has_numbers m ≡ false → SentDid s m (confirms_end flows s src dst)
-    end_did m src dst none = go (src == 0)
+    end_did : (dst src reason : ℕ) → SentDid s (DisconnectConfirm dst src reason) (confirms_end flows s src dst)
+    end_did dst src reason = go (src == 0) refl
       where
-        go : (b : Bool) → SentDid s m
+        go : (b : Bool) → (src == 0) ≡ b → SentDid s (DisconnectConfirm dst src reason)
             (cond b (with_link (CalledBy dst) s (of_no_link flows s) (λ number link. ending flows s number link)) (of_no_link flows s))
-        go true = called_ends m dst _ none refl
-        go false = OfNone none
+        go true e = called_ends dst src reason _ (eqb-true src 0 e) refl
+        go false e = OfNone refl
 
     message_did : (m : NspValue) → message_sent flows s m ≡ Ok left → SentDid s m left
     message_did (ConnectInitiate retransmitted src services info segsize user_data) e = phase_did _ (OpenedAt src) is_calling refl e
@@ -246,7 +254,7 @@ module _ {D K : Type 0} (flows : Flows D K) where
     message_did (DisconnectInitiate dst src reason user_data) e = phase_did _ (TheLink src dst) is_disconnecting refl e
     message_did (DisconnectConfirm dst src reason) e =
         looked (TheLink src dst) s (Ok (confirms_end flows s src dst)) (λ number link. Err LinkState) (Ok left) e
-        (λ missing e. did_send (DisconnectConfirm dst src reason) _ (end_did (DisconnectConfirm dst src reason) src dst refl) e)
+        (λ missing e. did_send (DisconnectConfirm dst src reason) _ (end_did dst src reason) e)
         (λ number link found e. absurd cc)
     message_did (DataSegment segment) e =
         run_did (DataSegment segment) segment.srcaddr segment.dstaddr (segment_of flows segment)
@@ -265,8 +273,8 @@ module _ {D K : Type 0} (flows : Flows D K) where
 
   pub data ArrivedDid (rule : PartnerRule) (s : LinksOf D) (m : NspValue) (truth : LinkTruth K) : LinksOf D → Type 0 where
     Ignores : ArrivedDid rule s m truth s
-    Begins : (far segsize : ℕ) → number_of (LiveTo far) s ≡ None → ArrivedDid rule s m truth (begun (called flows rule far segsize truth.tag) s)
-    Confirms : (own far segsize number : ℕ) (link : LinkOf D) → IsFound (CallingAt own) s number link → rule (is_for number truth.tag) ≡ true →
+    Begins : (far segsize : ℕ) → Connects m far segsize → number_of (LiveTo far) s ≡ None → ArrivedDid rule s m truth (begun (called flows rule far segsize truth.tag) s)
+    Confirms : (own far segsize number : ℕ) (link : LinkOf D) → Connects m far segsize → IsFound (CallingAt own) s number link → rule (is_for number truth.tag) ≡ true →
         ArrivedDid rule s m truth (changed number (confirmed flows rule far segsize truth.tag link) s)
     Ends : (test : LinkTest) (number : ℕ) (link : LinkOf D) → IsFound test s number link →
         ArrivedDid rule s m truth (changed number (ended flows link) s)
@@ -314,7 +322,7 @@ module _ {D K : Type 0} (flows : Flows D K) where
     came_did : (m : NspValue) → message_arrived flows rule s m truth ≡ Ok left → ArrivedDid rule s m truth left
     came_did (ConnectInitiate retransmitted src services info segsize user_data) e =
         looked (LiveTo src) s (Ok (begun (called flows rule src segsize truth.tag) s)) (λ number link. Ok s) (Ok left) e
-        (λ missing e. did_arrive _ _ (Begins src segsize missing) e) (λ number link found e. did_arrive _ _ Ignores e)
+        (λ missing e. did_arrive _ _ (Begins src segsize (refl, refl) missing) e) (λ number link found e. did_arrive _ _ Ignores e)
     came_did (ConnectAck dst) e = did_arrive _ _ Ignores e
     came_did (NoOperation rest) e = did_arrive _ _ Ignores e
     came_did (ConnectConfirm dst src services info segsize user_data) e =
@@ -322,7 +330,7 @@ module _ {D K : Type 0} (flows : Flows D K) where
         (λ number link. check (rule (is_for number truth.tag)) CrossedLink
         (Ok (changed number (confirmed flows rule src segsize truth.tag link) s))) (Ok left) e
         (λ missing e. did_arrive _ _ Ignores e)
-        (λ number link found e. let c = checked _ _ _ left e in did_arrive _ _ (Confirms dst src segsize number link found c.0) c.1)
+        (λ number link found e. let c = checked _ _ _ left e in did_arrive _ _ (Confirms dst src segsize number link (refl, refl) found c.0) c.1)
     came_did (DisconnectInitiate dst src reason user_data) e = did_arrive _ _ (ends_did _ dst src _ refl) e
     came_did (DisconnectConfirm dst src reason) e = did_arrive _ _ (ends_did _ dst src _ refl) e
     came_did (DataSegment segment) e =

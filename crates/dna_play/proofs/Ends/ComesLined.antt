@@ -1,6 +1,5 @@
 -- The record of what comes to an end of the player has a line: of a unit on the line to it, as it was sent or damaged.
-use Rattle.std.proofs.Common.{◌≡◌, ℕ, zero, suc, ◌<◌, ◌≤◌, ◌^◌, Bool, true, false, ◌&&◌, Some, List, [], ◌∷◌, length, length-set}
-use Rattle.std.proofs.Common.{leb-true, arith}
+use Rattle.std.proofs.Common.{◌≡◌, ℕ, zero, suc, ◌<◌, ◌≤◌, ◌^◌, Bool, true, false, ◌&&◌, Some, List, [], ◌∷◌, length, length-set, leb-true, arith}
 use Rattle.std.specs.Prelude.{slice_get, slice_index, slice_set, bit_xor, nat_lt, nat_le}
 use Rattle.std.proofs.lemmas.Bool.{and_parts}
 use Rattle.std.proofs.lemmas.Nat.{xor_of_8}

@@ -1,6 +1,6 @@
 -- A unit that is damaged by a step of a script shows it, and its bytes are no longer those that were sent.
 use Rattle.std.proofs.Common.{◌≡◌, ◌≢◌, ℕ, zero, suc, ◌<◌, ◌≤◌, ◌^◌, Bool, true, false, ◌&&◌, List, [], ◌∷◌, ◌++◌, length, refl, sym, ap, ◌∙◌, subst}
-use Rattle.std.proofs.Common.{arith, ltb-true, leb-true, ◌⊎◌, inl, inr}
+use Rattle.std.proofs.Common.{arith, ltb-true, leb-true, ◌⊎◌, inl, inr, nat_lt, nat_le, lt-ltb, le-leb, ap₂}
 use Rattle.std.specs.Prelude.{slice_index, slice_set, bytes_eq, bit_xor, nat_lt, nat_le}
 use Rattle.std.specs.Int.Bits.{xor_self, xor_zero_l, xor_assoc}
 use Rattle.std.proofs.lemmas.Bool.{and_parts}
@@ -15,10 +15,10 @@ use Rattle.ddcmp_msg.specs.ReadingRule.{IsReading}
 use Rattle.dna_play.specs.HasLine.{are_bytes}
 use Rattle.dna_station.specs.Book.{ArrivalValue}
 use Rattle.dna_station.specs.Book as book
-use Rattle.dna_play.specs.Player.{End}
-use Rattle.dna_play.specs.Receipt.{can_keep, is_damage, damaged}
-use Rattle.dna_play.specs.StepRule.{IsNoise}
+use Rattle.dna_play.specs.Receipt.{is_damage, damaged}
+use Rattle.dna_play.specs.StepRule.{IsNoise, IsHurt}
 use Rattle.dna_play.proofs.Played.PlayLines.{bytes_told}
+use Rattle.dna_node.specs.Layers.{LayersUnit}
 
 -- ---- what a block check shows: the header is damaged, or the data
 
@@ -37,11 +37,6 @@ arrival_of OfData = book.DataBad
 pub damage_of : (bytes : List ℕ) → IsNoise bytes → (d : ShownDamage) × (reading bytes ≡ read_of d)
 damage_of bytes (inl e) = (OfHeader, e)
 damage_of bytes (inr e) = (OfData, e)
-
--- it is not kept
-pub never_kept : (own : End) (d : ShownDamage) → can_keep own (read_of d) ≡ false
-never_kept own OfHeader = refl
-never_kept own OfData = refl
 
 -- a list about one of its places
 record SplitAt (bytes : List ℕ) (place : ℕ) : Type 0 where
@@ -110,3 +105,15 @@ damage_is_seen m bytes place value are e d =
         bytes_eq (damaged place value bytes) bytes ≡ false
     not_same true e never = absurd (never ((bytes_eq-Decides (damaged place value bytes) bytes).0 e))
     not_same false e never = e
+
+-- what the rule of a step says of damage, as a test
+pub hurt_of : (place value : ℕ) (unit : LayersUnit) → is_damage place value unit.bytes ≡ true → IsHurt place value unit
+hurt_of place value unit is =
+    let p = and_parts (nat_lt place (length unit.bytes)) (nat_le 1 value && nat_le value 255) is in let q =
+    and_parts (nat_le 1 value) (nat_le value 255) p.1 in
+    record { inside = ltb-true place (length unit.bytes) p.0; least = leb-true 1 value q.0; most = leb-true value 255 q.1 }
+
+pub is_hurt : (place value : ℕ) (unit : LayersUnit) → IsHurt place value unit → is_damage place value unit.bytes ≡ true
+is_hurt place value unit hurt =
+    ap₂ (λ (b c : Bool). b && c) (lt-ltb place (length unit.bytes) hurt.inside)
+    (ap₂ (λ (b c : Bool). b && c) (le-leb 1 value hurt.least) (le-leb value 255 hurt.most))

@@ -1,6 +1,6 @@
 -- What comes to a node of the player it takes: a unit as it was sent, with its packet where that can be taken, and a damaged one.
 use Rattle.std.proofs.Common.{◌≡◌, ℕ, ◌+◌, ◌≤◌, Bool, true, false, ◌&&◌, cond, Option, Some, None, option_map, List, Result, Ok, Err, refl, ap, ap₂}
-use Rattle.std.proofs.Common.{◌∙◌, le-ltb, eq-eqb}
+use Rattle.std.proofs.Common.{◌∙◌, le-ltb, eq-eqb, subst, sym}
 use Rattle.std.specs.Prelude.{slice_get, bytes_eq}
 use Rattle.std.proofs.lemmas.Bool.{and_parts}
 use Rattle.std.proofs.lemmas.Option.{slice_get-map}
@@ -8,6 +8,7 @@ use Rattle.std.proofs.lemmas.Slice.Eq.{bytes_eq-Decides}
 use Rattle.two_nodes.specs.Nodes.{Made, stepped, concluded, read, advance}
 use Rattle.two_nodes.specs.Cutting.{cut_half}
 use Rattle.ddcmp_msg.specs.Message.{MessageValue}
+use Rattle.ddcmp_msg.specs.Reading as read_as
 use Rattle.ddcmp_msg.specs.Reading.{ReadingValue, reading}
 use Rattle.dna_packet.specs.Nsp.{NspValue, DataSegment, LinkService, DataAck, OtherDataAck, ConnectAck, NoOperation, ConnectInitiate, ConnectConfirm}
 use Rattle.dna_packet.specs.Nsp.{DisconnectInitiate, DisconnectConfirm}
@@ -20,7 +21,7 @@ use Rattle.dna_station.specs.declared.refusal.StationRefusal.{StationRefusal}
 use Rattle.dna_station.specs.declared.refusal.StepRefusal.{StepRefusal}
 use Rattle.dna_station.specs.declared.refusal.StepRefusal.TheVariants.{HintOrder}
 use Rattle.dna_station.specs.Table.{row}
-use Rattle.dna_station.specs.Book.{ArrivalValue, Sound, keep_refusal, has_packet, num_of}
+use Rattle.dna_station.specs.Book.{ArrivalValue, Sound, keep_refusal, has_packet, num_of, body_of}
 use Rattle.dna_station.specs.StationBook.{arrival_refusal, after_arrival}
 use Rattle.dna_station.specs.Bounds.{IsBounded, IsWithin}
 use Rattle.dna_station.specs.WireNode.{unlabelled}
@@ -28,7 +29,7 @@ use Rattle.dna_station.specs.WireStation.{StationVariables}
 use Rattle.dna_station.specs.WireBook.{wire_is_next}
 use Rattle.dna_station.specs.Line.{coming_by}
 use Rattle.dna_station.specs.Machine.{met, comes, receives, unless_refused}
-use Rattle.dna_links.specs.Links.{LinkOf, LinkTruth, check, on_link, at_number, number_of, with_link}
+use Rattle.dna_links.specs.Links.{LinkOf, LinkTruth, check, on_link, at_number, number_of, with_link, Carried}
 use Rattle.dna_links.specs.Arriving.{of_anyone, message_arrived}
 use Rattle.dna_links.specs.TrueFlow.{TrueFlow, Numbers, true_flows}
 use Rattle.dna_links.specs.TrueLinks.{Links, links_arrived}
@@ -39,17 +40,25 @@ use Rattle.dna_node.specs.Layers.{unit_of_station}
 use Rattle.dna_play.specs.Owed.{can_take}
 use Rattle.dna_play.specs.Player.{end_step, variables_of}
 use Rattle.dna_station.proofs.Cut.Arriving.{arrival_refusal_same}
-use Rattle.dna_node.proofs.OnTop.{IsMet, NotKept, KeptNone, KeptOne}
 use Rattle.dna_play.proofs.Played.Steps.{PlayHalf}
 use Rattle.dna_station.proofs.Bounds.Numbers.{is_data}
 use Rattle.dna_play.proofs.Ends.DamagedUnits.{ShownDamage, OfHeader, OfData, read_of, arrival_of}
 use Rattle.dna_play.proofs.Once.Checked.{row_is_data, IsReady, meets_it}
+use Rattle.dna_play.specs.Receipt.{carried, carried_in}
+use Rattle.dna_node.specs.Content.{content}
+use Rattle.dna_node.proofs.LayersRead.{packet_in}
 
 -- a packet that can be taken is of data
 pub taken_is_data : {L : Type 0} (k : StationVariables L) (m : MessageValue) → can_take k m ≡ true → is_data m ≡ true
 taken_is_data k m e = row_is_data k.state m (and_parts (has_packet (row k.state m).effects) (wire_is_next k (num_of m)) e).0
 
 -- ---- the links
+
+-- what they make of the message that has come with a unit, if one was kept
+pub data HasCome (s : Links) (unit : LayersUnit) (kept : Bool) : Option NspValue → Links → Type 0 where
+  NoneCame : HasCome s unit kept None s
+  OneCame : (u : SentMessage) (left : Links) → kept ≡ true → unit.known.carried ≡ Some u → links_arrived of_anyone s u.packet u.truth ≡ Ok left →
+      HasCome s unit kept (Some u.packet.message) left
 
 abbrev pub Takes : Result Links LinkRefusal → Type 0
 Takes r = (left : Links) × (r ≡ Ok left)
@@ -132,7 +141,8 @@ module _ (own other : PlayHalf) (hint : ℕ) (unit : LayersUnit) (there : slice_
 
   module _ (h : IsReady own other) (bounded : IsBounded (cut_half stations own) (cut_half stations other))
       (from : is_data unit.message ≡ true → (u : SentMessage) → unit.known.carried ≡ Some u → (u.packet.src ≡ s.links.peer) ×
-      (u.packet.dst ≡ s.links.node)) where
+      (u.packet.dst ≡ s.links.node))
+      (reads : is_data unit.message ≡ true → content (body_of unit.message) ≡ Ok (packet_in unit.known.carried)) where
     pub within : IsWithin s.station unit.message unit.known.station
     within = bounded.within hint (unit_of_station unit) (slice_get-map unit_of_station other.sent hint ∙ ap (option_map unit_of_station) there) ahead
         (meets_it own other h hint unit there)
@@ -150,18 +160,18 @@ module _ (own other : PlayHalf) (hint : ℕ) (unit : LayersUnit) (there : slice_
     -- what becomes of it, with the links after it
     pub record UnitMade (kept : Bool) : Type 0 where
       pub links : Links
-      pub met_as : IsMet by_bytes s.links unit.known.carried kept links
+      pub came : HasCome s.links unit kept (carried kept (read_as.Sound unit.message)) links
       pub makes_it : advance end_step own other (Received hint kept unit.bytes) ≡ Made (came_left (Sound unit.message unit.known) kept links)
 
     abbrev after : Bool → Layers
     after kept = record s { station = after_arrival s.station (Sound unit.message unit.known.station) kept }
 
     made_with : (kept : Bool) → (kept ≡ true → can_take (variables_of own) unit.message ≡ true) → (links : Links) →
-        IsMet by_bytes s.links unit.known.carried kept links →
+        HasCome s.links unit kept (carried kept (read_as.Sound unit.message)) links →
         cond kept (keeps by_bytes (after kept) unit.known.carried) (Ok (after kept)) ≡ Ok (record (after kept) { links = links }) → UnitMade kept
-    made_with kept can links met_it kept_it = record {
+    made_with kept can links came kept_it = record {
       links = links;
-      met_as = met_it;
+      came = came;
       makes_it = is_made kept unit.bytes _
           (ap (λ (b : Bool). comes (layers_machine by_bytes) own.state (hint + 1) kept (coming_by b unit (reading unit.bytes)))
           ((bytes_eq-Decides unit.bytes unit.bytes).1 refl)
@@ -171,14 +181,23 @@ module _ (own other : PlayHalf) (hint : ℕ) (unit : LayersUnit) (there : slice_
           ∙ ap (met own.state (hint + 1)) kept_it);
     }
 
+    -- with what is read of its packet
+    read_came : (o : Option SentMessage) → is_data unit.message ≡ true → unit.known.carried ≡ o → (links : Links) →
+        HasCome s.links unit true (carried_in (Ok (packet_in o))) links → HasCome s.links unit true (carried true (read_as.Sound unit.message)) links
+    read_came o d is links came = subst (λ (r : Result (Option Carried) StepRefusal). HasCome s.links unit true (carried_in r) links)
+        (sym (reads d ∙ ap (λ (x : Option SentMessage). Ok (packet_in x)) is)) came
+
     by_carried : (kept : Bool) → (kept ≡ true → can_take (variables_of own) unit.message ≡ true) → (o : Option SentMessage) → unit.known.carried ≡ o →
         UnitMade kept
-    by_carried false can o is = made_with false can s.links NotKept refl
-    by_carried true can None is = made_with true can s.links (KeptNone is) (ap (keeps by_bytes (after true)) is)
+    by_carried false can o is = made_with false can s.links NoneCame refl
+    by_carried true can None is = made_with true can s.links
+        (read_came None (taken_is_data (variables_of own) unit.message (can refl)) is s.links NoneCame) (ap (keeps by_bytes (after true)) is)
     by_carried true can (Some u) is =
-        let f = from (taken_is_data (variables_of own) unit.message (can refl)) u is in
+        let d = taken_is_data (variables_of own) unit.message (can refl) in
+        let f = from d u is in
         let l = links_take s.links u f.0 f.1 in
-        made_with true can l.0 (KeptOne u l.0 is l.1) (ap (keeps by_bytes (after true)) is ∙ ap (with_links (after true)) l.1)
+        made_with true can l.0 (read_came (Some u) d is l.0 (OneCame u l.0 refl is l.1))
+        (ap (keeps by_bytes (after true)) is ∙ ap (with_links (after true)) l.1)
 
     -- as it was sent, kept only where its packet can be taken
     pub unit_made : (kept : Bool) → (kept ≡ true → can_take (variables_of own) unit.message ≡ true) → UnitMade kept

@@ -1,6 +1,6 @@
 -- What an end of the player chooses to send its node makes: a unit that is put together is sent.
 use Rattle.std.proofs.Common.{◌≡◌, ℕ, zero, suc, ◌+◌, ◌<◌, ◌^◌, Bool, true, false, ◌&&◌, cond, Option, Some, None, List, [], ◌∷◌, Result, Ok, refl}
-use Rattle.std.proofs.Common.{sym, ap, ap₂, ◌∙◌, subst, arith, eq-eqb}
+use Rattle.std.proofs.Common.{sym, ap, ap₂, ◌∙◌, arith, eq-eqb}
 use Rattle.std.specs.Prelude.{slice_get}
 use Rattle.std.proofs.lemmas.Option.{same_Some}
 use Rattle.two_nodes.specs.Nodes.{answered, advance}
@@ -29,14 +29,15 @@ use Rattle.dna_links.specs.TrueLinks.{links_sent}
 use Rattle.dna_node.specs.Rules.{by_bytes}
 use Rattle.dna_node.specs.Content.{content}
 use Rattle.dna_node.specs.Layers.{Layers, LayersTruth, first_sent, with_message, sends_first, sends_again, sends_on, layers_machine}
-use Rattle.dna_play.specs.NextSent.{LinkEnd, LinkChoice, Choice, SendStrt, SendStack, SendNak, SendRep, SendAgain, SendNew, SendAck}
-use Rattle.dna_play.specs.Compose.{data_with, packet_again, new_data, packet_with, link_message, message_of}
+use Rattle.dna_play.specs.NextSent.{LinkEnd, LinkChoice, Choice, SendNew}
+use Rattle.dna_play.specs.Compose.{data_with, packet_with, link_message}
 use Rattle.dna_play.specs.Player.{end_step, made_half, makes}
 use Rattle.two_nodes.proofs.NumberedSteps.{slice_get-drop}
 use Rattle.dna_node.proofs.OnTop.{sent_by, sent_with}
 use Rattle.dna_play.proofs.Played.Steps.{PlayHalf}
 use Rattle.dna_play.proofs.Links.Pays.{MaySendIt}
 use Rattle.dna_play.proofs.Ends.UnitLines.{IsOfBytes, unit_line, composed_content, PacketFits, MessageFits}
+use Rattle.dna_play.proofs.Ends.StationPays.{IsPut, PutStrt, PutStack, PutNak, PutRep, PutAgain, PutNew, PutAck}
 
 module _ (own other : PlayHalf) where
   abbrev s : Layers
@@ -99,7 +100,7 @@ module _ (s : Station) where
   abbrev k : StationVariables (Unit {0})
   k = (cut (unlabelled s.packets) s).variables
 
-  data_of_bytes : (body : List ℕ) → PacketFits body → IsOfBytes (data_with k body)
+  pub data_of_bytes : (body : List ℕ) → PacketFits body → IsOfBytes (data_with k body)
   data_of_bytes body f = record { in_range = (f.some, f.most); resp = omega arith; num = omega arith; body = f.bytes }
 
   unlabelled_at : (packets : List (List ℕ)) (i : ℕ) (p : HeldPacket (Unit {0})) → slice_get (unlabelled packets) i ≡ Some p →
@@ -114,29 +115,13 @@ module _ (s : Station) where
       (unlabelled_at s.packets (s.acknowledged + k.ahead) packet (sym (slice_get-drop s.acknowledged k.ahead (unlabelled s.packets)) ∙ at))
 
   -- each message that is put together
-  pub message_of_bytes : PacketsFit s → (c : Choice) (head : Head) (links : List LinkEnd) (m : MessageValue) →
-      ((choice : LinkChoice) → c ≡ SendNew choice → (message : NspValue) → link_message choice links ≡ Some message →
-      PacketFits (packet_with head message)) →
-      message_of c head k links ≡ Some m → IsOfBytes m
-  message_of_bytes all SendStrt head links m new e =
-      subst IsOfBytes (same_Some _ m e) (record { in_range = tt; resp = omega arith; num = omega arith; body = refl })
-  message_of_bytes all SendStack head links m new e =
-      subst IsOfBytes (same_Some _ m e) (record { in_range = tt; resp = omega arith; num = omega arith; body = refl })
-  message_of_bytes all (SendNak reason) head links m new e =
-      subst IsOfBytes (same_Some _ m e) (record { in_range = tt; resp = omega arith; num = omega arith; body = refl })
-  message_of_bytes all SendRep head links m new e =
-      subst IsOfBytes (same_Some _ m e) (record { in_range = tt; resp = omega arith; num = omega arith; body = refl })
-  message_of_bytes all SendAgain head links m new e = go (slice_get k.held k.ahead) refl e
-    where
-      go : (o : Option (HeldPacket (Unit {0}))) → slice_get k.held k.ahead ≡ o → packet_again k o ≡ Some m → IsOfBytes m
-      go None at e = absurd cc
-      go (Some packet) at e = subst IsOfBytes (same_Some (data_with k packet.body) m e) (data_of_bytes packet.body (held_fits all packet at))
-  message_of_bytes all (SendNew choice) head links m new e = go (link_message choice links) refl e
-    where
-      go : (o : Option NspValue) → link_message choice links ≡ o → new_data k head o ≡ Some m → IsOfBytes m
-      go None is e = absurd cc
-      go (Some message) is e =
-          subst IsOfBytes (same_Some (data_with k (packet_with head message)) m e)
-          (data_of_bytes (packet_with head message) (new choice refl message is))
-  message_of_bytes all SendAck head links m new e =
-      subst IsOfBytes (same_Some _ m e) (record { in_range = tt; resp = omega arith; num = omega arith; body = refl })
+  pub put_of_bytes : PacketsFit s → (c : Choice) (head : Head) (links : List LinkEnd) (m : MessageValue) →
+      ((one : LinkChoice) → c ≡ SendNew one → (message : NspValue) → link_message one links ≡ Some message →
+      PacketFits (packet_with head message)) → IsPut k head links c m → IsOfBytes m
+  put_of_bytes all c head links m new (PutAgain packet there) = data_of_bytes packet.body (held_fits all packet there)
+  put_of_bytes all c head links m new (PutNew one message put) = data_of_bytes (packet_with head message) (new one refl message put)
+  put_of_bytes all c head links m new PutStrt = record { in_range = tt; resp = omega arith; num = omega arith; body = refl }
+  put_of_bytes all c head links m new PutStack = record { in_range = tt; resp = omega arith; num = omega arith; body = refl }
+  put_of_bytes all c head links m new (PutNak reason) = record { in_range = tt; resp = omega arith; num = omega arith; body = refl }
+  put_of_bytes all c head links m new PutRep = record { in_range = tt; resp = omega arith; num = omega arith; body = refl }
+  put_of_bytes all c head links m new PutAck = record { in_range = tt; resp = omega arith; num = omega arith; body = refl }

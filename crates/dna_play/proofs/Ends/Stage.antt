@@ -1,6 +1,6 @@
 -- What holds of an end of the player at any time of a script, with what is known of both in a run that is checked: all that it chooses it may
 -- send; and that it is kept by what its user does and by its timers.
-use Rattle.std.proofs.Common.{◌≡◌, ℕ, ◌<◌, ◌≤◌, ◌^◌, Option, Some, None, Ok, refl, sym, ap, ◌∙◌, subst, arith}
+use Rattle.std.proofs.Common.{◌≡◌, ℕ, ◌<◌, ◌≤◌, ◌^◌, Option, Some, Ok, sym, ap, ◌∙◌, subst, arith, Result}
 use Rattle.std.specs.Prelude.{slice_get}
 use Rattle.std.proofs.lemmas.Option.{same_Some}
 use Rattle.two_nodes.specs.Nodes.{stepped}
@@ -22,26 +22,25 @@ use Rattle.dna_links.specs.CutFlow.{IsOrdered, IsAnswered}
 use Rattle.dna_links.specs.Captures.{given_address}
 use Rattle.dna_links.specs.Runs.{SentMessage}
 use Rattle.dna_node.specs.Layers.{stations}
-use Rattle.dna_play.specs.Owed.{Debt, timer_debt}
-use Rattle.dna_play.specs.LinkOwed.{LinkOwed, InitiateTurn, ConfirmTurn, DisconnectTurn, retried, changed}
-use Rattle.dna_play.specs.Compose.{address}
+use Rattle.dna_play.specs.Owed.{Debt, timer_debt, OwesStrt}
+use Rattle.dna_play.specs.LinkOwed.{LinkOwed, InitiateTurn, ConfirmTurn, DisconnectTurn, retried, changed, LinkDebt}
 use Rattle.dna_play.specs.Player.{End, station_of, links_of, after_record, new_end}
 use Rattle.dna_play.specs.Player as player
-use Rattle.dna_play.specs.Stepped.{owing_more}
+use Rattle.dna_play.specs.Stepped.{owing_more, Stop, Stepped, links_owing_more}
 use Rattle.dna_play.proofs.Once.Orderly.{IsHigher, higher}
 use Rattle.dna_play.proofs.Played.Steps.{PlayHalf}
 use Rattle.dna_play.proofs.Once.Checked.{IsReady}
-use Rattle.dna_play.proofs.Ends.OwedPays.{timer_pays, none_owed}
+use Rattle.dna_play.proofs.Ends.OwedPays.{timer_pays, none_owed, debt_pays}
 use Rattle.dna_links.proofs.Tables.Outcomes.{user_did}
 use Rattle.dna_play.proofs.Once.Addresses.{LinkList, AreAddressed}
 use Rattle.dna_play.proofs.Links.Pays.{OwedFits}
 use Rattle.dna_play.proofs.Links.Fits.{EventFits, IsPlain}
 use Rattle.dna_play.proofs.Links.Owing.{turn_fits, ahead_owes}
-use Rattle.dna_play.proofs.Links.Confirms.{done_over}
 use Rattle.dna_play.proofs.Ends.SendMakes.{PacketsFit}
-use Rattle.dna_play.proofs.Ends.Sends.{IsSound}
 use Rattle.dna_play.proofs.Ends.StationStage.{StationPays, unchanged_stage, start_stage, halt_stage, event_packets}
-use Rattle.dna_play.proofs.Links.Stage.{LinkHolds, same_holds, user_holds, change_holds}
+use Rattle.dna_play.proofs.Links.Stage.{LinkHolds, same_holds, user_holds, change_holds, DebtHolds, debt_holds}
+use Rattle.dna_play.specs.Receipt.{passing}
+use Rattle.dna_play.proofs.Played.Cases.{AllOf}
 
 pub record Stage (e : End) : Type 0 where
   pub pays : StationPays (station_of e.half) e.owed
@@ -78,39 +77,6 @@ pub record Known (own other : End) : Type 0 where
   pub node : (links_of own.half).node ≡ own.half.state.head.own
   pub peer : (links_of own.half).peer ≡ own.half.state.head.peer
 
--- all that it chooses it may send
-pub sound_of : (own other : End) → Stage own → Stage other → Known own other → IsSound own
-sound_of own other h theirs known = record {
-  head_own = known.head_own;
-  head_peer = known.head_peer;
-  node = known.node;
-  peer = known.peer;
-  ordered = known.bounded.ordered;
-  pays = h.pays;
-  packets = h.packets;
-  links_pay = record {
-    fits = λ i l at. (h.links.fit i l at).shape;
-    owes = h.links.owes;
-    over = λ i confirm at. done_over (links_of own.half) own.addresses confirm (h.links.confirms i confirm at).done;
-  };
-  links_fit = h.links.fit;
-  numbers = known.numbers;
-  small = λ i l at. record { own = own_small i l at l.port.own refl; far = far_small i l at l.port.far refl };
-  confirms_small = λ i confirm at. (h.links.confirms i confirm at).small;
-  others = (links_of other.half).links;
-  most = own.addresses;
-  addressed = known.addressed;
-}
-  where
-    own_small : (i : ℕ) (l : LinkOf TrueFlow) → slice_get (links_of own.half).links i ≡ Some l → (o : Option ℕ) → l.port.own ≡ o → address o < 2 ^ 16
-    own_small i l at None e = omega arith
-    own_small i l at (Some a) e = let less = known.addressed.highest i a (record { link = l; there = at; owns = e }) in let few = h.few in omega arith
-
-    far_small : (i : ℕ) (l : LinkOf TrueFlow) → slice_get (links_of own.half).links i ≡ Some l → (o : Option ℕ) → l.port.far ≡ o → address o < 2 ^ 16
-    far_small i l at None e = omega arith
-    far_small i l at (Some a) e = let o = known.addressed.far i l at a e in let less = known.others.highest o.number a o.owns in
-        let few = theirs.few in omega arith
-
 pub ordered_of : (links : LinkList) → HasNumbers links → (i : ℕ) (l : LinkOf TrueFlow) → slice_get links i ≡ Some l → IsOrdered l.flow
 ordered_of links numbers i l at = (numbers i l at).0
 
@@ -122,7 +88,7 @@ with_left own left = stepped own (record own.state { station = record own.state.
 
 module _ (e : End) (h : Stage e) (numbers : HasNumbers (links_of e.half).links) where
   pub link_event_stage : (others : LinkList) → AreAddressed (links_of e.half).links others e.addresses → (event : LinkEventValue) (left : Links) →
-      EventFits (links_of e.half) h.links.fit event → IsHigher e.addresses (given_address event) →
+      EventFits event → IsHigher e.addresses (given_address event) →
       higher e.addresses (given_address event) ≤ MAX_LINK → links_user (links_of e.half) event ≡ Ok left →
       Stage (record (after_record e (with_left e.half left)) { addresses = higher e.addresses (given_address event) })
   link_event_stage others addressed event left fits less few does_it = record {
@@ -199,3 +165,33 @@ module _ (e : End) (h : Stage e) where
     few = h.few;
     ahead = h.ahead;
   }
+
+-- ---- one thing more is owed
+
+module _ (e : End) (h : Stage e) where
+  pub link_debt_stage : (debt : LinkDebt) → DebtHolds (links_of e.half).links e.addresses debt → Stage (links_owing_more debt e)
+  link_debt_stage debt holds = record {
+    pays = h.pays;
+    packets = h.packets;
+    links = debt_holds (links_of e.half).links e.addresses e.links_owed h.links debt holds;
+    plain = h.plain;
+    few = h.few;
+    ahead = h.ahead;
+  }
+
+  pub strt_stage : Stage (owing_more (Some OwesStrt) e)
+  strt_stage = record {
+    pays = debt_pays (player.variables_of e.half) (station_of e.half).causes e.owed (Some OwesStrt) (λ reason is. absurd cc) (λ is. absurd cc) h.pays;
+    packets = h.packets;
+    links = h.links;
+    plain = h.plain;
+    few = h.few;
+    ahead = h.ahead;
+  }
+
+  pub passing_stage : Stage (passing e)
+  passing_stage = record { pays = h.pays; packets = h.packets; links = h.links; plain = h.plain; few = h.few; ahead = let a = h.ahead in omega arith }
+
+-- what holds of the end that a step leaves, if it leaves one
+abbrev pub Staged : Result Stepped Stop → Type 0
+Staged = AllOf (λ (stepped : Stepped). Stage stepped.end)

@@ -1,13 +1,11 @@
 -- What a station of the player owes stays payable, whatever its user does, whatever it sends of what is owed, and whatever comes.
-use Rattle.std.proofs.Common.{◌≡◌, ℕ, ◌+◌, Bool, true, false, ◌&&◌, not, cond, eqb, nat_lt, nat_le, Option, Some, None, List, [], ◌∷◌, length, fold}
-use Rattle.std.proofs.Common.{refl, sym, ap, ap₂, ◌∙◌, subst}
-use Rattle.std.specs.Prelude.{slice_get}
+use Rattle.std.proofs.Common.{◌≡◌, ℕ, ◌+◌, Bool, true, false, ◌&&◌, not, cond, eqb, nat_lt, nat_le, Option, Some, List, [], ◌∷◌, length, fold, refl}
+use Rattle.std.proofs.Common.{sym, ap, ap₂, ◌∙◌, subst}
 use Rattle.std.proofs.lemmas.Bool.{and_parts}
 use Rattle.ddcmp_msg.specs.Message.{MessageValue, Data, Nak, Rep, Strt}
 use Rattle.ddcmp_msg.specs.declared.flags.Flags.{Flags}
 use Rattle.ddcmp_msg.specs.declared.nak_reason.NakReason.{NakReason}
 use Rattle.ddcmp_msg.specs.declared.nak_reason.NakReason.TheVariants.{HeaderCheck, DataCheck, RepResponse, NoBuffer}
-use Rattle.dna_packet.specs.Nsp.{NspValue}
 use Rattle.dna_station.specs.declared.head.Head.{Head}
 use Rattle.dna_station.specs.declared.state.State.{State}
 use Rattle.dna_station.specs.declared.state.State.TheVariants.{Halted, Istrt, Astrt, Running}
@@ -17,17 +15,16 @@ use Rattle.dna_station.specs.Causes.{with_cause, has_cause}
 use Rattle.dna_station.specs.Table.{Effect, Respond, TakePacket, AnswerRep, row, counts_damage}
 use Rattle.dna_station.specs.Book.{Sound, num_of, resp_of, has_packet, damaged_by}
 use Rattle.dna_station.specs.Station.{wire}
-use Rattle.dna_station.specs.WireStation.{HeldPacket, StationVariables, WireStation, wire_after_event}
+use Rattle.dna_station.specs.WireStation.{StationVariables, WireStation, wire_after_event}
 use Rattle.dna_station.specs.WireBook.{acknowledges, wire_acknowledged_by, wire_responded, wire_is_next, wire_does, wire_book, wire_after_sending}
 use Rattle.dna_station.specs.WireBook.{wire_after_arrival}
-use Rattle.dna_play.specs.Owed.{Owed, Debt, OwesRep, OwesNak, with_debt, data_debt}
-use Rattle.dna_play.specs.Owed.{rep_debt, damage_debt, same_state, can_take, message_debt, arrival_debt}
-use Rattle.dna_play.specs.Owed.{still_owed}
-use Rattle.dna_play.specs.NextSent.{LinkEnd, Choice, SendStrt, SendStack, SendNak, SendRep, SendAgain, SendNew, SendAck, after_choice}
-use Rattle.dna_play.specs.Compose.{no_flags, data_with, packet_again, new_data, packet_with, link_message, message_of}
+use Rattle.dna_play.specs.Owed.{Owed, Debt, OwesRep, OwesNak, with_debt, data_debt, rep_debt, damage_debt, same_state, can_take, message_debt}
+use Rattle.dna_play.specs.Owed.{arrival_debt, still_owed}
+use Rattle.dna_play.specs.NextSent.{LinkEnd, Choice, SendNak, after_choice}
+use Rattle.dna_play.specs.Compose.{no_flags, packet_with, message_of}
 use Rattle.dna_station.proofs.Steps.Effects.{kept_by_all}
 use Rattle.dna_play.proofs.Ends.DamagedUnits.{ShownDamage, OfHeader, OfData, read_of, arrival_of}
-use Rattle.dna_play.proofs.Ends.StationPays.{IsPayable}
+use Rattle.dna_play.proofs.Ends.StationPays.{IsPayable, IsPut, PutStrt, PutStack, PutNak, PutRep, PutAgain, PutNew, PutAck, put_is}
 use Rattle.dna_play.proofs.Ends.OwedPays.{StayOpen, one_more, now_open, used_up, rep_aside, still, lessened, debt_pays}
 
 module _ {L : Type 0} where
@@ -71,39 +68,21 @@ module _ {L : Type 0} where
         let o = still_owed k v.variables owed in
         lessened v.variables v.causes o o.strt o.stack false o.rep (λ e. e) (still k v.variables w.causes v.causes owed (λ same reason e. e) p)
 
-    -- what is chosen and put together
-    module _ (c : Choice) where
-      abbrev PaysAfter : MessageValue → Type 0
-      PaysAfter m = let v = wire_after_sending w m in Pays v (after_choice c (still_owed k v.variables owed))
+    -- what is put together by a choice
+    put_pays : (c : Choice) (head : Head) (links : List LinkEnd) (m : MessageValue) → IsPut k head links c m →
+        let v = wire_after_sending w m in Pays v (after_choice c (still_owed k v.variables owed))
+    put_pays c head links m PutStrt = let o = still_owed k k owed in lessened k w.causes o false o.stack o.ack o.rep (λ r. r) same_pays
+    put_pays c head links m PutStack = let o = still_owed k k owed in lessened k w.causes o o.strt false o.ack o.rep (λ r. r) same_pays
+    put_pays c head links m (PutNak reason) = nak_pays reason no_flags k.received
+    put_pays c head links m PutRep = let o = still_owed k k owed in lessened k w.causes o o.strt o.stack o.ack false (λ r. absurd cc) same_pays
+    put_pays c head links m (PutAgain packet there) = data_pays no_flags k.received (wire (k.acknowledged + 1 + k.ahead)) packet.body
+    put_pays c head links m (PutNew one message put) =
+        data_pays no_flags k.received (wire (k.acknowledged + 1 + k.ahead)) (packet_with head message)
+    put_pays c head links m PutAck = let o = still_owed k k owed in lessened k w.causes o o.strt o.stack false o.rep (λ r. r) same_pays
 
-      pays_same : (x m : MessageValue) → PaysAfter x → ◌≡◌ {A = Option MessageValue} (Some x) (Some m) → PaysAfter m
-      pays_same x m q e = let same : x ≡ m = cc in subst PaysAfter same q
-
-      again_pays : (m : MessageValue) → ((body : List ℕ) → PaysAfter (data_with k body)) → (o : Option (HeldPacket L)) → packet_again k o ≡ Some m →
-          PaysAfter m
-      again_pays m all None e = absurd cc
-      again_pays m all (Some packet) e = pays_same (data_with k packet.body) m (all packet.body) e
-
-      new_pays : (head : Head) (m : MessageValue) → ((body : List ℕ) → PaysAfter (data_with k body)) → (o : Option NspValue) →
-          new_data k head o ≡ Some m → PaysAfter m
-      new_pays head m all None e = absurd cc
-      new_pays head m all (Some message) e = pays_same (data_with k (packet_with head message)) m (all (packet_with head message)) e
-
-    pub choice_pays : (c : Choice) (head : Head) (links : List LinkEnd) (m : MessageValue) → message_of c head k links ≡ Some m → PaysAfter c m
-    choice_pays SendStrt head links m e =
-        let o = still_owed k k owed in pays_same SendStrt _ m (lessened k w.causes o false o.stack o.ack o.rep (λ r. r) same_pays) e
-    choice_pays SendStack head links m e =
-        let o = still_owed k k owed in pays_same SendStack _ m (lessened k w.causes o o.strt false o.ack o.rep (λ r. r) same_pays) e
-    choice_pays (SendNak reason) head links m e = pays_same (SendNak reason) _ m (nak_pays reason no_flags k.received) e
-    choice_pays SendRep head links m e = let o = still_owed k k owed in
-        pays_same SendRep _ m (lessened k w.causes o o.strt o.stack o.ack false (λ r. absurd cc) same_pays) e
-    choice_pays SendAgain head links m e =
-        again_pays SendAgain m (λ body. data_pays no_flags k.received (wire (k.acknowledged + 1 + k.ahead)) body) (slice_get k.held k.ahead) e
-    choice_pays (SendNew message) head links m e =
-        new_pays (SendNew message) head m (λ body. data_pays no_flags k.received (wire (k.acknowledged + 1 + k.ahead)) body)
-        (link_message message links) e
-    choice_pays SendAck head links m e = let o = still_owed k k owed in
-        pays_same SendAck _ m (lessened k w.causes o o.strt o.stack false o.rep (λ r. r) same_pays) e
+    pub choice_pays : (c : Choice) (head : Head) (links : List LinkEnd) (m : MessageValue) → message_of c head k links ≡ Some m →
+        let v = wire_after_sending w m in Pays v (after_choice c (still_owed k v.variables owed))
+    choice_pays c head links m e = put_pays c head links m (put_is k head links m c e)
 
     -- ---- something comes
 

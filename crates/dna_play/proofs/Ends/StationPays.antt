@@ -4,7 +4,7 @@ use Rattle.std.proofs.Common.{◌≡◌, ℕ, ◌+◌, Bool, true, false, not, c
 use Rattle.std.proofs.Common.{eq-eqb}
 use Rattle.std.specs.Prelude.{slice_get}
 use Rattle.std.proofs.lemmas.Slice.Eq.{bytes_eq-Decides}
-use Rattle.ddcmp_msg.specs.Message.{MessageValue, Ack, Nak, Rep}
+use Rattle.ddcmp_msg.specs.Message.{MessageValue, Ack, Nak, Rep, Strt, Stack}
 use Rattle.ddcmp_msg.specs.declared.nak_reason.NakReason.{NakReason}
 use Rattle.ddcmp_msg.specs.declared.nak_reason.NakReason.TheVariants.{HeaderCheck, DataCheck, RepResponse, NoBuffer}
 use Rattle.dna_packet.specs.Nsp.{NspValue}
@@ -21,7 +21,8 @@ use Rattle.dna_station.specs.WireBook.{wire_is_new, is_held_packet, wire_passes,
 use Rattle.dna_play.specs.Owed.{Owed, all_acknowledged}
 use Rattle.dna_play.specs.NextSent.{LinkEnd, LinkChoice, Choice, SendStrt, SendStack, SendNak, SendRep, SendAgain, SendNew, SendAck, when, or_else}
 use Rattle.dna_play.specs.NextSent.{lowest_nak, new_packet, data_choice, choice_in, choice}
-use Rattle.dna_play.specs.Compose.{no_flags, data_with, packet_again, new_data, link_message, message_of}
+use Rattle.dna_play.specs.Compose.{no_flags, data_with, packet_again, new_data, link_message, message_of, packet_with, start_flags}
+use Rattle.std.proofs.lemmas.Option.{same_Some}
 
 -- whether a NAK of this reason is owed
 abbrev pub owes_nak : NakReason → Owed → Bool
@@ -120,6 +121,39 @@ module _ {L : Type 0} (k : StationVariables L) (owed : Owed) (asked : Option Lin
       (else_chosen (when owed.rep SendRep) _ (when_chosen Running owed.rep SendRep (λ is. ByRep is))
       (else_chosen (data_choice k asked) _ data_chosen (when_chosen Running owed.ack SendAck (λ is. ByAck is)))) e
 
+-- ---- what is put together by a choice
+
+pub data IsPut {L : Type 0} (k : StationVariables L) (head : Head) (links : List LinkEnd) : Choice → MessageValue → Type 0 where
+  PutStrt : IsPut k head links SendStrt (Strt start_flags)
+  PutStack : IsPut k head links SendStack (Stack start_flags)
+  PutNak : (reason : NakReason) → IsPut k head links (SendNak reason) (Nak no_flags reason k.received)
+  PutRep : IsPut k head links SendRep (Rep no_flags (wire (k.acknowledged + length k.held)))
+  PutAgain : (packet : HeldPacket L) → slice_get k.held k.ahead ≡ Some packet → IsPut k head links SendAgain (data_with k packet.body)
+  PutNew : (one : LinkChoice) (message : NspValue) → link_message one links ≡ Some message →
+      IsPut k head links (SendNew one) (data_with k (packet_with head message))
+  PutAck : IsPut k head links SendAck (Ack no_flags k.received)
+
+module _ {L : Type 0} (k : StationVariables L) (head : Head) (links : List LinkEnd) (m : MessageValue) where
+  as_put : (c : Choice) (x : MessageValue) → IsPut k head links c x → ◌≡◌ {A = Option MessageValue} (Some x) (Some m) → IsPut k head links c m
+  as_put c x p e = subst (IsPut k head links c) (same_Some x m e) p
+
+  pub put_is : (c : Choice) → message_of c head k links ≡ Some m → IsPut k head links c m
+  put_is SendStrt e = as_put SendStrt _ PutStrt e
+  put_is SendStack e = as_put SendStack _ PutStack e
+  put_is (SendNak reason) e = as_put (SendNak reason) _ (PutNak reason) e
+  put_is SendRep e = as_put SendRep _ PutRep e
+  put_is SendAgain e = go (slice_get k.held k.ahead) refl e
+    where
+      go : (o : Option (HeldPacket L)) → slice_get k.held k.ahead ≡ o → packet_again k o ≡ Some m → IsPut k head links SendAgain m
+      go None there e = absurd cc
+      go (Some packet) there e = as_put SendAgain _ (PutAgain packet there) e
+  put_is (SendNew one) e = go (link_message one links) refl e
+    where
+      go : (o : Option NspValue) → link_message one links ≡ o → new_data k head o ≡ Some m → IsPut k head links (SendNew one) m
+      go None there e = absurd cc
+      go (Some message) there e = as_put (SendNew one) _ (PutNew one message there) e
+  put_is SendAck e = as_put SendAck _ PutAck e
+
 -- ---- it may be sent
 
 pass : (p : Check → Bool) (check : Check) (next : List Check) → p check ≡ true → first_failed p next ≡ None → first_failed p (check ∷ next) ≡ None
@@ -132,12 +166,6 @@ module _ {L : Type 0} (w : WireStation L) (owed : Owed) (asked : Option LinkChoi
 
   abbrev MaySend : State → MessageValue → Type 0
   MaySend state m = failed (wire_passes w m) (checks state m) ≡ None
-
-  same_message : (state : State) (x m : MessageValue) → MaySend state x → ◌≡◌ {A = Option MessageValue} (Some x) (Some m) → MaySend state m
-  same_message state x m p e = subst (MaySend state) (same x e) p
-    where
-      same : (x : MessageValue) → ◌≡◌ {A = Option MessageValue} (Some x) (Some m) → x ≡ m
-      same x e = cc
 
   data_may : (body : List ℕ) → (wire_is_new k ≡ true → nat_lt (length k.held) WINDOW ≡ true) →
       (wire_is_new k ≡ false → is_held_packet (slice_get k.held k.ahead) body ≡ true) → MaySend Running (data_with k body)
@@ -155,43 +183,25 @@ module _ {L : Type 0} (w : WireStation L) (owed : Owed) (asked : Option LinkChoi
       as_given true e = refl
       as_given false e = given e
 
-  again_may : (m : MessageValue) → wire_is_new k ≡ false → (o : Option (HeldPacket L)) → slice_get k.held k.ahead ≡ o → packet_again k o ≡ Some m →
-      MaySend Running m
-  again_may m old None there e = absurd cc
-  again_may m old (Some packet) there e = same_message Running (data_with k packet.body) m
-      (data_may packet.body (λ new. absurd (differ (sym new ∙ old)))
-      (λ is. ap (λ (o : Option (HeldPacket L)). is_held_packet o packet.body) there ∙ (bytes_eq-Decides packet.body packet.body).1 refl)) e
-    where
-      differ : true ≡ false → ⊥
-      differ e = cc
+  differ : true ≡ false → ⊥
+  differ e = cc
 
-  new_may : (m : MessageValue) → wire_is_new k ≡ true → nat_lt (length k.held) WINDOW ≡ true → (o : Option NspValue) → new_data k head o ≡ Some m →
-      MaySend Running m
-  new_may m new room None e = absurd cc
-  new_may m new room (Some message) e = same_message Running _ m (data_may _ (λ is. room) (λ old. absurd (differ (sym new ∙ old)))) e
-    where
-      differ : true ≡ false → ⊥
-      differ e = cc
-
-  choice_may : (state : State) (c : Choice) (m : MessageValue) → IsChosen k owed asked state c → message_of c head k links ≡ Some m → MaySend state m
-  choice_may state c m (ByStrt is) e = same_message Istrt _ m refl e
-  choice_may state c m (ByStack is) e = same_message Astrt _ m refl e
-  choice_may state c m (ByNak reason is) e =
-      let x = Nak no_flags reason k.received in
-      same_message Running x m
-      (pass (wire_passes w x) RespIsLast (CauseIsOpen ∷ []) (eq-eqb _ _ refl)
-      (pass (wire_passes w x) CauseIsOpen [] (payable.nak reason is) refl)) e
-  choice_may state c m (ByRep is) e =
-      let x = Rep no_flags (wire (k.acknowledged + length k.held)) in
-      same_message Running x m
-      (pass (wire_passes w x) SomeOutstanding (NumIsHighest ∷ []) (ap not (payable.rep is))
-      (pass (wire_passes w x) NumIsHighest [] (eq-eqb _ _ refl) refl)) e
-  choice_may state c m (ByAgain old) e = again_may m old (slice_get k.held k.ahead) refl e
-  choice_may state c m (ByNew message new room is) e = new_may m new room (link_message message links) e
-  choice_may state c m (ByAck is) e = let x = Ack no_flags k.received in
-      same_message Running x m (pass (wire_passes w x) RespIsLast [] (eq-eqb _ _ refl) refl) e
+  choice_may : (state : State) (c : Choice) (m : MessageValue) → IsChosen k owed asked state c → IsPut k head links c m → MaySend state m
+  choice_may state c m (ByStrt is) PutStrt = refl
+  choice_may state c m (ByStack is) PutStack = refl
+  choice_may state c m (ByNak reason is) (PutNak _) =
+      let p = wire_passes w (Nak no_flags reason k.received) in
+      pass p RespIsLast (CauseIsOpen ∷ []) (eq-eqb _ _ refl) (pass p CauseIsOpen [] (payable.nak reason is) refl)
+  choice_may state c m (ByRep is) PutRep =
+      let p = wire_passes w (Rep no_flags (wire (k.acknowledged + length k.held))) in
+      pass p SomeOutstanding (NumIsHighest ∷ []) (ap not (payable.rep is)) (pass p NumIsHighest [] (eq-eqb _ _ refl) refl)
+  choice_may state c m (ByAgain old) (PutAgain packet there) =
+      data_may packet.body (λ new. absurd (differ (sym new ∙ old)))
+      (λ is. ap (λ (o : Option (HeldPacket L)). is_held_packet o packet.body) there ∙ (bytes_eq-Decides packet.body packet.body).1 refl)
+  choice_may state c m (ByNew one new room is) (PutNew _ message put) = data_may _ (λ is. room) (λ old. absurd (differ (sym new ∙ old)))
+  choice_may state c m (ByAck is) PutAck = pass (wire_passes w (Ack no_flags k.received)) RespIsLast [] (eq-eqb _ _ refl) refl
 
   -- what is chosen and put together, the station may send
   pub chosen_may : (c : Choice) (m : MessageValue) → choice k owed asked ≡ Some c → message_of c head k links ≡ Some m →
       wire_sending_refusal w m ≡ None
-  chosen_may c m is e = choice_may k.state c m (chosen k owed asked c k.state is) e
+  chosen_may c m is e = choice_may k.state c m (chosen k owed asked c k.state is) (put_is k head links m c e)

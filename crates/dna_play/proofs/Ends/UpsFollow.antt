@@ -1,6 +1,6 @@
 -- What a receipt makes whole the user gets at once: each delivery that follows it is made.
-use Rattle.std.proofs.Common.{◌≡◌, ℕ, suc, ◌+◌, Bool, true, false, cond, Option, Some, None, List, [], ◌∷◌, ◌++◌, drop, Ok, Err, refl}
-use Rattle.std.proofs.Common.{sym, ap, ◌∙◌, arith, append_assoc, ◌⊎◌, inl, inr}
+use Rattle.std.proofs.Common.{◌≡◌, ℕ, suc, ◌+◌, Bool, true, false, cond, Option, Some, None, List, [], ◌∷◌, ◌++◌, drop, Ok, Err, refl, sym, ap, ◌∙◌}
+use Rattle.std.proofs.Common.{arith, append_assoc, ◌⊎◌, inl, inr}
 use Rattle.std.specs.Prelude.{slice_get}
 use Rattle.std.proofs.lemmas.List.{drop-drop}
 use Rattle.std.proofs.lemmas.Slice.Eq.{bytes_eq-Decides}
@@ -15,7 +15,6 @@ use Rattle.dna_links.specs.Links.{LinkOf, changed, with_flow}
 use Rattle.dna_links.specs.User.{Up, delivered}
 use Rattle.dna_links.specs.TrueFlow.{TrueFlow, true_flows, delivered_as, delivers_whole, delivers}
 use Rattle.dna_links.specs.TrueLinks.{Links, links_user}
-use Rattle.dna_station.specs.Machine.{does}
 use Rattle.dna_play.specs.HasLine.{has_line}
 use Rattle.dna_play.specs.LinkOwed as owing
 use Rattle.dna_play.specs.Receipt.{complete}

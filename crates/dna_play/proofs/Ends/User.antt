@@ -3,12 +3,10 @@ use Rattle.std.proofs.Common.{◌≡◌, true, Option, Some, Result, Ok, Err, re
 use Rattle.std.proofs.lemmas.Option.{same_Some}
 use Rattle.two_nodes.specs.Nodes.{answered, stepped}
 use Rattle.capture.specs.declared.event.Event.{Event}
-use Rattle.capture.specs.declared.event.Event.TheVariants as happened
 use Rattle.capture.specs.declared.record.Record.TheVariants.{User}
 use Rattle.dna_station.specs.declared.state.State.{State}
-use Rattle.dna_station.specs.declared.state.State.TheVariants.{Halted, Istrt, Astrt, Running}
 use Rattle.dna_station.specs.declared.state.StationEvent.{StationEvent}
-use Rattle.dna_station.specs.declared.state.StationEvent.TheVariants.{Start, Halt}
+use Rattle.dna_station.specs.declared.state.StationEvent.TheVariants.{Start}
 use Rattle.dna_station.specs.declared.link_refusal.LinkRefusal.{LinkRefusal}
 use Rattle.dna_station.specs.Table.{user_refusal}
 use Rattle.dna_station.specs.Station.{after_event}
@@ -54,32 +52,7 @@ module _ (own other half : PlayHalf) where
   abbrev pub after_user : StationEvent → PlayHalf
   after_user event = stepped own (record own.state { station = record own.state.station { station = after_event (station_of own) event } })
 
-  abbrev started : State → Option PlayHalf
+  abbrev pub started : State → Option PlayHalf
   started state = made_half
       (answered own other (does own.state
       (with_station own.state.station (unless_refused (user_refusal state Start) (after_event (station_of own) Start)))))
-
-  by_state : (state : State) → (station_of own).state ≡ state → started (station_of own).state ≡ Some half → ((station_of own).state ≡ Halted) ×
-      (after_user Start ≡ half)
-  by_state Halted is e = (is, same_Some (after_user Start) half (ap started (sym is) ∙ e))
-  by_state Istrt is e = let f : started Istrt ≡ Some half = ap started (sym is) ∙ e in absurd cc
-  by_state Astrt is e = let f : started Astrt ≡ Some half = ap started (sym is) ∙ e in absurd cc
-  by_state Running is e = let f : started Running ≡ Some half = ap started (sym is) ∙ e in absurd cc
-
-  pub start_made : makes own other (User happened.Start) ≡ Some half → ((station_of own).state ≡ Halted) × (after_user Start ≡ half)
-  unfolding end_step
-  start_made e = let told = makes_tells own other (User happened.Start) half e in by_state (station_of own).state refl (ap made_half told.1)
-
-  pub halt_made : makes own other (User happened.Halt) ≡ Some half → after_user Halt ≡ half
-  unfolding end_step
-  halt_made e = let told = makes_tells own other (User happened.Halt) half e in same_Some (after_user Halt) half (ap made_half told.1)
-
--- ---- and it is made: a start in HALTED, a halt always
-
-pub start_makes : (own other : PlayHalf) → (station_of own).state ≡ Halted → (half : PlayHalf) × (makes own other (User happened.Start) ≡ Some half)
-unfolding end_step
-start_makes own other is = (after_user own other own Start, ap (started own other own) is)
-
-pub halt_makes : (own other : PlayHalf) → (half : PlayHalf) × (makes own other (User happened.Halt) ≡ Some half)
-unfolding end_step
-halt_makes own other = (after_user own other own Halt, refl)

@@ -15,13 +15,17 @@ use Rattle.dna_play.specs.Compose.{turn_message, message_at, link_message}
 use Rattle.dna_play.proofs.Once.Addresses.{LinkList, AreAddressed}
 use Rattle.dna_play.proofs.Links.Pays.{Fits, OwedFits, IsDue, turn_due, MaySendIt, confirm_may, due_may}
 
+-- one end of a link, with what it owes
+abbrev pub end_of : LinkOf TrueFlow → LinkOwed → LinkEnd
+end_of l owed = record { port = l.port; variables = variables_of l; owed = owed }
+
 -- the link with this number, with what it owes
 pub record EndAt (links : LinkList) (owed : List LinkOwed) (number : ℕ) (e : LinkEnd) : Type 0 where
   pub link : LinkOf TrueFlow
   pub owes : LinkOwed
   pub there : slice_get links number ≡ Some link
   pub owed_there : slice_get owed number ≡ Some owes
-  pub is : record { port = link.port; variables = variables_of link; owed = owes } ≡ e
+  pub is : end_of link owes ≡ e
 
 pub end_at : (links : LinkList) (owed : List LinkOwed) (number : ℕ) (e : LinkEnd) → slice_get (link_ends links owed) number ≡ Some e →
     EndAt links owed number e
@@ -59,6 +63,49 @@ first_chosen from (first ∷ ends) c e = go (first_chosen (from + 1) ends c) (tu
         subst (IsChosen (first ∷ ends) from) (same_Some (OfLink from turn) c e)
         (record { place = 0; is = omega arith; e = first; there = refl; has = is })
 
+-- ---- what is asked of the links
+
+-- what is due at a link, or the oldest DC that is owed; and its message
+pub data IsAsked (links : LinkList) (owed : LinksOwed) : LinkChoice → NspValue → Type 0 where
+  OfTurn : (number : ℕ) (turn : Turn) (l : LinkOf TrueFlow) (o : LinkOwed) → slice_get links number ≡ Some l → slice_get owed.links number ≡ Some o →
+      IsDue (end_of l o) turn → IsAsked links owed (OfLink number turn) (turn_message turn (end_of l o))
+  OfConfirm : (confirm : EndConfirm) → slice_get owed.confirms 0 ≡ Some confirm →
+      IsAsked links owed (Confirms confirm) (DisconnectConfirm confirm.dst confirm.src confirm.reason)
+
+module _ (links : LinkList) (owed : LinksOwed) where
+  abbrev ends : List LinkEnd
+  ends = link_ends links owed.links
+
+  pub record Asked (c : LinkChoice) : Type 0 where
+    pub message : NspValue
+    pub put : link_message c (link_ends links owed.links) ≡ Some message
+    pub is : IsAsked links owed c message
+
+  turn_asked : (c : LinkChoice) → IsChosen ends 0 c → Asked c
+  turn_asked (Confirms confirm) t = absurd t
+  turn_asked (OfLink number turn) t =
+      let same : number ≡ t.place = let e = t.is in omega arith in
+      let at = end_at links owed.links t.place t.e t.there in
+      record {
+        message = turn_message turn (end_of at.link at.owes);
+        put = ap (λ (o : Option LinkEnd). message_at o turn) (ap (slice_get (link_ends links owed.links)) same ∙ t.there ∙ ap Some (sym at.is));
+        is = OfTurn number turn at.link at.owes (ap (slice_get links) same ∙ at.there) (ap (slice_get owed.links) same ∙ at.owed_there)
+            (subst (λ (e : LinkEnd). IsDue e turn) (sym at.is) (turn_due t.e turn t.has));
+      }
+
+  pub asked_of : (c : LinkChoice) → link_choice owed.confirms (link_ends links owed.links) ≡ Some c → Asked c
+  asked_of c e = go owed.confirms refl e
+    where
+      go : (confirms : List EndConfirm) → owed.confirms ≡ confirms → link_choice confirms (link_ends links owed.links) ≡ Some c → Asked c
+      go [] is e = turn_asked c (first_chosen 0 (link_ends links owed.links) c e)
+      go (confirm ∷ later) is e = subst Asked (same_Some (Confirms confirm) c e) (record {
+        message = DisconnectConfirm confirm.dst confirm.src confirm.reason;
+        put = refl;
+        is = OfConfirm confirm (ap (λ (l : List EndConfirm). slice_get l 0) is);
+      })
+
+-- ---- it may be sent
+
 -- no live link has the two addresses that a DC names
 abbrev pub IsOver : Links → EndConfirm → Type 0
 IsOver s confirm = (j : ℕ) (m : LinkOf TrueFlow) → slice_get s.links j ≡ Some m → passes (TheLink confirm.src confirm.dst) m.port ≡ true → ⊥
@@ -71,38 +118,8 @@ pub record LinksPay (s : Links) (owed : LinksOwed) : Type 0 where
 
 module _ (s : Links) (others : LinkList) (most : ℕ) (addressed : AreAddressed s.links others most) (owed : LinksOwed) (pays : LinksPay s owed)
     (numbers : (i : ℕ) (l : LinkOf TrueFlow) → slice_get s.links i ≡ Some l → IsOrdered l.flow × IsAnswered l.flow) where
-  -- the end with what is due, and its message
-  pub record Composed (c : LinkChoice) : Type 0 where
-    pub message : NspValue
-    pub is : link_message c (link_ends s.links owed.links) ≡ Some message
-    pub may : MaySendIt s message
-
-  turn_composed : (number : ℕ) (turn : Turn) → TurnAt (link_ends s.links owed.links) 0 number turn → Composed (OfLink number turn)
-  turn_composed number turn t =
-      let same : number ≡ t.place = let e = t.is in omega arith in
-      let at = end_at s.links owed.links t.place t.e t.there in
-      let n = numbers t.place at.link at.there in
-      record {
-        message = turn_message turn t.e;
-        is = ap (λ (o : Option LinkEnd). message_at o turn) (ap (slice_get (link_ends s.links owed.links)) same ∙ t.there);
-        may = subst (λ (e : LinkEnd). MaySendIt s (turn_message turn e)) at.is
-            (due_may s others most addressed t.place at.link at.there (pays.fits t.place at.link at.there) at.owes
-            (pays.owes t.place at.link at.owes at.there at.owed_there) n.0 n.1 turn
-            (subst (λ (e : LinkEnd). IsDue e turn) (sym at.is) (turn_due t.e turn t.has)));
-      }
-
-  of_choice : (c : LinkChoice) → IsChosen (link_ends s.links owed.links) 0 c → Composed c
-  of_choice (Confirms confirm) x = absurd x
-  of_choice (OfLink number turn) x = turn_composed number turn x
-
-  pub composed : (c : LinkChoice) → link_choice owed.confirms (link_ends s.links owed.links) ≡ Some c → Composed c
-  composed c e = go owed.confirms refl e
-    where
-      go : (confirms : List EndConfirm) → owed.confirms ≡ confirms → link_choice confirms (link_ends s.links owed.links) ≡ Some c → Composed c
-      go [] is e = of_choice c (first_chosen 0 (link_ends s.links owed.links) c e)
-      go (confirm ∷ later) is e = subst Composed (same_Some (Confirms confirm) c e)
-          (record {
-            message = DisconnectConfirm confirm.dst confirm.src confirm.reason;
-            is = refl;
-            may = confirm_may s confirm.dst confirm.src confirm.reason (pays.over 0 confirm (ap (λ (l : List EndConfirm). slice_get l 0) is));
-          })
+  pub asked_may : (c : LinkChoice) (message : NspValue) → IsAsked s.links owed c message → MaySendIt s message
+  asked_may c message (OfTurn number turn l o there owes due) =
+      let n = numbers number l there in
+      due_may s others most addressed number l there (pays.fits number l there) o (pays.owes number l o there owes) n.0 n.1 turn due
+  asked_may c message (OfConfirm confirm first) = confirm_may s confirm.dst confirm.src confirm.reason (pays.over 0 confirm first)

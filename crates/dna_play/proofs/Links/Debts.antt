@@ -1,10 +1,9 @@
 -- What a message that comes makes the links owe belongs to the phase that it leaves their link in.
-use Rattle.std.proofs.Common.{◌≡◌, ℕ, Bool, true, false, cond, Some, length, Result, Ok, refl, sym, ap, ◌∙◌, subst, arith, ◌⊎◌, inl}
-use Rattle.std.proofs.Common.{inr}
+use Rattle.std.proofs.Common.{◌≡◌, ℕ, Bool, true, false, cond, Some, length, Result, Ok, refl, sym, ap, ◌∙◌, subst, arith, ◌⊎◌, inl, inr, ◌<◌, ◌^◌}
+use Rattle.std.proofs.Common.{List}
 use Rattle.std.specs.Prelude.{slice_get}
 use Rattle.std.proofs.lemmas.Option.{same_Some, slice_get_within}
-use Rattle.dna_packet.specs.Nsp.{NspValue, DataSegment, ConnectInitiate, ConnectConfirm}
-use Rattle.dna_packet.specs.Nsp.{DisconnectInitiate}
+use Rattle.dna_packet.specs.Nsp.{NspValue, DataSegment, ConnectInitiate, ConnectConfirm, DisconnectInitiate}
 use Rattle.dna_station.specs.declared.link_refusal.LinkRefusal.{LinkRefusal}
 use Rattle.dna_station.specs.declared.link_refusal.LinkRefusal.TheVariants.{CrossedLink}
 use Rattle.dna_links.specs.declared.port.Phase.{Phase}
@@ -12,27 +11,18 @@ use Rattle.dna_links.specs.declared.port.Phase.TheVariants.{Called, Confirming, 
 use Rattle.dna_links.specs.declared.port.LinkTest.TheVariants.{TheLink, LiveTo, CallingAt, ActedOn}
 use Rattle.dna_links.specs.LookUps.{is_running}
 use Rattle.dna_links.specs.Links.{LinkOf, LinkTruth, check, with_link, begun, changed}
-use Rattle.dna_links.specs.Arriving.{PartnerRule, is_for, is_of_pair, called, confirmed, running, message_arrived}
+use Rattle.dna_links.specs.Arriving.{PartnerRule, is_for, is_of_pair, called, confirmed, running, message_arrived, ends_link}
 use Rattle.dna_links.specs.TrueFlow.{TrueFlow, Numbers, true_flows}
 use Rattle.dna_links.specs.TrueLinks.{Links}
-use Rattle.dna_play.specs.LinkOwed.{LinkDebt, NoDebt, Owes, OwesConfirm, ConnectAckTurn, DataAckTurn, repeated_call_debt, confirm_debt, message_debt}
+use Rattle.dna_play.specs.LinkOwed.{LinkDebt, NoDebt, Owes, ConnectAckTurn, DataAckTurn, repeated_call_debt, confirm_debt, message_debt}
 use Rattle.dna_links.proofs.Tables.Outcomes.{looked, checked}
 use Rattle.dna_links.proofs.Runs.Sides.{set_same}
 use Rattle.two_nodes.proofs.NumberedSteps.{at_pushed}
 use Rattle.dna_play.proofs.Once.Addresses.{LinkList}
 use Rattle.dna_play.proofs.Links.Pays.{with_found, without_found}
-use Rattle.dna_play.proofs.Links.Pays.{phase_of}
+use Rattle.dna_play.proofs.Links.Stage.{ConfirmHolds, InPhase, DebtHolds}
 
 -- ---- what is newly owed
-
--- the link with this number is in this phase
-abbrev pub InPhase : ℕ → Phase → LinkList → Type 0
-InPhase number phase links = (k : LinkOf TrueFlow) → slice_get links number ≡ Some k → k.port.phase ≡ phase
-
-abbrev pub DebtFits : LinkList → LinkDebt → Type 0
-DebtFits links NoDebt = Unit {0}
-DebtFits links (Owes number turn) = InPhase number (phase_of turn) links
-DebtFits links (OwesConfirm confirm) = Unit {0}
 
 module _ (s : Links) where
   pub as_it_is : (number : ℕ) (link : LinkOf TrueFlow) → slice_get s.links number ≡ Some link → InPhase number link.port.phase s.links
@@ -50,9 +40,14 @@ module _ (s : Links) where
       go (inl there) = let w = slice_get_within s.links (length s.links) k there in absurd (omega arith)
       go (inr e) = ap (λ (x : LinkOf TrueFlow). x.port.phase) (sym e.1)
 
-module _ (s : Links) (rule : PartnerRule) (truth : LinkTruth Numbers) (left : Links) where
+-- the DC for a DI that has come names a link that is over then
+abbrev pub EndsHold : Links → (most : ℕ) → PartnerRule → NspValue → Type 0
+EndsHold s most rule m = (dst src reason : ℕ) (user_data : List ℕ) → m ≡ DisconnectInitiate dst src reason user_data → (code : ℕ) → code < 2 ^ 16 →
+    ConfirmHolds (ends_link true_flows rule dst src s).links most (record { dst = src; src = dst; reason = code })
+
+module _ (s : Links) (most : ℕ) (rule : PartnerRule) (truth : LinkTruth Numbers) (left : Links) where
   abbrev Leaves : LinkDebt → Type 0
-  Leaves debt = DebtFits left.links debt
+  Leaves debt = DebtHolds left.links most debt
 
   -- these links are left
   left_as : (P : LinkList → Type 0) (next : Links) → P next.links → ◌≡◌ {A = Result Links LinkRefusal} (Ok next) (Ok left) → P left.links
@@ -81,8 +76,8 @@ module _ (s : Links) (rule : PartnerRule) (truth : LinkTruth Numbers) (left : Li
       (again_fits number link.port.phase (left_as (InPhase number link.port.phase) s (as_it_is s number link found.there) e)
       (is_running link.port.phase) refl))
 
-  pub came_debt : (m : NspValue) → message_arrived true_flows rule s m truth ≡ Ok left → Leaves (message_debt s m)
-  came_debt (ConnectInitiate retransmitted src services info segsize user_data) e =
+  pub came_debt : (m : NspValue) → EndsHold s most rule m → message_arrived true_flows rule s m truth ≡ Ok left → Leaves (message_debt s m)
+  came_debt (ConnectInitiate retransmitted src services info segsize user_data) ends e =
       looked (LiveTo src) s (Ok (begun (called true_flows rule src segsize truth.tag) s)) (λ number link. Ok s) (Ok left) e
       (λ none e. subst Leaves (sym (without_found s (LiveTo src) (Owes (length s.links) ConnectAckTurn)
       (λ number link. repeated_call_debt number link.port.phase) none))
@@ -92,7 +87,7 @@ module _ (s : Links) (rule : PartnerRule) (truth : LinkTruth Numbers) (left : Li
       (with_found s (LiveTo src) number link (Owes (length s.links) ConnectAckTurn)
       (λ number link. repeated_call_debt number link.port.phase) found))
       (repeated_fits number link.port.phase (left_as (InPhase number link.port.phase) s (as_it_is s number link found.there) e)))
-  came_debt (ConnectConfirm dst src services info segsize user_data) e =
+  came_debt (ConnectConfirm dst src services info segsize user_data) ends e =
       looked (CallingAt dst) s (Ok s) (λ number link. check (rule (is_for number truth.tag)) CrossedLink
       (Ok (changed number (confirmed true_flows rule src segsize truth.tag link) s))) (Ok left) e
       (λ none e. subst Leaves (sym (without_found s (CallingAt dst) (again_debt dst src) (λ number link. Owes number DataAckTurn) none))
@@ -102,13 +97,17 @@ module _ (s : Links) (rule : PartnerRule) (truth : LinkTruth Numbers) (left : Li
       subst Leaves (sym (with_found s (CallingAt dst) number link (again_debt dst src) (λ number link. Owes number DataAckTurn) found))
       (left_as (InPhase number Running) (changed number (confirmed true_flows rule src segsize truth.tag link) s)
       (when_set s number link (confirmed true_flows rule src segsize truth.tag link) found.there) c.1))
-  came_debt (DisconnectInitiate dst src reason user_data) e =
+  came_debt (DisconnectInitiate dst src reason user_data) ends e =
       looked (TheLink dst src) s (with_link (CallingAt dst) s (confirm_debt src dst 41) (λ number link. confirm_debt src dst 42))
       (λ number link. confirm_debt src dst 42) _ refl
       (λ none f. subst Leaves f (looked (CallingAt dst) s (confirm_debt src dst 41) (λ number link. confirm_debt src dst 42) _ refl
-      (λ none f. subst Leaves f tt) (λ number link found f. subst Leaves f tt)))
-      (λ number link found f. subst Leaves f tt)
-  came_debt (DataSegment segment) e =
+      (λ none f. subst Leaves f (owes 41 (omega arith))) (λ number link found f. subst Leaves f (owes 42 (omega arith)))))
+      (λ number link found f. subst Leaves f (owes 42 (omega arith)))
+    where
+      owes : (code : ℕ) → code < 2 ^ 16 → Leaves (confirm_debt src dst code)
+      owes code small = left_as (λ (links : LinkList). ConfirmHolds links most (record { dst = src; src = dst; reason = code }))
+          (ends_link true_flows rule dst src s) (ends dst src reason user_data refl code small) e
+  came_debt (DataSegment segment) ends e =
       looked (ActedOn segment.dstaddr segment.srcaddr) s (Ok s)
       (λ number link. check (rule (is_of_pair number link.partner truth.tag)) CrossedLink
       (Ok (changed number (running true_flows rule (λ l. true_flows.takes_segment segment truth.known l.flow) link) s))) (Ok left) e
@@ -119,4 +118,4 @@ module _ (s : Links) (rule : PartnerRule) (truth : LinkTruth Numbers) (left : Li
       subst Leaves (sym (with_found s (ActedOn segment.dstaddr segment.srcaddr) number link NoDebt (λ number link. Owes number DataAckTurn) found))
       (left_as (InPhase number Running) (changed number (running true_flows rule (λ l. true_flows.takes_segment segment truth.known l.flow) link) s)
       (when_set s number link (running true_flows rule (λ l. true_flows.takes_segment segment truth.known l.flow) link) found.there) c.1))
-  came_debt m e = tt
+  came_debt m ends e = tt

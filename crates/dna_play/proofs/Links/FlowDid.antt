@@ -13,7 +13,7 @@ use Rattle.dna_links.specs.Links.{check}
 
 -- its piece is given, or was given already
 pub data SegmentDid (f : TrueFlow) (s : SegmentValue) : TrueFlow → Type 0 where
-  GivesIt : (last : ℕ) → SegmentDid f s (record f { last = last; given = f.given ++ piece_of s ∷ []; unsent = without_piece (piece_of s) f.unsent })
+  GivesIt : (last : ℕ) → is_new s f ≡ true → SegmentDid f s (record f { last = last; given = f.given ++ piece_of s ∷ []; unsent = without_piece (piece_of s) f.unsent })
   GivesAgain : (last : ℕ) → is_new s f ≡ false → SegmentDid f s (record f { last = last })
 
 module _ (f : TrueFlow) where
@@ -43,7 +43,7 @@ module _ (f : TrueFlow) where
   by_new : (s : SegmentValue) (segsize : ℕ) (x : Sending TrueFlow Numbers) (names : Named) (below : ℕ) (b : Bool) → is_new s f ≡ b →
       cond b (sends_new segsize (piece_of s) names f) (sends_again below (piece_of s) names f) ≡ Ok x → SegmentDid f s x.flow
   by_new s segsize x names below true new e =
-      same_sending (λ (g : TrueFlow). SegmentDid f s g) (given_it s names) x (GivesIt names.last)
+      same_sending (λ (g : TrueFlow). SegmentDid f s g) (given_it s names) x (GivesIt names.last new)
       (three_passed (nat_lt (highest_given f - f.acknowledged) REACH) (nat_le (length s.body) segsize) (is_next_piece (piece_of s) f.unsent)
       LinkWindowFull SegmentTooLong WrongSegment (given_it s names) x e)
   by_new s segsize x names below false old e =

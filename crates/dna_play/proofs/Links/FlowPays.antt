@@ -11,7 +11,8 @@ use Rattle.std.proofs.lemmas.Slice.Eq.{bytes_eq-Decides}
 use Rattle.dna_station.specs.declared.link_refusal.LinkRefusal.{LinkRefusal}
 use Rattle.dna_station.specs.declared.link_refusal.LinkRefusal.TheVariants.{WrongSegment, SegmentTooLong, LinkWindowFull}
 use Rattle.dna_links.specs.declared.port.Port.{Port}
-use Rattle.dna_links.specs.Pieces.{Piece, alike, same_piece, Unsent, is_piece_of, is_next_piece, without_piece}
+use Rattle.dna_links.specs.Pieces.{Piece, alike, same_piece, Unsent, is_piece_of, is_next_piece, without_piece, has_more, SEGSIZE, piece_with}
+use Rattle.dna_links.specs.Pieces.{next_piece_of, next_piece}
 use Rattle.dna_links.specs.Flow.{Sending, REACH, wire, distance}
 use Rattle.dna_links.specs.Links.{check}
 use Rattle.dna_links.specs.TrueFlow.{TrueFlow, Numbers, Named, highest_given, highest_received, named, with_first, all_named, sending, acks_named}
@@ -19,9 +20,7 @@ use Rattle.dna_links.specs.TrueFlow.{sends_acks, sends_new, is_given, is_repeat,
 use Rattle.dna_links.specs.CutFlow.{cut, IsOrdered, IsAnswered}
 use Rattle.dna_play.specs.LinkOwed.{LinkOwed}
 use Rattle.dna_play.specs.NextSent.{LinkEnd}
-use Rattle.dna_links.specs.Pieces.{has_more}
 use Rattle.dna_play.specs.Compose.{segment_with, ack_of}
-use Rattle.dna_links.specs.Pieces.{SEGSIZE, piece_with, next_piece_of, next_piece}
 use Rattle.two_nodes.proofs.NumberedSteps.{slice_get-drop}
 use Rattle.dna_links.proofs.Tables.Numbers.{distance_ahead}
 

@@ -44,11 +44,6 @@ event_makes own other event value left is lined does_it =
     ∙ ap (λ (o : Option LinkEventValue). made_half (answered own other (does own.state (user_on by_bytes own.state.station event o)))) is
     ∙ ap (λ (r : Result Links LinkRefusal). made_half (answered own other (does own.state (with_links own.state.station r)))) does_it
 
--- as the links take it
-pub event_made : (own other : PlayHalf) (event : Event) (value : LinkEventValue) → link_event event ≡ Some value → has_line (User event) ≡ true →
-    (left : Links) × (links_user (links_of own) value ≡ Ok left) → (half : PlayHalf) × (makes own other (User event) ≡ Some half)
-event_made own other event value is lined taken = (with_left own taken.0, event_makes own other event value taken.0 is lined taken.1)
-
 -- ---- an event has a line
 
 pub open_line : (address : ℕ) → IsLink address → has_line (User (events.Open address)) ≡ true
@@ -105,9 +100,6 @@ module _ (s : Links) (others : LinkList) (most : ℕ) (addressed : AreAddressed 
       with_free address (begun (opened true_flows address) (freed true_flows address s)) less
       ∙ ap (λ (x : Links). Ok (begun (opened true_flows address) x)) (freed_same s others most addressed address less)
 
-  pub open_taken : (address : ℕ) → most < address → (left : Links) × (links_user s (Open address) ≡ Ok left)
-  open_taken address less = (begun (opened true_flows address) s, open_goes address less)
-
   answer_goes : (phase : Phase) (partner address number : ℕ) (link : LinkOf TrueFlow) → IsFound (CalledBy partner) s number link → most < address →
       answers true_flows phase partner address s ≡ Ok (changed number (users.answered true_flows phase address link) s)
   answer_goes phase partner address number link found less =
@@ -124,20 +116,6 @@ module _ (s : Links) (others : LinkList) (most : ℕ) (addressed : AreAddressed 
       links_user s (Reject partner address) ≡ Ok (changed number (users.answered true_flows Disconnecting address link) s)
   reject_goes = answer_goes Disconnecting
 
-  pub accept_taken : (partner address number : ℕ) (link : LinkOf TrueFlow) → IsFound (CalledBy partner) s number link → most < address →
-      (left : Links) × (links_user s (Accept partner address) ≡ Ok left)
-  accept_taken partner address number link found less = (
-    changed number (users.answered true_flows Confirming address link) s,
-    accept_goes partner address number link found less,
-  )
-
-  pub reject_taken : (partner address number : ℕ) (link : LinkOf TrueFlow) → IsFound (CalledBy partner) s number link → most < address →
-      (left : Links) × (links_user s (Reject partner address) ≡ Ok left)
-  reject_taken partner address number link found less = (
-    changed number (users.answered true_flows Disconnecting address link) s,
-    reject_goes partner address number link found less,
-  )
-
 pub in_goes : (s : Links) (address : ℕ) (message : List ℕ) (number : ℕ) (link : LinkOf TrueFlow) → IsFound (LiveAt address) s number link →
     takes_messages link.port.phase ≡ true →
     links_user s (In address message) ≡ Ok (changed number (with_flow (true_flows.hands_in message link.flow) link) s)
@@ -146,20 +124,9 @@ in_goes s address message number link found may =
     (Ok (changed number (with_flow (true_flows.hands_in message link.flow) link) s))) found
     ∙ ap (λ (b : Bool). check b LinkState (Ok (changed number (with_flow (true_flows.hands_in message link.flow) link) s))) may
 
-pub in_taken : (s : Links) (address : ℕ) (message : List ℕ) (number : ℕ) (link : LinkOf TrueFlow) → IsFound (LiveAt address) s number link →
-    takes_messages link.port.phase ≡ true → (left : Links) × (links_user s (In address message) ≡ Ok left)
-in_taken s address message number link found may = (
-  changed number (with_flow (true_flows.hands_in message link.flow) link) s,
-  in_goes s address message number link found may,
-)
-
 pub close_goes : (s : Links) (address number : ℕ) (link : LinkOf TrueFlow) → IsFound (LiveAt address) s number link →
     is_connected link.port.phase ≡ true → links_user s (Close address) ≡ Ok (changed number (in_phase Disconnecting link) s)
 close_goes s address number link found may =
     with_found s (LiveAt address) number link (Err NoLink) (λ number link. check (is_connected link.port.phase) LinkState
     (Ok (changed number (in_phase Disconnecting link) s))) found
     ∙ ap (λ (b : Bool). check b LinkState (Ok (changed number (in_phase Disconnecting link) s))) may
-
-pub close_taken : (s : Links) (address number : ℕ) (link : LinkOf TrueFlow) → IsFound (LiveAt address) s number link →
-    is_connected link.port.phase ≡ true → (left : Links) × (links_user s (Close address) ≡ Ok left)
-close_taken s address number link found may = (changed number (in_phase Disconnecting link) s, close_goes s address number link found may)

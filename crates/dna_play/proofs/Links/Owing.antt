@@ -1,36 +1,23 @@
 -- What the links of the player owe goes with their phases, and no more segments are sent in a go than are outstanding, after every record.
-use Rattle.std.proofs.Common.{◌≡◌, ℕ, zero, suc, ◌+◌, ◌-◌, ◌≤◌, Bool, true, false, ◌&&◌, cond, nat_lt, nat_le, ltb-true, leb-true, Option, Some, None}
-use Rattle.std.proofs.Common.{List, [], ◌∷◌, length, fold, refl, sym, ap, ◌∙◌, subst, arith, length-append, length-drop, ◌⊎◌, inl, inr}
+use Rattle.std.proofs.Common.{◌≡◌, ℕ, zero, suc, ◌+◌, ◌-◌, ◌≤◌, Bool, true, false, Option, Some, None, List, [], ◌∷◌, length, refl, sym, ap, ◌∙◌}
+use Rattle.std.proofs.Common.{subst, arith, length-drop, ◌⊎◌, inl, inr}
 use Rattle.std.specs.Prelude.{slice_get}
-use Rattle.std.proofs.lemmas.Bool.{and_parts}
 use Rattle.std.proofs.lemmas.Option.{same_Some}
 use Rattle.two_nodes.proofs.Order.{slice_get-append}
-use Rattle.dna_packet.specs.Nsp.{NspValue}
 use Rattle.dna_links.specs.declared.port.Phase.{Phase}
 use Rattle.dna_links.specs.declared.port.Phase.TheVariants.{Calling, Called, Confirming, Running, Disconnecting, Ended}
-use Rattle.dna_links.specs.Links.{LinkOf, LinkTruth, begun, changed}
-use Rattle.dna_links.specs.User.{LinkEventValue, opened, answered}
-use Rattle.dna_links.specs.Sending.{Sent}
-use Rattle.dna_links.specs.Arriving.{PartnerRule}
-use Rattle.dna_links.specs.Pieces.{piece_of}
-use Rattle.dna_packet.specs.Nsp.{SegmentValue}
+use Rattle.dna_links.specs.Links.{LinkOf, begun, changed}
 use Rattle.dna_links.specs.Flow.{distance}
-use Rattle.dna_links.specs.TrueFlow.{TrueFlow, Numbers, true_flows, highest_given, acknowledged_through}
+use Rattle.dna_links.specs.TrueFlow.{TrueFlow, highest_given}
 use Rattle.dna_links.specs.TrueLinks.{Links}
-use Rattle.dna_links.specs.Captures.{given_address}
 use Rattle.dna_links.specs.CutFlow.{IsOrdered}
 use Rattle.dna_play.specs.LinkOwed.{LinkOwed, LinksOwed, nothing, Turn, ConnectAckTurn, InitiateTurn, ConfirmTurn, DisconnectTurn, DataAckTurn}
 use Rattle.dna_play.specs.LinkOwed.{SegmentTurn, with_turn, changed_at, same_phase, unless_left, variables_of, still_owed, all_still_owed}
 use Rattle.dna_play.specs.LinkOwed as owing
 use Rattle.dna_play.specs.NextSent.{without_turn}
 use Rattle.dna_links.proofs.Tables.Numbers.{distance_ahead}
-use Rattle.dna_play.proofs.Once.Orderly.{IsHigher}
-use Rattle.dna_links.proofs.Tables.Outcomes.{UserDid, Opens, Accepts, Rejects, HandsIn, Delivers, Closes, SentDid, OfNone, Stays, EndsCalled, Segment}
-use Rattle.dna_links.proofs.Tables.Outcomes.{Acks, ArrivedDid, Ignores, Begins, Confirms, Ends, TakesSegment, TakesAcks, TakesOther}
 use Rattle.dna_links.proofs.Runs.Sides.{at_set}
-use Rattle.dna_links.proofs.Runs.Pieces.{delivered_is}
-use Rattle.dna_play.proofs.Once.Addresses.{LinkList, AreAddressed, freed_same}
-use Rattle.dna_play.proofs.Links.FlowDid.{SegmentDid, GivesIt, GivesAgain, segment_did, acks_did}
+use Rattle.dna_play.proofs.Once.Addresses.{LinkList}
 use Rattle.dna_play.proofs.Links.Pays.{is_owed, phase_of, OwedFits}
 
 -- ---- one link
@@ -121,21 +108,56 @@ abbrev pub AllMove : LinkList → LinkList → Type 0
 AllMove links left = (i : ℕ) (l k : LinkOf TrueFlow) → slice_get links i ≡ Some l → slice_get left i ≡ Some k →
     IsOrdered l.flow × FlowMoves l.flow k.flow
 
+-- what a link owes still: nothing, if it owed nothing before
+data StillAt (before : LinkList) (owed : List LinkOwed) (i : ℕ) (k : LinkOf TrueFlow) : LinkOwed → Type 0 where
+  NoneOwed : StillAt before owed i k nothing
+  Still : (l : LinkOf TrueFlow) (o : LinkOwed) → slice_get before i ≡ Some l → slice_get owed i ≡ Some o → StillAt before owed i k (still_owed l k o)
+
+-- with one more link in front
+one_later : (before further : LinkList) (owed more : List LinkOwed) (i : ℕ) (k : LinkOf TrueFlow) (o : LinkOwed) →
+    ((l : LinkOf TrueFlow) → slice_get before i ≡ Some l → slice_get further (suc i) ≡ Some l) →
+    ((x : LinkOwed) → slice_get owed i ≡ Some x → slice_get more (suc i) ≡ Some x) → StillAt before owed i k o → StillAt further more (suc i) k o
+one_later before further owed more i k o links owes NoneOwed = NoneOwed
+one_later before further owed more i k o links owes (Still l x at there) = Still l x (links l at) (owes x there)
+
+still_at : (before after : LinkList) (owed : List LinkOwed) (i : ℕ) (k : LinkOf TrueFlow) (o : LinkOwed) → slice_get after i ≡ Some k →
+    slice_get (all_still_owed before after owed) i ≡ Some o → StillAt before owed i k o
+still_at before [] owed i k o at owes = absurd cc
+still_at [] (link ∷ later) owed zero k o at owes = subst (StillAt [] owed 0 k) (same_Some nothing o owes) NoneOwed
+still_at [] (link ∷ later) owed (suc i) k o at owes =
+    one_later [] [] [] owed i k o (λ l there. absurd cc) (λ x there. absurd cc) (still_at [] later [] i k o at owes)
+still_at (was ∷ before) (link ∷ later) [] zero k o at owes = subst (StillAt (was ∷ before) [] 0 k) (same_Some nothing o owes) NoneOwed
+still_at (was ∷ before) (link ∷ later) [] (suc i) k o at owes =
+    one_later before (was ∷ before) [] [] i k o (λ l there. there) (λ x there. absurd cc) (still_at before later [] i k o at owes)
+still_at (was ∷ before) (link ∷ later) (first ∷ owed) zero k o at owes =
+    subst (StillAt (was ∷ before) (first ∷ owed) 0 k)
+    (ap (λ (x : LinkOf TrueFlow). still_owed was x first) (sym (same_Some link k at)) ∙ same_Some (still_owed was link first) o owes)
+    (Still was first refl refl)
+still_at (was ∷ before) (link ∷ later) (first ∷ owed) (suc i) k o at owes =
+    one_later before (was ∷ before) owed (first ∷ owed) i k o (λ l there. there) (λ x there. there) (still_at before later owed i k o at owes)
+
 pub all_still : (before after : LinkList) (owed : List LinkOwed) → AllOwed before owed → AllMove before after →
     AllOwed after (all_still_owed before after owed)
-all_still before [] owed all move i k o at owes = absurd cc
-all_still [] (link ∷ later) owed all move zero k o at owes = subst (OwedFits k) (same_Some nothing o owes) (nothing_fits k)
-all_still [] (link ∷ later) owed all move (suc i) k o at owes =
-    all_still [] later [] (λ i l o at owes. absurd cc) (λ i l k at then_at. absurd cc) i k o at owes
-all_still (was ∷ before) (link ∷ later) [] all move zero k o at owes = subst (OwedFits k) (same_Some nothing o owes) (nothing_fits k)
-all_still (was ∷ before) (link ∷ later) [] all move (suc i) k o at owes =
-    all_still before later [] (λ i l o at owes. absurd cc) (λ i l k at then_at. move (suc i) l k at then_at) i k o at owes
-all_still (was ∷ before) (link ∷ later) (first ∷ owed) all move zero k o at owes =
-    let m = move 0 was link refl refl in
-    subst (λ (x : LinkOf TrueFlow). OwedFits x o) (same_Some link k at)
-    (subst (OwedFits link) (same_Some (still_owed was link first) o owes) (still_fits was link first m.0 m.1 (all 0 was first refl refl)))
-all_still (was ∷ before) (link ∷ later) (first ∷ owed) all move (suc i) k o at owes =
-    all_still before later owed (λ i l o at owes. all (suc i) l o at owes) (λ i l k at then_at. move (suc i) l k at then_at) i k o at owes
+all_still before after owed all move i k o at owes = go o (still_at before after owed i k o at owes)
+  where
+    go : (o : LinkOwed) → StillAt before owed i k o → OwedFits k o
+    go o NoneOwed = nothing_fits k
+    go o (Still l x there was) = let m = move i l k there at in still_fits l k x m.0 m.1 (all i l x there was)
+
+-- no more of a link's segments are sent in the go than before
+pub ahead_less : (before after : LinkList) (owed : List LinkOwed) (i : ℕ) (k : LinkOf TrueFlow) (o left : LinkOwed) → slice_get after i ≡ Some k →
+    slice_get owed i ≡ Some o → slice_get (all_still_owed before after owed) i ≡ Some left → left.ahead ≤ o.ahead
+ahead_less before after owed i k o left at there owes = go left (still_at before after owed i k left at owes)
+  where
+    lowered_ahead : (b : Bool) (n : ℕ) (x : LinkOwed) → (owing.lowered n (unless_left b x)).ahead ≤ x.ahead
+    lowered_ahead true n x = omega arith
+    lowered_ahead false n x = omega arith
+
+    go : (left : LinkOwed) → StillAt before owed i k left → left.ahead ≤ o.ahead
+    go left NoneOwed = omega arith
+    go left (Still l x was owed_there) =
+        let less = lowered_ahead (same_phase l.port.phase k.port.phase) (distance (variables_of l).acknowledged (variables_of k).acknowledged) x in
+        subst (λ (y : LinkOwed). (still_owed l k x).ahead ≤ y.ahead) (same_Some x o (sym owed_there ∙ there)) less
 
 -- there is one for each link
 pub still_counted : (before after : LinkList) (owed : List LinkOwed) → length (all_still_owed before after owed) ≡ length after
@@ -159,30 +181,10 @@ one_changed links number change owed here all = go (slice_get owed.links number)
         by_place (inl e) = subst (OwedFits l) e.1 (here l first (ap (slice_get links) (sym e.0) ∙ at) there)
         by_place (inr e) = all i l o at e.1
 
--- ---- what each thing that happens makes of the flows
+-- ---- one link changes, or a new one begins
 
-stays : (f : TrueFlow) → IsOrdered f → FlowMoves f f
+pub stays : (f : TrueFlow) → IsOrdered f → FlowMoves f f
 stays f o = let g = o.given in record { given = omega arith; least = omega arith; most = g }
-
-acknowledged_moves : (numbers : List ℕ) (f g : TrueFlow) → highest_given g ≡ highest_given f → FlowMoves f g →
-    FlowMoves f (fold acknowledged_through g numbers)
-acknowledged_moves [] f g same m = m
-acknowledged_moves (n ∷ numbers) f g same m =
-    go (λ h same m. acknowledged_moves numbers f h same m) (nat_lt g.acknowledged n && nat_le n (highest_given g)) refl
-  where
-    go : ((h : TrueFlow) → highest_given h ≡ highest_given f → FlowMoves f h → FlowMoves f (fold acknowledged_through h numbers)) → (b : Bool) →
-        (nat_lt g.acknowledged n && nat_le n (highest_given g)) ≡ b →
-        FlowMoves f (fold acknowledged_through (cond b (record g { acknowledged = n }) g) numbers)
-    go later true e =
-        let p = and_parts (nat_lt g.acknowledged n) (nat_le n (highest_given g)) e in
-        let less = ltb-true g.acknowledged n p.0 in let most = leb-true n (highest_given g) p.1 in let least = m.least in let given = m.given in
-        later (record g { acknowledged = n }) same (record { given = given; least = omega arith; most = omega arith })
-    go later false e = later g same m
-
-segment_moves : (f : TrueFlow) (s : SegmentValue) (g : TrueFlow) → IsOrdered f → SegmentDid f s g → FlowMoves f g
-segment_moves f s g o (GivesIt last) =
-    let e = length-append f.given (piece_of s ∷ []) in let m = o.given in record { given = omega arith; least = omega arith; most = m }
-segment_moves f s g o (GivesAgain last old) = let m = o.given in record { given = omega arith; least = omega arith; most = m }
 
 module _ (s : Links) (ordered : (i : ℕ) (l : LinkOf TrueFlow) → slice_get s.links i ≡ Some l → IsOrdered l.flow) where
   abbrev pub Moves : Links → Type 0
@@ -192,7 +194,7 @@ module _ (s : Links) (ordered : (i : ℕ) (l : LinkOf TrueFlow) → slice_get s.
   same_move i l k at then_at = let o = ordered i l at in
       (o, subst (λ (x : LinkOf TrueFlow). FlowMoves l.flow x.flow) (same_Some l k (sym at ∙ then_at)) (stays l.flow o))
 
-  set_move : (n : ℕ) (l k : LinkOf TrueFlow) → slice_get s.links n ≡ Some l → FlowMoves l.flow k.flow → Moves (changed n k s)
+  pub set_move : (n : ℕ) (l k : LinkOf TrueFlow) → slice_get s.links n ≡ Some l → FlowMoves l.flow k.flow → Moves (changed n k s)
   set_move n l k there m i x y at then_at = go (at_set s.links n i k y then_at)
     where
       go : ((i ≡ n) × (k ≡ y)) ⊎ ((i ≡ n → ⊥) × (slice_get s.links i ≡ Some y)) → IsOrdered x.flow × FlowMoves x.flow y.flow
@@ -204,56 +206,5 @@ module _ (s : Links) (ordered : (i : ℕ) (l : LinkOf TrueFlow) → slice_get s.
           )
       go (inr e) = same_move i x y at e.1
 
-  push_move : (k : LinkOf TrueFlow) → Moves (begun k s)
+  pub push_move : (k : LinkOf TrueFlow) → Moves (begun k s)
   push_move k i x y at then_at = same_move i x y at (at ∙ sym (slice_get-append s.links (k ∷ []) i x at) ∙ then_at)
-
-  -- with the same flow
-  keeps_move : (n : ℕ) (l k : LinkOf TrueFlow) → slice_get s.links n ≡ Some l → k.flow ≡ l.flow → Moves (changed n k s)
-  keeps_move n l k there same = set_move n l k there (subst (FlowMoves l.flow) (sym same) (stays l.flow (ordered n l there)))
-
-  pub user_moves : (others : LinkList) (most : ℕ) → AreAddressed s.links others most → (event : LinkEventValue) (left : Links) →
-      IsHigher most (given_address event) → UserDid true_flows s event left → Moves left
-  user_moves others most addressed event left less (Opens address free) =
-      subst (λ (x : Links). Moves (begun (opened true_flows address) x)) (sym (freed_same s others most addressed address less))
-      (push_move (opened true_flows address))
-  user_moves others most addressed event left less (Accepts far address number link found free) =
-      let k = answered true_flows Confirming address link in
-      subst (λ (x : Links). Moves (changed number k x)) (sym (freed_same s others most addressed address less))
-      (keeps_move number link k found.there refl)
-  user_moves others most addressed event left less (Rejects far address number link found free) =
-      let k = answered true_flows Disconnecting address link in
-      subst (λ (x : Links). Moves (changed number k x)) (sym (freed_same s others most addressed address less))
-      (keeps_move number link k found.there refl)
-  user_moves others most addressed event left less (HandsIn address message number link found may) =
-      let m = stays link.flow (ordered number link found.there) in
-      set_move number link _ found.there (record { given = m.given; least = m.least; most = m.most })
-  user_moves others most addressed event left less (Delivers address message number link flow found is) =
-      let m = stays link.flow (ordered number link found.there) in
-      set_move number link _ found.there (subst (FlowMoves link.flow) (sym (delivered_is message link.flow flow is).is)
-      (record { given = m.given; least = m.least; most = m.most }))
-  user_moves others most addressed event left less (Closes address number link found connected) = keeps_move number link _ found.there refl
-
-  pub sent_moves : (m : NspValue) (made : Sent TrueFlow Numbers) → SentDid true_flows s m made → Moves made.links
-  sent_moves m made (OfNone none) = same_move
-  sent_moves m made (Stays number link none there) = same_move
-  sent_moves m made (EndsCalled far number link none found) = keeps_move number link _ found.there refl
-  sent_moves m made (Segment segment number link sent is found run does) =
-      set_move number link _ found.there (segment_moves link.flow segment sent.flow (ordered number link found.there)
-      (segment_did link.flow link.segsize segment sent does))
-  sent_moves m made (Acks dst src acks number link sent is found run does) =
-      let d = acks_did link.flow acks sent does in let m = stays link.flow (ordered number link found.there) in
-      set_move number link _ found.there (subst (FlowMoves link.flow) (sym d.1) (record { given = m.given; least = m.least; most = m.most }))
-
-  pub came_moves : (rule : PartnerRule) (m : NspValue) (truth : LinkTruth Numbers) (left : Links) → ArrivedDid true_flows rule s m truth left →
-      Moves left
-  came_moves rule m truth left Ignores = same_move
-  came_moves rule m truth left (Begins far segsize none) = push_move _
-  came_moves rule m truth left (Confirms own far segsize number link found may) = keeps_move number link _ found.there refl
-  came_moves rule m truth left (Ends test number link found) = keeps_move number link _ found.there refl
-  came_moves rule m truth left (TakesSegment own far segment number link is found may) =
-      let k = acknowledged_moves truth.known.acknowledgements link.flow link.flow refl (stays link.flow (ordered number link found.there)) in
-      set_move number link _ found.there (record { given = k.given; least = k.least; most = k.most })
-  came_moves rule m truth left (TakesAcks own far dst src acks number link is found may) =
-      set_move number link _ found.there (acknowledged_moves truth.known.acknowledgements link.flow link.flow refl
-      (stays link.flow (ordered number link found.there)))
-  came_moves rule m truth left (TakesOther own far number link found may) = keeps_move number link _ found.there refl

@@ -20,10 +20,8 @@ use Rattle.dna_links.specs.TrueLinks.{Links}
 use Rattle.dna_links.specs.CutFlow.{IsOrdered, IsAnswered}
 use Rattle.dna_play.specs.LinkOwed.{LinkOwed, Turn, ConnectAckTurn, InitiateTurn, ConfirmTurn, DisconnectTurn, DataAckTurn, SegmentTurn, variables_of}
 use Rattle.dna_play.specs.NextSent.{LinkEnd, has_new, has_repeat, has_segment, turn_of}
-use Rattle.dna_links.specs.Pieces.{has_more}
+use Rattle.dna_links.specs.Pieces.{has_more, SEGSIZE, Piece}
 use Rattle.dna_play.specs.Compose.{ack_of, address, piece_to_send, segment_with, turn_message}
-use Rattle.dna_links.specs.Pieces.{SEGSIZE}
-use Rattle.dna_links.specs.Pieces.{Piece}
 use Rattle.dna_links.proofs.Runs.Reads.{at_is}
 use Rattle.dna_links.proofs.Tables.Outcomes.{IsFound, looked, position_none}
 use Rattle.dna_play.proofs.Once.Addresses.{LinkList, AreAddressed}

@@ -1,29 +1,45 @@
 -- What holds of the links of an end of the player is kept by each thing that happens: they fit, what they owe goes with them, each DC names a link
 -- that is over, and what they sent is of the player.
-use Rattle.std.proofs.Common.{◌≡◌, ℕ, ◌+◌, ◌≤◌, true, Some, List, [], ◌∷◌, drop, suc, Ok, refl, ap, ◌∙◌, arith}
-use Rattle.std.specs.Prelude.{slice_get}
+use Rattle.std.proofs.Common.{◌≡◌, ℕ, ◌+◌, ◌≤◌, true, Some, List, [], ◌∷◌, drop, suc, refl, ap, ◌∙◌, arith, ◌<◌, ◌&&◌, eqb, sym, subst, eq-eqb, ◌^◌}
+use Rattle.std.proofs.Common.{◌⊎◌, inl, inr}
+use Rattle.std.specs.Prelude.{slice_get, is_some, slice_set}
 use Rattle.dna_packet.specs.Nsp.{NspValue}
-use Rattle.dna_links.specs.Links.{LinkOf, LinkTruth}
-use Rattle.dna_links.specs.User.{LinkEventValue}
+use Rattle.dna_links.specs.Links.{LinkOf, LinkTruth, begun, changed, in_phase, freed, with_flow}
+use Rattle.dna_links.specs.User.{LinkEventValue, opened, answered}
 use Rattle.dna_links.specs.Sending.{Sent}
-use Rattle.dna_links.specs.Arriving.{PartnerRule, message_arrived}
+use Rattle.dna_links.specs.Arriving.{PartnerRule, called}
 use Rattle.dna_links.specs.TrueFlow.{TrueFlow, Numbers, true_flows}
 use Rattle.dna_links.specs.TrueLinks.{Links}
 use Rattle.dna_links.specs.CutFlow.{IsOrdered}
 use Rattle.dna_links.specs.Captures.{given_address}
-use Rattle.dna_play.specs.LinkOwed.{LinkOwed, LinksOwed, EndConfirm, Turn, LinkDebt, NoDebt, Owes, OwesConfirm, with_turn, with_debt, changed}
-use Rattle.dna_play.specs.LinkOwed.{all_still_owed}
-use Rattle.dna_play.specs.NextSent.{LinkChoice, Confirms, OfLink, without_turn, after_link_choice}
-use Rattle.dna_links.proofs.Runs.Sides.{all_pushed}
+use Rattle.dna_play.specs.LinkOwed as owing
+use Rattle.dna_play.specs.LinkOwed.{LinkOwed, LinksOwed, EndConfirm, LinkDebt, NoDebt, Owes, OwesConfirm, with_turn, with_debt, all_still_owed}
+use Rattle.dna_links.proofs.Runs.Sides.{all_pushed, all_set, at_set}
 use Rattle.dna_play.proofs.Once.Orderly.{IsHigher, higher}
-use Rattle.dna_links.proofs.Tables.Outcomes.{UserDid, SentDid, ArrivedDid}
-use Rattle.dna_play.proofs.Once.Addresses.{LinkList, AreAddressed}
-use Rattle.dna_play.proofs.Links.Pays.{OwedFits}
-use Rattle.dna_play.proofs.Links.Fits.{AllFit, EventFits, IsPlain, user_fits, sent_fits, came_fits}
-use Rattle.dna_play.proofs.Links.Owing.{AllOwed, Moves, turn_fits, all_still, one_changed, same_move, user_moves, sent_moves, came_moves}
-use Rattle.dna_play.proofs.Links.Confirms.{IsDone, user_done, sent_done, came_done}
-use Rattle.dna_play.proofs.Links.Debts.{DebtFits}
-use Rattle.dna_play.proofs.Ends.Sends.{IsSmall}
+use Rattle.dna_links.proofs.Tables.Outcomes as outcomes
+use Rattle.dna_links.proofs.Tables.Outcomes.{UserDid, SentDid, ArrivedDid, IsFound, Opens, Accepts, Rejects, HandsIn, Delivers, Closes, OfNone, Stays}
+use Rattle.dna_links.proofs.Tables.Outcomes.{EndsCalled, Segment, Acks, Ignores, Begins, Ends, TakesSegment, TakesAcks, TakesOther}
+use Rattle.dna_play.proofs.Once.Addresses.{LinkList, AreAddressed, freed_same}
+use Rattle.dna_play.proofs.Links.Pays.{OwedFits, fits_in, phase_of}
+use Rattle.dna_play.proofs.Links.Fits.{AllFit, EventFits, IsPlain, LinkFits, empty_fits, plain_size}
+use Rattle.dna_play.proofs.Links.Owing.{AllOwed, Moves, turn_fits, all_still, one_changed, same_move, set_move, push_move}
+use Rattle.dna_play.proofs.Links.Confirms.{IsDone, IsPast}
+use Rattle.std.proofs.lemmas.Bool.{and_parts}
+use Rattle.std.proofs.lemmas.Option.{same_Some}
+use Rattle.dna_links.specs.declared.port.Phase.{Phase}
+use Rattle.dna_links.specs.declared.port.Phase.TheVariants.{Confirming, Disconnecting}
+use Rattle.dna_links.specs.declared.port.LinkTest.TheVariants.{CalledBy}
+use Rattle.dna_links.specs.LookUps.{is_at, is_called, is_calling, is_connected, has_both}
+use Rattle.dna_links.specs.Pieces.{SEGSIZE}
+use Rattle.dna_play.proofs.Links.FlowDid.{segment_did}
+use Rattle.dna_play.proofs.Links.Goes.{Goes, flow_goes, ended_goes, answered_goes, connected_goes, runs_on, confirmed_goes, stays_as_it_is}
+use Rattle.dna_play.proofs.Links.Goes.{handed_goes, delivered_goes, acks_go, segment_goes, took_acks, took_segment, FlowGoes}
+
+-- its addresses and its reason are words
+pub record IsSmall (confirm : EndConfirm) : Type 0 where
+  pub dst : confirm.dst < 2 ^ 16
+  pub src : confirm.src < 2 ^ 16
+  pub reason : confirm.reason < 2 ^ 16
 
 -- a DC that is owed
 pub record ConfirmHolds (links : LinkList) (most : ℕ) (confirm : EndConfirm) : Type 0 where
@@ -51,65 +67,121 @@ module _ (s : Links) (most : ℕ) (owed : LinksOwed) (h : LinkHolds s.links most
   abbrev pub Holds : Links → ℕ → Type 0
   Holds left top = LinkHolds left.links top (left_links s.links left.links owed)
 
-  left_holds : (left : Links) (top : ℕ) → AllFit left.links → Moves s ordered left →
-      ((confirm : EndConfirm) → IsDone s.links most confirm → IsDone left.links top confirm) → Holds left top
-  left_holds left top fit moves done = record {
+  left_holds : (left : Links) (top : ℕ) → most ≤ top → AllFit left.links → Moves s ordered left →
+      ((confirm : EndConfirm) → IsDone s.links most confirm → (j : ℕ) (m : LinkOf TrueFlow) → slice_get left.links j ≡ Some m → IsPast confirm m) →
+      Holds left top
+  left_holds left top less fit moves past = record {
     fit = fit;
     owes = all_still s.links left.links owed.links h.owes moves;
-    confirms = λ i confirm at. let c = h.confirms i confirm at in record { done = done confirm c.done; small = c.small; some = c.some };
+    confirms = λ i confirm at. let c = h.confirms i confirm at in let given = c.done.given in
+        record { done = record { given = omega arith; over = past confirm c.done }; small = c.small; some = c.some };
   }
 
+  -- no link changes
   pub same_holds : Holds s most
-  same_holds = left_holds s most h.fit (same_move s ordered) (λ confirm d. d)
+  same_holds = left_holds s most (omega arith) h.fit (same_move s ordered) (λ confirm d. d.over)
 
-  pub user_holds : (others : LinkList) → AreAddressed s.links others most → (event : LinkEventValue) (left : Links) → EventFits s h.fit event →
-      IsHigher most (given_address event) → UserDid true_flows s event left → Holds left (higher most (given_address event))
-  user_holds others addressed event left fits less did =
-      left_holds left (higher most (given_address event)) (user_fits s h.fit others most addressed event left fits less did)
-      (user_moves s ordered others most addressed event left less did)
-      (λ confirm d. user_done s most confirm d others addressed event left less did)
+  -- one does
+  set_holds : (n : ℕ) (l k : LinkOf TrueFlow) (top : ℕ) → slice_get s.links n ≡ Some l → most ≤ top → Goes most l k → Holds (changed n k s) top
+  set_holds n l k top there less goes = left_holds (changed n k s) top less
+      (all_set (λ i l. LinkFits l) s.links n k (goes.fits (h.fit n l there)) h.fit)
+      (set_move s ordered n l k there (goes.moves (ordered n l there)))
+      (λ confirm d. all_set (λ j m. IsPast confirm m) s.links n k (goes.past confirm d.given (d.over n l there)) d.over)
+
+  -- a new one begins
+  push_holds : (k : LinkOf TrueFlow) (top : ℕ) → most ≤ top → LinkFits k → ((confirm : EndConfirm) → confirm.src ≤ most → IsPast confirm k) →
+      Holds (begun k s) top
+  push_holds k top less fits past = left_holds (begun k s) top less (all_pushed (λ i l. LinkFits l) s.links k fits h.fit) (push_move s ordered k)
+      (λ confirm d. all_pushed (λ j m. IsPast confirm m) s.links k (past confirm d.given) d.over)
+
+  module _ (others : LinkList) (addressed : AreAddressed s.links others most) where
+    -- with a new address
+    fresh_holds : (address : ℕ) (left : Links → Links) → most < address → Holds (left s) address → Holds (left (freed true_flows address s)) address
+    fresh_holds address left less holds =
+        subst (λ (x : Links). Holds (left x) address) (sym (freed_same s others most addressed address less)) holds
+
+    answered_holds : (phase : Phase) (far address n : ℕ) (l : LinkOf TrueFlow) → IsFound (CalledBy far) s n l →
+        fits_in phase (answered true_flows phase address l) ≡ (is_some l.port.far && eqb l.segsize SEGSIZE) → most < address →
+        Holds (changed n (answered true_flows phase address l) (freed true_flows address s)) address
+    answered_holds phase far address n l found same less = let k = answered true_flows phase address l in
+        fresh_holds address (changed n k) less (set_holds n l k address found.there (omega arith)
+        (answered_goes most l phase address same (and_parts (is_called l.port.phase) (is_at l.port.far far) found.passed).0 less))
+
+    pub user_holds : (event : LinkEventValue) (left : Links) → EventFits event → IsHigher most (given_address event) →
+        UserDid true_flows s event left → Holds left (higher most (given_address event))
+    user_holds event left fits less (Opens address free) = fresh_holds address (begun (opened true_flows address)) less
+        (push_holds (opened true_flows address) address (omega arith) (record { shape = refl; flow = empty_fits })
+        (λ confirm given e. let is = same_Some address confirm.src e in absurd (omega arith)))
+    user_holds event left fits less (Accepts far address n l found free) = answered_holds Confirming far address n l found refl less
+    user_holds event left fits less (Rejects far address n l found free) = answered_holds Disconnecting far address n l found refl less
+    user_holds event left fits less (HandsIn address message n l found may) =
+        set_holds n l _ most found.there (omega arith) (flow_goes most l _ (handed_goes l.flow message fits))
+    user_holds event left fits less (Delivers address message n l flow found is) =
+        set_holds n l _ most found.there (omega arith) (flow_goes most l flow (delivered_goes l.flow flow message is))
+    user_holds event left fits less (Closes address n l found connected) = set_holds n l (in_phase Disconnecting l) most found.there (omega arith)
+        (connected_goes most l Disconnecting l.flow refl (λ far. refl) connected (stays_as_it_is l.flow))
 
   pub sent_holds : (m : NspValue) (made : Sent TrueFlow Numbers) → IsPlain m → SentDid true_flows s m made → Holds made.links most
-  sent_holds m made plain did =
-      left_holds made.links most (sent_fits s h.fit m made plain did) (sent_moves s ordered m made did)
-      (λ confirm d. sent_done s most confirm d m made did)
+  sent_holds m made plain (OfNone none) = same_holds
+  sent_holds m made plain (Stays n l none there) = same_holds
+  sent_holds m made plain (EndsCalled far reason n l none is found) = set_holds n l _ most found.there (omega arith) (ended_goes most l)
+  sent_holds m made plain (Segment segment n l sent is found run does) = set_holds n l _ most found.there (omega arith)
+      (flow_goes most l sent.flow (segment_goes l.flow sent.flow segment (subst IsPlain is plain)
+      (segment_did l.flow l.segsize segment sent does)))
+  sent_holds m made plain (Acks dst src acks n l sent is found run does) =
+      set_holds n l _ most found.there (omega arith) (flow_goes most l sent.flow (acks_go l.flow acks sent does))
 
   pub came_holds : (rule : PartnerRule) (m : NspValue) (truth : LinkTruth Numbers) (left : Links) → IsPlain m →
-      message_arrived true_flows rule s m truth ≡ Ok left → ArrivedDid true_flows rule s m truth left → Holds left most
-  came_holds rule m truth left plain does did =
-      left_holds left most (came_fits s h.fit rule truth left m plain does) (came_moves s ordered rule m truth left did)
-      (λ confirm d. came_done s most confirm d rule m truth left did)
+      ArrivedDid true_flows rule s m truth left → Holds left most
+  came_holds rule m truth left plain Ignores = same_holds
+  came_holds rule m truth left plain (Begins far segsize is none) = push_holds (called true_flows rule far segsize truth.tag) most (omega arith)
+      (record { shape = eq-eqb segsize SEGSIZE (plain_size m far segsize plain is); flow = empty_fits }) (λ confirm given e. absurd cc)
+  came_holds rule m truth left plain (outcomes.Confirms own far segsize n l is found may) = set_holds n l _ most found.there (omega arith)
+      (confirmed_goes most l rule far segsize truth.tag (plain_size m far segsize plain is)
+      (and_parts (is_calling l.port.phase) (is_at l.port.own own) found.passed).0)
+  came_holds rule m truth left plain (Ends test n l found) = set_holds n l _ most found.there (omega arith) (ended_goes most l)
+  came_holds rule m truth left plain (TakesSegment own far segment n l is found may) = set_holds n l _ most found.there (omega arith)
+      (runs_on most l _ (and_parts (is_connected l.port.phase) (has_both l.port own far) found.passed).0 (took_segment l.flow segment truth.known))
+  came_holds rule m truth left plain (TakesAcks own far dst src acks n l is found may) = set_holds n l _ most found.there (omega arith)
+      (runs_on most l _ (and_parts (is_connected l.port.phase) (has_both l.port own far) found.passed).0 (took_acks l.flow truth.known))
+  came_holds rule m truth left plain (TakesOther own far n l found may) = set_holds n l _ most found.there (omega arith)
+      (runs_on most l _ (and_parts (is_connected l.port.phase) (has_both l.port own far) found.passed).0 (stays_as_it_is l.flow))
 
 -- ---- one thing more, and one thing less
 
+-- the link with this number is in this phase
+abbrev pub InPhase : ℕ → Phase → LinkList → Type 0
+InPhase number phase links = (k : LinkOf TrueFlow) → slice_get links number ≡ Some k → k.port.phase ≡ phase
+
+-- what may be owed newly
+abbrev pub DebtHolds : LinkList → (most : ℕ) → LinkDebt → Type 0
+DebtHolds links most NoDebt = Unit {0}
+DebtHolds links most (Owes number turn) = InPhase number (phase_of turn) links
+DebtHolds links most (OwesConfirm confirm) = ConfirmHolds links most confirm
+
 module _ (links : LinkList) (most : ℕ) (owed : LinksOwed) (h : LinkHolds links most owed) where
-  pub debt_holds : (debt : LinkDebt) → DebtFits links debt → ((confirm : EndConfirm) → debt ≡ OwesConfirm confirm → ConfirmHolds links most confirm) →
-      LinkHolds links most (with_debt debt owed)
-  debt_holds NoDebt fits new = h
-  debt_holds (Owes number turn) fits new = record {
+  pub debt_holds : (debt : LinkDebt) → DebtHolds links most debt → LinkHolds links most (with_debt debt owed)
+  debt_holds NoDebt new = h
+  debt_holds (Owes number turn) new = record {
     fit = h.fit;
-    owes = one_changed links number (with_turn turn true) owed (λ l o at owes. turn_fits l o turn (fits l at) (h.owes number l o at owes)) h.owes;
+    owes = one_changed links number (with_turn turn true) owed (λ l o at owes. turn_fits l o turn (new l at) (h.owes number l o at owes)) h.owes;
     confirms = h.confirms;
   }
-  debt_holds (OwesConfirm confirm) fits new =
-      record {
-        fit = h.fit;
-        owes = h.owes;
-        confirms = all_pushed (λ i c. ConfirmHolds links most c) owed.confirms confirm (new confirm refl) h.confirms;
-      }
+  debt_holds (OwesConfirm confirm) new = record {
+    fit = h.fit;
+    owes = h.owes;
+    confirms = all_pushed (λ i c. ConfirmHolds links most c) owed.confirms confirm new h.confirms;
+  }
 
   -- of a link, what is retried or sent
   pub change_holds : (number : ℕ) (change : LinkOwed → LinkOwed) →
       ((l : LinkOf TrueFlow) (o : LinkOwed) → slice_get links number ≡ Some l → slice_get owed.links number ≡ Some o → OwedFits l (change o)) →
-      LinkHolds links most (changed number change owed)
+      LinkHolds links most (owing.changed number change owed)
   change_holds number change here = record { fit = h.fit; owes = one_changed links number change owed here h.owes; confirms = h.confirms }
 
-  pub choice_holds : (c : LinkChoice) →
-      ((number : ℕ) (turn : Turn) → c ≡ OfLink number turn → (l : LinkOf TrueFlow) (o : LinkOwed) → slice_get links number ≡ Some l →
-      slice_get owed.links number ≡ Some o → OwedFits l (without_turn turn o)) →
-      LinkHolds links most (after_link_choice c owed)
-  choice_holds (Confirms confirm) here =
-      record { fit = h.fit; owes = h.owes; confirms = λ i c at. h.confirms (i + 1) c (behind owed.confirms i c at) }
+  -- the oldest DC is sent
+  pub first_sent_holds : LinkHolds links most (record owed { confirms = drop 1 owed.confirms })
+  first_sent_holds = record { fit = h.fit; owes = h.owes; confirms = λ i c at. h.confirms (i + 1) c (behind owed.confirms i c at) }
     where
       behind : (xs : List EndConfirm) (i : ℕ) (c : EndConfirm) → slice_get (drop 1 xs) i ≡ Some c → slice_get xs (i + 1) ≡ Some c
       behind [] i c at = absurd cc
@@ -117,4 +189,27 @@ module _ (links : LinkList) (most : ℕ) (owed : LinksOwed) (h : LinkHolds links
         where
           more : (i : ℕ) → i + 1 ≡ suc i
           more i = omega arith
-  choice_holds (OfLink number turn) here = change_holds number (without_turn turn) (here number turn refl)
+
+  -- the flow of a link changes, and no more
+  pub flow_holds : (n : ℕ) (l : LinkOf TrueFlow) (f : TrueFlow) → slice_get links n ≡ Some l → FlowGoes l.flow f →
+      ((o : LinkOwed) → OwedFits l o → OwedFits (with_flow f l) o) → LinkHolds (slice_set links n (with_flow f l)) most owed
+  flow_holds n l f there changes same =
+      let goes = flow_goes most l f changes in
+      record {
+        fit = all_set (λ i k. LinkFits k) links n (with_flow f l) (goes.fits (h.fit n l there)) h.fit;
+        owes = λ i k o at owes. of_place i k o owes (at_set links n i (with_flow f l) k at);
+        confirms = λ i confirm at. let c = h.confirms i confirm at in record {
+          done = record {
+            given = c.done.given;
+            over = all_set (λ j m. IsPast confirm m) links n (with_flow f l) (goes.past confirm c.done.given (c.done.over n l there)) c.done.over;
+          };
+          small = c.small;
+          some = c.some;
+        };
+      }
+    where
+      of_place : (i : ℕ) (k : LinkOf TrueFlow) (o : LinkOwed) → slice_get owed.links i ≡ Some o →
+          ((i ≡ n) × (with_flow f l ≡ k)) ⊎ ((i ≡ n → ⊥) × (slice_get links i ≡ Some k)) → OwedFits k o
+      of_place i k o owes (inl e) = subst (λ (x : LinkOf TrueFlow). OwedFits x o) e.1
+          (same o (h.owes n l o there (ap (slice_get owed.links) (sym e.0) ∙ owes)))
+      of_place i k o owes (inr e) = h.owes i k o e.1 owes

@@ -109,7 +109,7 @@ segment_adds s known f =
     omega arith
 
 segment_waits : (f : TrueFlow) (s : SegmentValue) (g : TrueFlow) → SegmentDid f s g → waiting_in g ≡ waiting_in f
-segment_waits f s g (GivesIt last) = refl
+segment_waits f s g (GivesIt last new) = refl
 segment_waits f s g (GivesAgain last old) = refl
 
 -- ---- all links
@@ -184,7 +184,7 @@ module _ (s : Links) where
   pub sent_waits : (m : NspValue) (made : Sent TrueFlow Numbers) → SentDid true_flows s m made → waiting made.links.links ≡ waiting s.links
   sent_waits m made (OfNone none) = refl
   sent_waits m made (Stays number link none there) = refl
-  sent_waits m made (EndsCalled far number link none found) = set_same_waits s.links number link (ended true_flows link) found.there refl
+  sent_waits m made (EndsCalled far reason number link none is found) = set_same_waits s.links number link (ended true_flows link) found.there refl
   sent_waits m made (Segment segment number link sent is found run does) =
       set_same_waits s.links number link (with_flow sent.flow link) found.there
       (segment_waits link.flow segment sent.flow (segment_did link.flow link.segsize segment sent does))
@@ -195,9 +195,9 @@ module _ (s : Links) where
   pub arrived_waits : (m : NspValue) (truth : LinkTruth Numbers) (left : Links) → ArrivedDid true_flows of_anyone s m truth left →
       waiting left.links ≤ waiting s.links + 1
   arrived_waits m truth left Ignores = omega arith
-  arrived_waits m truth left (Begins far segsize none) =
+  arrived_waits m truth left (Begins far segsize is none) =
       let e = begun_waits s.links (called true_flows of_anyone far segsize truth.tag) refl in omega arith
-  arrived_waits m truth left (Confirms own far segsize number link found for) =
+  arrived_waits m truth left (Confirms own far segsize number link is found for) =
       let e = set_same_waits s.links number link (confirmed true_flows of_anyone far segsize truth.tag link) found.there refl in omega arith
   arrived_waits m truth left (Ends test number link found) =
       let e = set_same_waits s.links number link (ended true_flows link) found.there refl in omega arith

@@ -1,6 +1,6 @@
 -- Addresses of both sides' links at any time, where each is given once; and that the rule on link partners asks nothing then.
 use Rattle.std.proofs.Common.{◌≡◌, ℕ, ◌+◌, ◌⊎◌, inl, inr, Bool, true, ◌&&◌, Option, Some, None, List, [], ◌∷◌, ◌++◌, length, Ok, refl, sym, ap, ap₂}
-use Rattle.std.proofs.Common.{◌∙◌, subst, eq-eqb}
+use Rattle.std.proofs.Common.{◌∙◌, subst, eq-eqb, eqb, eqb-true}
 use Rattle.std.specs.Prelude.{slice_get, is_some}
 use Rattle.std.proofs.lemmas.Bool.{and_parts}
 use Rattle.std.proofs.lemmas.Option.{same_Some}
@@ -18,80 +18,100 @@ use Rattle.dna_links.specs.TrueFlow.{TrueFlow, true_flows}
 use Rattle.dna_links.specs.TrueLinks.{Links, links_arrived}
 use Rattle.dna_links.specs.Captures.{given_address}
 use Rattle.dna_links.specs.Runs.{SentMessage, LinkSide, LinkWorld, LinkStep, ByUser, Sends, SendsNone, Keeps, KeepsNone, Reached, Start, ByA, ByB}
-use Rattle.dna_links.specs.Runs.{sends, keeps, new_world}
+use Rattle.dna_links.specs.Runs.{sends, new_world}
 use Rattle.dna_play.proofs.Once.Orderly.{higher, highest, AddressesRise, highest-join}
 use Rattle.two_nodes.proofs.NumberedSteps.{at_pushed}
 use Rattle.dna_links.proofs.Runs.Reads.{at_is}
-use Rattle.dna_links.proofs.Tables.Outcomes.{IsFound, looked, checked, user_did, sent_did}
-use Rattle.dna_play.proofs.Once.Addresses.{KeepsAddresses, AreAddressed, none_addressed, addressed_beside, user_addressed}
-use Rattle.dna_play.proofs.Once.Messages.{source, target, IsAddressed, message_kept, sent_from, sent_stays, came_stays}
+use Rattle.dna_links.proofs.Tables.Outcomes.{IsFound, looked, checked, user_did, sent_did, arrived_did}
+use Rattle.dna_play.proofs.Once.Addresses.{AreAddressed, none_addressed, addressed_beside, user_addressed, AtNodes, LeavesAddressed}
+use Rattle.dna_play.proofs.Once.Messages.{source, target, IsAddressed, message_kept, sent_from, sent_stays, came_stays, same_links}
 
 -- of one side beside the other, where this is the highest address that it gave
 pub record IsAddressedSide (own other : LinkSide) (most : ℕ) : Type 0 where
   pub links : AreAddressed own.links.links other.links.links most
   pub told : (k : ℕ) (u : SentMessage) → slice_get own.sent k ≡ Some (Some u) →
       IsAddressed own.links.links other.links.links u.packet.message u.truth.tag
+  -- each message goes from its sender's node to the other one
+  pub from : (k : ℕ) (u : SentMessage) → slice_get own.sent k ≡ Some (Some u) → (u.packet.src ≡ own.links.node) × (u.packet.dst ≡ own.links.peer)
 
-record StaysAddressed (left other : LinkSide) (most others : ℕ) : Type 0 where
+record StaysAddressed (own left other : LinkSide) (most others : ℕ) : Type 0 where
   pub of_left : IsAddressedSide left other most
   pub of_other : IsAddressedSide other left others
+  pub nodes : AtNodes left.links own.links.node own.links.peer
 
 -- ---- one step
 
 module _ (own other : LinkSide) (most others : ℕ) (h : IsAddressedSide own other most) (theirs : IsAddressedSide other own others) where
   -- the links of this side change, and keep their addresses
-  links_left : (links : Links) (front top : ℕ) → AreAddressed links.links other.links.links top → KeepsAddresses own.links.links links.links →
-      StaysAddressed (record { links = links; sent = own.sent; front = front }) other top others
-  links_left links front top a keeps = record {
+  links_left : (links : Links) (front top : ℕ) → LeavesAddressed own.links other.links.links links top →
+      StaysAddressed own (record { links = links; sent = own.sent; front = front }) other top others
+  links_left links front top l = record {
     of_left = record {
-      links = a;
-      told =
-          λ k u at. message_kept own.links.links other.links.links links.links other.links.links u.packet.message u.truth.tag keeps (λ i n o. o)
+      links = l.addressed;
+      told = λ k u at. message_kept own.links.links other.links.links links.links other.links.links u.packet.message u.truth.tag l.keeps (λ i n o. o)
           (h.told k u at);
+      from = λ k u at. let f = h.from k u at in (f.0 ∙ sym l.nodes.node_is, f.1 ∙ sym l.nodes.peer_is);
     };
     of_other = record {
-      links = addressed_beside other.links.links own.links.links links.links others keeps theirs.links;
-      told = λ k u at. message_kept other.links.links own.links.links other.links.links links.links u.packet.message u.truth.tag (λ i n o. o) keeps
-          (theirs.told k u at);
+      links = addressed_beside other.links.links own.links.links links.links others l.keeps theirs.links;
+      told = λ k u at. message_kept other.links.links own.links.links other.links.links links.links u.packet.message u.truth.tag (λ i n o. o)
+          l.keeps (theirs.told k u at);
+      from = theirs.from;
     };
+    nodes = l.nodes;
   }
 
   -- and a packet is first sent
-  sends_left : (links : Links) (message : Option SentMessage) → AreAddressed links.links other.links.links most →
-      KeepsAddresses own.links.links links.links →
-      ((u : SentMessage) → message ≡ Some u → IsAddressed links.links other.links.links u.packet.message u.truth.tag) →
-      StaysAddressed (sends own links message) other most others
-  sends_left links message a keeps this =
-      let l = links_left links own.front most a keeps in
+  sends_left : (links : Links) (message : Option SentMessage) → LeavesAddressed own.links other.links.links links most →
+      ((u : SentMessage) → message ≡ Some u → IsAddressed links.links other.links.links u.packet.message u.truth.tag ×
+      ((u.packet.src ≡ own.links.node) × (u.packet.dst ≡ own.links.peer))) → StaysAddressed own (sends own links message) other most others
+  sends_left links message l this =
+      let left = links_left links own.front most l in
       record {
-        of_left = record { links = a; told = λ k u at. go k u (at_pushed own.sent message (Some u) k at) };
-        of_other = record { links = l.of_other.links; told = l.of_other.told };
+        of_left = record {
+          links = l.addressed;
+          told = λ k u at. told k u (at_pushed own.sent message (Some u) k at);
+          from = λ k u at. let f = from k u (at_pushed own.sent message (Some u) k at) in
+              (f.0 ∙ sym l.nodes.node_is, f.1 ∙ sym l.nodes.peer_is);
+        };
+        of_other = record { links = left.of_other.links; told = left.of_other.told; from = theirs.from };
+        nodes = l.nodes;
       }
     where
-      go : (k : ℕ) (u : SentMessage) → (slice_get own.sent k ≡ Some (Some u)) ⊎ ((k ≡ length own.sent) × (message ≡ Some u)) →
+      told : (k : ℕ) (u : SentMessage) → (slice_get own.sent k ≡ Some (Some u)) ⊎ ((k ≡ length own.sent) × (message ≡ Some u)) →
           IsAddressed links.links other.links.links u.packet.message u.truth.tag
-      go k u (inl at) = message_kept own.links.links other.links.links links.links other.links.links u.packet.message u.truth.tag keeps (λ i n o. o)
-          (h.told k u at)
-      go k u (inr e) = this u e.1
+      told k u (inl at) = message_kept own.links.links other.links.links links.links other.links.links u.packet.message u.truth.tag l.keeps
+          (λ i n o. o) (h.told k u at)
+      told k u (inr e) = (this u e.1).0
+
+      from : (k : ℕ) (u : SentMessage) → (slice_get own.sent k ≡ Some (Some u)) ⊎ ((k ≡ length own.sent) × (message ≡ Some u)) →
+          (u.packet.src ≡ own.links.node) × (u.packet.dst ≡ own.links.peer)
+      from k u (inl at) = h.from k u at
+      from k u (inr e) = (this u e.1).1
 
   step_left : (left : LinkSide) (events : List LinkEventValue) → AddressesRise most events → LinkStep own other events left →
-      StaysAddressed left other (highest most events) others
-  step_left left events rise (ByUser event links does) =
-      let l = user_addressed own.links other.links.links most h.links event links rise.0 (user_did true_flows own.links links event does) in
-      links_left links own.front (higher most (given_address event)) l.addressed l.keeps
+      StaysAddressed own left other (highest most events) others
+  step_left left events rise (ByUser event links does) = links_left links own.front (higher most (given_address event))
+      (user_addressed own.links other.links.links most h.links event links rise.0 (user_did true_flows own.links links event does))
   step_left left events rise (Sends packet made does) =
       let l = sent_stays own.links other.links.links most h.links packet.message made (sent_did true_flows own.links made packet does) in
-      let m = sent_from own.links other.links.links most h.links packet.message made (checked _ _ _ made does).1 in
-      sends_left made.links (Some (record { packet = packet; truth = made.truth })) l.addressed l.keeps
-      (λ u e. subst (λ (x : SentMessage). IsAddressed made.links.links other.links.links x.packet.message x.truth.tag)
-      (same_Some (record { packet = packet; truth = made.truth }) u e)
-      (message_kept own.links.links other.links.links made.links.links other.links.links packet.message made.truth.tag l.keeps (λ i n o. o) m))
-  step_left left events rise SendsNone = sends_left own.links None h.links (λ i n o. o) (λ u e. absurd cc)
-  step_left left events rise (Keeps place unit links ahead there does) =
-      let l = came_stays own.links other.links.links most h.links unit.truth unit.packet.message links (theirs.told place unit there).from
-      (checked _ _ _ links does).1 in
-      links_left links (place + 1) most l.addressed l.keeps
-  step_left left events rise (KeepsNone place ahead there) = links_left own.links (place + 1) most h.links (λ i n o. o)
+      let c = checked _ _ _ made does in
+      let m = sent_from own.links other.links.links most h.links packet.message made c.1 in
+      let p = and_parts (eqb packet.src own.links.node) (eqb packet.dst own.links.peer) c.0 in
+      sends_left made.links (Some (record { packet = packet; truth = made.truth })) l
+      (λ u e. subst (λ (x : SentMessage). IsAddressed made.links.links other.links.links x.packet.message x.truth.tag ×
+      ((x.packet.src ≡ own.links.node) × (x.packet.dst ≡ own.links.peer)))
+      (same_Some (record { packet = packet; truth = made.truth }) u e) (
+        message_kept own.links.links other.links.links made.links.links other.links.links packet.message made.truth.tag l.keeps (λ i n o. o) m,
+        (eqb-true packet.src own.links.node p.0, eqb-true packet.dst own.links.peer p.1),
+      ))
+  step_left left events rise SendsNone =
+      sends_left own.links None (same_links own.links other.links.links most h.links) (λ u e. absurd cc)
+  step_left left events rise (Keeps place unit links ahead there does) = links_left links (place + 1) most
+      (came_stays own.links other.links.links most h.links unit.truth unit.packet.message links (theirs.told place unit there).from
+      (arrived_did true_flows of_partner own.links links unit.truth unit.packet does))
+  step_left left events rise (KeepsNone place ahead there) =
+      links_left own.links (place + 1) most (same_links own.links other.links.links most h.links)
 
 -- ---- all steps
 
@@ -100,26 +120,44 @@ pub rise_parts : (most : ℕ) (first later : List LinkEventValue) → AddressesR
 rise_parts most [] later r = (tt, r)
 rise_parts most (event ∷ first) later r = let p = rise_parts (higher most (given_address event)) first later r.1 in ((r.0, p.0), p.1)
 
-pub record BothAddressed (w : LinkWorld) (events_a events_b : List LinkEventValue) : Type 0 where
+pub record BothAddressed (node_a peer_a node_b peer_b : ℕ) (w : LinkWorld) (events_a events_b : List LinkEventValue) : Type 0 where
   pub of_a : IsAddressedSide w.a w.b (highest 0 events_a)
   pub of_b : IsAddressedSide w.b w.a (highest 0 events_b)
+  pub at_a : AtNodes w.a.links node_a peer_a
+  pub at_b : AtNodes w.b.links node_b peer_b
+
+still_at : (s left : Links) (node peer : ℕ) → AtNodes s node peer → AtNodes left s.node s.peer → AtNodes left node peer
+still_at s left node peer h l = record { node_is = l.node_is ∙ h.node_is; peer_is = l.peer_is ∙ h.peer_is }
 
 pub reached_addressed : (node_a peer_a node_b peer_b : ℕ) {w : LinkWorld} {of_a of_b : List LinkEventValue} →
-    Reached (new_world node_a peer_a node_b peer_b) w of_a of_b → AddressesRise 0 of_a → AddressesRise 0 of_b → BothAddressed w of_a of_b
+    Reached (new_world node_a peer_a node_b peer_b) w of_a of_b → AddressesRise 0 of_a → AddressesRise 0 of_b →
+    BothAddressed node_a peer_a node_b peer_b w of_a of_b
 reached_addressed node_a peer_a node_b peer_b Start rise_a rise_b = record {
-  of_a = record { links = none_addressed [] 0; told = λ k u at. absurd cc };
-  of_b = record { links = none_addressed [] 0; told = λ k u at. absurd cc };
+  of_a = record { links = none_addressed [] 0; told = λ k u at. absurd cc; from = λ k u at. absurd cc };
+  of_b = record { links = none_addressed [] 0; told = λ k u at. absurd cc; from = λ k u at. absurd cc };
+  at_a = record { node_is = refl; peer_is = refl };
+  at_b = record { node_is = refl; peer_is = refl };
 }
 reached_addressed node_a peer_a node_b peer_b (ByA {w} {of_a} {of_b} {events} {left} r step) rise_a rise_b =
     let p = rise_parts 0 of_a events rise_a in
     let now = reached_addressed node_a peer_a node_b peer_b r p.0 rise_b in
     let s = step_left w.a w.b (highest 0 of_a) (highest 0 of_b) now.of_a now.of_b left events p.1 step in
-    record { of_a = subst (IsAddressedSide left w.b) (sym (highest-join 0 of_a events)) s.of_left; of_b = s.of_other }
+    record {
+      of_a = subst (IsAddressedSide left w.b) (sym (highest-join 0 of_a events)) s.of_left;
+      of_b = s.of_other;
+      at_a = still_at w.a.links left.links node_a peer_a now.at_a s.nodes;
+      at_b = now.at_b;
+    }
 reached_addressed node_a peer_a node_b peer_b (ByB {w} {of_a} {of_b} {events} {left} r step) rise_a rise_b =
     let p = rise_parts 0 of_b events rise_b in
     let now = reached_addressed node_a peer_a node_b peer_b r rise_a p.0 in
     let s = step_left w.b w.a (highest 0 of_b) (highest 0 of_a) now.of_b now.of_a left events p.1 step in
-    record { of_a = s.of_other; of_b = subst (IsAddressedSide left w.a) (sym (highest-join 0 of_b events)) s.of_left }
+    record {
+      of_a = s.of_other;
+      of_b = subst (IsAddressedSide left w.a) (sym (highest-join 0 of_b events)) s.of_left;
+      at_a = now.at_a;
+      at_b = still_at w.b.links left.links node_b peer_b now.at_b s.nodes;
+    }
 
 -- ---- the rule on partners asks nothing
 

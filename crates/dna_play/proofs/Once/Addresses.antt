@@ -220,9 +220,15 @@ module _ (links : LinkList) (n : ℕ) (l k : LinkOf TrueFlow) (there : slice_get
 
 -- ---- the user
 
-pub record LeavesAddressed (old others left : LinkList) (most : ℕ) : Type 0 where
-  pub addressed : AreAddressed left others most
-  pub keeps : KeepsAddresses old left
+-- the addresses of both nodes
+pub record AtNodes (s : Links) (node peer : ℕ) : Type 0 where
+  pub node_is : s.node ≡ node
+  pub peer_is : s.peer ≡ peer
+
+pub record LeavesAddressed (old : Links) (others : LinkList) (left : Links) (most : ℕ) : Type 0 where
+  pub addressed : AreAddressed left.links others most
+  pub keeps : KeepsAddresses old.links left.links
+  pub nodes : AtNodes left old.node old.peer
 
 module _ (s : Links) (others : LinkList) (most : ℕ) (h : AreAddressed s.links others most) where
   -- nobody has it
@@ -235,7 +241,7 @@ module _ (s : Links) (others : LinkList) (most : ℕ) (h : AreAddressed s.links 
       absurd (omega arith))
 
   abbrev Leaves : Links → ℕ → Type 0
-  Leaves left top = LeavesAddressed s.links others left.links top
+  Leaves left top = LeavesAddressed s others left top
 
   answers : (phase : Phase) (far address number : ℕ) (link : LinkOf TrueFlow) → is_called phase ≡ false → slice_get s.links number ≡ Some link →
       is_called link.port.phase ≡ true → most < address →
@@ -246,12 +252,16 @@ module _ (s : Links) (others : LinkList) (most : ℕ) (h : AreAddressed s.links 
         addressed = answer_addressed s.links number link (answered true_flows phase address link) there none others most address less refl
             (h.far number link there) (λ c. absurd cc) h;
         keeps = answer_keeps s.links number link (answered true_flows phase address link) there none;
+        nodes = record { node_is = refl; peer_is = refl };
       })
 
   pub one_kept : (number : ℕ) (link left : LinkOf TrueFlow) → slice_get s.links number ≡ Some link → PortKept link left →
       Leaves (changed number left s) most
-  one_kept number link left there p =
-      record { addressed = kept_addressed s.links number link left there others most p h; keeps = kept_keeps s.links number link left there p.own }
+  one_kept number link left there p = record {
+    addressed = kept_addressed s.links number link left there others most p h;
+    keeps = kept_keeps s.links number link left there p.own;
+    nodes = record { node_is = refl; peer_is = refl };
+  }
 
   pub user_addressed : (event : LinkEventValue) (left : Links) → IsHigher most (given_address event) → UserDid true_flows s event left →
       Leaves left (higher most (given_address event))
@@ -259,6 +269,7 @@ module _ (s : Links) (others : LinkList) (most : ℕ) (h : AreAddressed s.links 
       subst (λ (x : Links). Leaves (record x { links = x.links ++ opened true_flows address ∷ [] }) address) (sym (freed_same address less)) (record {
         addressed = push_named s.links (opened true_flows address) others most address less refl (λ far e. absurd cc) (λ c. absurd cc) h;
         keeps = push_keeps s.links (opened true_flows address);
+        nodes = record { node_is = refl; peer_is = refl };
       })
   user_addressed event left less (Accepts far address number link found free) =
       answers Confirming far address number link refl found.there (and_parts (is_called link.port.phase) (is_at link.port.far far) found.passed).0

@@ -1,11 +1,11 @@
 -- What two nodes make that ask no rule on tags, two that do make too, where each side starts at most once and gives its link addresses in order.
 use Rattle.std.proofs.Common.{◌≡◌, ℕ, ◌+◌, ◌≤◌, Bool, true, false, eqb, cond, nat_lt, Option, Some, None, option_map, List, [], ◌∷◌, ◌++◌, map, Err}
-use Rattle.std.proofs.Common.{refl, sym, ap, ◌∙◌, subst, arith, append-nil, append_assoc}
+use Rattle.std.proofs.Common.{refl, sym, ap, ◌∙◌, subst, arith}
 use Rattle.std.specs.Prelude.{slice_get, bytes_eq}
 use Rattle.std.proofs.lemmas.Bool.{and_parts}
 use Rattle.std.proofs.lemmas.Grind.{flat_map-append}
 use Rattle.std.proofs.lemmas.Option.{slice_get-map}
-use Rattle.two_nodes.specs.Nodes.{Half, World, Run, Done, OfA, OfB, concluded, read, answered, advance, exchanged_world}
+use Rattle.two_nodes.specs.Nodes.{Half, World, Run, Done, concluded, read, answered, advance, exchanged_world}
 use Rattle.two_nodes.specs.Cutting.{cut_world}
 use Rattle.two_nodes.proofs.Lasting.{lasts}
 use Rattle.two_nodes.proofs.Order.{one_more_of_a, one_more_of_b, exchange}
@@ -42,6 +42,7 @@ use Rattle.dna_node.proofs.Joined.{AreTold, LayersJoined, joined_kept, start_joi
 use Rattle.dna_play.proofs.Once.Starts.{AreBegun, BothBegun, begun_kept}
 use Rattle.dna_play.proofs.Once.Meets.{meets_always}
 use Rattle.dna_play.proofs.Once.AddressRuns.{IsAddressedSide, reached_addressed, rise_parts, anyone_same}
+use Rattle.two_nodes.specs.Kept.{IsKept}
 
 -- a row that takes a packet is of data
 either_row : (b : Bool) (r : Row) → has_packet r.effects ≡ false → has_packet (cond b r ignored).effects ≡ false
@@ -241,27 +242,23 @@ orderly_first made later o =
     }
 
 module _ (head_a head_b : Head) where
-  goes_on : {w end : World LayersNode LayersUnit} {xs ys : List Record} (made_a made_b : List Record) →
-      Run layers_pair (layers_start head_a head_b) made_a made_b w → Run player_pair w xs ys end → IsOrderly (made_a ++ xs) →
-      IsOrderly (made_b ++ ys) →
-      Run layers_pair (layers_start head_a head_b) (made_a ++ xs) (made_b ++ ys) end
-  goes_on {w} made_a made_b run Done orderly_a orderly_b =
-      subst (λ (x : List Record). Run layers_pair (layers_start head_a head_b) x (made_b ++ []) w) (sym (append-nil made_a))
-      (subst (λ (y : List Record). Run layers_pair (layers_start head_a head_b) made_a y w) (sym (append-nil made_b)) run)
-  goes_on {w} {end} {ys = ys} made_a made_b run (OfA {h = h} {r = r} {xs = xs} made rest) orderly_a orderly_b =
-      let same = record_same w.a w.b
-      (ready_a head_a head_b w made_a made_b run (orderly_first made_a (r ∷ xs) orderly_a) (orderly_first made_b ys orderly_b)) r in
-      subst (λ (x : List Record). Run layers_pair (layers_start head_a head_b) x (made_b ++ ys) end) (append_assoc made_a (r ∷ []) xs)
-      (goes_on (made_a ++ r ∷ []) made_b (one_more_of_a layers_pair r h run (sym same ∙ made)) rest
-      (subst IsOrderly (sym (append_assoc made_a (r ∷ []) xs)) orderly_a) orderly_b)
-  goes_on {w} {end} {xs = xs} made_a made_b run (OfB {h = h} {r = r} {ys = ys} made rest) orderly_a orderly_b =
-      let same = record_same w.b w.a
-      (ready_b head_a head_b w made_a made_b run (orderly_first made_a xs orderly_a) (orderly_first made_b (r ∷ ys) orderly_b)) r in
-      subst (λ (y : List Record). Run layers_pair (layers_start head_a head_b) (made_a ++ xs) y end) (append_assoc made_b (r ∷ []) ys)
-      (goes_on made_a (made_b ++ r ∷ []) (one_more_of_b layers_pair r h run (sym same ∙ made)) rest orderly_a
-      (subst IsOrderly (sym (append_assoc made_b (r ∷ []) ys)) orderly_b))
+  -- what was made so far, if it is orderly
+  abbrev IsChecked : World LayersNode LayersUnit → List Record → List Record → Type 0
+  IsChecked w of_a of_b = IsOrderly of_a → IsOrderly of_b → Run layers_pair (layers_start head_a head_b) of_a of_b w
+
+  checked_kept : IsKept player_pair IsChecked
+  checked_kept = record {
+    by_a = λ w made_a made_b r h now made orderly_a orderly_b.
+        let first = orderly_first made_a (r ∷ []) orderly_a in
+        let run = now first orderly_b in
+        one_more_of_a layers_pair r h run (sym (record_same w.a w.b (ready_a head_a head_b w made_a made_b run first orderly_b) r) ∙ made);
+    by_b = λ w made_a made_b r h now made orderly_a orderly_b.
+        let first = orderly_first made_b (r ∷ []) orderly_b in
+        let run = now orderly_a first in
+        one_more_of_b layers_pair r h run (sym (record_same w.b w.a (ready_b head_a head_b w made_a made_b run orderly_a first) r) ∙ made);
+  }
 
   -- the run of nodes that ask no rule on tags is one of nodes that do
   pub is_checked_run : {end : World LayersNode LayersUnit} (of_a of_b : List Record) → Run player_pair (layers_start head_a head_b) of_a of_b end →
       IsOrderly of_a → IsOrderly of_b → Run layers_pair (layers_start head_a head_b) of_a of_b end
-  is_checked_run of_a of_b run orderly_a orderly_b = goes_on [] [] Done run orderly_a orderly_b
+  is_checked_run of_a of_b run = lasts player_pair IsChecked checked_kept [] [] (λ orderly_a orderly_b. Done) run

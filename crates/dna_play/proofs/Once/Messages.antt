@@ -1,26 +1,29 @@
 -- Where no link address is given twice, each message names its sender and its sender's partner by their addresses.
-use Rattle.std.proofs.Common.{◌≡◌, ℕ, Bool, true, Option, Some, None, Result, Ok, Err, refl, sym, ◌∙◌, subst}
+use Rattle.std.proofs.Common.{◌≡◌, ℕ, Bool, true, Option, Some, None, Result, Ok, Err, refl, sym, ◌∙◌, subst, ap}
 use Rattle.std.specs.Prelude.{slice_get}
 use Rattle.std.proofs.lemmas.Bool.{and_parts}
 use Rattle.dna_packet.specs.Nsp.{NspValue, DataSegment, LinkService, DataAck, OtherDataAck, ConnectAck, NoOperation, ConnectInitiate, ConnectConfirm}
 use Rattle.dna_packet.specs.Nsp.{DisconnectInitiate, DisconnectConfirm}
 use Rattle.dna_station.specs.declared.link_refusal.LinkRefusal.{LinkRefusal}
-use Rattle.dna_station.specs.declared.link_refusal.LinkRefusal.TheVariants.{NoLink, LinkState, CrossedLink}
+use Rattle.dna_station.specs.declared.link_refusal.LinkRefusal.TheVariants.{NoLink, LinkState}
 use Rattle.dna_links.specs.declared.tag.LinkTag.{LinkTag}
 use Rattle.dna_links.specs.declared.port.Phase.{Phase}
 use Rattle.dna_links.specs.declared.port.LinkTest.{LinkTest}
-use Rattle.dna_links.specs.declared.port.LinkTest.TheVariants.{TheLink, LiveTo, OpenedAt, CallingAt, ActedOn}
+use Rattle.dna_links.specs.declared.port.LinkTest.TheVariants.{TheLink, OpenedAt, ActedOn}
 use Rattle.dna_links.specs.LookUps.{is_live, is_at, is_calling, is_confirming, is_running, is_disconnecting, has_both, passes}
 use Rattle.dna_links.specs.Flow.{Sending}
-use Rattle.dna_links.specs.Links.{LinkOf, LinkTruth, check, with_link, begun, changed, with_flow, ended}
+use Rattle.dna_links.specs.Links.{LinkOf, LinkTruth, check, changed, with_flow, ended, in_phase}
 use Rattle.dna_links.specs.Sending.{Sent, truth_of, unchanged, in_its_phase, carries, in_run, segment_of, message_sent}
-use Rattle.dna_links.specs.Arriving.{of_partner, called, confirmed, ends_link, running, acted_on, is_for, is_of_pair, message_arrived}
+use Rattle.dna_links.specs.Arriving.{of_partner, called, confirmed}
 use Rattle.dna_links.specs.TrueFlow.{TrueFlow, Numbers, true_flows}
 use Rattle.dna_links.specs.TrueLinks.{Links}
 use Rattle.dna_links.proofs.Runs.Reads.{at_is}
-use Rattle.dna_links.proofs.Tables.Outcomes.{looked, checked, SentDid, OfNone, Stays, EndsCalled, Segment, Acks}
-use Rattle.dna_play.proofs.Once.Addresses.{LinkList, Owner, owner_kept, KeepsAddresses, AreAddressed, kept_keeps}
-use Rattle.dna_play.proofs.Once.Addresses.{set_addressed, push_unnamed, push_keeps, LeavesAddressed, one_kept}
+use Rattle.dna_links.proofs.Tables.Outcomes.{looked, checked, SentDid, OfNone, Stays, EndsCalled, Segment, Acks, IsFound, Connects, ArrivedDid}
+use Rattle.dna_links.proofs.Tables.Outcomes.{Ignores, Begins, Confirms, Ends, TakesSegment, TakesAcks, TakesOther}
+use Rattle.dna_play.proofs.Once.Addresses.{LinkList, Owner, owner_kept, KeepsAddresses, AreAddressed, kept_keeps, set_addressed, push_unnamed}
+use Rattle.dna_play.proofs.Once.Addresses.{push_keeps, LeavesAddressed, one_kept}
+use Rattle.std.proofs.lemmas.Option.{same_Some}
+use Rattle.dna_links.specs.declared.port.Phase.TheVariants.{Running}
 
 -- the address of the sender's link in a message, and that of the link it is for; a DC names a link that is over
 abbrev pub source : NspValue → Option ℕ
@@ -46,6 +49,11 @@ target (OtherDataAck dst src rest) = Some dst
 target (ConnectAck dst) = None
 target (NoOperation rest) = None
 target (DisconnectConfirm dst src reason) = None
+
+connects_from : (m : NspValue) (src segsize : ℕ) → Connects m src segsize → source m ≡ Some src
+connects_from (ConnectInitiate retransmitted own services info size user_data) src segsize is = ap Some is.0
+connects_from (ConnectConfirm dst own services info size user_data) src segsize is = ap Some is.0
+connects_from m src segsize is = absurd is
 
 pub record IsAddressed (own others : LinkList) (m : NspValue) (tag : LinkTag) : Type 0 where
   pub from : (a : ℕ) → source m ≡ Some a → Owner own tag.link a
@@ -144,10 +152,10 @@ module _ (s : Links) (others : LinkList) (most : ℕ) (h : AreAddressed s.links 
 
   -- and the links keep their addresses
   abbrev Stays' : Links → Type 0
-  Stays' left = LeavesAddressed s.links others left.links most
+  Stays' left = LeavesAddressed s others left most
 
-  same_links : Stays' s
-  same_links = record { addressed = h; keeps = λ i a o. o }
+  pub same_links : Stays' s
+  same_links = record { addressed = h; keeps = λ i a o. o; nodes = record { node_is = refl; peer_is = refl } }
 
   with_flow_kept : (number : ℕ) (link : LinkOf TrueFlow) (f : TrueFlow) → slice_get s.links number ≡ Some link →
       Stays' (changed number (with_flow f link) s)
@@ -161,80 +169,38 @@ module _ (s : Links) (others : LinkList) (most : ℕ) (h : AreAddressed s.links 
   pub sent_stays : (m : NspValue) (made : Sent TrueFlow Numbers) → SentDid true_flows s m made → Stays' made.links
   sent_stays m made (OfNone none) = same_links
   sent_stays m made (Stays number link none there) = same_links
-  sent_stays m made (EndsCalled far number link none found) = ended_kept number link found.there
+  sent_stays m made (EndsCalled far reason number link none is found) = ended_kept number link found.there
   sent_stays m made (Segment segment number link sent is found run does) = with_flow_kept number link sent.flow found.there
   sent_stays m made (Acks dst src acks number link sent is found run does) = with_flow_kept number link sent.flow found.there
 
   -- ---- what comes
 
   module _ (truth : LinkTruth Numbers) where
-    abbrev Comes : Links → Type 0
-    Comes left = Stays' left
-
-    came : (next left : Links) → Comes next → ◌≡◌ {A = Result Links LinkRefusal} (Ok next) (Ok left) → Comes left
-    came next left c e = subst Comes same c
-      where
-        same : next ≡ left
-        same = cc
-
-    called_comes : (far segsize : ℕ) → Owner others truth.tag.link far → Comes (begun (called true_flows of_partner far segsize truth.tag) s)
-    called_comes far segsize o = record {
-      addressed = push_unnamed s.links (called true_flows of_partner far segsize truth.tag) others most refl
-          (λ a e. subst (Owner others truth.tag.link) (same a e) o) h;
-      keeps = push_keeps s.links (called true_flows of_partner far segsize truth.tag);
-    }
-      where
-        same : (a : ℕ) → Some far ≡ Some a → far ≡ a
-        same a e = cc
-
-    confirmed_comes : (far segsize number : ℕ) (link : LinkOf TrueFlow) → slice_get s.links number ≡ Some link → Owner others truth.tag.link far →
-        Comes (changed number (confirmed true_flows of_partner far segsize truth.tag link) s)
-    confirmed_comes far segsize number link there o = record {
-      addressed = set_addressed s.links number link (confirmed true_flows of_partner far segsize truth.tag link) there others most refl
-          (λ a e. subst (Owner others truth.tag.link) (same a e) o) (λ c. absurd cc) h;
-      keeps = kept_keeps s.links number link (confirmed true_flows of_partner far segsize truth.tag link) there refl;
-    }
-      where
-        same : (a : ℕ) → Some far ≡ Some a → far ≡ a
-        same a e = cc
-
-    calling_comes : (own : ℕ) → Comes (with_link (CallingAt own) s s (λ number link. changed number (ended true_flows link) s))
-    calling_comes own = looked (CallingAt own) s s (λ number link. changed number (ended true_flows link) s) _ refl
-        (λ none e. subst Comes e same_links) (λ number link found e. subst Comes e (ended_kept number link found.there))
-
-    ends_comes : (own far : ℕ) → Comes (ends_link true_flows of_partner own far s)
-    ends_comes own far =
-        looked (TheLink own far) s (with_link (CallingAt own) s s (λ number link. changed number (ended true_flows link) s))
-        (λ number link. changed number (ended true_flows link) s) _ refl
-        (λ none e. subst Comes e (calling_comes own)) (λ number link found e. subst Comes e (ended_kept number link found.there))
-
-    acted_comes : (own far : ℕ) (takes : LinkOf TrueFlow → TrueFlow) (left : Links) →
-        acted_on true_flows of_partner own far truth.tag takes s ≡ Ok left → Comes left
-    acted_comes own far takes left e =
-        looked (ActedOn own far) s (Ok s)
-        (λ number link. check (of_partner (is_of_pair number link.partner truth.tag)) CrossedLink
-        (Ok (changed number (running true_flows of_partner takes link) s))) (Ok left) e (λ none e. came s left same_links e)
-        (λ number link found e. let c = checked _ _ _ left e in
-        came _ left (one_kept s others most h number link (running true_flows of_partner takes link) found.there
-        (record { own = refl; far = refl; partner = refl; called = λ c. absurd cc })) c.1)
+    acted_kept : (own far number : ℕ) (link : LinkOf TrueFlow) (f : TrueFlow) → IsFound (ActedOn own far) s number link →
+        Stays' (changed number (with_flow f (in_phase Running link)) s)
+    acted_kept own far number link f found = one_kept s others most h number link (with_flow f (in_phase Running link)) found.there
+        (record { own = refl; far = refl; partner = refl; called = λ c. absurd cc })
 
     pub came_stays : (m : NspValue) (left : Links) → ((a : ℕ) → source m ≡ Some a → Owner others truth.tag.link a) →
-        message_arrived true_flows of_partner s m truth ≡ Ok left → Comes left
-    came_stays (ConnectInitiate retransmitted src services info segsize user_data) left from e =
-        looked (LiveTo src) s (Ok (begun (called true_flows of_partner src segsize truth.tag) s)) (λ number link. Ok s) (Ok left) e
-        (λ none e. came _ left (called_comes src segsize (from src refl)) e) (λ number link found e. came s left same_links e)
-    came_stays (ConnectAck dst) left from e = came s left same_links e
-    came_stays (NoOperation rest) left from e = came s left same_links e
-    came_stays (ConnectConfirm dst src services info segsize user_data) left from e =
-        looked (CallingAt dst) s (Ok s)
-        (λ number link. check (of_partner (is_for number truth.tag)) CrossedLink
-        (Ok (changed number (confirmed true_flows of_partner src segsize truth.tag link) s))) (Ok left) e
-        (λ none e. came s left same_links e)
-        (λ number link found e. let c = checked _ _ _ left e in
-        came _ left (confirmed_comes src segsize number link found.there (from src refl)) c.1)
-    came_stays (DisconnectInitiate dst src reason user_data) left from e = came _ left (ends_comes dst src) e
-    came_stays (DisconnectConfirm dst src reason) left from e = came _ left (ends_comes dst src) e
-    came_stays (DataSegment segment) left from e = acted_comes segment.dstaddr segment.srcaddr _ left e
-    came_stays (DataAck dst src acks) left from e = acted_comes dst src _ left e
-    came_stays (LinkService interrupt dst src rest) left from e = acted_comes dst src _ left e
-    came_stays (OtherDataAck dst src rest) left from e = acted_comes dst src _ left e
+        ArrivedDid true_flows of_partner s m truth left → Stays' left
+    came_stays m left from Ignores = same_links
+    came_stays m left from (Begins far segsize is none) =
+        let k = called true_flows of_partner far segsize truth.tag in
+        record {
+          addressed = push_unnamed s.links k others most refl
+              (λ a e. subst (Owner others truth.tag.link) (same_Some far a e) (from far (connects_from m far segsize is))) h;
+          keeps = push_keeps s.links k;
+          nodes = record { node_is = refl; peer_is = refl };
+        }
+    came_stays m left from (Confirms own far segsize number link is found may) =
+        let k = confirmed true_flows of_partner far segsize truth.tag link in
+        record {
+          addressed = set_addressed s.links number link k found.there others most refl
+              (λ a e. subst (Owner others truth.tag.link) (same_Some far a e) (from far (connects_from m far segsize is))) (λ c. absurd cc) h;
+          keeps = kept_keeps s.links number link k found.there refl;
+          nodes = record { node_is = refl; peer_is = refl };
+        }
+    came_stays m left from (Ends test number link found) = ended_kept number link found.there
+    came_stays m left from (TakesSegment own far segment number link is found may) = acted_kept own far number link _ found
+    came_stays m left from (TakesAcks own far dst src acks number link is found may) = acted_kept own far number link _ found
+    came_stays m left from (TakesOther own far number link found may) = acted_kept own far number link _ found

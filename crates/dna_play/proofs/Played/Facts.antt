@@ -35,7 +35,6 @@ use Rattle.dna_node.proofs.LayersBounds.{a_bounded}
 use Rattle.dna_links.proofs.Runs.Steps.{BothLinksSound}
 use Rattle.dna_play.proofs.Once.Addresses.{AreAddressed}
 use Rattle.dna_play.proofs.Once.AddressRuns.{BothAddressed, reached_addressed}
-use Rattle.dna_play.proofs.Once.Nodes.{BothFrom, reached_from}
 use Rattle.dna_play.proofs.Once.Units.{unit_reads, unit_content}
 use Rattle.dna_play.proofs.Played.HandedLined.{events_lined}
 use Rattle.dna_play.proofs.Played.SidesLined.{is_lined}
@@ -118,13 +117,10 @@ module _ (script : Script) where
     bounds = bounded script.node_a script.node_b script.node_b script.node_a links_world (link_events played.of_a)
         (link_events played.of_b) met.joined.joined.reached
 
-    nodes : BothFrom script.node_a script.node_b script.node_b script.node_a links_world
-    nodes = reached_from script.node_a script.node_b script.node_b script.node_a met.joined.joined.reached
-
     lines : AreSentLined played.a.half × AreSentLined played.b.half
     lines = sent_lined run g.made.lines_a g.made.lines_b (λ k unit at. absurd cc) (λ k unit at. absurd cc)
 
-    addresses : BothAddressed links_world (link_events played.of_a) (link_events played.of_b)
+    addresses : BothAddressed script.node_a script.node_b script.node_b script.node_a links_world (link_events played.of_a) (link_events played.of_b)
     addresses = reached_addressed script.node_a script.node_b script.node_b script.node_a met.joined.joined.reached g.order.of_side_a.rise
         g.order.of_side_b.rise
 
@@ -141,8 +137,8 @@ module _ (script : Script) where
           others = subst (AreAddressed (links_of played.b.half).links (links_of played.a.half).links) g.order.of_side_b.top addresses.of_b.links;
           head_own = subst (λ (x : Head). x.own < 2 ^ 16) (sym head) (word _ node_a);
           head_peer = subst (λ (x : Head). x.peer < 2 ^ 16) (sym head) (word _ node_b);
-          node = nodes.of_a.links.node_is ∙ ap (λ (x : Head). x.own) (sym head);
-          peer = nodes.of_a.links.peer_is ∙ ap (λ (x : Head). x.peer) (sym head);
+          node = addresses.at_a.node_is ∙ ap (λ (x : Head). x.own) (sym head);
+          peer = addresses.at_a.peer_is ∙ ap (λ (x : Head). x.peer) (sym head);
         }
 
     pub facts_a : Facts played.a played.b
@@ -150,7 +146,8 @@ module _ (script : Script) where
         let order = met.joined.placed.order in
         record {
           known = known_a;
-          from = λ k u at. let f = nodes.of_b.from k u at in (f.0 ∙ sym nodes.of_a.links.peer_is, f.1 ∙ sym nodes.of_a.links.node_is);
+          from = λ k u at. let f = addresses.of_b.from k u at in
+              (f.0 ∙ addresses.at_b.node_is ∙ sym addresses.at_a.peer_is, f.1 ∙ addresses.at_b.peer_is ∙ sym addresses.at_a.node_is);
           whole = is_lined links_world.a links_world.b (link_events played.of_a)
               (link_events played.of_b) all_sound.of_a all_sound.of_b all_owned.of_a all_owned.of_b
               (events_lined played.of_a g.made.lines_a) (events_lined played.of_b g.made.lines_b);

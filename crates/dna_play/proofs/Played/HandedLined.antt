@@ -43,7 +43,7 @@ all_of_both P [] ys h later = later
 all_of_both P (x ∷ xs) ys h later = (h.0, all_of_both P xs ys h.1 later)
 
 -- those of the first list
-all_of_first : {X : Type 0} (P : X → Type 0) (xs ys : List X) → AllByRecursion P (xs ++ ys) → AllByRecursion P xs
+pub all_of_first : {X : Type 0} (P : X → Type 0) (xs ys : List X) → AllByRecursion P (xs ++ ys) → AllByRecursion P xs
 all_of_first P [] ys h = tt
 all_of_first P (x ∷ xs) ys h = (h.0, all_of_first P xs ys h.1)
 

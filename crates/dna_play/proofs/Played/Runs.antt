@@ -1,5 +1,5 @@
 -- What a script plays is a run of nodes that ask no rule on tags, and each record has a line.
-use Rattle.std.proofs.Common.{◌≡◌, ℕ, ◌+◌, Bool, true, false, Some, None, List, [], ◌∷◌, ◌++◌, Ok, Err, refl, cond, subst, sym, ap, ◌∙◌, append_assoc}
+use Rattle.std.proofs.Common.{◌≡◌, ℕ, Bool, true, false, Some, None, List, [], ◌∷◌, ◌++◌, Ok, Err, refl, cond, subst, sym, ap, ◌∙◌, append_assoc}
 use Rattle.std.proofs.Common.{append-nil}
 use Rattle.std.specs.List.{AllByRecursion}
 use Rattle.two_nodes.specs.Nodes.{World, Run, Done, Outcome, Made, Waits, Refused, advance, exchanged_world}
@@ -8,6 +8,7 @@ use Rattle.capture.specs.declared.record.Record.{Record}
 use Rattle.capture.specs.Range.{IsRecord}
 use Rattle.capture.proofs.SoFarLaws.{All-push}
 use Rattle.dna_station.specs.declared.refusal.StepRefusal.{StepRefusal}
+use Rattle.dna_node.specs.Rules.{by_bytes}
 use Rattle.dna_node.specs.Layers.{LayersNode, LayersUnit}
 use Rattle.dna_node.specs.LayersPair.{layers_start}
 use Rattle.dna_play.specs.Script.{StepValue, ScriptStep, Script}
@@ -17,11 +18,12 @@ use Rattle.dna_play.specs.Stepped.{Stepped}
 use Rattle.dna_play.specs.Play.{plays}
 use Rattle.dna_play.specs.Played.{Played, Stopped, head_a, head_b, play}
 use Rattle.dna_play.specs.PlayRun.{player_pair, world_of, ArePlayed}
+use Rattle.dna_node.proofs.OnTop.{OnTop, follows}
 use Rattle.dna_play.proofs.Played.PlayLines.{line_told}
 use Rattle.dna_play.proofs.Played.Steps.{PlayHalf, MakesAll, Nothing, First}
 use Rattle.dna_play.proofs.Played.StepMakes.{Good, plays_good}
-use Rattle.dna_play.proofs.Played.Reached.{exchanged_ends, exchanged_script, after_a, Reached, NoStep, StepOfA, StepOfB}
-use Rattle.dna_play.proofs.Played.Reached.{whole_reached, stopped_reached}
+use Rattle.dna_play.proofs.Played.Reached.{exchanged_ends, exchanged_script, after_a, Reached, NoStep, StepOfA, StepOfB, whole_reached}
+use Rattle.dna_play.proofs.Played.Reached.{stopped_reached}
 
 -- ---- one record
 
@@ -43,6 +45,11 @@ makes_tells own other r h e = go (has_line r) refl e
 pub line_makes : (own other : PlayHalf) (r : Record) (h : PlayHalf) → has_line r ≡ true → advance end_step own other r ≡ Made h →
     makes own other r ≡ Some h
 line_makes own other r h line e = ap (λ (b : Bool). cond b (made_half (advance end_step own other r)) None) line ∙ ap made_half e
+
+-- and does one of a few things with the links
+pub makes_on_top : (own other : PlayHalf) (r : Record) (h : PlayHalf) → makes own other r ≡ Some h → OnTop by_bytes own other r h
+unfolding end_step
+makes_on_top own other r h e = (follows by_bytes own other h r (makes_tells own other r h e).1).links
 
 -- ---- the records of one step
 

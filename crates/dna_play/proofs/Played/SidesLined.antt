@@ -16,8 +16,7 @@ use Rattle.dna_links.proofs.Tables.Outcomes.{IsFound}
 use Rattle.dna_links.proofs.Runs.Reads.{at_is}
 use Rattle.dna_links.proofs.Runs.Sides.{IsSoundSide}
 use Rattle.dna_links.proofs.Runs.Owners.{AreOwned}
-use Rattle.dna_play.proofs.Ends.UpsFollow.{AllLined}
-use Rattle.dna_play.proofs.Ends.UpsFollow.{IsLined}
+use Rattle.dna_play.proofs.Ends.UpsFollow.{AllLined, IsLined}
 use Rattle.dna_play.proofs.Played.HandedLined.{AreMessages, EventsLined, link_handed_lined, address_lined, whole_lined, all_lined}
 
 module _ (own other : LinkSide) (events further : List LinkEventValue) (h : IsSoundSide own other) (theirs : IsSoundSide other own)

@@ -1,6 +1,6 @@
 -- How what a step of a script makes comes about: the one walk over all kinds of step. What holds of each way to come about holds of every step.
-use Rattle.std.proofs.Common.{◌≡◌, ℕ, ◌+◌, ◌≤◌, Bool, false, Option, Some, None, List, [], ◌∷◌, ◌++◌, length, Result}
-use Rattle.std.proofs.Common.{refl, sym, subst, arith, length-set}
+use Rattle.std.proofs.Common.{◌≡◌, ℕ, ◌+◌, ◌≤◌, Bool, false, Option, Some, None, List, [], ◌∷◌, ◌++◌, length, Result, refl, sym, subst, arith}
+use Rattle.std.proofs.Common.{length-set}
 use Rattle.std.specs.Prelude.{slice_get, if◌then◌else◌}
 use Rattle.std.proofs.lemmas.Option.{slice_get_within}
 use Rattle.ddcmp_msg.specs.Message.{MessageValue}
@@ -17,13 +17,11 @@ use Rattle.dna_play.specs.PlayRun.{starts_now}
 use Rattle.dna_play.specs.Owed.{Debt, OwesStrt, timer_debt}
 use Rattle.dna_play.specs.LinkOwed.{LinkOwed, LinksOwed, LinkDebt, NoDebt, Owes, OwesConfirm, InitiateTurn, ConfirmTurn, DisconnectTurn, with_debt}
 use Rattle.dna_play.specs.LinkOwed.{changed, changed_at, retried}
-use Rattle.dna_play.specs.NextSent.{Choice, SendNew, LinkChoice, Confirms, OfLink}
-use Rattle.dna_play.specs.NextSent.{without_turn, after_link_choice, choice, link_choice}
+use Rattle.dna_play.specs.NextSent.{Choice, SendNew, LinkChoice, Confirms, OfLink, without_turn, after_link_choice, choice, link_choice}
 use Rattle.dna_play.specs.Compose.{message_of}
 use Rattle.dna_play.specs.Player.{End, makes, links_of, variables_of, link_ends_of, after_record}
 use Rattle.dna_play.specs.Stepped.{Stop, Stepped, made, owing_more, links_owing_more}
-use Rattle.dna_play.specs.Receipt.{carried, carried_debt, after_receipt, receives, can_keep}
-use Rattle.dna_play.specs.Receipt.{passing, on_unit, is_damage, damaged, heard}
+use Rattle.dna_play.specs.Receipt.{carried, carried_debt, after_receipt, receives, can_keep, passing, on_unit, is_damage, damaged, heard}
 use Rattle.dna_play.specs.Play.{by_user, with_address, giving, timed, retrying, after_sending, sends_message, sends_choice, no_more, plays}
 use Rattle.dna_play.specs.KeptPlayed.{is_of_line}
 use Rattle.dna_play.proofs.Played.Cases.{made_case, link_case, giving_case, unit_case, test_case, AllOf, then_each}

@@ -13,9 +13,9 @@ use Rattle.dna_station.specs.WireStation.{StationVariables}
 use Rattle.dna_station.specs.WireBook.{wire_is_new}
 use Rattle.dna_play.specs.Owed.{Owed}
 use Rattle.dna_play.specs.LinkOwed.{EndConfirm, Turn}
-use Rattle.dna_play.specs.NextSent.{LinkEnd, LinkChoice, Confirms, OfLink, turn_of, turn_or_next, first_turn, link_choice}
-use Rattle.dna_play.specs.NextSent.{Choice, SendStrt, SendStack, SendNak, SendRep, SendAgain, SendNew, SendAck, when, or_else, lowest_nak, new_packet}
-use Rattle.dna_play.specs.NextSent.{data_choice, choice_in, choice}
+use Rattle.dna_play.specs.NextSent.{LinkEnd, LinkChoice, Confirms, OfLink, turn_of, turn_or_next, first_turn, link_choice, Choice, SendStrt}
+use Rattle.dna_play.specs.NextSent.{SendStack, SendNak, SendRep, SendAgain, SendNew, SendAck, when, or_else, lowest_nak, new_packet, data_choice}
+use Rattle.dna_play.specs.NextSent.{choice_in, choice}
 use Rattle.dna_play.specs.Compose.{new_data, message_at, link_message, message_of}
 use Rattle.dna_play.specs.Kept.{live_ends}
 use Rattle.dna_play.proofs.Stored.LiveLists.{place_in, filter_get}

@@ -24,10 +24,12 @@ use Rattle.dna_links.proofs.Cut.Ended.{Splits, splits}
 use Rattle.dna_links.proofs.Runs.Sides.{set_same}
 use Rattle.dna_play.proofs.Links.Made.{event_makes}
 use Rattle.dna_play.proofs.Ends.UpsFollow.{delivering, one_delivered, AllLined}
-use Rattle.dna_play.proofs.Ends.Stage.{with_left}
+use Rattle.dna_play.proofs.Ends.Stage.{with_left, Stage}
 use Rattle.dna_play.proofs.Stored.LiveLists.{set_back}
 use Rattle.dna_play.proofs.Stored.LiveEnds.{Counted, with_owed, still_same, left_set}
 use Rattle.dna_play.proofs.Stored.Made.{owed_same}
+use Rattle.dna_play.proofs.Links.Stage.{flow_holds}
+use Rattle.dna_play.proofs.Links.Goes.{same_numbers}
 
 -- ---- how many pieces are delivered
 
@@ -100,6 +102,19 @@ up_end e number l k o there owes counted rep phase acknowledged =
     (left_set (links_of e.half).links e.links_owed counted number l k o there owes
     ∙ ap (λ (all : List LinkOwed). with_owed all e.links_owed)
     (ap (slice_set e.links_owed.links number) (still_same l k o phase acknowledged) ∙ set_back e.links_owed.links number o owes))
+
+-- and that keeps what holds of the end
+pub got_stage : (e : End) (number : ℕ) (l : LinkOf TrueFlow) (messages : List (List ℕ)) → slice_get (links_of e.half).links number ≡ Some l →
+    Stage e → Stage (with_links e (changed number (with_flow (flow_got l.flow messages) l) (links_of e.half)))
+got_stage e number l messages there h = record {
+  pays = h.pays;
+  packets = h.packets;
+  links = flow_holds (links_of e.half).links e.addresses e.links_owed h.links number l (flow_got l.flow messages) there
+      (same_numbers l.flow (flow_got l.flow messages) refl refl refl) (λ o fits. record { turns = fits.turns; ahead = fits.ahead });
+  plain = h.plain;
+  few = h.few;
+  ahead = h.ahead;
+}
 
 -- ---- all of them
 

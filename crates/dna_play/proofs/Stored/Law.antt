@@ -1,9 +1,7 @@
 -- What the nodes of the player's ends keep plays a script as the ends on true numbers do.
 use Rattle.std.proofs.Common.{◌≡◌, ℕ, zero, suc, ◌+◌, ◌≤◌, List, [], ◌∷◌, take, Result, Ok, Err, refl, sym, ap, ◌∙◌, subst, arith}
-use Rattle.std.specs.List.{AllByRecursion}
 use Rattle.wire_base.specs.declared.side.Side.{Side}
 use Rattle.wire_base.specs.declared.side.Side.TheVariants.{A, B}
-use Rattle.capture.specs.Range.{IsNode}
 use Rattle.dna_play.specs.Script.{ScriptStep, Script}
 use Rattle.dna_play.specs.ScriptText.{MAX_STEPS, IsStep, IsScript}
 use Rattle.dna_play.specs.Stepped.{Stop}
@@ -12,24 +10,25 @@ use Rattle.dna_play.specs.PlayRun.{starts_of, StartsOnce}
 use Rattle.dna_play.specs.KeptPlayed.{KeptMade, KeptPlayed, KeptStopped, with_records, kept_plays_step, kept_plays_all, kept_play}
 use Rattle.dna_play.specs.KeptPlayed as keeping
 use Rattle.dna_play.specs.KeptRun.{kept_pair, kept_played, kept_of}
-use Rattle.dna_play.proofs.Played.Reached.{after_a, after_b, Reached, NoStep, StepOfA, StepOfB, each_later, step_of_a, step_of_b}
-use Rattle.dna_play.proofs.Played.Reached.{whole_reached, stopped_reached}
-use Rattle.dna_play.proofs.Stored.Now.{now_at}
+use Rattle.dna_play.proofs.Played.Reached.{after_a, after_b, Reached, NoStep, StepOfA, StepOfB, each_later, step_of_a, step_of_b, whole_reached}
+use Rattle.dna_play.proofs.Played.Reached.{stopped_reached}
 use Rattle.dna_play.proofs.Stored.Pairs.{GoesAlong, step_along}
-use Rattle.dna_play.proofs.Stored.Steps.{step_kept}
+use Rattle.dna_play.proofs.Stored.Steps.{step_right}
+use Rattle.dna_play.proofs.Stored.Right.{right_kept}
+use Rattle.dna_play.proofs.Played.Stages.{now_at}
 
 -- ---- a step
 
 -- the step goes along
-pub next_along : (script : Script) → IsNode script.node_a → IsNode script.node_b → {steps count_a count_b : ℕ} {later : List ScriptStep}
-    (so_far : Played) → Reached script steps count_a count_b later so_far → count_a ≤ 1 → count_b ≤ 1 → steps ≤ MAX_STEPS →
+pub next_along : (script : Script) → IsScript script → {steps count_a count_b : ℕ} {later : List ScriptStep} (so_far : Played) →
+    Reached script steps count_a count_b later so_far → count_a ≤ 1 → count_b ≤ 1 → steps ≤ MAX_STEPS →
     (step : ScriptStep) → IsStep step → GoesAlong so_far step.side (plays_step so_far step) (kept_plays_step (kept_pair so_far) step)
-next_along script node_a node_b so_far r few_a few_b few step fits =
-    step_along so_far r step (step_kept _ _ (now_at script node_a node_b r few_a few_b few step.side) step fits)
+next_along script all so_far r few_a few_b few step fits =
+    step_along so_far r step (right_kept _ _ step.step _ _ (step_right _ _ (now_at script all r few_a few_b few step.side) step fits))
 
 -- ---- all steps
 
-module _ (script : Script) (node_a : IsNode script.node_a) (node_b : IsNode script.node_b) (fits : AllByRecursion IsStep script.steps) where
+module _ (script : Script) (fits : IsScript script) where
   -- what the nodes keep does behind a step
   abbrev behind : (steps : ℕ) → Played → List ScriptStep → Result Played Stop → Result KeptPlayed KeptStopped
   behind steps so_far later (Ok next) = kept_plays_all (steps + 1) (kept_played next) later
@@ -42,7 +41,7 @@ module _ (script : Script) (node_a : IsNode script.node_a) (node_b : IsNode scri
   goes_on {steps} {later = later} so_far step r few_a few_b few result is =
       go result (kept_plays_step (kept_pair so_far) step)
       (subst (λ (x : Result Played Stop). GoesAlong so_far step.side x (kept_plays_step (kept_pair so_far) step)) is
-      (next_along script node_a node_b so_far r few_a few_b few step (each_later IsStep r fits).0))
+      (next_along script fits so_far r few_a few_b few step (each_later IsStep r fits.each).0))
     where
       go : (result : Result Played Stop) (made : Result KeptMade Stop) → GoesAlong so_far step.side result made →
           keeping.if_made made (λ made. kept_plays_all (steps + 1) (with_records (kept_played so_far) step.side made) later)
@@ -70,8 +69,8 @@ pub stopped_kept : (script : Script) (stopped : Stopped) → IsScript script →
     kept_of (play script) ≡ kept_play script
 stopped_kept script stopped fits e once =
     let s = stopped_reached script stopped e in let few = s.few in let most = fits.few in
-    ap kept_of e ∙ sym (reached_kept script fits.node_a fits.node_b fits.each s.before once.of_a once.of_b (omega arith)
-    ∙ goes_on script fits.node_a fits.node_b fits.each stopped.so_far s.step s.before once.of_a once.of_b (omega arith) (Err stopped.stop) s.stops)
+    ap kept_of e ∙ sym (reached_kept script fits s.before once.of_a once.of_b (omega arith)
+    ∙ goes_on script fits stopped.so_far s.step s.before once.of_a once.of_b (omega arith) (Err stopped.stop) s.stops)
 
 -- the first steps start a side no more often than all of them
 starts_few : (side : Side) (n : ℕ) (list : List ScriptStep) → starts_of side (take n list) ≤ starts_of side list
@@ -84,7 +83,7 @@ whole_kept script fits once = go (play script) refl
   where
     go : (result : Result Played Stopped) → play script ≡ result → kept_of (play script) ≡ kept_play script
     go (Ok played) e =
-        ap kept_of e ∙ sym (reached_kept script fits.node_a fits.node_b fits.each (whole_reached script played e) once.of_a once.of_b fits.few)
+        ap kept_of e ∙ sym (reached_kept script fits (whole_reached script played e) once.of_a once.of_b fits.few)
     go (Err stopped) e =
         let a = once.of_a in let b = once.of_b in
         let few_a = starts_few A stopped.steps script.steps in let few_b = starts_few B stopped.steps script.steps in

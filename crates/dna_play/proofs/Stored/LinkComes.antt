@@ -28,9 +28,10 @@ use Rattle.dna_play.proofs.Once.Addresses.{LinkList}
 use Rattle.dna_play.proofs.Links.Pays.{with_found, without_found}
 use Rattle.dna_play.proofs.Links.Stage.{left_links}
 use Rattle.dna_play.proofs.Stored.LiveLists.{set_back}
-use Rattle.dna_play.proofs.Stored.LiveEnds.{end_of, Counted, left_same, still_in_phase}
+use Rattle.dna_play.proofs.Stored.LiveEnds.{Counted, left_same, still_in_phase}
 use Rattle.dna_play.proofs.Stored.LiveLinks.{kept_links, place_among, NeedsLife, the_link_lives, live_to_lives, calling_at_lives, acted_on_lives}
 use Rattle.dna_play.proofs.Stored.LiveLinks.{live_there, owed_set, record_set, record_changed, record_dropped, record_same, record_begun, look_kept}
+use Rattle.dna_play.proofs.Links.Choices.{end_of}
 
 -- a message that is no segment
 abbrev pub NoSegment : NspValue → Type 0

@@ -19,10 +19,7 @@ use Rattle.dna_links.proofs.Runs.Sides.{set_same}
 use Rattle.dna_play.proofs.Once.Addresses.{LinkList}
 use Rattle.dna_play.proofs.Links.Stage.{left_links}
 use Rattle.dna_play.proofs.Stored.LiveLists.{position_here, position_later}
-
--- one end of a link, with what it owes
-abbrev pub end_of : LinkOf TrueFlow → LinkOwed → LinkEnd
-end_of l owed = record { port = l.port; variables = variables_of l; owed = owed }
+use Rattle.dna_play.proofs.Links.Choices.{end_of}
 
 -- what is owed stands beside each link
 abbrev pub AreCounted : LinkList → List LinkOwed → Type 0

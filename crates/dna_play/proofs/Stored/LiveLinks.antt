@@ -22,8 +22,9 @@ use Rattle.dna_play.proofs.Once.Addresses.{LinkList}
 use Rattle.dna_play.proofs.Links.Stage.{left_links}
 use Rattle.dna_links.proofs.Tables.Outcomes.{IsFound, looked}
 use Rattle.dna_play.proofs.Stored.LiveLists.{set_back, place_in, filter_get, filter_set, filter_drop, filter_push, position_filter}
-use Rattle.dna_play.proofs.Stored.LiveEnds.{end_of, Counted, with_owed, owed_beside, ends_get, ends_set, ends_push, ends_position, owed_changed}
-use Rattle.dna_play.proofs.Stored.LiveEnds.{left_same, left_set, left_changed, left_begun}
+use Rattle.dna_play.proofs.Stored.LiveEnds.{Counted, with_owed, owed_beside, ends_get, ends_set, ends_push, ends_position, owed_changed, left_same}
+use Rattle.dna_play.proofs.Stored.LiveEnds.{left_set, left_changed, left_begun}
+use Rattle.dna_play.proofs.Links.Choices.{end_of}
 
 -- what a node keeps of these links, with what they owe
 abbrev pub kept_links : LinkList → LinksOwed → KeptLinks

@@ -1,8 +1,7 @@
 -- What the nodes keep can't make, behind steps that start each side at most once, ends on true numbers can't make either, for the same reason.
-use Rattle.std.proofs.Common.{◌≡◌, ◌≤◌, length, Result, Ok, Err, ap, subst}
-use Rattle.capture.specs.Range.{IsNode}
+use Rattle.std.proofs.Common.{◌≡◌, Result, Ok, Err, ap, subst}
 use Rattle.dna_play.specs.Script.{ScriptStep, Script}
-use Rattle.dna_play.specs.ScriptText.{MAX_STEPS, IsStep}
+use Rattle.dna_play.specs.ScriptText.{IsStep, IsScript}
 use Rattle.dna_play.specs.Stepped.{Stop}
 use Rattle.dna_play.specs.Played.{Played, plays_step, play}
 use Rattle.dna_play.specs.PlayRun.{StartsOnce}
@@ -12,14 +11,13 @@ use Rattle.dna_play.proofs.Played.Reached.{whole_reached}
 use Rattle.dna_play.proofs.Stored.Pairs.{GoesAlong}
 use Rattle.dna_play.proofs.Stored.Law.{next_along}
 
-module _ (script : Script) (node_a : IsNode script.node_a) (node_b : IsNode script.node_b) (few : length script.steps ≤ MAX_STEPS) (so_far : Played)
-    (e : play script ≡ Ok so_far) (once : StartsOnce script.steps) where
+module _ (script : Script) (all : IsScript script) (so_far : Played) (e : play script ≡ Ok so_far) (once : StartsOnce script.steps) where
   pub stops_too : (step : ScriptStep) (stop : Stop) → IsStep step → kept_plays_step (kept_pair so_far) step ≡ Err stop →
       plays_step so_far step ≡ Err stop
   stops_too step stop fits stops =
       by_step (plays_step so_far step)
       (subst (GoesAlong so_far step.side (plays_step so_far step)) stops
-      (next_along script node_a node_b so_far (whole_reached script so_far e) once.of_a once.of_b few step fits))
+      (next_along script all so_far (whole_reached script so_far e) once.of_a once.of_b all.few step fits))
     where
       by_step : (result : Result Played Stop) → GoesAlong so_far step.side result (Err stop) → result ≡ Err stop
       by_step (Ok next) along = absurd along

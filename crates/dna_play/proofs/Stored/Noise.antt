@@ -1,37 +1,88 @@
--- Bytes that nobody sent: the same of an end of the player and of what its node keeps.
-use Rattle.std.proofs.Common.{◌≡◌, ℕ, Bool, true, Option, Some, List, [], ◌∷◌, length, Result, Ok, Err, refl, sym, ap, ap₂, ◌∙◌, inl}
-use Rattle.std.proofs.Common.{inr}
-use Rattle.std.specs.Prelude.{nat_le}
-use Rattle.std.proofs.lemmas.Bool.{and_parts}
-use Rattle.ddcmp_msg.specs.Message.{MessageValue}
-use Rattle.ddcmp_msg.specs.Reading.{ReadingValue, reading}
-use Rattle.ddcmp_msg.specs.Reading as read_as
+-- Bytes that nobody sent: an end of the player hears them exactly where a block check shows that they are damaged.
 use Rattle.capture.specs.declared.limit.TheConstants.{MAX_UNIT}
 use Rattle.capture.specs.declared.record.Record.TheVariants as recorded
-use Rattle.dna_station.specs.Book.{HeaderBad, DataBad}
-use Rattle.dna_play.specs.HasLine.{numbers_fit, are_bytes, has_line}
-use Rattle.dna_play.specs.Script.{Noise}
-use Rattle.dna_play.specs.Player.{End, makes, station_of, links_of, after_record}
-use Rattle.dna_play.specs.Stepped.{Stop, BadStep, made, Stepped}
-use Rattle.dna_play.specs.Receipt.{heard, hears}
-use Rattle.dna_play.specs.Play.{plays}
-use Rattle.dna_play.specs.StepRule.{IsNoise}
-use Rattle.dna_play.specs.Kept.{KeptStation, KeptLinks, kept}
-use Rattle.dna_play.specs.KeptPlay.{KeptStepped, kept_plays}
-use Rattle.dna_play.specs.KeptPlay as keeping
-use Rattle.dna_play.specs.KeptRun.{kept_stepped, IsKept}
+use Rattle.capture.specs.declared.record.Record.TheVariants.{Noise}
+use Rattle.ddcmp_msg.specs.Reading as read_as
+use Rattle.ddcmp_msg.specs.Reading.{ReadingValue, reading}
+use Rattle.dna_node.specs.Layers.{layers_machine}
+use Rattle.dna_node.specs.Rules.{by_bytes}
+use Rattle.dna_play.proofs.Ends.DamagedUnits.{ShownDamage, OfHeader, OfData, read_of, arrival_of}
+use Rattle.dna_play.proofs.Ends.Stage.{Stage, Known, ordered_of}
+use Rattle.dna_play.proofs.Ends.StationStage.{damage_stage, arrived_packets}
+use Rattle.dna_play.proofs.Links.Stage.{same_holds}
 use Rattle.dna_play.proofs.Played.Cases.{made_case}
+use Rattle.dna_play.proofs.Played.Runs.{line_makes, makes_tells}
 use Rattle.dna_play.proofs.Played.Steps.{PlayHalf}
-use Rattle.dna_play.proofs.Played.Runs.{line_makes}
-use Rattle.dna_play.proofs.Ends.DamagedUnits.{ShownDamage, OfHeader, OfData, read_of}
-use Rattle.dna_play.proofs.Ends.NoiseStage.{damage_left, damage_heard, is_noise}
-use Rattle.dna_play.proofs.Stored.Timers.{none_behind}
 use Rattle.dna_play.proofs.Stored.LiveEnds.{left_same}
 use Rattle.dna_play.proofs.Stored.LiveLinks.{kept_links}
-use Rattle.dna_play.proofs.Stored.Now.{KeptNow}
+use Rattle.dna_play.proofs.Stored.Now.{KeptNow, facts_of}
 use Rattle.dna_play.proofs.Stored.Stations.{damage_came}
+use Rattle.dna_play.proofs.Stored.Timers.{none_behind}
+use Rattle.dna_play.specs.HasLine.{has_line, numbers_fit, are_bytes}
+use Rattle.dna_play.specs.Kept.{KeptStation, KeptLinks, kept}
+use Rattle.dna_play.specs.KeptPlay as keeping
+use Rattle.dna_play.specs.KeptPlay.{KeptStepped}
+use Rattle.dna_play.specs.KeptRun.{kept_stepped}
+use Rattle.dna_play.specs.Play.{plays}
+use Rattle.dna_play.specs.Player.{End, end_step, makes, station_of, links_of, after_record}
+use Rattle.dna_play.specs.Receipt.{heard}
+use Rattle.dna_play.specs.Script.{Noise}
+use Rattle.dna_play.specs.StepRule.{IsNoise}
+use Rattle.dna_play.specs.Stepped.{Stop, BadStep, made}
+use Rattle.dna_station.proofs.Cut.Node.{arrival_packets}
+use Rattle.dna_station.specs.Machine.{noise_step}
+use Rattle.dna_station.specs.StationBook.{after_arrival}
+use Rattle.std.proofs.Common.{◌≡◌, ℕ, Bool, true, Option, Some, List, [], ◌∷◌, length, Result, Ok, Err, refl, sym, ap, ap₂, ◌∙◌, inl, inr, false}
+use Rattle.std.proofs.Common.{subst}
+use Rattle.std.proofs.lemmas.Bool.{and_parts}
+use Rattle.std.specs.Prelude.{nat_le}
+use Rattle.two_nodes.specs.Nodes.{Made, stepped, answered, advance}
+use Rattle.ddcmp_msg.specs.Spelling.{header}
+use Rattle.dna_play.proofs.Stored.Right.{IsRight, never_full}
+
+module _ (own other : PlayHalf) where
+  -- the half that damage leaves: its front stays
+  abbrev pub damage_left : ShownDamage → PlayHalf
+  damage_left d =
+      stepped own (record own.state {
+        station =
+            record own.state.station { station = after_arrival own.state.station.station (arrival_of d) false };
+      })
+
+  pub damage_heard : (d : ShownDamage) (bytes : List ℕ) → reading bytes ≡ read_of d → advance end_step own other (Noise bytes) ≡ Made (damage_left d)
+  unfolding end_step
+  damage_heard OfHeader bytes e = ap (λ (r : ReadingValue). answered own other (noise_step (layers_machine by_bytes) own.state r)) e
+  damage_heard OfData bytes e = ap (λ (r : ReadingValue). answered own other (noise_step (layers_machine by_bytes) own.state r)) e
+
+  -- what is heard is damaged
+  noise_by : (bytes : List ℕ) (half : PlayHalf) (r : ReadingValue) → reading bytes ≡ r →
+      answered own other (noise_step (layers_machine by_bytes) own.state r) ≡ Made half → IsNoise bytes
+  noise_by bytes half read_as.HeaderBad e made = inl e
+  noise_by bytes half read_as.DataBad e made = inr e
+  noise_by bytes half (read_as.Sound m) e made = absurd cc
+  noise_by bytes half (read_as.Malformed departure) e made = absurd cc
+
+  pub is_noise : (bytes : List ℕ) (half : PlayHalf) → makes own other (Noise bytes) ≡ Some half → IsNoise bytes
+  unfolding end_step
+  is_noise bytes half e = noise_by bytes half (reading bytes) refl (makes_tells own other (Noise bytes) half e).1
+
+-- ---- the end after it
 
 module _ (own other : End) (now : KeptNow own other) (bytes : List ℕ) (lined : has_line (recorded.Noise bytes) ≡ true) where
+  known : Known own other
+  known = (facts_of now).known
+
+  heard_as : (d : ShownDamage) → Stage (heard own (read_of d) (after_record own (damage_left own.half other.half d)))
+  heard_as d = record {
+    pays = damage_stage (station_of own.half) own.owed now.stage.pays d;
+    packets = arrived_packets (station_of own.half) (after_arrival (station_of own.half) (arrival_of d) false)
+        (arrival_packets (station_of own.half) (arrival_of d) false) now.stage.packets;
+    links = same_holds (links_of own.half) own.addresses own.links_owed now.stage.links (ordered_of (links_of own.half).links known.numbers);
+    plain = now.stage.plain;
+    few = now.stage.few;
+    ahead = now.stage.ahead;
+  }
+
   few_bytes : nat_le (length bytes) MAX_UNIT ≡ true
   few_bytes = (and_parts (are_bytes bytes) (nat_le (length bytes) MAX_UNIT) (and_parts (numbers_fit (recorded.Noise bytes)) _ lined).1).1
 
@@ -58,36 +109,38 @@ module _ (own other : End) (now : KeptNow own other) (bytes : List ℕ) (lined :
   told : (r : ReadingValue) → keeping.hears_as (kept own) bytes r ≡ keeping.hears (kept own) bytes r
   told r = ap (λ (b : Bool). keeping.if_so b (keeping.hears_as (kept own) bytes r)) (sym few_bytes)
 
-  abbrev KeptAs : Result KeptStepped Stop → Type 0
-  KeptAs result = kept_stepped own (hears own other.half bytes) ≡ result
+  abbrev Right : Result KeptStepped Stop → ReadingValue → Type 0
+  Right as_kept r = IsRight own other (Noise bytes) as_kept
+      (made own (recorded.Noise bytes) (heard own r) (makes own.half other.half (recorded.Noise bytes)))
 
-  as_heard : (d : ShownDamage) → reading bytes ≡ read_of d → KeptAs (keeping.heard (kept own) bytes (read_of d))
-  as_heard d e =
-      ap₂ (λ (x : ReadingValue) (o : Option PlayHalf). kept_stepped own (made own (recorded.Noise bytes) (heard own x) o)) e
-      (line_makes own.half other.half (recorded.Noise bytes) (damage_left own.half other.half d) lined
-      (damage_heard own.half other.half d bytes e))
-      ∙ heard_by d
+  as_heard : (d : ShownDamage) → reading bytes ≡ read_of d → IsNoise bytes → Right (keeping.heard (kept own) bytes (read_of d)) (read_of d)
+  as_heard d e noise =
+      subst (λ (o : Option PlayHalf). IsRight own other (Noise bytes) (keeping.heard (kept own) bytes (read_of d))
+      (made own (recorded.Noise bytes) (heard own (read_of d)) o))
+      (sym (line_makes own.half other.half (recorded.Noise bytes) (damage_left own.half other.half d) lined
+      (damage_heard own.half other.half d bytes e)))
+      (record { stage = heard_as d; asks = noise; room = never_full own other (Noise bytes) refl; same = heard_by d })
 
-  not_made : (IsNoise bytes → ⊥) → kept_stepped own (hears own other.half bytes) ≡ Err BadStep
-  not_made never =
-      made_case (λ (result : Result Stepped Stop). kept_stepped own result ≡ Err BadStep) own (recorded.Noise bytes) (heard own (reading bytes))
-      (makes own.half other.half (recorded.Noise bytes)) (λ none. refl)
+  not_heard : (r : ReadingValue) → (IsNoise bytes → ⊥) → Right (Err BadStep) r
+  not_heard r never =
+      made_case (IsRight own other (Noise bytes) (Err BadStep)) own (recorded.Noise bytes) (heard own r)
+      (makes own.half other.half (recorded.Noise bytes)) (λ none. (never, refl))
       (λ half e. absurd (never (is_noise own.half other.half bytes half e)))
 
-  sound_never : (m : MessageValue) → reading bytes ≡ read_as.Sound m → IsNoise bytes → ⊥
-  sound_never m e (inl f) = let g = sym e ∙ f in cc
-  sound_never m e (inr f) = let g = sym e ∙ f in cc
+  never_noise : (r : ReadingValue) → reading bytes ≡ r → (r ≡ read_as.HeaderBad → ⊥) → (r ≡ read_as.DataBad → ⊥) → IsNoise bytes → ⊥
+  never_noise r e header data_ (inl f) = header (sym e ∙ f)
+  never_noise r e header data_ (inr f) = data_ (sym e ∙ f)
 
-  by_reading : (r : ReadingValue) → reading bytes ≡ r → KeptAs (keeping.hears (kept own) bytes r)
-  by_reading read_as.HeaderBad e = as_heard OfHeader e ∙ told read_as.HeaderBad
-  by_reading read_as.DataBad e = as_heard OfData e ∙ told read_as.DataBad
-  by_reading (read_as.Sound m) e = not_made (sound_never m e) ∙ told (read_as.Sound m)
-  by_reading (read_as.Malformed departure) e = not_made never ∙ told (read_as.Malformed departure)
+  by_reading : (r : ReadingValue) → reading bytes ≡ r → Right (keeping.hears (kept own) bytes r) r
+  by_reading r e = subst (λ (k : Result KeptStepped Stop). Right k r) (told r) (go r e)
     where
-      never : IsNoise bytes → ⊥
-      never (inl f) = let g = sym e ∙ f in cc
-      never (inr f) = let g = sym e ∙ f in cc
+      go : (r : ReadingValue) → reading bytes ≡ r → Right (keeping.hears_as (kept own) bytes r) r
+      go read_as.HeaderBad e = as_heard OfHeader e (inl e)
+      go read_as.DataBad e = as_heard OfData e (inr e)
+      go (read_as.Sound m) e = not_heard (read_as.Sound m) (never_noise (read_as.Sound m) e (λ f. cc) (λ f. cc))
+      go (read_as.Malformed departure) e =
+          not_heard (read_as.Malformed departure) (never_noise (read_as.Malformed departure) e (λ f. cc) (λ f. cc))
 
-  pub noise_kept : IsKept own other.half (Noise bytes)
-  unfolding plays kept_plays
-  noise_kept = by_reading (reading bytes) refl
+  pub noise_right : IsRight own other (Noise bytes) (keeping.hears (kept own) bytes (reading bytes)) (plays own other.half (Noise bytes))
+  unfolding plays
+  noise_right = by_reading (reading bytes) refl

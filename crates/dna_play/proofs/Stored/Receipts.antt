@@ -9,63 +9,62 @@ use Rattle.dna_packet.specs.Nsp.{NspValue}
 use Rattle.capture.specs.declared.limit.TheConstants.{MAX_HINT}
 use Rattle.capture.specs.declared.record.Record.{Record}
 use Rattle.capture.specs.declared.record.Record.TheVariants.{Received}
-use Rattle.dna_station.specs.declared.refusal.StepRefusal.{StepRefusal}
 use Rattle.dna_station.specs.declared.refusal.StationRefusal.TheVariants.{CrossedPeriod}
-use Rattle.dna_node.specs.Rules.{judged, by_bytes}
-use Rattle.dna_station.specs.Book.{ArrivalValue, Sound, HeaderBad, DataBad, body_of, keep_refusal}
+use Rattle.dna_node.specs.Rules.{judged}
+use Rattle.dna_station.specs.Book.{Sound, keep_refusal}
 use Rattle.dna_station.specs.Bounds.{IsWithin}
 use Rattle.dna_station.specs.Station.{Station}
 use Rattle.dna_station.specs.StationBook.{arrival_refusal, after_arrival}
 use Rattle.dna_station.specs.WireStation.{StationVariables}
 use Rattle.dna_station.specs.WireNode.{unlabelled}
-use Rattle.dna_links.specs.Links.{LinkOf, Carried}
-use Rattle.dna_links.specs.Arriving.{of_anyone}
+use Rattle.dna_links.specs.Links.{LinkOf}
 use Rattle.dna_links.specs.TrueFlow.{TrueFlow}
-use Rattle.dna_links.specs.TrueLinks.{Links, links_arrived}
+use Rattle.dna_links.specs.TrueLinks.{Links}
 use Rattle.dna_links.specs.CutFlow.{IsOrdered}
 use Rattle.dna_links.specs.Runs.{SentMessage}
-use Rattle.dna_node.specs.Content.{content}
 use Rattle.dna_node.specs.LayersPair.{side_of}
-use Rattle.dna_node.specs.Layers.{LayersTruth, LayersUnit}
+use Rattle.dna_node.specs.Layers.{LayersUnit}
 use Rattle.dna_play.specs.Owed.{Debt, arrival_debt, can_take, with_debt}
-use Rattle.dna_play.specs.Script.{Deliver, Refuse, Damage}
+use Rattle.dna_play.specs.Script.{Deliver, Refuse, Damage, StepValue}
 use Rattle.dna_play.specs.Player.{End, makes, links_of, station_of, after_record}
 use Rattle.dna_play.specs.Player as player
 use Rattle.dna_play.specs.Stepped.{Stop, BadStep, Stepped, made}
-use Rattle.dna_play.specs.Receipt.{carried_in, carried, after_receipt, then_gets, is_damage, damaged}
+use Rattle.dna_play.specs.Receipt.{carried, after_receipt, then_gets, is_damage, damaged}
 use Rattle.dna_play.specs.Receipt as receiving
 use Rattle.dna_play.specs.Play.{plays}
 use Rattle.dna_play.specs.Kept.{KeptStation, KeptLinks, kept}
 use Rattle.dna_play.specs.KeptStation as of_station
 use Rattle.dna_play.specs.KeptLinks.{Delivering}
-use Rattle.dna_play.specs.KeptPlay.{KeptStepped, kept_plays, arrived, up_address, ups, came_as}
+use Rattle.dna_play.specs.KeptPlay.{KeptStepped, arrived, up_address, ups, came_as, with_next}
 use Rattle.dna_play.specs.KeptPlay as keeping
-use Rattle.dna_play.specs.KeptRun.{bytes_of, kept_stepped, IsKept}
+use Rattle.dna_play.specs.KeptRun.{bytes_of, coming}
 use Rattle.dna_station.proofs.Cut.Arriving.{arrival_refusal_same}
 use Rattle.dna_station.proofs.Bounds.Numbers.{is_data}
-use Rattle.dna_node.proofs.LayersRead.{packet_in}
-use Rattle.dna_node.proofs.OnTop.{IsMet, NotKept, KeptNone, KeptOne}
 use Rattle.dna_links.proofs.Tables.Outcomes.{checked}
 use Rattle.dna_play.proofs.Once.AddressRuns.{anyone_same}
 use Rattle.dna_play.proofs.Played.Steps.{PlayHalf, Nothing, First}
 use Rattle.dna_play.proofs.Played.Order.{quiet}
 use Rattle.dna_play.proofs.Played.Facts.{Facts}
 use Rattle.dna_play.proofs.Once.Checked.{meets_it}
-use Rattle.dna_play.proofs.Ends.DamagedUnits.{Damaged, damage_is_seen, ShownDamage, OfHeader, OfData, read_of, arrival_of, damage_of}
-use Rattle.dna_play.proofs.Ends.ReceiptMakes.{came_left, damage_made, taken_is_data, within, unit_made}
-use Rattle.dna_play.proofs.Ends.ReceiptStage.{unit_stage}
+use Rattle.dna_play.proofs.Ends.DamagedUnits.{Damaged, damage_is_seen, ShownDamage, OfHeader, OfData, read_of, arrival_of, damage_of, hurt_of}
+use Rattle.dna_play.proofs.Ends.DamagedUnits.{is_hurt}
+use Rattle.dna_play.proofs.Ends.ReceiptMakes.{damage_made, taken_is_data, within, unit_made, HasCome, NoneCame, OneCame}
+use Rattle.dna_play.proofs.Ends.ReceiptStage.{unit_stage, hurt_stage}
 use Rattle.dna_play.proofs.Ends.StationStage.{cut_of, left_owed}
 use Rattle.dna_play.proofs.Ends.Stage.{Stage}
-use Rattle.dna_play.proofs.Ends.ComesStage.{from_here, can_be, are_bytes_of}
 use Rattle.dna_play.proofs.Played.Runs.{line_makes}
 use Rattle.dna_play.proofs.Ends.ComesLined.{unit_line, damaged_line}
-use Rattle.dna_play.proofs.Ends.StepStages.{facts_now}
-use Rattle.dna_play.proofs.Stored.Timers.{none_behind, on_line}
+use Rattle.dna_play.proofs.Stored.Timers.{none_behind}
 use Rattle.dna_play.proofs.Stored.LiveLinks.{record_same}
-use Rattle.dna_play.proofs.Stored.Now.{KeptNow}
+use Rattle.dna_play.proofs.Stored.Now.{KeptNow, facts_of}
 use Rattle.dna_play.proofs.Stored.Stations.{station_with, sound_came, damage_came, can_keep_same}
 use Rattle.dna_play.proofs.Stored.Deliveries.{with_links}
 use Rattle.dna_play.proofs.Stored.Segments.{left_half, left_end, Got, nothing_got, message_got}
+use Rattle.dna_play.proofs.Stored.Right.{IsRight, never_full, unit_right}
+use Rattle.dna_play.specs.StepRule.{Asks, gives_address, IsHurt}
+use Rattle.std.proofs.lemmas.Bool.{and_parts}
+use Rattle.std.proofs.lemmas.Option.{same_Some}
+use Rattle.dna_play.proofs.Played.PlayLines.{bytes_tested}
 
 module _ (own other : End) (now : KeptNow own other) where
   abbrev s : Links
@@ -81,7 +80,7 @@ module _ (own other : End) (now : KeptNow own other) where
   live = (kept own).links
 
   facts : Facts own other
-  facts = facts_now own other now.stage now.theirs now.later
+  facts = facts_of now
 
   ordered : (i : ℕ) (l : LinkOf TrueFlow) → slice_get s.links i ≡ Some l → IsOrdered l.flow
   ordered i l at = (facts.known.numbers i l at).0
@@ -95,6 +94,7 @@ module _ (own other : End) (now : KeptNow own other) where
     makes_it : makes own.half other.half (Received own.passed is_kept bytes) ≡ Some (left_half own left links)
     after : station_with (cut_of left).variables (with_debt (arrival_debt k read is_kept) (left_owed station left own.owed))
         ≡ of_station.after_arrival read is_kept (kept own).station
+    stage : Stage (after_receipt own read is_kept (after_record own (left_half own left links)))
     got : Got own other.half now.counted ordered (Received own.passed is_kept bytes ∷ []) left (arrival_debt k read is_kept)
         (left_end own left (arrival_debt k read is_kept) (carried is_kept read) links) (carried is_kept read)
 
@@ -124,30 +124,37 @@ module _ (own other : End) (now : KeptNow own other) where
       records = r ∷ ups (up_address (carried is_kept read)) delivering.messages;
     })
 
-    made_kept : kept_stepped own (receiving.receives own other.half bytes read is_kept) ≡ keeping.receives (kept own) bytes read is_kept
-    made_kept =
-        ap (kept_stepped own) is_made
-        ∙ ap₂ (λ (x : KeptStation) (y : KeptLinks). step x y (drop (length own.half.sent) (bytes_of own.half.sent))) x.after x.got.links
-        ∙ ap (step (of_station.after_arrival read is_kept (kept own).station) delivering.links) (none_behind own.half.sent)
-        ∙ sym (ap (λ (b : Bool). cond b (step (of_station.after_arrival read is_kept (kept own).station) delivering.links []) (Err BadStep))
-        x.got.short)
-        ∙ sym (ap (λ (b : Bool). cond b
-        (came_as (kept own) r (of_station.after_arrival read is_kept (kept own).station) (up_address (carried is_kept read)) delivering)
-        (Err BadStep))
-        (le-leb own.passed MAX_HINT now.few))
+    receipt_right : (value : StepValue) → Asks own other.half value → gives_address value ≡ false →
+        IsRight own other value (keeping.receives (kept own) bytes read is_kept) (receiving.receives own other.half bytes read is_kept)
+    receipt_right value asks no_address = subst (IsRight own other value (keeping.receives (kept own) bytes read is_kept)) (sym is_made) (record {
+      stage = x.got.stage x.stage;
+      asks = asks;
+      room = never_full own other value no_address;
+      same = ap₂ (λ (x : KeptStation) (y : KeptLinks). step x y (drop (length own.half.sent) (bytes_of own.half.sent))) x.after x.got.links
+          ∙ ap (step (of_station.after_arrival read is_kept (kept own).station) delivering.links) (none_behind own.half.sent)
+          ∙ sym (ap (λ (b : Bool). cond b (step (of_station.after_arrival read is_kept (kept own).station) delivering.links []) (Err BadStep))
+          x.got.short)
+          ∙ sym (ap (λ (b : Bool). cond b
+          (came_as (kept own) r (of_station.after_arrival read is_kept (kept own).station) (up_address (carried is_kept read)) delivering)
+          (Err BadStep))
+          (le-leb own.passed MAX_HINT now.few));
+    })
 
   -- ---- a unit that is on the line
 
   module _ (unit : LayersUnit) (there : slice_get other.half.sent own.passed ≡ Some unit) where
-    abbrev from : is_data unit.message ≡ true → (u : SentMessage) → unit.known.carried ≡ Some u → (u.packet.src ≡ s.peer) × (u.packet.dst ≡ s.node)
-    from = from_here own other now.later now.stage now.theirs facts unit there
-
     told : reading unit.bytes ≡ read_as.Sound unit.message
     told = facts.reads own.passed unit there
 
+    from : is_data unit.message ≡ true → (u : SentMessage) → unit.known.carried ≡ Some u → (u.packet.src ≡ s.peer) × (u.packet.dst ≡ s.node)
+    from d u is = facts.from unit.known.station.place u (facts.known.ready.told.told own.passed unit there d ∙ ap Some is)
+
+    can_be : (buffer : Bool) → (buffer && receiving.can_keep own (reading unit.bytes)) ≡ true → can_take k unit.message ≡ true
+    can_be buffer e = sym (ap (receiving.can_keep own) told) ∙ (and_parts buffer (receiving.can_keep own (reading unit.bytes)) e).1
+
     is_within : IsWithin station unit.message unit.known.station
-    is_within = within own.half other.half own.passed unit there now.stage.ahead facts.known.ready facts.known.bounded
-        from
+    is_within = within own.half other.half own.passed unit there now.stage.ahead facts.known.ready facts.known.bounded from
+        (facts.packets own.passed unit there)
 
     -- the judge takes it too
     judged_takes : can_take k unit.message ≡ true → arrival_refusal judged.periods station (Sound unit.message unit.known.station) true ≡ None
@@ -155,9 +162,6 @@ module _ (own other : End) (now : KeptNow own other) where
         arrival_refusal_same (unlabelled {L = Unit {0}} station.packets) judged.periods station unit.message unit.known.station true (λ e. is_within)
         ∙ ap₂ (λ (met takes : Bool). cond met (keep_refusal takes true) (Some CrossedPeriod))
         (meets_it own.half other.half facts.known.ready own.passed unit there) can
-
-    abbrev sound : ArrivalValue LayersTruth
-    sound = Sound unit.message unit.known
 
     abbrev left : Bool → Station
     left is_kept = after_arrival station (Sound unit.message unit.known.station) is_kept
@@ -168,95 +172,56 @@ module _ (own other : End) (now : KeptNow own other) where
     abbrev first : Bool → List Record
     first is_kept = Received own.passed is_kept unit.bytes ∷ []
 
-    abbrev GotOf : Bool → Option NspValue → Links → Type 0
-    GotOf is_kept message links = Got own other.half now.counted ordered (first is_kept) (left is_kept) (owes is_kept)
+    -- what the user gets then
+    got_of : (is_kept : Bool) (message : Option NspValue) (links : Links) → (is_kept ≡ true → can_take k unit.message ≡ true) →
+        HasCome s unit is_kept message links → Facts (after_record own (left_half own (left is_kept) links)) other →
+        Stage (after_receipt own (read_as.Sound unit.message) is_kept (after_record own (left_half own (left is_kept) links))) →
+        Got own other.half now.counted ordered (first is_kept) (left is_kept) (owes is_kept)
         (left_end own (left is_kept) (owes is_kept) message links) message
-
-    nothing_of : (is_kept : Bool) → GotOf is_kept None s
-    nothing_of is_kept = nothing_got own other.half now.counted ordered (first is_kept) (left is_kept) (owes is_kept)
-        (left_end own (left is_kept) (owes is_kept) None s) None live refl refl (record_same s.links own.links_owed now.counted)
-
-    module _ (is_kept : Bool) (can : is_kept ≡ true → can_take k unit.message ≡ true) where
-      abbrev half_with : Links → PlayHalf
-      half_with links = came_left own.half other.half own.passed unit there now.stage.ahead sound is_kept links
-
-      met_as_read : is_kept ≡ true → content (body_of unit.message) ≡ Ok (packet_in unit.known.carried)
-      met_as_read e = facts.packets own.passed unit there (taken_is_data k unit.message (can e))
-
-      stage_left : (links : Links) → IsMet by_bytes s unit.known.carried is_kept links →
-          Stage (after_receipt own (read_as.Sound unit.message) is_kept (after_record own (half_with links)))
-      stage_left links met_as = subst (λ (r : ReadingValue). Stage (after_receipt own r is_kept (after_record own (half_with links)))) told
-          (unit_stage own other now.stage now.theirs facts.known unit there now.stage.ahead is_kept links
-          (λ e. taken_is_data k unit.message (can e)) told is_within met_as_read met_as)
-
-    one_got : (u : SentMessage) (links : Links) → unit.known.carried ≡ Some u → can_take k unit.message ≡ true →
-        links_arrived of_anyone s u.packet u.truth ≡ Ok links → Facts (after_record own (left_half own (left true) links)) other →
-        Stage (after_receipt own (read_as.Sound unit.message) true (after_record own (left_half own (left true) links))) →
-        GotOf true (Some u.packet.message) links
-    one_got u links is can does after stage =
+    got_of is_kept message links can NoneCame after stage = nothing_got own other.half now.counted ordered (first is_kept) (left is_kept)
+        (owes is_kept) (left_end own (left is_kept) (owes is_kept) None s) None live refl refl (record_same s.links own.links_owed now.counted)
+    got_of is_kept message links can (OneCame u now_links keeps is does) after stage =
         let ready = facts.known.ready in
-        let at = ready.told.told own.passed unit there (taken_is_data k unit.message can) ∙ ap Some is in
+        let takes = can keeps in
+        let at = ready.told.told own.passed unit there (taken_is_data k unit.message takes) ∙ ap Some is in
         let same = anyone_same (side_of own.half ready.front) (side_of other.half ready.of_other) ready.most ready.most_of_other ready.addressed
         ready.other_addressed u (ready.other_addressed.told unit.known.station.place u at) in
-        message_got own other.half now.counted ordered (first true) (left true) (owes true) u.truth links u.packet.message
-        (facts.near own.passed unit there now.stage.ahead (judged_takes can) u is) (checked _ _ _ links (sym same ∙ does)).1
+        message_got own other.half now.counted ordered (first is_kept) (left is_kept) (owes is_kept) u.truth now_links u.packet.message
+        (facts.near own.passed unit there now.stage.ahead (judged_takes takes) u is) (checked _ _ _ now_links (sym same ∙ does)).1
         after.known.addressed.distinct (after.whole u.packet.message) stage.pays.rep
-
-    got_of : (is_kept : Bool) → (is_kept ≡ true → can_take k unit.message ≡ true) → (links : Links) →
-        IsMet by_bytes s unit.known.carried is_kept links →
-        Facts (after_record own (left_half own (left is_kept) links)) other →
-        (IsMet by_bytes s unit.known.carried is_kept links →
-        Stage (after_receipt own (read_as.Sound unit.message) is_kept (after_record own (left_half own (left is_kept) links)))) →
-        (is_kept ≡ true → content (body_of unit.message) ≡ Ok (packet_in unit.known.carried)) →
-        GotOf is_kept (carried is_kept (read_as.Sound unit.message)) links
-    got_of false can links NotKept after stage is_read = nothing_of false
-    got_of true can links (KeptNone is) after stage is_read =
-        let e = is_read refl ∙ ap (λ (o : Option SentMessage). Ok (packet_in o)) is in
-        subst (λ (r : Result (Option Carried) StepRefusal). GotOf true (carried_in r) s) (sym e) (nothing_of true)
-    got_of true can links (KeptOne u now_links is does) after stage is_read =
-        let e = is_read refl ∙ ap (λ (o : Option SentMessage). Ok (packet_in o)) is in
-        subst (λ (r : Result (Option Carried) StepRefusal). GotOf true (carried_in r) now_links) (sym e)
-        (one_got u now_links is (can refl) does after (stage (KeptOne u now_links is does)))
-
-    abbrev IsSame : Bool → ReadingValue → Type 0
-    IsSame is_kept read =
-        kept_stepped own (receiving.receives own other.half unit.bytes read is_kept) ≡ keeping.receives (kept own) unit.bytes read is_kept
 
     unit_received : (buffer : Bool) →
         IsReceived unit.bytes (read_as.Sound unit.message) (buffer && receiving.can_keep own (reading unit.bytes))
     unit_received buffer =
         let is_kept = buffer && receiving.can_keep own (reading unit.bytes) in
-        let can = can_be own other now.later now.stage now.theirs facts unit there buffer in
-        let u = unit_made own.half other.half own.passed unit there now.stage.ahead facts.known.ready facts.known.bounded
-        from is_kept can in
+        let can = can_be buffer in
+        let u = unit_made own.half other.half own.passed unit there now.stage.ahead facts.known.ready facts.known.bounded from
+        (facts.packets own.passed unit there) is_kept can in
         let line = unit_line own other facts now.few unit there is_kept in
         let makes_it = line_makes own.half other.half (Received own.passed is_kept unit.bytes) (left_half own (left is_kept) u.links) line
         u.makes_it in
         let after = now.later (after_record own (left_half own (left is_kept) u.links)) (first is_kept) (First makes_it Nothing)
         (quiet own (Received own.passed is_kept unit.bytes) refl refl) in
+        let stage = unit_stage own other now.stage now.theirs facts.known unit there now.stage.ahead is_kept u.links
+        (λ e. taken_is_data k unit.message (can e)) is_within u.came in
         record {
           left = left is_kept;
           links = u.links;
           makes_it = makes_it;
           after = sound_came station own.owed facts.known.bounded.ordered unit.message unit.known.station is_kept is_within;
-          got = got_of is_kept can u.links u.met_as after (stage_left is_kept can u.links) (met_as_read is_kept can);
+          stage = stage;
+          got = got_of is_kept (carried is_kept (read_as.Sound unit.message)) u.links can u.came after stage;
         }
 
-    unit_kept : (buffer : Bool) → kept_stepped own (receiving.comes own other.half buffer unit.bytes) ≡ keeping.comes (kept own) buffer unit.bytes
-    unit_kept buffer =
+    unit_right_by : (value : StepValue) (buffer : Bool) → Asks own other.half value → gives_address value ≡ false →
+        IsRight own other value (keeping.comes (kept own) buffer unit.bytes) (receiving.comes own other.half buffer unit.bytes)
+    unit_right_by value buffer asks no_address =
         let is_kept = buffer && receiving.can_keep own (reading unit.bytes) in
-        subst (IsSame is_kept) (sym told) (made_kept unit.bytes (read_as.Sound unit.message) is_kept (unit_received buffer))
-        ∙ ap (λ (b : Bool). keeping.receives (kept own) unit.bytes (reading unit.bytes) (buffer && b)) (can_keep_same own (reading unit.bytes))
-
-    -- so it is no bad step
-    pub unit_made_to : (buffer : Bool) → (stepped : Stepped) × (receiving.comes own other.half buffer unit.bytes ≡ Ok stepped)
-    unit_made_to buffer =
-        let is_kept = buffer && receiving.can_keep own (reading unit.bytes) in
-        let x = unit_received buffer in (
-          received unit.bytes (read_as.Sound unit.message) is_kept x,
-          ap (λ (read : ReadingValue). receiving.receives own other.half unit.bytes read is_kept) told
-              ∙ is_made unit.bytes (read_as.Sound unit.message) is_kept x,
-        )
+        subst (λ (b : Bool). IsRight own other value (keeping.receives (kept own) unit.bytes (reading unit.bytes) (buffer && b))
+        (receiving.comes own other.half buffer unit.bytes)) (can_keep_same own (reading unit.bytes))
+        (subst (λ (read : ReadingValue). IsRight own other value (keeping.receives (kept own) unit.bytes read is_kept)
+        (receiving.receives own other.half unit.bytes read is_kept)) (sym told)
+        (receipt_right unit.bytes (read_as.Sound unit.message) is_kept (unit_received buffer) value asks no_address))
 
     -- ---- it comes damaged
 
@@ -265,7 +230,7 @@ module _ (own other : End) (now : KeptNow own other) where
       hurt = damaged place value unit.bytes
 
       differs : Damaged place value unit.bytes
-      differs = damage_is_seen unit.message unit.bytes place value (are_bytes_of own other now.later now.stage now.theirs facts unit there) told is
+      differs = damage_is_seen unit.message unit.bytes place value (bytes_tested unit.bytes (facts.lined own.passed unit there).spelling.bytes) told is
 
       bad_received : (d : ShownDamage) → reading hurt ≡ read_of d → IsReceived hurt (read_of d) false
       bad_received d e =
@@ -277,48 +242,53 @@ module _ (own other : End) (now : KeptNow own other) where
             links = s;
             makes_it = line_makes own.half other.half (Received own.passed false hurt) (left_half own after s) line makes_it;
             after = damage_came station own.owed d;
+            stage = hurt_stage own other now.stage now.theirs facts.known unit there now.stage.ahead d;
             got = nothing_got own other.half now.counted ordered (Received own.passed false hurt ∷ []) after (arrival_debt k (read_of d) false)
                 (left_end own after (arrival_debt k (read_of d) false) None s) None live refl refl
                 (record_same s.links own.links_owed now.counted);
           }
 
-      -- it is made, and is the same of both
-      record HurtSame (read : ReadingValue) : Type 0 where
-        same : kept_stepped own (receiving.receives own other.half hurt read (true && receiving.can_keep own read))
-            ≡ keeping.receives (kept own) hurt read (true && of_station.can_keep read (kept own).station)
-        made_to : (stepped : Stepped) × (receiving.receives own other.half hurt read (true && receiving.can_keep own read) ≡ Ok stepped)
-
-      hurt_same : (d : ShownDamage) → IsReceived hurt (read_of d) false → HurtSame (read_of d)
-      hurt_same OfHeader x =
-          record { same = made_kept hurt read_as.HeaderBad false x; made_to = (_, is_made hurt read_as.HeaderBad false x) }
-      hurt_same OfData x = record { same = made_kept hurt read_as.DataBad false x; made_to = (_, is_made hurt read_as.DataBad false x) }
-
-      damage_comes : HurtSame (reading hurt)
-      damage_comes = let d = damage_of hurt differs.shows in subst HurtSame (sym d.1) (hurt_same d.0 (bad_received d.0 d.1))
-
-      pub damage_made_to : (stepped : Stepped) × (receiving.comes own other.half true hurt ≡ Ok stepped)
-      damage_made_to = damage_comes.made_to
+      comes_hurt : IsHurt place value unit → IsRight own other (Damage place value)
+          (keeping.comes (kept own) true (damaged place value unit.bytes)) (receiving.comes own other.half true (damaged place value unit.bytes))
+      comes_hurt asks =
+          let d = damage_of hurt differs.shows in
+          subst (λ (read : ReadingValue). IsRight own other (Damage place value)
+          (keeping.receives (kept own) hurt read (true && of_station.can_keep read (kept own).station))
+          (receiving.receives own other.half hurt read (true && receiving.can_keep own read))) (sym d.1) (go d.0 (bad_received d.0 d.1))
+        where
+          go : (d : ShownDamage) → IsReceived hurt (read_of d) false → IsRight own other (Damage place value)
+              (keeping.receives (kept own) hurt (read_of d) (true && of_station.can_keep (read_of d) (kept own).station))
+              (receiving.receives own other.half hurt (read_of d) (true && receiving.can_keep own (read_of d)))
+          go OfHeader x = receipt_right hurt read_as.HeaderBad false x (Damage place value) (unit, there, asks) refl
+          go OfData x = receipt_right hurt read_as.DataBad false x (Damage place value) (unit, there, asks) refl
 
   -- ---- the steps
 
-  pub deliver_kept : IsKept own other.half Deliver
-  unfolding plays kept_plays
-  deliver_kept = on_line own other.half (receiving.comes own other.half true) (keeping.comes (kept own) true)
-      (λ unit there. unit_kept unit there true)
+  pub deliver_right : IsRight own other Deliver (with_next (coming own other.half) (keeping.comes (kept own) true)) (plays own other.half Deliver)
+  unfolding plays
+  deliver_right = unit_right own other now Deliver (receiving.comes own other.half true) (keeping.comes (kept own) true) (λ asks. asks)
+      (λ unit there. unit_right_by unit there Deliver true (unit, there) refl)
 
-  pub refuse_kept : IsKept own other.half Refuse
-  unfolding plays kept_plays
-  refuse_kept = on_line own other.half (receiving.comes own other.half false) (keeping.comes (kept own) false)
-      (λ unit there. unit_kept unit there false)
+  pub refuse_right : IsRight own other Refuse (with_next (coming own other.half) (keeping.comes (kept own) false)) (plays own other.half Refuse)
+  unfolding plays
+  refuse_right = unit_right own other now Refuse (receiving.comes own other.half false) (keeping.comes (kept own) false) (λ asks. asks)
+      (λ unit there. unit_right_by unit there Refuse false (unit, there) refl)
 
-  pub damage_kept : (place value : ℕ) → IsKept own other.half (Damage place value)
-  unfolding plays kept_plays
-  damage_kept place value = on_line own other.half
+  pub damage_right : (place value : ℕ) → IsRight own other (Damage place value)
+      (with_next (coming own other.half) (keeping.comes_damaged (kept own) place value)) (plays own other.half (Damage place value))
+  unfolding plays
+  damage_right place value = unit_right own other now (Damage place value)
       (λ bytes. cond (is_damage place value bytes) (receiving.comes own other.half true (damaged place value bytes)) (Err BadStep))
-      (keeping.comes_damaged (kept own) place value) (λ unit there. go unit there (is_damage place value unit.bytes) refl)
+      (keeping.comes_damaged (kept own) place value) (λ asks. (asks.0, asks.1)) (λ unit there. go unit there (is_damage place value unit.bytes) refl)
     where
       go : (unit : LayersUnit) → slice_get other.half.sent own.passed ≡ Some unit → (b : Bool) → is_damage place value unit.bytes ≡ b →
-          kept_stepped own (cond b (receiving.comes own other.half true (damaged place value unit.bytes)) (Err BadStep))
-          ≡ cond b (keeping.comes (kept own) true (damaged place value unit.bytes)) (Err BadStep)
-      go unit there true is = (damage_comes unit there place value is).same
-      go unit there false is = refl
+          IsRight own other (Damage place value)
+          (cond b (keeping.comes (kept own) true (damaged place value unit.bytes)) (Err BadStep))
+          (cond b (receiving.comes own other.half true (damaged place value unit.bytes)) (Err BadStep))
+      go unit there true is = comes_hurt unit there place value is (hurt_of place value unit is)
+      go unit there false whole = (
+        λ asks.
+            let same : asks.0 ≡ unit = same_Some asks.0 unit (sym asks.1 ∙ there) in
+            let e = sym (is_hurt place value unit (subst (IsHurt place value) same asks.2)) ∙ whole in cc,
+        refl,
+      )

@@ -45,12 +45,13 @@ use Rattle.dna_links.proofs.Tables.Outcomes.{IsFound, looked, checked}
 use Rattle.dna_links.proofs.Runs.Sides.{set_same}
 use Rattle.dna_play.proofs.Links.Pays.{found_at, with_found}
 use Rattle.dna_play.proofs.Links.Stage.{left_links}
-use Rattle.dna_play.proofs.Ends.UpsFollow.{AllLined}
-use Rattle.dna_play.proofs.Ends.UpsFollow.{AreDistinct, IsLined}
-use Rattle.dna_play.proofs.Stored.LiveEnds.{end_of, Counted, with_owed, owed_beside, left_changed}
+use Rattle.dna_play.proofs.Ends.UpsFollow.{AllLined, AreDistinct, IsLined}
+use Rattle.dna_play.proofs.Stored.LiveEnds.{Counted, with_owed, owed_beside, left_changed}
 use Rattle.dna_play.proofs.Stored.LiveLinks.{kept_links, place_among, acted_on_lives, live_set, record_same, end_missing, end_found}
 use Rattle.dna_play.proofs.Stored.LinkComes.{NoSegment, message_kept, acted_end}
-use Rattle.dna_play.proofs.Stored.Deliveries.{flow_got, with_links, gets_made}
+use Rattle.dna_play.proofs.Stored.Deliveries.{flow_got, with_links, gets_made, got_stage}
+use Rattle.dna_play.proofs.Links.Choices.{end_of}
+use Rattle.dna_play.proofs.Ends.Stage.{Stage}
 
 -- each message that is whole has a line
 lined_short : (address : ℕ) (messages : List (List ℕ)) → AllLined address messages → all_short messages ≡ true
@@ -91,6 +92,7 @@ module _ (own : End) (other : PlayHalf) (counted : Counted (links_of own.half).l
         ≡ Ok (record { end = with_links e final; records = records ++ ups (up_address message) (arrived message live).messages })
     pub links : kept_links final.links e.links_owed ≡ (arrived message live).links
     pub short : all_short (arrived message live).messages ≡ true
+    pub stage : Stage e → Stage (with_links e final)
 
   -- nothing is whole
   pub nothing_got : (e : End) (message : Option NspValue) (left : KeptLinks) → delivered_now (links_of e.half) message ≡ [] →
@@ -102,6 +104,7 @@ module _ (own : End) (other : PlayHalf) (counted : Counted (links_of own.half).l
         (sym (append-nil records) ∙ ap (λ (d : Delivering). records ++ ups (up_address message) d.messages) (sym as_kept));
     links = same ∙ sym (ap (λ (d : Delivering). d.links) as_kept);
     short = ap (λ (d : Delivering). all_short d.messages) as_kept;
+    stage = λ h. h;
   }
 
   -- ---- a segment
@@ -205,6 +208,7 @@ module _ (own : End) (other : PlayHalf) (counted : Counted (links_of own.half).l
             links = got_links;
             short = ap (λ (d : Delivering). all_short d.messages) as_kept ∙ lined_short segment.dstaddr (complete [] (variables_of k).pieces)
                 (lined n k still_found);
+            stage = got_stage (after x) n k (complete [] (variables_of k).pieces) there;
           }
 
   -- ---- a message

@@ -2,7 +2,6 @@
 use Rattle.std.proofs.Common.{◌≡◌, ℕ, true, Option, Some, None, option_map, List, [], ◌∷◌, ◌++◌, length, drop, Result, Ok, refl, sym, ap, ap₂, ◌∙◌}
 use Rattle.std.proofs.Common.{subst, arith}
 use Rattle.std.specs.Prelude.{slice_get}
-use Rattle.std.proofs.lemmas.Option.{same_Some}
 use Rattle.ddcmp_msg.specs.Message.{MessageValue}
 use Rattle.ddcmp_msg.specs.Spelling.{spelling}
 use Rattle.dna_packet.specs.Nsp.{NspValue, DisconnectConfirm}
@@ -12,44 +11,43 @@ use Rattle.dna_links.specs.declared.port.Port.{Port}
 use Rattle.dna_links.specs.LookUps.{is_live}
 use Rattle.dna_links.specs.Links.{LinkOf, Carried}
 use Rattle.dna_links.specs.Sending as links_sending
-use Rattle.dna_links.specs.Sending.{message_sent}
 use Rattle.dna_links.specs.TrueFlow.{TrueFlow, Numbers, true_flows}
 use Rattle.dna_links.specs.TrueLinks.{Links}
 use Rattle.dna_station.specs.WireStation.{StationVariables}
 use Rattle.dna_node.specs.Layers.{LayersUnit}
 use Rattle.dna_play.specs.Script.{Send}
 use Rattle.dna_play.specs.LinkOwed.{LinkOwed, LinksOwed, EndConfirm, Turn, ConnectAckTurn}
-use Rattle.dna_play.specs.NextSent.{LinkEnd, LinkChoice, Confirms, OfLink, turn_of, link_choice, without_turn, after_link_choice}
-use Rattle.dna_play.specs.NextSent.{Choice, SendNew, choice, after_choice}
-use Rattle.dna_play.specs.Compose.{link_message, message_at, turn_message, message_of}
+use Rattle.dna_play.specs.NextSent.{LinkEnd, LinkChoice, Confirms, OfLink, link_choice, without_turn, after_link_choice, Choice, SendNew, choice}
+use Rattle.dna_play.specs.NextSent.{after_choice}
+use Rattle.dna_play.specs.Compose.{message_of}
 use Rattle.dna_play.specs.Player.{End, makes, links_of, station_of, link_ends_of, after_record}
 use Rattle.dna_play.specs.Player as player
 use Rattle.dna_play.specs.Stepped.{Stop, made}
-use Rattle.dna_play.specs.Play.{after_sending, sends_message, sends_choice, sends, plays}
+use Rattle.dna_play.specs.Play.{after_sending, sends_message, sends_choice, plays}
 use Rattle.dna_play.specs.Kept.{KeptStation, KeptLinks, kept, live_ends}
 use Rattle.dna_play.specs.KeptStation as of_station
 use Rattle.dna_play.specs.KeptLinks.{sent_at}
 use Rattle.dna_play.specs.KeptLinks as of_links
-use Rattle.dna_play.specs.KeptPlay.{KeptStepped, kept_plays}
+use Rattle.dna_play.specs.KeptPlay.{KeptStepped}
 use Rattle.dna_play.specs.KeptPlay as keeping
-use Rattle.dna_play.specs.KeptRun.{bytes_of, kept_stepped, IsKept}
+use Rattle.dna_play.specs.KeptRun.{bytes_of, kept_stepped}
 use Rattle.dna_play.proofs.Played.Steps.{PlayHalf}
 use Rattle.dna_play.proofs.Played.Facts.{Facts}
-use Rattle.dna_links.proofs.Tables.Outcomes.{checked}
-use Rattle.dna_play.proofs.Links.Pays.{phase_of, OwedFits, IsDue, DueFlag, DueSegment, turn_due}
-use Rattle.dna_play.proofs.Links.Pays.{running_is}
-use Rattle.dna_play.proofs.Links.Choices.{IsChosen, end_at, first_chosen}
+use Rattle.dna_links.proofs.Tables.Outcomes.{SentDid, sent_did}
+use Rattle.dna_play.proofs.Links.Pays.{phase_of, OwedFits, IsDue, DueFlag, DueSegment, turn_due, running_is}
+use Rattle.dna_play.proofs.Links.Choices.{end_at, end_of, IsAsked, OfTurn, OfConfirm}
 use Rattle.dna_play.proofs.Links.Stage.{left_links}
 use Rattle.dna_play.proofs.Ends.SendMakes.{sent_left, again_after, first_after}
-use Rattle.dna_play.proofs.Ends.Sends.{IsSound, Goes, GoesOld, GoesNew, goes}
-use Rattle.dna_play.proofs.Ends.Stage.{sound_of}
-use Rattle.dna_play.proofs.Ends.StepStages.{facts_now}
-use Rattle.dna_play.proofs.Stored.LiveEnds.{end_of, still_same, left_same}
+use Rattle.dna_play.proofs.Ends.Sends.{Goes, GoesOld, GoesNew, goes}
+use Rattle.dna_play.proofs.Ends.Stage.{Stage}
+use Rattle.dna_play.proofs.Stored.LiveEnds.{still_same, left_same, ends_get}
 use Rattle.dna_play.proofs.Stored.LiveLinks.{kept_links, place_among, live_there, record_changed, record_same}
-use Rattle.dna_play.proofs.Stored.Now.{KeptNow}
+use Rattle.dna_play.proofs.Stored.Now.{KeptNow, facts_of}
 use Rattle.dna_play.proofs.Stored.Stations.{station_sent}
 use Rattle.dna_play.proofs.Stored.Choices.{lives, NoneOfEnded, among_live, link_choice_live, kept_choice, choice_live, NamesLive, message_live}
-use Rattle.dna_play.proofs.Stored.Turns.{TurnMade, confirm_stays, turn_made}
+use Rattle.dna_play.proofs.Links.Turns.{TurnMade, turn_made, links_stay}
+use Rattle.dna_play.proofs.Stored.Right.{IsRight, never_full}
+use Rattle.dna_play.proofs.Ends.SendStage.{stage_again, stage_first}
 
 -- ---- what a turn says of its link
 
@@ -98,10 +96,7 @@ module _ (own other : End) (now : KeptNow own other) where
   ends = link_ends_of own
 
   facts : Facts own other
-  facts = facts_now own other now.stage now.theirs now.later
-
-  sound : IsSound own
-  sound = sound_of own other now.stage now.theirs facts.known
+  facts = facts_of now
 
   ended : NoneOfEnded (link_ends_of own)
   ended i e turn there has =
@@ -117,74 +112,47 @@ module _ (own other : End) (now : KeptNow own other) where
     left = left_links s.links sent.links.links owed
 
     -- the link that has a turn
-    turn_kept : (number : ℕ) (turn : Turn) (e : LinkEnd) → slice_get (link_ends_of own) number ≡ Some e → turn_of e ≡ Some turn →
-        message_sent true_flows s (turn_message turn e) ≡ Ok sent →
+    of_link : (number : ℕ) (turn : Turn) (l : LinkOf TrueFlow) (o : LinkOwed) → slice_get s.links number ≡ Some l →
+        slice_get owed.links number ≡ Some o →
+        is_live l.port.phase ≡ true → TurnMade s sent number l o turn →
         kept_links sent.links.links (after_link_choice (OfLink number turn) left) ≡ of_links.after_sent
         (among_live (link_ends_of own) (OfLink number turn)) (kept own).links
-    turn_kept number turn e there has does =
-        let at = end_at s.links owed.links number e there in
-        let fits = now.stage.links.owes number at.link at.owes at.there at.owed_there in
-        let due = subst (λ (x : LinkEnd). IsDue x turn) (sym at.is) (turn_due e turn has) in
-        let t = turn_made s sent number at.link at.owes at.there (facts.known.numbers number at.link at.there).0
-        (now.stage.links.fit number at.link at.there).shape fits
-        facts.known.addressed.distinct turn due
-        (subst (λ (x : LinkEnd). message_sent true_flows s (turn_message turn x) ≡ Ok sent) (sym at.is) does) in
-        of_link number turn at.link at.owes at.there at.owed_there (due_lives at.link at.owes fits turn due) t
-      where
-        of_link : (number : ℕ) (turn : Turn) (l : LinkOf TrueFlow) (o : LinkOwed) → slice_get s.links number ≡ Some l →
-            slice_get owed.links number ≡ Some o →
-            is_live l.port.phase ≡ true → TurnMade s sent number l o turn →
-            kept_links sent.links.links (after_link_choice (OfLink number turn) left) ≡ of_links.after_sent
-            (among_live (link_ends_of own) (OfLink number turn)) (kept own).links
-        of_link number turn l o there owes live t =
-            let place = place_among s.links owed number in
-            let phase = ap (λ (port : Port). port.phase) t.port in
-            ap (λ (x : Links). kept_links x.links (after_link_choice (OfLink number turn) (left_links s.links x.links owed))) t.links
-            ∙ record_changed s.links owed number l o there owes live now.counted t.left (without_turn turn) (ap is_live phase ∙ live)
-            ∙ ap (λ (x : LinkEnd). of_links.changed place x (kept own).links)
-            (ap (λ (x : LinkOwed). end_of t.left (without_turn turn x)) (still_same l t.left o phase t.acknowledged)
-            ∙ ap (λ (x : LinkEnd). record x { owed = without_turn turn x.owed }) t.is)
-            ∙ ap (λ (x : Option LinkEnd). sent_at place x turn (kept own).links) (sym (live_there s.links owed number l o there owes live))
+    of_link number turn l o there owes live t =
+        let place = place_among s.links owed number in
+        let phase = ap (λ (port : Port). port.phase) t.port in
+        ap (λ (x : Links). kept_links x.links (after_link_choice (OfLink number turn) (left_links s.links x.links owed))) t.links
+        ∙ record_changed s.links owed number l o there owes live now.counted t.left (without_turn turn) (ap is_live phase ∙ live)
+        ∙ ap (λ (x : LinkEnd). of_links.changed place x (kept own).links)
+        (ap (λ (x : LinkOwed). end_of t.left (without_turn turn x)) (still_same l t.left o phase t.acknowledged)
+        ∙ ap (λ (x : LinkEnd). record x { owed = without_turn turn x.owed }) t.is)
+        ∙ ap (λ (x : Option LinkEnd). sent_at place x turn (kept own).links) (sym (live_there s.links owed number l o there owes live))
 
     -- the oldest DC
     confirm_kept : (confirm : EndConfirm) → slice_get owed.confirms 0 ≡ Some confirm →
-        message_sent true_flows s (DisconnectConfirm confirm.dst confirm.src confirm.reason) ≡ Ok sent →
+        SentDid true_flows s (DisconnectConfirm confirm.dst confirm.src confirm.reason) sent →
         kept_links sent.links.links (after_link_choice (Confirms confirm) left) ≡ of_links.after_sent (Confirms confirm) (kept own).links
-    confirm_kept confirm first does =
+    confirm_kept confirm first did =
+        let some = (now.stage.links.confirms 0 confirm first).some in
         ap (λ (x : Links). kept_links x.links (after_link_choice (Confirms confirm) (left_links s.links x.links owed)))
-        (confirm_stays s sent confirm.dst confirm.src confirm.reason (now.stage.links.confirms 0 confirm first).some does)
+        (links_stay s (DisconnectConfirm confirm.dst confirm.src confirm.reason) refl
+        (λ dst reason e. let none : confirm.src ≡ 0 = cc in absurd (omega arith)) sent did)
         ∙ ap (λ (x : LinksOwed). kept_links s.links (after_link_choice (Confirms confirm) x)) (left_same s.links owed now.counted)
 
     pub record OneKept (one : LinkChoice) : Type 0 where
       pub named : NamesLive (link_ends_of own) one
       pub links : kept_links sent.links.links (after_link_choice one left) ≡ of_links.after_sent (among_live (link_ends_of own) one) (kept own).links
 
-    one_kept : (one : LinkChoice) → link_choice owed.confirms (link_ends_of own) ≡ Some one → (message : NspValue) →
-        link_message one (link_ends_of own) ≡ Some message → message_sent true_flows s message ≡ Ok sent → OneKept one
-    one_kept one asked message put does = go owed.confirms refl asked
-      where
-        by_first : (one : LinkChoice) → IsChosen (link_ends_of own) 0 one → link_message one (link_ends_of own) ≡ Some message → OneKept one
-        by_first (Confirms confirm) t put = absurd t
-        by_first (OfLink number turn) t put =
-            let place : number ≡ t.place = let is = t.is in omega arith in
-            let there = ap (slice_get (link_ends_of own)) place ∙ t.there in
-            let said = same_Some (turn_message turn t.e) message (sym (ap (λ (o : Option LinkEnd). message_at o turn) there) ∙ put) in
-            record {
-              named = (t.e, there, ended number t.e turn there t.has);
-              links = turn_kept number turn t.e there t.has (subst (λ (m : NspValue). message_sent true_flows s m ≡ Ok sent) (sym said) does);
-            }
-
-        go : (confirms : List EndConfirm) → owed.confirms ≡ confirms → link_choice confirms (link_ends_of own) ≡ Some one → OneKept one
-        go [] are e = by_first one (first_chosen 0 (link_ends_of own) one e) put
-        go (confirm ∷ later) are e =
-            let same = same_Some (Confirms confirm) one e in
-            let said = same_Some (DisconnectConfirm confirm.dst confirm.src confirm.reason) message
-            (subst (λ (c : LinkChoice). link_message c (link_ends_of own) ≡ Some message) (sym same) put) in
-            subst OneKept same (record {
-              named = tt;
-              links = confirm_kept confirm (ap (λ (all : List EndConfirm). slice_get all 0) are)
-                  (subst (λ (m : NspValue). message_sent true_flows s m ≡ Ok sent) (sym said) does);
-            })
+    one_kept : (one : LinkChoice) (message : NspValue) → IsAsked s.links owed one message → SentDid true_flows s message sent → OneKept one
+    one_kept one message (OfConfirm confirm first) did = record { named = tt; links = confirm_kept confirm first did }
+    one_kept one message (OfTurn number turn l o there owes due) did =
+        let fits = now.stage.links.owes number l o there owes in
+        let live = due_lives l o fits turn due in
+        record {
+          named = (end_of l o, ends_get s.links owed.links number l o there owes, live);
+          links = of_link number turn l o there owes live
+              (turn_made s sent number l o there (facts.known.numbers number l there).0 (now.stage.links.fit number l there).shape fits
+              facts.known.addressed.distinct turn due did);
+        }
 
   -- ---- the choice
 
@@ -209,10 +177,14 @@ module _ (own other : End) (now : KeptNow own other) where
     step station links units =
         Ok (record { end = record (kept own) { station = station; links = links }; sent = units; records = Sent (spelling m) ∷ [] })
 
-    of_true : (half : PlayHalf) → makes own.half other.half (Sent (spelling m)) ≡ Some half →
-        sends own other.half ≡ Ok (record { end = after_sending c (after_record own half); records = Sent (spelling m) ∷ [] })
-    of_true half makes_it =
-        ap (sends_choice own other.half) is ∙ ap (sends_message own other.half c) put ∙ ap (made own (Sent (spelling m)) (after_sending c)) makes_it
+    -- this half is left
+    sent_right : (half : PlayHalf) → makes own.half other.half (Sent (spelling m)) ≡ Some half → Stage (after_sending c (after_record own half)) →
+        kept_stepped own (Ok (record { end = after_sending c (after_record own half); records = Sent (spelling m) ∷ [] })) ≡ keeping.sends (kept own) →
+        IsRight own other Send (keeping.sends (kept own)) (sends_choice own other.half (Some c))
+    sent_right half makes_it stage same =
+        subst (IsRight own other Send (keeping.sends (kept own)))
+        (sym (ap (sends_message own other.half c) put ∙ ap (made own (Sent (spelling m)) (after_sending c)) makes_it))
+        (record { stage = stage; asks = (c, is); room = never_full own other Send refl; same = same })
 
     of_kept : ((one : LinkChoice) → c ≡ SendNew one → NamesLive (link_ends_of own) one) →
         keeping.sends (kept own) ≡ step (of_station.after_sent (kept_choice (link_ends_of own) c) m (kept own).station)
@@ -221,53 +193,61 @@ module _ (own other : End) (now : KeptNow own other) where
         ap (keeping.sends_choice (kept own)) (choices ∙ ap (option_map (kept_choice (link_ends_of own))) is)
         ∙ ap (keeping.sends_message (kept own) (kept_choice (link_ends_of own) c)) (message_live (link_ends_of own) c named head k ∙ put)
 
-    old_kept : IsOld c → makes own.half other.half (Sent (spelling m)) ≡ Some (sent_left own.half other.half m (again_after own.half other.half m)) →
-        kept_stepped own (sends own other.half) ≡ keeping.sends (kept own)
-    old_kept old makes_it =
-        let half = sent_left own.half other.half m (again_after own.half other.half m) in
+    abbrev old_half : PlayHalf
+    old_half = sent_left own.half other.half m (again_after own.half other.half m)
+
+    old_kept : IsOld c →
+        kept_stepped own (Ok (record { end = after_sending c (after_record own old_half); records = Sent (spelling m) ∷ [] })) ≡ keeping.sends
+        (kept own)
+    old_kept old =
         let unit : LayersUnit = record { bytes = spelling m; message = m; known = (again_after own.half other.half m).1 } in
-        ap (kept_stepped own) (of_true half makes_it)
-        ∙ ap (λ (e : End). kept_stepped own (Ok (record { end = e; records = Sent (spelling m) ∷ [] }))) (old_sending c old (after_record own half))
+        ap (λ (e : End). kept_stepped own (Ok (record { end = e; records = Sent (spelling m) ∷ [] }))) (old_sending c old (after_record own old_half))
         ∙ ap₂ (λ (station : KeptStation) (units : List (List ℕ)). step station (kept_links s.links (left_links s.links s.links owed)) units)
-        (station_sent (station_of own.half) own.owed sound.ordered c m) (one_behind own.half.sent unit)
+        (station_sent (station_of own.half) own.owed facts.known.bounded.ordered c m) (one_behind own.half.sent unit)
         ∙ ap (λ (links : KeptLinks). step (of_station.after_sent c m (kept own).station) links (spelling m ∷ []))
         (record_same s.links owed now.counted ∙ sym (old_links c old (kept own).links))
         ∙ ap (λ (x : Choice). step (of_station.after_sent x m (kept own).station) (keeping.links_sent x (kept own).links) (spelling m ∷ []))
         (sym (old_choice c old (link_ends_of own)))
         ∙ sym (of_kept (λ one e. absurd (old one e)))
 
-  new_kept : (one : LinkChoice) (m : MessageValue) → choice k own.owed asked ≡ Some (SendNew one) → message_of (SendNew one) head k ends ≡ Some m →
-      (packet : Carried) (sent : links_sending.Sent TrueFlow Numbers) → OneKept sent one →
-      makes own.half other.half (Sent (spelling m)) ≡ Some (sent_left own.half other.half m (first_after own.half other.half m packet sent)) →
-      kept_stepped own (sends own other.half) ≡ keeping.sends (kept own)
-  new_kept one m is put packet sent h makes_it =
-      let half = sent_left own.half other.half m (first_after own.half other.half m packet sent) in
-      let unit : LayersUnit = record { bytes = spelling m; message = m; known = (first_after own.half other.half m packet sent).1 } in
-      ap (kept_stepped own) (of_true (SendNew one) m is put half makes_it)
-      ∙ ap₂ (λ (station : KeptStation) (units : List (List ℕ)). step (SendNew one) m is put station
-      (kept_links sent.links.links (after_link_choice one (left sent))) units)
-      (station_sent (station_of own.half) own.owed sound.ordered (SendNew one) m) (one_behind own.half.sent unit)
-      ∙ ap (λ (links : KeptLinks). step (SendNew one) m is put (of_station.after_sent (SendNew one) m (kept own).station) links (spelling m ∷ []))
-      h.links
-      ∙ sym (of_kept (SendNew one) m is put (λ x e. subst (NamesLive (link_ends_of own)) (same x e) h.named))
-    where
-      same : (x : LinkChoice) → SendNew one ≡ SendNew x → one ≡ x
-      same x e = cc
+  module _ (one : LinkChoice) (m : MessageValue) (is : choice k own.owed asked ≡ Some (SendNew one))
+      (put : message_of (SendNew one) head k ends ≡ Some m) (packet : Carried) (sent : links_sending.Sent TrueFlow Numbers) where
+    abbrev new_half : PlayHalf
+    new_half = sent_left own.half other.half m (first_after own.half other.half m packet sent)
 
-  by_goes : (c : Choice) → choice k own.owed asked ≡ Some c → Goes own other.half sound c →
-      kept_stepped own (sends own other.half) ≡ keeping.sends (kept own)
-  by_goes c is (GoesOld m put b old makes_it) = old_kept c m is put old makes_it
-  by_goes c is (GoesNew one same one_is message link_is m put b packet sent of_it does_it makes_it) =
-      let does = subst (λ (x : NspValue). message_sent true_flows s x ≡ Ok sent) of_it (checked _ _ _ sent does_it).1 in
-      new_kept one m (is ∙ ap Some same) (ap (λ (x : Choice). message_of x head k ends) (sym same) ∙ put) packet sent
-      (one_kept sent one one_is message link_is does) makes_it
+    new_kept : OneKept sent one →
+        kept_stepped own (Ok (record { end = after_sending (SendNew one) (after_record own new_half); records = Sent (spelling m) ∷ [] }))
+        ≡ keeping.sends (kept own)
+    new_kept h =
+        let unit : LayersUnit = record { bytes = spelling m; message = m; known = (first_after own.half other.half m packet sent).1 } in
+        ap₂ (λ (station : KeptStation) (units : List (List ℕ)). step (SendNew one) m is put station
+        (kept_links sent.links.links (after_link_choice one (left sent))) units)
+        (station_sent (station_of own.half) own.owed facts.known.bounded.ordered (SendNew one) m) (one_behind own.half.sent unit)
+        ∙ ap (λ (links : KeptLinks). step (SendNew one) m is put (of_station.after_sent (SendNew one) m (kept own).station) links (spelling m ∷ []))
+        h.links
+        ∙ sym (of_kept (SendNew one) m is put (λ x e. subst (NamesLive (link_ends_of own)) (same x e) h.named))
+      where
+        same : (x : LinkChoice) → SendNew one ≡ SendNew x → one ≡ x
+        same x e = cc
 
-  pub send_kept : IsKept own other.half Send
-  unfolding plays kept_plays
-  send_kept = go (choice k own.owed asked) refl
-    where
-      go : (o : Option Choice) → choice k own.owed asked ≡ o → kept_stepped own (sends own other.half) ≡ keeping.sends (kept own)
-      go None none =
-          ap (λ (o : Option Choice). kept_stepped own (sends_choice own other.half o)) none
-          ∙ sym (ap (keeping.sends_choice (kept own)) (choices ∙ ap (option_map (kept_choice (link_ends_of own))) none))
-      go (Some c) is = by_goes c is (goes own other.half sound c is)
+  by_goes : (c : Choice) → choice k own.owed asked ≡ Some c → Goes own other now.stage now.theirs facts.known c →
+      IsRight own other Send (keeping.sends (kept own)) (sends_choice own other.half (Some c))
+  by_goes c is (GoesOld _ m put b old makes_it) =
+      sent_right c m is put _ makes_it (stage_again own other now.stage facts.known c old m put b) (old_kept c m is put old)
+  by_goes c is (GoesNew one message asked m put b packet sent of_it does_it makes_it) =
+      let did = subst (λ (x : NspValue). SentDid true_flows s x sent) of_it (sent_did true_flows s sent packet does_it) in
+      sent_right (SendNew one) m is put _ makes_it
+      (stage_first own other now.stage facts.known one message asked packet sent of_it does_it m put b)
+      (new_kept one m is put packet sent (one_kept sent one message asked did))
+
+  -- what is chosen is sent; else there is nothing to send
+  choice_right : (o : Option Choice) → choice k own.owed asked ≡ o → IsRight own other Send (keeping.sends (kept own)) (sends_choice own other.half o)
+  choice_right None none = (
+    λ asks. let e = sym none ∙ asks.1 in cc,
+    sym (ap (keeping.sends_choice (kept own)) (choices ∙ ap (option_map (kept_choice (link_ends_of own))) none)),
+  )
+  choice_right (Some c) is = by_goes c is (goes own other now.stage now.theirs facts.known c is)
+
+  pub send_right : IsRight own other Send (keeping.sends (kept own)) (plays own other.half Send)
+  unfolding plays
+  send_right = choice_right (choice k own.owed asked) refl

@@ -1,49 +1,55 @@
--- Each step of a script is the same of what the nodes of the ends keep.
-use Rattle.std.proofs.Common.{ℕ, ◌<◌, ◌≤◌, length}
-use Rattle.std.specs.Prelude.{slice_index}
+-- Each kind of step of a script is right: it goes by its rule, keeps what holds of its end, and is the same of what the nodes of the ends keep.
 use Rattle.capture.specs.declared.event.Event.TheVariants as events
-use Rattle.capture.specs.declared.record.Record.TheVariants.{User}
 use Rattle.capture.specs.declared.record.Record.TheVariants as recorded
-use Rattle.dna_play.specs.Script.{StepValue, ScriptStep, Start, Halt, Timer, Send, Deliver, Refuse, Lose, Damage, Noise, Open, Accept, Reject}
-use Rattle.dna_play.specs.Script.{In, Close, Retry}
-use Rattle.dna_play.specs.ScriptText.{IsStep, NumbersFit, step_bytes, most_bytes}
-use Rattle.dna_play.specs.Player.{End}
-use Rattle.dna_play.specs.KeptRun.{IsKept}
-use Rattle.dna_play.proofs.Played.PlayLines.{line_tested}
-use Rattle.dna_play.proofs.Stored.Timers.{timer_kept, lose_kept}
+use Rattle.std.proofs.Common.{length, ◌<◌, ℕ, ◌≤◌}
+use Rattle.capture.specs.declared.record.Record.TheVariants.{User}
+use Rattle.dna_play.proofs.Played.PlayLines.{line_tested, bytes_tested}
+use Rattle.dna_play.proofs.Stored.Made.{place, start_right, halt_right}
 use Rattle.dna_play.proofs.Stored.Now.{KeptNow}
-use Rattle.dna_play.proofs.Stored.Made.{start_kept, halt_kept}
-use Rattle.dna_play.proofs.Stored.Opened.{open_kept, accept_kept, reject_kept}
-use Rattle.dna_play.proofs.Stored.Handed.{in_kept, close_kept, retry_kept}
-use Rattle.dna_play.proofs.Stored.Sends.{send_kept}
-use Rattle.dna_play.proofs.Stored.Receipts.{deliver_kept, refuse_kept, damage_kept}
-use Rattle.dna_play.proofs.Stored.Noise.{noise_kept}
+use Rattle.dna_play.specs.Kept.{kept}
+use Rattle.dna_play.specs.KeptPlay.{kept_plays}
+use Rattle.dna_play.specs.Play.{plays}
+use Rattle.dna_play.specs.Player.{End}
+use Rattle.dna_play.specs.Script.{Close, Retry, In, Open, Accept, Reject, ScriptStep, Start, Halt, StepValue, Timer, Send, Deliver, Refuse, Lose}
+use Rattle.dna_play.specs.Script.{Damage, Noise}
+use Rattle.dna_play.specs.ScriptText.{IsStep, NumbersFit, step_bytes, most_bytes}
+use Rattle.std.specs.Prelude.{slice_index}
+use Rattle.dna_play.specs.KeptRun.{coming}
+use Rattle.dna_play.proofs.Stored.Right.{IsRight}
+use Rattle.dna_play.proofs.Stored.Opened.{open_right, accept_right, reject_right}
+use Rattle.dna_play.proofs.Stored.Timers.{timer_right, lose_right}
+use Rattle.dna_play.proofs.Stored.Receipts.{deliver_right, refuse_right, damage_right}
+use Rattle.dna_play.proofs.Stored.Noise.{noise_right}
+use Rattle.dna_play.proofs.Stored.Sends.{send_right}
+use Rattle.dna_play.proofs.Stored.Handed.{in_right, close_right, retry_right}
 
 module _ (own other : End) (now : KeptNow own other) where
-  value_kept : (value : StepValue) → NumbersFit value → ((i : ℕ) → slice_index (step_bytes value) i < 256) →
+  value_right : (value : StepValue) → NumbersFit value → ((i : ℕ) → slice_index (step_bytes value) i < 256) →
       length (step_bytes value) ≤ most_bytes value →
-      IsKept own other.half value
-  value_kept Start numbers bytes short = start_kept own other now
-  value_kept Halt numbers bytes short = halt_kept own other now
-  value_kept Timer numbers bytes short = timer_kept own other.half
-  value_kept Send numbers bytes short = send_kept own other now
-  value_kept Deliver numbers bytes short = deliver_kept own other now
-  value_kept Refuse numbers bytes short = refuse_kept own other now
-  value_kept Lose numbers bytes short = lose_kept own other.half now.few
-  value_kept (Damage place value) numbers bytes short = damage_kept own other now place value
-  value_kept (Noise noise) numbers bytes short = noise_kept own other now noise (line_tested (recorded.Noise noise) (record {
+      IsRight own other value (kept_plays (kept own) (coming own other.half) value) (plays own other.half value)
+  unfolding kept_plays
+  value_right Start numbers bytes short = start_right own other now
+  value_right Halt numbers bytes short = halt_right own other now
+  value_right Timer numbers bytes short = timer_right own other now
+  value_right Send numbers bytes short = send_right own other now
+  value_right Deliver numbers bytes short = deliver_right own other now
+  value_right Refuse numbers bytes short = refuse_right own other now
+  value_right Lose numbers bytes short = lose_right own other now
+  value_right (Damage place value) numbers bytes short = damage_right own other now place value
+  value_right (Noise noise) numbers bytes short = noise_right own other now noise (line_tested (recorded.Noise noise) (record {
     spelling = record { numbers = numbers; bytes = bytes };
     short = short;
   }))
-  value_kept Open numbers bytes short = open_kept own other now
-  value_kept (Accept partner) numbers bytes short = accept_kept own other now partner numbers
-  value_kept (Reject partner) numbers bytes short = reject_kept own other now partner numbers
-  value_kept (In link message) numbers bytes short = in_kept own other now link message (line_tested (User (events.In link message)) (record {
+  value_right Open numbers bytes short = open_right own other now
+  value_right (Accept partner) numbers bytes short = accept_right own other now partner numbers
+  value_right (Reject partner) numbers bytes short = reject_right own other now partner numbers
+  value_right (In link message) numbers bytes short = in_right own other now link message (line_tested (User (events.In link message)) (record {
     spelling = record { numbers = numbers; bytes = bytes };
     short = short;
-  })) short
-  value_kept (Close link) numbers bytes short = close_kept own other now link numbers
-  value_kept (Retry link) numbers bytes short = retry_kept own other now link
+  })) short (bytes_tested message bytes)
+  value_right (Close link) numbers bytes short = close_right own other now link numbers
+  value_right (Retry link) numbers bytes short = retry_right own other now link
 
-  pub step_kept : (step : ScriptStep) → IsStep step → IsKept own other.half step.step
-  step_kept step fits = value_kept step.step fits.spelling.numbers fits.spelling.bytes fits.short
+  pub step_right : (step : ScriptStep) → IsStep step →
+      IsRight own other step.step (kept_plays (kept own) (coming own other.half) step.step) (plays own other.half step.step)
+  step_right step fits = value_right step.step fits.spelling.numbers fits.spelling.bytes fits.short

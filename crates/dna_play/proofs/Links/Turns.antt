@@ -1,0 +1,206 @@
+-- What a message of the links that is sent makes of the link that has sent it, as its node keeps it.
+use Rattle.std.proofs.Common.{◌≡◌, ℕ, zero, suc, ◌+◌, ◌≤◌, true, false, Option, Some, None, List, [], ◌∷◌, length, Result, Ok, refl, sym, ap}
+use Rattle.std.proofs.Common.{◌∙◌, subst, arith, eq-eqb, length-drop, ap₂, length-append}
+use Rattle.std.specs.Prelude.{slice_get, is_some}
+use Rattle.std.proofs.lemmas.Bool.{and_parts, ne_eqb}
+use Rattle.std.proofs.lemmas.List.{drop-append-le}
+use Rattle.std.proofs.lemmas.Option.{same_Some, slice_get_within}
+use Rattle.dna_packet.specs.Nsp.{SegmentValue, DisconnectConfirm, NspValue, DataSegment, DataAck}
+use Rattle.dna_station.specs.declared.link_refusal.LinkRefusal.{LinkRefusal}
+use Rattle.dna_links.specs.declared.port.Phase.{Phase}
+use Rattle.dna_links.specs.declared.port.Phase.TheVariants.{Running}
+use Rattle.dna_links.specs.declared.port.LinkTest.TheVariants.{TheLink}
+use Rattle.dna_links.specs.LookUps.{is_live, is_at, has_both}
+use Rattle.dna_links.specs.Flow.{Sending}
+use Rattle.dna_links.specs.Pieces.{Piece, without_piece, next_piece}
+use Rattle.dna_links.specs.Links.{LinkOf, changed, with_flow}
+use Rattle.dna_links.specs.Sending.{Sent, segment_of}
+use Rattle.dna_links.specs.TrueFlow.{TrueFlow, Numbers, true_flows, is_new, sends_segment, sends_acks}
+use Rattle.dna_links.specs.TrueLinks.{Links}
+use Rattle.dna_links.specs.CutFlow.{IsOrdered}
+use Rattle.dna_play.specs.LinkOwed.{LinkOwed, Turn, ConnectAckTurn, InitiateTurn, ConfirmTurn, DisconnectTurn, DataAckTurn, SegmentTurn, variables_of}
+use Rattle.dna_play.specs.NextSent.{LinkEnd}
+use Rattle.dna_play.specs.Compose.{ack_of, address, piece_to_send, segment_with, turn_message}
+use Rattle.dna_play.specs.KeptLinks.{gave, gave_by}
+use Rattle.dna_play.proofs.Links.FlowDid.{SegmentDid, GivesIt, GivesAgain, segment_did, acks_did}
+use Rattle.dna_links.proofs.Tables.Outcomes.{has_numbers, IsFound, SentDid, OfNone, Stays, EndsCalled, Segment, Acks}
+use Rattle.dna_links.proofs.Runs.Reads.{at_is}
+use Rattle.dna_play.proofs.Links.Pays.{fits_in, Fits, OwedFits, IsDue, DueFlag, DueSegment, known_at, running_is}
+use Rattle.dna_play.proofs.Once.Addresses.{LinkList, OwnsIn}
+use Rattle.dna_play.proofs.Stored.LiveLists.{set_back}
+use Rattle.dna_packet.specs.declared.ack_word.AckWord.{AckWord}
+use Rattle.dna_play.proofs.Links.Choices.{end_of}
+
+-- ---- a segment
+
+-- what a link of these makes of the segment that it has put together
+module _ (l : LinkOf TrueFlow) (o : LinkOwed) (ordered : IsOrdered l.flow) (within : o.ahead ≤ length (variables_of l).outstanding) where
+  abbrev it : LinkEnd
+  it = end_of l o
+
+  abbrev f : TrueFlow
+  f = l.flow
+
+  abbrev segment_by : Option Piece → SegmentValue
+  segment_by again = segment_with (end_of l o) (piece_to_send again l.flow.unsent)
+
+  none_behind_it : (pieces : List Piece) (n : ℕ) → slice_get pieces n ≡ None → length pieces ≤ n
+  none_behind_it [] n at = omega arith
+  none_behind_it (p ∷ pieces) zero at = absurd cc
+  none_behind_it (p ∷ pieces) (suc n) at = let less = none_behind_it pieces n at in omega arith
+
+  -- it is new where none is to be sent again
+  pub segment_gave : (segsize : ℕ) (sent : Sending TrueFlow Numbers) (again : Option Piece) → slice_get (variables_of l).outstanding o.ahead ≡ again →
+      sends_segment segsize (segment_by again) l.flow ≡ Ok sent → end_of (with_flow sent.flow l) o ≡ gave again (end_of l o)
+  segment_gave segsize sent again at e = go again at sent.flow (segment_did l.flow segsize (segment_by again) sent e)
+    where
+      go : (again : Option Piece) → slice_get (variables_of l).outstanding o.ahead ≡ again → (g : TrueFlow) → SegmentDid l.flow (segment_by again) g →
+          end_of (with_flow g l) o ≡ gave again (end_of l o)
+      go None at g (GivesIt last new) =
+          let p = next_piece f.unsent in
+          ap (λ (pieces : List Piece). record it { variables = record it.variables { unsent = without_piece p f.unsent; outstanding = pieces } })
+          (drop-append-le f.acknowledged f.given (p ∷ []) ordered.given)
+      go None at g (GivesAgain last old) =
+          let counted = length-drop f.acknowledged f.given in let some = ordered.given in
+          let all = none_behind_it (variables_of l).outstanding o.ahead at in
+          let new : is_new (segment_by None) f ≡ true = eq-eqb _ _ (omega arith) in
+          let e = sym new ∙ old in absurd cc
+      go (Some p) at g (GivesIt last new) =
+          let less = slice_get_within (variables_of l).outstanding o.ahead p at in
+          let counted = length-drop f.acknowledged f.given in let some = ordered.given in let few = ordered.few in
+          let old : is_new (segment_by (Some p)) f ≡ false = ne_eqb _ _ (λ e. omega arith) in
+          let e = sym new ∙ old in absurd cc
+      go (Some p) at g (GivesAgain last old) = refl
+
+  -- then it is among those sent in this go
+  pub gave_ahead : o.ahead + 1 ≤ length (gave_by SegmentTurn (end_of l o)).variables.outstanding
+  gave_ahead = go (slice_get (variables_of l).outstanding o.ahead) refl
+    where
+      go : (again : Option Piece) → slice_get (variables_of l).outstanding o.ahead ≡ again →
+          o.ahead + 1 ≤ length (gave again (end_of l o)).variables.outstanding
+      go None at = let more = length-append (variables_of l).outstanding (next_piece f.unsent ∷ []) in omega arith
+      go (Some p) at = let less = slice_get_within (variables_of l).outstanding o.ahead p at in omega arith
+
+-- ---- what is left of the links
+
+-- a message without numbers leaves them as they are, but for a DC without a source
+module _ (s : Links) (m : NspValue) (none : has_numbers m ≡ false)
+    (sourced : (dst reason : ℕ) → m ≡ DisconnectConfirm dst 0 reason → ⊥) where
+  numbered : (x : NspValue) → has_numbers x ≡ true → m ≡ x → ⊥
+  numbered x has is = let e = sym none ∙ ap has_numbers is ∙ has in cc
+
+  pub links_stay : (made : Sent TrueFlow Numbers) → SentDid true_flows s m made → made.links ≡ s
+  links_stay made (OfNone none) = refl
+  links_stay made (Stays number link none there) = refl
+  links_stay made (EndsCalled far reason number link none is found) = absurd (sourced far reason is)
+  links_stay made (Segment segment number link sent is found run does) = absurd (numbered (DataSegment segment) refl is)
+  links_stay made (Acks dst src acks number link sent is found run does) = absurd (numbered (DataAck dst src acks) refl is)
+
+-- one with numbers is sent by the link with its source
+module _ (s : Links) (distinct : (i j a : ℕ) → OwnsIn s.links i a → OwnsIn s.links j a → i ≡ j) (n : ℕ) (l : LinkOf TrueFlow)
+    (there : slice_get s.links n ≡ Some l) (src : ℕ) (owns : l.port.own ≡ Some src) where
+  pub record RunMade (sends : LinkOf TrueFlow → Result (Sending TrueFlow Numbers) LinkRefusal) (left : Links) : Type 0 where
+    pub sent : Sending TrueFlow Numbers
+    pub is : sends l ≡ Ok sent
+    pub links : left ≡ changed n (with_flow sent.flow l) s
+
+  by_source : (sends : LinkOf TrueFlow → Result (Sending TrueFlow Numbers) LinkRefusal) (dst number : ℕ) (link : LinkOf TrueFlow) →
+      IsFound (TheLink src dst) s number link → (sent : Sending TrueFlow Numbers) → sends link ≡ Ok sent →
+      RunMade sends (changed number (with_flow sent.flow link) s)
+  by_source sends dst number link found sent is =
+      let both = (and_parts (is_live link.port.phase) (has_both link.port src dst) found.passed).1 in
+      let at = at_is link.port.own src (and_parts (is_at link.port.own src) (is_at link.port.far dst) both).0 in
+      let same = distinct number n src (record { link = link; there = found.there; owns = at }) (record { link = l; there = there; owns = owns }) in
+      let one = same_Some link l (sym found.there ∙ ap (slice_get s.links) same ∙ there) in
+      record {
+        sent = sent;
+        is = ap sends (sym one) ∙ is;
+        links = ap₂ (λ (i : ℕ) (k : LinkOf TrueFlow). changed i (with_flow sent.flow k) s) same one;
+      }
+
+  pub segment_run : (segment : SegmentValue) → src ≡ segment.srcaddr → (made : Sent TrueFlow Numbers) →
+      SentDid true_flows s (DataSegment segment) made → RunMade (segment_of true_flows segment) made.links
+  segment_run segment of_it made (Segment other number link sent is found run does) =
+      let same : segment ≡ other = cc in
+      by_source (segment_of true_flows segment) other.dstaddr number link
+      (subst (λ (a : ℕ). IsFound (TheLink a other.dstaddr) s number link) (ap (λ (x : SegmentValue). x.srcaddr) (sym same) ∙ sym of_it) found) sent
+      (ap (λ (x : SegmentValue). segment_of true_flows x link) same ∙ does)
+  segment_run segment of_it made (OfNone none) = absurd cc
+  segment_run segment of_it made (Stays number link none at) = absurd cc
+  segment_run segment of_it made (EndsCalled far reason number link none is found) = absurd cc
+  segment_run segment of_it made (Acks dst from acks number link sent is found run does) = absurd cc
+
+  pub acks_run : (dst : ℕ) (acks : List AckWord) (made : Sent TrueFlow Numbers) → SentDid true_flows s (DataAck dst src acks) made →
+      RunMade (λ link. sends_acks acks link.flow) made.links
+  acks_run dst acks made (Acks to from words number link sent is found run does) =
+      let from_is : from ≡ src = cc in let same : acks ≡ words = cc in
+      by_source (λ link. sends_acks acks link.flow) to number link
+      (subst (λ (a : ℕ). IsFound (TheLink a to) s number link) from_is found) sent
+      (ap (λ (w : List AckWord). sends_acks w link.flow) same ∙ does)
+  acks_run dst acks made (OfNone none) = absurd cc
+  acks_run dst acks made (Stays number link none at) = absurd cc
+  acks_run dst acks made (EndsCalled far reason number link none is found) = absurd cc
+  acks_run dst acks made (Segment segment number link sent is found run does) = absurd cc
+
+-- ---- what each turn makes of its link
+
+pub record TurnMade (s : Links) (made : Sent TrueFlow Numbers) (n : ℕ) (l : LinkOf TrueFlow) (o : LinkOwed) (turn : Turn) : Type 0 where
+  pub left : LinkOf TrueFlow
+  pub links : made.links ≡ changed n left s
+  pub port : left.port ≡ l.port
+  pub acknowledged : left.flow.acknowledged ≡ l.flow.acknowledged
+  pub is : end_of left o ≡ gave_by turn (end_of l o)
+
+module _ (s : Links) (made : Sent TrueFlow Numbers) (n : ℕ) (l : LinkOf TrueFlow) (o : LinkOwed) (there : slice_get s.links n ≡ Some l) where
+  -- one that leaves its link as it is
+  unmoved : (turn : Turn) → gave_by turn (end_of l o) ≡ end_of l o → made.links ≡ s → TurnMade s made n l o turn
+  unmoved turn none same = record {
+    left = l;
+    links = same ∙ ap (λ (all : LinkList). record s { links = all }) (sym (set_back s.links n l there));
+    port = refl;
+    acknowledged = refl;
+    is = sym none;
+  }
+
+  -- in RUN it has an own address
+  run_owns : Fits l → l.port.phase ≡ Running → l.port.own ≡ Some (address l.port.own)
+  run_owns shape run = known_at l.port.own (and_parts (is_some l.port.own) _ (subst (λ (phase : Phase). fits_in phase l ≡ true) run shape)).0
+
+  acknowledged_still : (s : SegmentValue) (g : TrueFlow) → SegmentDid l.flow s g → g.acknowledged ≡ l.flow.acknowledged
+  acknowledged_still s g (GivesIt last new) = refl
+  acknowledged_still s g (GivesAgain last old) = refl
+
+  module _ (ordered : IsOrdered l.flow) (shape : Fits l) (owes : OwedFits l o)
+      (distinct : (i j a : ℕ) → OwnsIn s.links i a → OwnsIn s.links j a → i ≡ j) where
+    pub turn_made : (turn : Turn) → IsDue (end_of l o) turn → SentDid true_flows s (turn_message turn (end_of l o)) made →
+        TurnMade s made n l o turn
+    turn_made ConnectAckTurn due did =
+        unmoved ConnectAckTurn refl (links_stay s (turn_message ConnectAckTurn (end_of l o)) refl (λ dst reason e. cc) made did)
+    turn_made InitiateTurn due did =
+        unmoved InitiateTurn refl (links_stay s (turn_message InitiateTurn (end_of l o)) refl (λ dst reason e. cc) made did)
+    turn_made ConfirmTurn due did = unmoved ConfirmTurn refl (links_stay s (turn_message ConfirmTurn (end_of l o)) refl (λ dst reason e. cc) made did)
+    turn_made DisconnectTurn due did =
+        unmoved DisconnectTurn refl (links_stay s (turn_message DisconnectTurn (end_of l o)) refl (λ dst reason e. cc) made did)
+    turn_made DataAckTurn (DueFlag owed) did =
+        let words = ack_of (variables_of l).received ∷ [] in
+        let r = acks_run s distinct n l there (address l.port.own) (run_owns shape (owes.turns DataAckTurn owed)) (address l.port.far) words made did in
+        let d = acks_did l.flow words r.sent r.is in
+        record {
+          left = with_flow r.sent.flow l;
+          links = r.links;
+          port = refl;
+          acknowledged = ap (λ (g : TrueFlow). g.acknowledged) d.1;
+          is = ap (λ (g : TrueFlow). end_of (with_flow g l) o) d.1;
+        }
+    turn_made SegmentTurn (DueFlag owed) did = absurd cc
+    turn_made SegmentTurn (DueSegment running due) did =
+        let again = slice_get (variables_of l).outstanding o.ahead in
+        let segment = segment_with (end_of l o) (piece_to_send again l.flow.unsent) in
+        let r = segment_run s distinct n l there (address l.port.own) (run_owns shape (running_is l.port.phase running)) segment refl made did in
+        record {
+          left = with_flow r.sent.flow l;
+          links = r.links;
+          port = refl;
+          acknowledged = acknowledged_still segment r.sent.flow (segment_did l.flow l.segsize segment r.sent r.is);
+          is = segment_gave l o ordered owes.ahead l.segsize r.sent again refl r.is;
+        }
