@@ -25,3 +25,4 @@ pub mod ListedTake
 pub mod ListedText
 pub mod ListedSoFar
 pub mod ConvertLaws
+pub mod OverLaws

@@ -10,6 +10,7 @@ pub mod Reader
 pub mod SoFar
 pub mod Writing
 pub mod Paged
+pub mod Passing
 pub mod Converting
 pub mod Entries
 pub mod Worded

@@ -3,3 +3,4 @@ pub mod Block
 pub mod Captured
 pub mod PageBlock
 pub mod Spelled
+pub mod Outlets

@@ -18,7 +18,7 @@ use crate::tap_files::tap_files;
 use crate::telling::{Form, Printout, why_to};
 use crate::words::{Task, WordsFault, task_of};
 use capture::Format;
-use std::alloc::Global;
+use pair_judge::Reason;
 use std::env;
 use std::io::{ErrorKind, Write};
 use std::rt::{Env, Files};
@@ -41,44 +41,142 @@ pub fn run<R: Env + Files + AllocGlobal, O: Write, E: Write>(
         Ok(task) => task,
         Err(fault) => return print_words_fault(err, fault),
     };
-    match do_task(rt, task, out, err) {
+    let mut program = Program { rt, out, err };
+    match program.do_task(task) {
         Ok(status) => status,
         Err(status) => status,
     }
 }
 
-// Does the task, and answers its status. `Err`: that of a file which can't be opened, which was told.
-fn do_task<R: Files + AllocGlobal, O: Write, E: Write>(
-    rt: &R,
-    task: Task<'_>,
-    out: &mut Tally<O>,
-    err: &mut Tally<E>,
-) -> Result<u8, u8> {
-    match task {
-        Task::Check { a, b } => check_files(rt, a, b, out, err),
-        Task::CheckLine { a, b } => check_line_files(rt, a, b, out, err),
-        Task::Alone { a } => {
-            let mut a = opened(rt, a, Named::A, err)?;
-            Ok(alone_to(rt.alloc(), &mut a, out, err))
+// What a task goes by: the system's files and memory, and both streams.
+#[derive(Drop)]
+struct Program<'r, 'o, 'e, R: Files + AllocGlobal, O: Write, E: Write> {
+    rt: &'r R,
+    out: &'o mut Tally<O>,
+    err: &'e mut Tally<E>,
+}
+
+// Each answers the status of its task. `Err`: that of a file which can't be opened or created, which was told.
+impl<R: Files + AllocGlobal, O: Write, E: Write> Program<'_, '_, '_, R, O, E> {
+    fn do_task(&mut self, task: Task<'_>) -> Result<u8, u8> {
+        match task {
+            Task::Check { a, b } => self.check(a, b),
+            Task::CheckLine { a, b } => self.check_line(a, b),
+            Task::Alone { a } => {
+                let mut a = self.open(a, Named::A)?;
+                Ok(alone_to(self.rt.alloc(), &mut a, self.out, self.err))
+            }
+            Task::AloneLine { a } => {
+                let mut a = self.open(a, Named::A)?;
+                Ok(alone_line_to(self.rt.alloc(), &mut a, self.out, self.err))
+            }
+            Task::Why { form, a, b } => self.why(form, a, b),
+            Task::WhyAlone { form, a } => self.why_alone(form, a),
+            Task::Cover { files } => self.cover(files.as_slice()),
+            Task::Draw(asked) => draw_files(self.rt, asked, self.out, self.err),
+            Task::Show { a } => self.show(a),
+            Task::Play { script, a, b } => self.play(script, a, b),
+            Task::Convert { to, a, b } => self.convert(to, a, b),
+            Task::Tap { paths } => tap_files(self.rt, paths, self.out, self.err),
+            Task::Help { topic } => Ok(help_to(self.out, topic)),
+            Task::Explain { reason } => self.explain(reason),
         }
-        Task::AloneLine { a } => {
-            let mut a = opened(rt, a, Named::A, err)?;
-            Ok(alone_line_to(rt.alloc(), &mut a, out, err))
+    }
+
+    // A file to be read.
+    fn open(&mut self, path: &str, named: Named) -> Result<Tally<R::File>, u8> {
+        opened(self.rt, path, named, self.err)
+    }
+
+    // A file to be written, created or emptied.
+    fn create(&mut self, path: &str, named: Named) -> Result<Tally<R::File>, u8> {
+        created(self.rt, path, named, self.err)
+    }
+
+    fn check(&mut self, path_a: &str, path_b: &str) -> Result<u8, u8> {
+        let mut a = self.open(path_a, Named::A)?;
+        let mut b = self.open(path_b, Named::B)?;
+        Ok(check_to(self.rt.alloc(), &mut a, &mut b, self.out, self.err))
+    }
+
+    fn check_line(&mut self, path_a: &str, path_b: &str) -> Result<u8, u8> {
+        let mut a = self.open(path_a, Named::A)?;
+        let mut b = self.open(path_b, Named::B)?;
+        Ok(check_line_to(self.rt.alloc(), &mut a, &mut b, self.out, self.err))
+    }
+
+    fn why(&mut self, form: Form, path_a: &str, path_b: &str) -> Result<u8, u8> {
+        let mut a = opened_plain(self.rt, path_a, Named::A, self.err)?;
+        let mut b = opened_plain(self.rt, path_b, Named::B, self.err)?;
+        let printout = Printout {
+            form,
+            name_a: path_a,
+            name_b: path_b,
+        };
+        Ok(why_to(
+            self.rt.alloc(),
+            printout,
+            &mut a,
+            &mut b,
+            self.out,
+            self.err,
+        ))
+    }
+
+    fn why_alone(&mut self, form: Form, path: &str) -> Result<u8, u8> {
+        let mut a = self.open(path, Named::A)?;
+        let printout = EndPrintout { form, name: path };
+        Ok(why_end_to(self.rt.alloc(), printout, &mut a, self.out, self.err))
+    }
+
+    // The files of each pair, a's first, pair by pair.
+    fn cover(&mut self, files: &[&str]) -> Result<u8, u8> {
+        let mut covered = Covered::new(self.rt.alloc());
+        for pair in files.chunks_exact(2) {
+            let mut a = self.open(pair[0], Named::A)?;
+            let mut b = self.open(pair[1], Named::B)?;
+            cover_pair(self.rt.alloc(), &mut a, &mut b, &mut covered, self.err)?;
         }
-        Task::Why { form, a, b } => why_files(rt, form, a, b, out, err),
-        Task::WhyAlone { form, a: path } => {
-            let mut a = opened(rt, path, Named::A, err)?;
-            let printout = EndPrintout { form, name: path };
-            Ok(why_end_to(rt.alloc(), printout, &mut a, out, err))
-        }
-        Task::Cover { files } => cover_files(rt, files.as_slice(), out, err),
-        Task::Draw(asked) => draw_files(rt, asked, out, err),
-        Task::Show { a } => show_file(rt, a, out, err),
-        Task::Play { script, a, b } => play_file(rt, script, a, b, out, err),
-        Task::Convert { to, a, b } => convert_file(rt, to, a, b, out, err),
-        Task::Tap { paths } => tap_files(rt, paths, out, err),
-        Task::Help { topic } => Ok(help_to(out, topic)),
-        Task::Explain { reason } => Ok(explain_to(rt.alloc(), &explanation_of(reason), out, err)),
+        Ok(print_covered(self.rt.alloc(), &covered, self.out, self.err))
+    }
+
+    fn show(&mut self, path: &str) -> Result<u8, u8> {
+        let mut a = self.open(path, Named::A)?;
+        Ok(show_to(self.rt.alloc(), &mut a, self.out, self.err))
+    }
+
+    // Writes into the second file what the first one holds, in this format.
+    fn convert(&mut self, to: Format, path_a: &str, path_b: &str) -> Result<u8, u8> {
+        let mut src = self.open(path_a, Named::A)?;
+        let mut dest = self.create(path_b, Named::B)?;
+        Ok(convert_to(
+            self.rt.alloc(),
+            to.number(),
+            &mut src,
+            &mut dest,
+            self.out,
+            self.err,
+        ))
+    }
+
+    // Opens the script, creates both captures, a's first, and plays the script into them.
+    fn play(&mut self, path: &str, path_a: &str, path_b: &str) -> Result<u8, u8> {
+        let mut script = self.open(path, Named::Script)?;
+        let mut a = self.create(path_a, Named::A)?;
+        let mut b = self.create(path_b, Named::B)?;
+        Ok(play_to(
+            self.rt.alloc(),
+            &mut script,
+            &mut a,
+            &mut b,
+            self.out,
+            self.err,
+        ))
+    }
+
+    fn explain(&mut self, reason: Reason) -> Result<u8, u8> {
+        let explanation = explanation_of(reason);
+        Ok(explain_to(self.rt.alloc(), &explanation, self.out, self.err))
     }
 }
 
@@ -105,105 +203,4 @@ fn print_words_fault<W: Write>(err: &mut Tally<W>, fault: WordsFault) -> u8
         WordsFault::BadWords => print(err, b"bad words\n", BAD_WORDS),
         WordsFault::OutOfMemory => print_out_of_memory(err),
     }
-}
-
-// Opens the two files, a's first, and checks what they hold.
-fn check_files<R: Files + AllocGlobal, O: Write, E: Write>(
-    rt: &R,
-    path_a: &str,
-    path_b: &str,
-    out: &mut Tally<O>,
-    err: &mut Tally<E>,
-) -> Result<u8, u8> {
-    let mut a = opened(rt, path_a, Named::A, err)?;
-    let mut b = opened(rt, path_b, Named::B, err)?;
-    Ok(check_to(rt.alloc(), &mut a, &mut b, out, err))
-}
-
-// The same of stations and line alone.
-fn check_line_files<R: Files + AllocGlobal, O: Write, E: Write>(
-    rt: &R,
-    path_a: &str,
-    path_b: &str,
-    out: &mut Tally<O>,
-    err: &mut Tally<E>,
-) -> Result<u8, u8> {
-    let mut a = opened(rt, path_a, Named::A, err)?;
-    let mut b = opened(rt, path_b, Named::B, err)?;
-    Ok(check_line_to(rt.alloc(), &mut a, &mut b, out, err))
-}
-
-// Opens the two files, and tells why they are refused.
-fn why_files<R: Files + AllocGlobal, O: Write, E: Write>(
-    rt: &R,
-    form: Form,
-    path_a: &str,
-    path_b: &str,
-    out: &mut Tally<O>,
-    err: &mut Tally<E>,
-) -> Result<u8, u8> {
-    let mut a = opened_plain(rt, path_a, Named::A, err)?;
-    let mut b = opened_plain(rt, path_b, Named::B, err)?;
-    let printout = Printout {
-        form,
-        name_a: path_a,
-        name_b: path_b,
-    };
-    Ok(why_to(rt.alloc(), printout, &mut a, &mut b, out, err))
-}
-
-// Opens the two files of each pair, a's first, and counts what they went through, pair by pair.
-fn cover_files<R: Files + AllocGlobal, O: Write, E: Write>(
-    rt: &R,
-    files: &[&str],
-    out: &mut Tally<O>,
-    err: &mut Tally<E>,
-) -> Result<u8, u8> {
-    let mut covered = Covered::new(rt.alloc());
-    for pair in files.chunks_exact(2) {
-        let mut a = opened(rt, pair[0], Named::A, err)?;
-        let mut b = opened(rt, pair[1], Named::B, err)?;
-        cover_pair(rt.alloc(), &mut a, &mut b, &mut covered, err)?;
-    }
-    Ok(print_covered(rt.alloc(), &covered, out, err))
-}
-
-// Opens the file, and shows what it holds.
-fn show_file<R: Files + AllocGlobal, O: Write, E: Write>(
-    rt: &R,
-    path: &str,
-    out: &mut Tally<O>,
-    err: &mut Tally<E>,
-) -> Result<u8, u8> {
-    let mut a = opened(rt, path, Named::A, err)?;
-    Ok(show_to(rt.alloc(), &mut a, out, err))
-}
-
-// Opens the one file, creates or empties the other, and writes into it what the first one holds, in this format.
-fn convert_file<R: Files + AllocGlobal, O: Write, E: Write>(
-    rt: &R,
-    to: Format,
-    path_a: &str,
-    path_b: &str,
-    out: &mut Tally<O>,
-    err: &mut Tally<E>,
-) -> Result<u8, u8> {
-    let mut src = opened(rt, path_a, Named::A, err)?;
-    let mut dest = created(rt, path_b, Named::B, err)?;
-    Ok(convert_to(rt.alloc(), to.number(), &mut src, &mut dest, out, err))
-}
-
-// Opens the script, creates or empties both captures, a's first, and plays the script into them.
-fn play_file<R: Files + AllocGlobal, O: Write, E: Write>(
-    rt: &R,
-    path: &str,
-    path_a: &str,
-    path_b: &str,
-    out: &mut Tally<O>,
-    err: &mut Tally<E>,
-) -> Result<u8, u8> {
-    let mut script = opened(rt, path, Named::Script, err)?;
-    let mut a = created(rt, path_a, Named::A, err)?;
-    let mut b = created(rt, path_b, Named::B, err)?;
-    Ok(play_to(rt.alloc(), &mut script, &mut a, &mut b, out, err))
 }

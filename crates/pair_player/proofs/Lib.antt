@@ -4,7 +4,6 @@ pub mod TakeLaws
 pub mod LackLaws
 pub mod TextLaws
 pub mod SoFarLaws
-pub mod OverLaws
 pub mod PlayLaws
 pub mod WholeLaws
 pub mod RunLaws

@@ -33,8 +33,9 @@ use Rattle.pair_player.specs.Reader.{Advances, ScriptState}
 use Rattle.pair_player.specs.SoFar.{no_steps, with_step}
 use Rattle.player_end.specs.Stepping.{StopMeans}
 use Rattle.pair_player.specs.inner.Making.{PutsLines, Standing, Steps, StopsStep, standing}
-use Rattle.pair_player.specs.inner.Waiting.{EndsAll, FailsAt, Outlet, outlet}
-use Rattle.pair_player.proofs.OverLaws.{nothing_over, more_over, on_over, all_over, some_over, beginning_over}
+use Rattle.pair_player.specs.inner.Waiting.{EndsAll}
+use Rattle.capture.specs.inner.Outlets.{FailsAt, Outlet, outlet}
+use Rattle.capture.proofs.OverLaws.{all_over, beginning_over, more_over, nothing_over, on_over, some_over}
 use Rattle.pair_player.proofs.SoFarLaws.{opened, one_more}
 use Rattle.pair_player.proofs.TakeLaws.{cut_behind}
 

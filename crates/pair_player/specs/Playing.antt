@@ -1,9 +1,10 @@
 -- What a player reads and writes.
-use Rattle.std.specs.Prelude.{◌≡◌, ℕ, ◌+◌, ◌<◌, ◌⊎◌, List, length, take, Option, Result, Ok, Err, IfSome}
+use Rattle.std.specs.Prelude.{◌≡◌, ℕ, ◌+◌, ◌<◌, ◌⊎◌, List, length, Option, Result, Ok, Err, IfSome}
 use Rattle.std.specs.Io.KnownBytes.{Appends, Consumes, IsAtEnd, Keeps}
 use Rattle.wire_base.specs.Tally.{AppendsBeginning, CountedFault}
 use Rattle.wire_base.specs.declared.side.Side.{Side}
 use Rattle.wire_base.specs.declared.side.Side.TheVariants.{A, B}
+use Rattle.capture.specs.Passing.{AppendsSome}
 use Rattle.capture.specs.declared.fault.Departure.{Departure}
 use Rattle.capture.specs.declared.format.Format.TheVariants.{One}
 use Rattle.capture.specs.Lines.{IsCutBehind}
@@ -24,10 +25,6 @@ pub record Held : Type 0 where
 
 abbrev pub held : Option (List ℕ) → Option (List ℕ) → Held
 held a b = record { a = a; b = b }
-
--- known bytes grew by a beginning of the text, which may be all of it
-abbrev pub AppendsSome : Option (List ℕ) → Option (List ℕ) → List ℕ → Type 0
-AppendsSome old new text = (taken : ℕ) × Appends old new (take taken text)
 
 -- neither writer took anything
 pub record TakesNothing (old new : Held) : Type 0 where

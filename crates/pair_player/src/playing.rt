@@ -10,7 +10,8 @@ ghost use Rattle.dna_play.specs.ScriptText.{IsStep};
 ghost use Rattle.pair_player.specs.inner.Beginning.{HeadFault, IsBegun, fault_at, fault_of, is_failed_read};
 ghost use Rattle.pair_player.specs.Playing.{CountsReadsOf, CountsWritesOf, Plays, PlaysWholeLines, held};
 ghost use Rattle.pair_player.specs.inner.Making.{StepsOrStops, standing};
-ghost use Rattle.pair_player.specs.inner.Waiting.{EndsAll, outlet};
+ghost use Rattle.pair_player.specs.inner.Waiting.{EndsAll};
+ghost use Rattle.capture.specs.inner.Outlets.{outlet};
 
 use crate::ends::Ends;
 use crate::fault::PlayFault;

@@ -5,7 +5,7 @@ ghost use Rattle.wire_base.specs.Tally.{tally_faults, tally_lent};
 ghost use Rattle.capture.specs.declared.format.Format.TheVariants as Layout;
 ghost use Rattle.capture.specs.Text.{head_line};
 ghost use Rattle.pair_player.specs.inner.Making.{PutsLines};
-ghost use Rattle.pair_player.specs.inner.Waiting.{PassBoth, Passes, Fails, outlet};
+ghost use Rattle.capture.specs.inner.Outlets.{Fails, PassBoth, Passes, outlet};
 
 use capture::{Format, put_head_line};
 use std::alloc::{AllocError, Global};

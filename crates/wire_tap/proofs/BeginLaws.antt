@@ -18,12 +18,14 @@ use Rattle.wire_text.specs.Reader.{Opens, WireState}
 use Rattle.wire_text.specs.SoFar.{IsReadSoFar, no_pieces}
 use Rattle.wire_text.specs.WireText.{Wire, WireHeadDeparts}
 use Rattle.wire_text.proofs.SoFarLaws as read
-use Rattle.wire_tap.specs.Tapping.{AppendsSome, HasCut, HaveFirst, Held, Reached, Taps, TakesNothing, held}
+use Rattle.wire_tap.specs.Tapping.{HasCut, HaveFirst, Held, Reached, Taps, TakesNothing, held}
+use Rattle.capture.specs.Passing.{AppendsSome}
+use Rattle.capture.specs.inner.Outlets.{FailsAt, Outlet, outlet}
 use Rattle.wire_tap.specs.Units.{units_of}
 use Rattle.wire_tap.specs.declared.fault.TapFault.TheVariants as faults
-use Rattle.wire_tap.specs.inner.Moving.{IsLineUnderWay, IsUnderWay, Outlet}
-use Rattle.wire_tap.specs.inner.Moving.{FailsAt, fault_of, head_a, head_b}
-use Rattle.wire_tap.specs.inner.Moving.{line_state, outlet}
+use Rattle.wire_tap.specs.inner.Moving.{IsLineUnderWay, IsUnderWay}
+use Rattle.wire_tap.specs.inner.Moving.{fault_of, head_a, head_b}
+use Rattle.wire_tap.specs.inner.Moving.{line_state}
 use Rattle.wire_tap.specs.declared.side_tap.SideTap.{SideTap}
 use Rattle.wire_tap.specs.inner.Side.{IsNew, side_state}
 

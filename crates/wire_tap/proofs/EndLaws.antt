@@ -20,11 +20,11 @@ use Rattle.wire_tap.specs.declared.tapped.Ending.{Ending}
 use Rattle.wire_tap.specs.declared.tapped.Ending.TheVariants.{Whole, Unplaced, TooWide, Asked}
 use Rattle.wire_tap.specs.declared.tapped.Passed.{Passed}
 use Rattle.wire_tap.specs.declared.tapped.Tapped.{Tapped}
-use Rattle.wire_tap.specs.inner.Moving.{IsLineOver, LineState, Outlet, others_at, units_at}
-use Rattle.wire_tap.specs.inner.Moving.{EndsOver, FailsAt, IsAllOver, PutsAll, StopsAs, fault_of}
-use Rattle.wire_tap.specs.inner.Moving.{outlet}
+use Rattle.wire_tap.specs.inner.Moving.{IsLineOver, LineState, others_at, units_at}
+use Rattle.capture.specs.inner.Outlets.{FailsAt, Outlet, outlet}
+use Rattle.capture.proofs.OverLaws.{all_over, beginning_over, begun_over, on_over, some_over}
+use Rattle.wire_tap.specs.inner.Moving.{EndsOver, IsAllOver, PutsAll, StopsAs, fault_of}
 use Rattle.wire_tap.specs.inner.Side.{EndsAt, IsUnitAt, aim}
-use Rattle.wire_tap.proofs.OverLaws.{all_over, begun_over, beginning_over, on_over, some_over}
 use Rattle.wire_tap.proofs.SideLaws.{over_put, same_units}
 
 -- ---- both sides, where no more is read

@@ -1,5 +1,4 @@
 pub mod CountLaws
-pub mod OverLaws
 pub mod MoveLaws
 pub mod PassLaws
 pub mod SideLaws

@@ -16,7 +16,7 @@ use Rattle.wire_tap.specs.Units.{bytes_if, bytes_of, messages}
 use Rattle.wire_tap.specs.inner.Moving.{IsOver, IsUnderWay, StandsBeside}
 use Rattle.wire_tap.specs.inner.Side.{MovesOn, PassesAll, PassesFound, SideState, counted}
 use Rattle.wire_tap.proofs.MoveLaws.{lines-append, messages-append, sent-append}
-use Rattle.wire_tap.proofs.OverLaws.{more_over, on_over}
+use Rattle.capture.proofs.OverLaws.{more_over, on_over}
 
 -- ---- the bytes of a side
 

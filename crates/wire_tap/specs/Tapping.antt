@@ -1,10 +1,11 @@
 -- What a tap reads and writes.
-use Rattle.std.specs.Prelude.{◌≡◌, ℕ, ◌+◌, ◌<◌, ◌^◌, ◌⊎◌, List, ◌++◌, length, take, Option, Some, Result, Ok, Err, IfSome}
+use Rattle.std.specs.Prelude.{◌≡◌, ℕ, ◌+◌, ◌<◌, ◌^◌, ◌⊎◌, List, ◌++◌, length, Option, Some, Result, Ok, Err, IfSome}
 use Rattle.std.specs.Io.KnownBytes.{Appends, IsAtEnd, Keeps}
 use Rattle.wire_base.specs.Side.{other_side}
 use Rattle.wire_base.specs.Tally.{AppendsBeginning, CountedFault}
 use Rattle.wire_base.specs.declared.side.Side.{Side}
 use Rattle.wire_base.specs.declared.side.Side.TheVariants.{A, B}
+use Rattle.capture.specs.Passing.{AppendsSome}
 use Rattle.capture.specs.declared.fault.Departure.{Departure}
 use Rattle.capture.specs.declared.format.Format.TheVariants.{One}
 use Rattle.capture.specs.declared.record.Record.{Record}
@@ -80,10 +81,6 @@ text_a r = capture_text One r.wire.node_a r.wire.node_b r.a
 
 abbrev pub text_b : Reached → List ℕ
 text_b r = capture_text One r.wire.node_b r.wire.node_a r.b
-
--- known bytes grew by a beginning of the text, which may be all of it
-abbrev pub AppendsSome : Option (List ℕ) → Option (List ℕ) → List ℕ → Type 0
-AppendsSome old new text = (taken : ℕ) × Appends old new (take taken text)
 
 -- neither writer took anything
 pub record TakesNothing (old new : Held) : Type 0 where

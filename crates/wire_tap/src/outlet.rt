@@ -2,7 +2,7 @@
 
 ghost use Rattle.std.specs.Prelude.{◌≡◌, [], OnOk, OnErr};
 ghost use Rattle.wire_base.specs.Tally.{tally_faults, tally_lent};
-ghost use Rattle.wire_tap.specs.inner.Moving.{Fails, PassBoth, Passes, outlet};
+ghost use Rattle.capture.specs.inner.Outlets.{Fails, PassBoth, Passes, outlet};
 
 use placing::Placing;
 use std::io::Write;

@@ -1,8 +1,7 @@
 -- Both sides of a line under way, and their captures on the way to the writers.
 use Rattle.std.specs.Prelude.{◌≡◌, ℕ, ◌+◌, ◌<◌, ◌^◌, Bool, true, false, List, [], ◌++◌, length, Option, Result, Ok, Err, Some, None}
-use Rattle.std.specs.Io.KnownBytes.{Appends, IsAtEnd}
+use Rattle.std.specs.Io.KnownBytes.{IsAtEnd}
 use Rattle.wire_base.specs.Side.{other_side}
-use Rattle.wire_base.specs.Tally.{AppendsBeginning, CountedFault}
 use Rattle.wire_base.specs.declared.side.Side.{Side}
 use Rattle.wire_base.specs.declared.side.Side.TheVariants.{A, B}
 use Rattle.capture.specs.declared.fault.CaptureFault.{CaptureFault}
@@ -19,7 +18,7 @@ use Rattle.framer.specs.SoFar.{IsFramedSoFar}
 use Rattle.placing.specs.Placed.{Waiting, units_sent}
 use Rattle.wire_text.specs.SoFar.{IsReadSoFar}
 use Rattle.wire_text.specs.WireText.{PieceDeparts, Wire}
-use Rattle.wire_tap.specs.Tapping.{AppendsSome, Held, Taps}
+use Rattle.wire_tap.specs.Tapping.{Held, Taps}
 use Rattle.wire_tap.specs.Units.{bytes_of, messages}
 use Rattle.wire_tap.specs.inner.Side.{Aim, EndsAt, MovesOn, PassesBytes, SideState, UnitsState, aim, counted, side_state}
 use Rattle.wire_tap.specs.declared.fault.TapFault.{TapFault}
@@ -37,42 +36,6 @@ fault_of (of_text.Departs kind line) = faults.Departs kind line
 fault_of of_text.Read = faults.Read
 fault_of of_text.OutOfMemory = faults.OutOfMemory
 fault_of of_text.Failed = faults.Read
-
--- ---- one side's way to its writer
-
--- the bytes that wait, what its writer holds, where it tells it, and how many of the writer's calls failed
-pub record Outlet : Type 0 where
-  pub text : List ℕ
-  pub held : Option (List ℕ)
-  pub faults : ℕ
-
-abbrev pub outlet : List ℕ → Option (List ℕ) → ℕ → Outlet
-outlet text held faults = record { text = text; held = held; faults = faults }
-
--- the writer took the first of the bytes that waited, and no call failed
-pub record Passes (old new : Outlet) : Type 0 where
-  pub over : HandsOver old.text new.text old.held new.held
-  pub faults : new.faults ≡ old.faults
-
--- some of them, and no call failed
-pub record PassesSome (old new : Outlet) : Type 0 where
-  pub some : AppendsSome old.held new.held old.text
-  pub faults : new.faults ≡ old.faults
-
--- a call failed, and the writer took a beginning that is not all
-pub record Fails (old new : Outlet) : Type 0 where
-  pub some : AppendsBeginning old.held new.held old.text
-  pub faults : CountedFault old.faults new.faults
-
--- where the writer of one side failed
-abbrev pub FailsAt : Side → (old new : Outlet × Outlet) → Type 0
-FailsAt A old new = Fails old.0 new.0 × PassesSome old.1 new.1
-FailsAt B old new = PassesSome old.0 new.0 × Fails old.1 new.1
-
--- both sides', a's first
-abbrev pub PassBoth : (old new : Outlet × Outlet) → Result (Unit {0}) Side → Type 0
-PassBoth old new (Ok x) = Passes old.0 new.0 × Passes old.1 new.1
-PassBoth old new (Err side) = FailsAt side old new
 
 -- the lines of all its units were put
 pub record PutsAll (old new : Waiting) : Type 0 where

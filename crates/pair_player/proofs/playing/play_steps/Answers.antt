@@ -4,7 +4,7 @@ use Rattle.capture.specs.Lines.{to_come}
 use Rattle.pair_player.specs.inner.Beginning.{fault_of}
 use Rattle.pair_player.specs.inner.Making.{standing}
 use Rattle.pair_player.specs.Playing.{held}
-use Rattle.pair_player.specs.inner.Waiting.{outlet}
+use Rattle.capture.specs.inner.Outlets.{outlet}
 use Rattle.pair_player.proofs.PlayLaws.{at_end, at_fault, ended, fails, lines_at_fault, lines_on, lines_stopped, moved_on, some_step, step_on}
 use Rattle.pair_player.proofs.PlayLaws.{stopped, under_way}
 use Rattle.pair_player.proofs.playing.play_steps.Goals as goal

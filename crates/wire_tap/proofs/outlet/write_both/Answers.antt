@@ -1,4 +1,4 @@
-use Rattle.wire_tap.proofs.OverLaws.{begun_over}
+use Rattle.capture.proofs.OverLaws.{begun_over}
 use Rattle.wire_tap.proofs.outlet.write_both.Goals as goal
 
 pub returns-in_default-write_lines-clause-writes : goal.returns-in_default-write_lines-clause-writes

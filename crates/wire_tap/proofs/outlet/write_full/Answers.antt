@@ -1,4 +1,4 @@
-use Rattle.wire_tap.proofs.OverLaws.{begun_over}
+use Rattle.capture.proofs.OverLaws.{begun_over}
 use Rattle.wire_tap.proofs.outlet.write_full.Goals as goal
 
 pub returns-in_default-write_if_full-clause-writes : goal.returns-in_default-write_if_full-clause-writes

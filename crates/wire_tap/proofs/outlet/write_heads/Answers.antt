@@ -1,6 +1,6 @@
 use Rattle.std.proofs.Common.{List, ℕ, [], sym, append-nil}
 use Rattle.capture.specs.Paged.{HandsOver}
-use Rattle.wire_tap.proofs.OverLaws.{begun_over, whole_over}
+use Rattle.capture.proofs.OverLaws.{begun_over, whole_over}
 use Rattle.wire_tap.proofs.outlet.write_heads.Goals as goal
 
 pub returns-in_default-write_whole : goal.returns-in_default-write_whole

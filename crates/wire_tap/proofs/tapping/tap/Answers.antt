@@ -2,7 +2,7 @@ use Rattle.std.proofs.Common.{◌∙◌, ℕ, [], subst}
 use Rattle.wire_base.specs.Tally.{tally_faults, tally_lent}
 use Rattle.wire_base.specs.declared.side.Side.TheVariants as of_side
 use Rattle.wire_tap.specs.Tapping.{CountsReadsOf, CountsWritesOf, held}
-use Rattle.wire_tap.specs.inner.Moving.{outlet}
+use Rattle.capture.specs.inner.Outlets.{outlet}
 use Rattle.wire_tap.proofs.BeginLaws.{head_fails, line_begun}
 use Rattle.wire_tap.proofs.tapping.tap.Goals as goal
 

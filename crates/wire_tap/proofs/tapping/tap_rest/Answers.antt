@@ -3,7 +3,8 @@ use Rattle.wire_base.specs.Tally.{tally_faults, tally_lent}
 use Rattle.wire_base.specs.declared.side.Side.TheVariants as of_side
 use Rattle.wire_text.specs.WireText.{PieceDeparts}
 use Rattle.wire_tap.specs.Tapping.{held}
-use Rattle.wire_tap.specs.inner.Moving.{is_failed_stop, outlet}
+use Rattle.wire_tap.specs.inner.Moving.{is_failed_stop}
+use Rattle.capture.specs.inner.Outlets.{outlet}
 use Rattle.wire_tap.proofs.CountLaws.{reads_any, reads_fault, reads_text, writes_text}
 use Rattle.wire_tap.proofs.EndLaws.{put_fails, refused, tap_departs, tap_ends}
 use Rattle.wire_tap.proofs.tapping.tap_rest.Goals as goal

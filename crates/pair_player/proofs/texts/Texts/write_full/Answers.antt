@@ -1,4 +1,4 @@
-use Rattle.pair_player.proofs.OverLaws.{begun_over}
+use Rattle.capture.proofs.OverLaws.{begun_over}
 use Rattle.pair_player.proofs.texts.Texts.write_full.Goals as goal
 
 pub returns-in_default-write_if_full-clause-writes : goal.returns-in_default-write_if_full-clause-writes

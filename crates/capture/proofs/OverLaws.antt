@@ -6,7 +6,7 @@ use Rattle.std.proofs.KnownBytes.{Appends-nil, Appends-trans}
 use Rattle.std.proofs.Math.Seq.{take-append-add}
 use Rattle.wire_base.specs.Tally.{AppendsBeginning}
 use Rattle.capture.specs.Paged.{HandsOver}
-use Rattle.pair_player.specs.Playing.{AppendsSome}
+use Rattle.capture.specs.Passing.{AppendsSome}
 
 -- nothing yet
 pub nothing_over : (whole : List ℕ) (held : Option (List ℕ)) → HandsOver whole whole held held
@@ -51,3 +51,7 @@ module _ (whole rest : List ℕ) (old now : Option (List ℕ)) (h : HandsOver wh
       let taken = some.0 in
       let within : taken < length rest = some.1 in
       (length h.written + taken, omega (arith, length-append h.written rest, ap length h.parts), taken_over later taken some.2)
+
+-- all of it at once
+pub whole_over : (whole : List ℕ) (old new : Option (List ℕ)) → Appends old new whole → HandsOver whole [] old new
+whole_over whole old new appends = record { written = whole; parts = sym (append-nil whole); taken = appends }
