@@ -13,7 +13,7 @@ use ladder::{Caption, Drawn, Sending, What};
 use pair_judge::{JudgeFault, JudgedEnds, Verdict};
 use std::alloc::{AllocError, Global};
 use std::io::{Read, Seek};
-use why::{CheckRows, FrontTexts};
+use why::{Check, CheckTold, Form, FrontTexts};
 
 /// A picture, with the verdict on what it shows.
 #[derive(Drop)]
@@ -92,14 +92,15 @@ fn check_words(alloc: Global, ends: &JudgedEnds, unit_name: &str) -> Result<Stri
         return Ok(String::new(alloc));
     };
     let fronts = FrontTexts::of(alloc, ends.end(side), entry, bytes, unit_name)?;
-    let rows = CheckRows {
+    let check = Check {
         side,
         reason,
         failed,
         reading: read_unit(bytes),
         fronts: fronts.lent(),
     };
-    format!(in alloc; "{rows}")
+    let form = Form::Rows;
+    format!(in alloc; "{}", CheckTold { form, check })
 }
 
 // The short name of the unit that the last row's record names by its hint, as what was sent is told; nothing where it names none.

@@ -6,8 +6,8 @@ use nsp_link::{FailedLinkSending, LinkNumbers, LinkView, NextPiece, PieceShape};
 use pair_judge::{FailedCheck, Reason, Verdict, judge_with_ends};
 use std::alloc::{AllocError, Global};
 use why::{
-    Accusation, CheckLine, EditRow, EditsTried, Fronts, RecorderRow, Refusal, Shown, StateLine,
-    is_of_user, record_json, record_text, side_json, side_text, why_json, why_rows,
+    Accusation, Check, CheckTold, EditRow, EditsTried, Form, Fronts, RecorderRow, Refusal, Shown,
+    StateLine, is_of_user, record_json, record_text, side_json, side_text, why_json, why_rows,
 };
 use wire_base::{Side, Tally};
 
@@ -278,7 +278,7 @@ fn compared_bytes_are_told(rt: HostRuntime) -> Result<(), AllocError> {
         begins: true,
         left: 20,
     });
-    let line = CheckLine {
+    let check = Check {
         side: Side::A,
         reason: Reason::WrongSegment,
         failed: FailedCheck::LinkSending(FailedLinkSending::NextPiece { seen, allowed }),
@@ -289,7 +289,8 @@ fn compared_bytes_are_told(rt: HostRuntime) -> Result<(), AllocError> {
             unit_name: "",
         },
     };
-    let told = format!(in rt.alloc(); "{line}")?;
+    let form = Form::Object;
+    let told = format!(in rt.alloc(); "{}", CheckTold { form, check })?;
     assert_eq!(rt;
         told.as_str(),
         "{\"what\": \"check\", \"check\": \"next piece\", \"seen\": \"1 bytes 05, begins and ends\", \"allowed\": \"the next of 20 bytes \

@@ -4,7 +4,7 @@ use Rattle.std.specs.Prelude.{ℕ, ◌==◌, if◌then◌else◌, List, [], ◌+
 use Rattle.std.specs.Fmt.{decimal}
 use Rattle.wire_base.specs.Side.{other_side, side_letter}
 use Rattle.wire_base.specs.declared.side.Side.{Side}
-use Rattle.ddcmp_msg.specs.Reading.{ReadingValue}
+use Rattle.ddcmp_msg.specs.Reading.{ReadingValue, reading_view}
 use Rattle.ddcmp_station.specs.declared.failed.FailedArrival.{FailedArrival}
 use Rattle.ddcmp_station.specs.declared.failed.FailedArrival.TheVariants.{Period, Keep}
 use Rattle.ddcmp_station.specs.declared.failed.FailedSending.{FailedSending}
@@ -20,8 +20,11 @@ use Rattle.why.specs.StateLine.{state_name}
 use Rattle.why.specs.StationChecks.{sending_check, sending_seen, sending_allowed, arrival_check, arrival_seen, arrival_allowed}
 use Rattle.why.specs.LinkChecks.{link_sending_check, link_sending_seen, link_sending_allowed, link_arrival_check, link_arrival_seen}
 use Rattle.why.specs.LinkChecks.{link_arrival_allowed, link_event_check, link_event_seen, link_event_allowed}
-use Rattle.why.specs.Digits.{Fronts}
+use Rattle.why.specs.Digits.{Fronts, fronts_told}
 use Rattle.why.specs.Pages.{page}
+use Rattle.why.specs.declared.checks.Check.{Check}
+use Rattle.why.specs.declared.form.Form.{Form}
+use Rattle.why.specs.declared.form.Form.TheVariants.{Object, Rows}
 
 -- of the station the name in its tables
 abbrev pub check_name : FailedCheck → List ℕ
@@ -116,15 +119,37 @@ rule_row (check.StationSending failed) = sending_rule failed
 rule_row (check.StationArrival failed) = arrival_rule failed
 rule_row failed = []
 
--- ---- together, of a record that is refused for this reason
+-- ---- together
 
-abbrev pub check_line : Side → Reason → FailedCheck → ReadingValue → Fronts → List ℕ
-check_line side reason failed reading fronts =
-    codes "{\"what\": \"check\", \"check\": \"" ++ (check_name failed ++ (codes "\", \"seen\": \"" ++ (seen side failed reading fronts.seen
-    ++ (codes "\", \"allowed\": \"" ++ (allowed side failed reading fronts.due fronts.unit_name ++ (codes "\", \"page\": \"" ++ (page reason
-    ++ codes "\"}\n")))))))
+-- a check that a record of this side does not pass, with the reason for which it is refused, how its bytes are read, and what is shown of both
+-- sides of it
+pub record CheckValue : Type 0 where
+  pub side : Side
+  pub reason : Reason
+  pub failed : FailedCheck
+  pub reading : ReadingValue
+  pub fronts : Fronts
 
-abbrev pub check_rows : Side → Reason → FailedCheck → ReadingValue → Fronts → List ℕ
-check_rows side reason failed reading fronts =
-    codes "  seen     " ++ (seen side failed reading fronts.seen ++ (codes "\n  allowed  " ++ (allowed side failed reading fronts.due fronts.unit_name
-    ++ (codes "\n" ++ (rule_row failed ++ (codes "  page     " ++ (page reason ++ codes "\n")))))))
+abbrev pub check_value : Check → CheckValue
+check_value c =
+    record { side = c.side; reason = c.reason; failed = c.failed; reading = reading_view c.reading; fronts = fronts_told c.fronts }
+
+abbrev pub seen_in : CheckValue → List ℕ
+seen_in c = seen c.side c.failed c.reading c.fronts.seen
+
+abbrev pub allowed_in : CheckValue → List ℕ
+allowed_in c = allowed c.side c.failed c.reading c.fronts.due c.fronts.unit_name
+
+abbrev pub check_line : CheckValue → List ℕ
+check_line c =
+    codes "{\"what\": \"check\", \"check\": \"" ++ (check_name c.failed ++ (codes "\", \"seen\": \"" ++ (seen_in c
+    ++ (codes "\", \"allowed\": \"" ++ (allowed_in c ++ (codes "\", \"page\": \"" ++ (page c.reason ++ codes "\"}\n")))))))
+
+abbrev pub check_rows : CheckValue → List ℕ
+check_rows c =
+    codes "  seen     " ++ (seen_in c ++ (codes "\n  allowed  " ++ (allowed_in c ++ (codes "\n" ++ (rule_row c.failed
+    ++ (codes "  page     " ++ (page c.reason ++ codes "\n")))))))
+
+abbrev pub check_told : Form → CheckValue → List ℕ
+check_told Object c = check_line c
+check_told Rows c = check_rows c

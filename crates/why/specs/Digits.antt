@@ -4,17 +4,14 @@ use Rattle.std.specs.Prelude.{List, [], ◌++◌, length, take, codes}
 use Rattle.hex.specs.Hex.{encode_lower}
 use Rattle.capture.specs.declared.entry.Entry.{Entry}
 use Rattle.capture.specs.declared.entry.Entry.TheVariants as entries
-use Rattle.ddcmp_msg.specs.Reading.{ReadingValue, reading}
 use Rattle.dna_packet.specs.declared.fault.NspFault.{NspFault}
-use Rattle.dna_packet.specs.declared.fault.PacketFault.{PacketFault}
 use Rattle.dna_packet.specs.Nsp.{NspValue, DataSegment}
-use Rattle.dna_packet.specs.Packet.{PacketValue}
 use Rattle.dna_packet.specs.ReadingNsp.{nsp_at}
-use Rattle.dna_packet.specs.ReadingPacket.{packet_at}
 use Rattle.dna_links.specs.WireLinks.{WireLinks}
 use Rattle.nsp_link.specs.Due.{due_at_links, due_to_user}
 use Rattle.why.specs.declared.digits.Fronts as declared
-use Rattle.why.specs.Layers.{packet_in, message_of}
+use Rattle.why.specs.Layers.{message_in_unit}
+use Rattle.why.specs.Words.{words_if}
 
 -- The digits of both, and the short name of the unit that the record names, with a comma and a blank behind it, or nothing
 pub record Fronts : Type 0 where
@@ -32,16 +29,13 @@ front_digits bytes = if nat_le (length bytes) 16 then encode_lower bytes else en
 
 -- that so many bytes are not all told by these digits
 abbrev pub dots : (front : List ℕ) → (count : ℕ) → List ℕ
-dots front count = if nat_lt (length front / 2) count then codes ".." else []
+dots front count = words_if (nat_lt (length front / 2) count) (codes "..")
 
--- the digits of the front of so many bytes, behind a space or behind a colon and a space
-abbrev pub spaced_front : (front : List ℕ) → (count : ℕ) → List ℕ
-spaced_front front count = if count == 0 then [] else codes " " ++ (front ++ dots front count)
+-- the digits of the front of so many bytes, behind a space or a colon; nothing where there is none
+abbrev pub front_behind : (lead front : List ℕ) → (count : ℕ) → List ℕ
+front_behind lead front count = if count == 0 then [] else lead ++ (front ++ dots front count)
 
-abbrev pub told_front : (front : List ℕ) → (count : ℕ) → List ℕ
-told_front front count = if count == 0 then [] else codes ": " ++ (front ++ dots front count)
-
--- ---- what a segment in these bytes carries, and what it is compared with
+-- ---- what a segment carries, and what it is compared with
 
 abbrev pub or_none : Option (List ℕ) → List ℕ
 or_none None = []
@@ -63,27 +57,20 @@ abbrev pub due_for : WireLinks → Result NspValue NspFault → List ℕ
 due_for links (Ok m) = due_by links m
 due_for links (Err fault) = []
 
-module _ (of_message : Result NspValue NspFault → List ℕ) where
-  abbrev pub in_message : Option (List ℕ) → List ℕ
-  in_message None = []
-  in_message (Some message) = of_message (nsp_at message)
-
-  abbrev pub in_packet : Option (List ℕ) → List ℕ
-  in_packet None = []
-  in_packet (Some packet) = in_message (message_of (packet_at packet))
-
-  abbrev pub in_unit : List ℕ → List ℕ
-  in_unit bytes = in_packet (packet_in (reading bytes))
+-- of the message in a unit, where it has one
+abbrev pub in_message : (Result NspValue NspFault → List ℕ) → Option (List ℕ) → List ℕ
+in_message of_message None = []
+in_message of_message (Some message) = of_message (nsp_at message)
 
 -- ---- of a record of this entry and these bytes
 
 abbrev pub seen_bytes : Entry → List ℕ → List ℕ
 seen_bytes (entries.Up own) bytes = bytes
-seen_bytes entry bytes = in_unit carried_in bytes
+seen_bytes entry bytes = in_message carried_in (message_in_unit bytes)
 
 abbrev pub due_bytes : WireLinks → Entry → List ℕ → List ℕ
 due_bytes links (entries.Up own) bytes = or_none (due_to_user own links)
-due_bytes links entry bytes = in_unit (due_for links) bytes
+due_bytes links entry bytes = in_message (due_for links) (message_in_unit bytes)
 
 abbrev pub fronts : WireLinks → Entry → List ℕ → (unit_name : List ℕ) → Fronts
 fronts links entry bytes unit_name = record {

@@ -1,7 +1,7 @@
 -- What small edits of the captures near the refusal tell: each makes the pair a run, or does not.
-use Rattle.std.specs.Prelude.{ℕ, ◌==◌, nat_lt, if◌then◌else◌, List, [], ◌++◌, Option, Some, None, codes}
+use Rattle.std.specs.Prelude.{ℕ, ◌==◌, nat_lt, if◌then◌else◌, List, ◌++◌, Option, Some, None, codes}
 use Rattle.std.specs.Fmt.{decimal}
-use Rattle.why.specs.StateLine.{number_or_null}
+use Rattle.why.specs.Words.{number_or, words_if}
 use Rattle.why.specs.declared.edits.TheConstants.{FEW_RECORDS}
 use Rattle.why.specs.declared.edits.EditsTried.{EditsTried}
 
@@ -12,7 +12,7 @@ edit_line words = codes "{\"what\": \"edit\", \"answer\": \"accepted\", \"words\
 abbrev pub edits_line : EditsTried → List ℕ
 edits_line e =
     codes "{\"what\": \"edits\", \"tried\": " ++ (decimal e.tried ++ (codes ", \"accepted\": " ++ (decimal e.accepted
-    ++ (codes ", \"records_behind\": " ++ (number_or_null e.records_behind ++ codes "}\n")))))
+    ++ (codes ", \"records_behind\": " ++ (number_or (codes "null") e.records_behind ++ codes "}\n")))))
 
 -- ---- in rows
 
@@ -49,4 +49,4 @@ recorder_row e = recorder_words e.tried e.accepted e.records_behind
 
 -- below the rows of edits that make the pair a run
 abbrev pub so_row : (accepted : ℕ) → List ℕ
-so_row accepted = if accepted == 0 then [] else codes "         So rather the recording is wrong than a node.\n"
+so_row accepted = words_if (nat_lt 0 accepted) (codes "         So rather the recording is wrong than a node.\n")

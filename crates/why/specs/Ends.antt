@@ -19,9 +19,6 @@ end_of side e = of_side side e.a e.b
 abbrev pub state_by : Side → ShownEnd → StateLine
 state_by side e = record { side = side; records = e.records; station = e.station; sent = e.sent; front = e.front }
 
-abbrev pub state_of : Side → ShownEnds → StateLine
-state_of side ends = state_by side (end_of side ends)
-
 abbrev pub is_live_view : LinkView → Bool
 is_live_view v = is_live v.port.phase
 
@@ -31,9 +28,6 @@ if_live v = if is_live_view v then v ∷ [] else []
 
 abbrev pub live_by : ShownEnd → List LinkView
 live_by e = filter is_live_view (map view_of e.links.links)
-
-abbrev pub live_links : Side → ShownEnds → List LinkView
-live_links side ends = live_by (end_of side ends)
 
 -- a user's record stands behind `u`
 abbrev pub is_of_user : Entry → Bool

@@ -1,9 +1,10 @@
 -- Where the layers of a record's bytes lie: a packet in a unit, and a message of NSP in a packet.
 use Rattle.std.specs.Prelude.{ℕ, List, Option, Some, None, Result, Ok, Err, if◌then◌else◌}
 use Rattle.ddcmp_msg.specs.Message.{MessageValue, Data}
-use Rattle.ddcmp_msg.specs.Reading.{ReadingValue, Sound}
+use Rattle.ddcmp_msg.specs.Reading.{ReadingValue, Sound, reading}
 use Rattle.dna_packet.specs.declared.fault.PacketFault.{PacketFault}
 use Rattle.dna_packet.specs.Packet.{PacketValue, Data as DataPacket}
+use Rattle.dna_packet.specs.ReadingPacket.{packet_at}
 use Rattle.why.specs.PacketWords.{is_on_its_way_back}
 
 abbrev pub body_of : MessageValue → Option (List ℕ)
@@ -24,3 +25,11 @@ message_in packet = None
 abbrev pub message_of : Result PacketValue PacketFault → Option (List ℕ)
 message_of (Ok packet) = message_in packet
 message_of (Err fault) = None
+
+abbrev pub message_in_packet : Option (List ℕ) → Option (List ℕ)
+message_in_packet None = None
+message_in_packet (Some packet) = message_of (packet_at packet)
+
+-- the message in a unit of these bytes
+abbrev pub message_in_unit : List ℕ → Option (List ℕ)
+message_in_unit bytes = message_in_packet (packet_in (reading bytes))

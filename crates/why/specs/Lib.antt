@@ -1,11 +1,12 @@
 -- What is said of a refused record, byte by byte
+pub mod Words
 pub mod UnitWords
 pub mod PacketWords
 pub mod NspWords
 pub mod Layers
 pub mod EventWords
-pub mod RecordLine
-pub mod RecordText
+pub mod RecordTold
+pub mod Causes
 pub mod StateLine
 pub mod StateText
 pub mod LinkLine
@@ -18,5 +19,6 @@ pub mod Checks
 pub mod Refused
 pub mod Edits
 pub mod Ends
+pub mod RefusedRecord
 pub mod Whole
 pub mod WholeEnd

@@ -14,19 +14,15 @@ use Rattle.nsp_link.specs.declared.failed.FailedLinkArrival.TheVariants as arriv
 use Rattle.nsp_link.specs.declared.failed.FailedLinkEvent.{FailedLinkEvent}
 use Rattle.nsp_link.specs.declared.failed.FailedLinkEvent.TheVariants as event
 use Rattle.nsp_link.specs.declared.failed.MissingLink.{MissingLink}
-use Rattle.nsp_link.specs.declared.failed.Nodes.{Nodes}
 use Rattle.nsp_link.specs.declared.failed.Numbers.{Numbers}
 use Rattle.nsp_link.specs.declared.failed.PieceShape.{PieceShape}
 use Rattle.nsp_link.specs.declared.failed.NextPiece.{NextPiece}
-use Rattle.why.specs.PacketWords.{address_words}
-use Rattle.why.specs.Digits.{spaced_front, told_front}
+use Rattle.why.specs.PacketWords.{nodes_words}
+use Rattle.why.specs.Digits.{front_behind}
 use Rattle.why.specs.LinkLine.{phase_name}
+use Rattle.why.specs.Words.{words_if, range}
 
 -- ---- what is asked for
-
--- `1.1 to 1.2`
-abbrev pub nodes_words : Nodes → List ℕ
-nodes_words n = address_words n.source ++ (codes " to " ++ address_words n.destination)
 
 abbrev pub wanted_words : LinkTest → List ℕ
 wanted_words (HasAddress own) = codes "a link that got own address " ++ decimal own
@@ -39,38 +35,28 @@ wanted_words (CalledBy far) = codes "a call from far address " ++ (decimal far +
 wanted_words (BegunBy far) = codes "a live link that a CI of far address " ++ (decimal far ++ codes " began")
 wanted_words (ActedOn own far) = codes "the link " ++ (decimal own ++ (codes "-" ++ (decimal far ++ codes " in Confirming or RUN")))
 
-abbrev pub own_words : Bool → List ℕ
-own_words false = []
-own_words true = codes "; a live link has that own address"
-
-abbrev pub far_words : Bool → List ℕ
-far_words false = []
-far_words true = codes "; a live link has that far address"
-
 abbrev pub missing_words : MissingLink → List ℕ
-missing_words m = codes "no such link" ++ (own_words (is_some m.with_own) ++ far_words m.with_far)
+missing_words m =
+    codes "no such link" ++ (words_if (is_some m.with_own) (codes "; a live link has that own address")
+    ++ words_if m.with_far (codes "; a live link has that far address"))
 
 -- the number in front of one
 abbrev pub number_below : ℕ → ℕ
 number_below number = if number == 0 then 4095 else number - 1
 
-abbrev pub up_to : (first last : ℕ) → List ℕ
-up_to first last = if first == last then [] else codes " to " ++ decimal last
-
 -- where older numbers are allowed too: those below the lowest
 abbrev pub again_words : (lowest : ℕ) → Option ℕ → List ℕ
 again_words lowest None = []
-again_words lowest (Some first) = codes ", or again " ++ (decimal first ++ up_to first (number_below lowest))
-
-abbrev pub range_words : Numbers → List ℕ
-range_words n = decimal n.lowest ++ (codes " to " ++ (decimal n.highest ++ again_words n.lowest n.again))
+again_words lowest (Some first) = codes ", or again " ++ range first (number_below lowest)
 
 abbrev pub ack_range : Numbers → List ℕ
-ack_range n = range_words n ++ codes ": the last one sent on this link, and the highest received without a gap"
+ack_range n =
+    decimal n.lowest ++ (codes " to " ++ (decimal n.highest ++ (again_words n.lowest n.again
+    ++ codes ": the last one sent on this link, and the highest received without a gap")))
 
 -- one number, or a range
 abbrev pub number_words : Numbers → List ℕ
-number_words n = if n.lowest == n.highest then decimal n.lowest ++ again_words n.lowest n.again else range_words n
+number_words n = range n.lowest n.highest ++ again_words n.lowest n.again
 
 -- what a segment does with a message
 abbrev pub ends_words : (begins ends : Bool) → List ℕ
@@ -81,16 +67,21 @@ ends_words false false = codes "neither begins nor ends"
 
 -- `1 bytes 05, begins and ends`, of digits that are put together already
 abbrev pub shape_words : PieceShape → (front : List ℕ) → List ℕ
-shape_words s front = decimal s.length ++ (codes " bytes" ++ (spaced_front front s.length ++ (codes ", " ++ ends_words s.begins s.ends)))
+shape_words s front = decimal s.length ++ (codes " bytes" ++ (front_behind (codes " ") front s.length ++ (codes ", " ++ ends_words s.begins s.ends)))
 
 abbrev pub begins_words : Bool → List ℕ
-begins_words true = codes ", begins it"
-begins_words false = codes ", goes on with it"
+begins_words true = codes "begins it"
+begins_words false = codes "goes on with it"
+
+-- `the next of 2 bytes of the message: 0506, begins it`
+abbrev pub piece_words : NextPiece → (front : List ℕ) → List ℕ
+piece_words next front =
+    codes "the next of " ++ (decimal next.left ++ (codes " bytes of the message" ++ (front_behind (codes ": ") front next.left
+    ++ (codes ", " ++ begins_words next.begins))))
 
 abbrev pub next_words : Option NextPiece → (front : List ℕ) → List ℕ
 next_words None front = codes "no new segment: nothing is left of what was handed in"
-next_words (Some next) front =
-    codes "the next of " ++ (decimal next.left ++ (codes " bytes of the message" ++ (told_front front next.left ++ begins_words next.begins)))
+next_words (Some next) front = piece_words next front
 
 abbrev pub otherwise_words : (number : ℕ) → PieceShape → (front : List ℕ) → List ℕ
 otherwise_words number x front = codes "segment " ++ (decimal number ++ (codes " again, otherwise: " ++ shape_words x front))
@@ -180,11 +171,12 @@ link_event_seen (event.NoLink missing) front = missing_words missing
 link_event_seen (event.AddressInUse own link) front = codes "own address " ++ (decimal own ++ codes ", which a live link has")
 link_event_seen (event.TakesMessages link phase) front = codes "a message at a link in " ++ phase_name phase
 link_event_seen (event.IsConnected link phase) front = codes "a close of a link in " ++ phase_name phase
-link_event_seen (event.Delivery link x y) front = codes "a message of " ++ (decimal x ++ (codes " bytes" ++ told_front front x))
+link_event_seen (event.Delivery link x y) front = codes "a message of " ++ (decimal x ++ (codes " bytes" ++ front_behind (codes ": ") front x))
 
 abbrev pub delivery_words : Option ℕ → (front : List ℕ) → List ℕ
 delivery_words None front = codes "the next whole message, of which there is none yet"
-delivery_words (Some length) front = codes "the next whole message, which has " ++ (decimal length ++ (codes " bytes" ++ told_front front length))
+delivery_words (Some length) front =
+    codes "the next whole message, which has " ++ (decimal length ++ (codes " bytes" ++ front_behind (codes ": ") front length))
 
 abbrev pub link_event_allowed : FailedLinkEvent → (front : List ℕ) → List ℕ
 link_event_allowed (event.NoLink missing) front = wanted_words missing.wanted

@@ -8,7 +8,9 @@ use Rattle.dna_links.specs.declared.port.Phase.TheVariants.{Calling, Called, Con
 use Rattle.dna_links.specs.declared.port.Port.{Port}
 use Rattle.nsp_link.specs.declared.view.LinkNumbers.{LinkNumbers}
 use Rattle.nsp_link.specs.declared.view.LinkView.{LinkView}
-use Rattle.why.specs.StateLine.{number_or_null}
+use Rattle.why.specs.Words.{number_or}
+use Rattle.why.specs.declared.form.Form.{Form}
+use Rattle.why.specs.declared.form.Form.TheVariants.{Object, Rows}
 
 abbrev pub phase_name : Phase → List ℕ
 phase_name Calling = codes "Calling"
@@ -34,42 +36,40 @@ has_open Running n = nat_lt 0 n.outstanding || not (n.received == n.last_sent)
 has_open Ended n = false
 has_open phase n = true
 
--- ---- the object
+-- ---- the object and the row
 
--- `"given": 0, "acknowledged": 0, "received": 0, "last_ack": 0`
-abbrev pub number_keys : LinkNumbers → List ℕ
-number_keys n =
+-- `"given": 0, "acknowledged": 0, "received": 0, "last_ack": 0`, or `given 0, acknowledged 0, received 0, last acknowledged 0`
+abbrev pub numbers_told : Form → LinkNumbers → List ℕ
+numbers_told Object n =
     codes "\"given\": " ++ (decimal n.given ++ (codes ", \"acknowledged\": " ++ (decimal n.acknowledged
     ++ (codes ", \"received\": " ++ (decimal n.received ++ (codes ", \"last_ack\": " ++ decimal n.last_sent))))))
+numbers_told Rows n =
+    codes "given " ++ (decimal n.given ++ (codes ", acknowledged " ++ (decimal n.acknowledged
+    ++ (codes ", received " ++ (decimal n.received ++ (codes ", last acknowledged " ++ decimal n.last_sent))))))
 
 -- `"own": 1, "far": 2, "phase": "RUN", "segsize": 512`
 abbrev pub port_keys : Port → (segsize : ℕ) → List ℕ
 port_keys port segsize =
-    codes "\"own\": " ++ (number_or_null port.own ++ (codes ", \"far\": " ++ (number_or_null port.far
-    ++ (codes ", \"phase\": \"" ++ (phase_name port.phase ++ (codes "\", \"segsize\": " ++ number_or_null (known_segsize port.phase segsize)))))))
+    codes "\"own\": " ++ (number_or (codes "null") port.own ++ (codes ", \"far\": " ++ (number_or (codes "null") port.far
+    ++ (codes ", \"phase\": \"" ++ (phase_name port.phase
+    ++ (codes "\", \"segsize\": " ++ number_or (codes "null") (known_segsize port.phase segsize)))))))
 
 abbrev pub link_line : Side → LinkView → List ℕ
 link_line side v =
     codes "{\"what\": \"link\", \"side\": \"" ++ (side_letter side ++ (codes "\", " ++ (port_keys v.port v.segsize
-    ++ (codes ", " ++ (number_keys v.numbers ++ codes "}\n")))))
-
--- ---- the row
-
-abbrev pub address_words : Option ℕ → List ℕ
-address_words None = codes "?"
-address_words (Some address) = decimal address
+    ++ (codes ", " ++ (numbers_told Object v.numbers ++ codes "}\n")))))
 
 abbrev pub segsize_words : Option ℕ → List ℕ
 segsize_words None = codes "\n"
 segsize_words (Some segsize) = codes ", SEGSIZE " ++ (decimal segsize ++ codes "\n")
 
-abbrev pub number_words : LinkNumbers → List ℕ
-number_words n =
-    codes "given " ++ (decimal n.given ++ (codes ", acknowledged " ++ (decimal n.acknowledged
-    ++ (codes ", received " ++ (decimal n.received ++ (codes ", last acknowledged " ++ decimal n.last_sent))))))
-
 -- `  link     1-2 RUN: given 0, acknowledged 0, received 0, last acknowledged 0, SEGSIZE 512`
 abbrev pub link_row : LinkView → List ℕ
 link_row v =
-    codes "  link     " ++ (address_words v.port.own ++ (codes "-" ++ (address_words v.port.far ++ (codes " " ++ (phase_name v.port.phase
-    ++ (codes ": " ++ (number_words v.numbers ++ segsize_words (known_segsize v.port.phase v.segsize))))))))
+    codes "  link     " ++ (number_or (codes "?") v.port.own ++ (codes "-" ++ (number_or (codes "?") v.port.far
+    ++ (codes " " ++ (phase_name v.port.phase ++ (codes ": " ++ (numbers_told Rows v.numbers
+    ++ segsize_words (known_segsize v.port.phase v.segsize))))))))
+
+abbrev pub link_told : Form → Side → LinkView → List ℕ
+link_told Object side v = link_line side v
+link_told Rows side v = link_row v

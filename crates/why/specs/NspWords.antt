@@ -8,10 +8,11 @@ use Rattle.dna_packet.specs.declared.fault.NspFault.{NspFault}
 use Rattle.dna_packet.specs.declared.fault.NspFault.TheVariants.{UnknownFlag, MissingField, BadAckWord, BadSegnum, TrailingBytes, NonzeroDstaddr}
 use Rattle.dna_packet.specs.Nsp.{NspValue, DataSegment, LinkService, DataAck, OtherDataAck, ConnectAck, NoOperation, ConnectInitiate, ConnectConfirm}
 use Rattle.dna_packet.specs.Nsp.{DisconnectInitiate, DisconnectConfirm, SegmentValue}
+use Rattle.why.specs.Words.{words_if}
 
--- `1 -> 2`: SRCADDR and DSTADDR
-abbrev pub way_words : (dst src : ℕ) → List ℕ
-way_words dst src = decimal src ++ (codes " -> " ++ decimal dst)
+-- `1 -> 2`: SRCADDR and DSTADDR, in front of what follows
+abbrev pub way_words : (dst src : ℕ) → (rest : List ℕ) → List ℕ
+way_words dst src rest = decimal src ++ (codes " -> " ++ (decimal dst ++ rest))
 
 -- an acknowledgement word; of the other subchannel it says so
 abbrev pub ack_word_words : AckQualifier → ℕ → List ℕ
@@ -35,8 +36,8 @@ piece_words false false = codes "inside a message"
 
 abbrev pub segment_words : SegmentValue → List ℕ
 segment_words s =
-    codes "segment " ++ (decimal s.number ++ (codes " of link " ++ (way_words s.dstaddr s.srcaddr ++ (ack_words s.acks
-    ++ (codes ", " ++ (piece_words s.begins s.ends ++ (codes ", " ++ (decimal (length s.body) ++ codes " bytes"))))))))
+    codes "segment " ++ (decimal s.number ++ (codes " of link " ++ way_words s.dstaddr s.srcaddr (ack_words s.acks
+    ++ (codes ", " ++ (piece_words s.begins s.ends ++ (codes ", " ++ (decimal (length s.body) ++ codes " bytes")))))))
 
 -- what follows the fields that are read
 abbrev pub unread_words : List ℕ → List ℕ
@@ -45,34 +46,30 @@ unread_words rest = codes ", " ++ (decimal (length rest) ++ codes " bytes, not r
 abbrev pub user_data_words : List ℕ → List ℕ
 user_data_words bytes = codes ", " ++ (decimal (length bytes) ++ codes " bytes of user data")
 
--- `SEGSIZE 512, services 1, info 2`
-abbrev pub connect_words : (services info segsize : ℕ) → List ℕ
-connect_words services info segsize =
-    codes "SEGSIZE " ++ (decimal segsize ++ (codes ", services " ++ (decimal services ++ (codes ", info " ++ decimal info))))
+-- `, SEGSIZE 512, services 1, info 2, 0 bytes of user data`
+abbrev pub connect_words : (services info segsize : ℕ) → (user_data : List ℕ) → List ℕ
+connect_words services info segsize user_data =
+    codes ", SEGSIZE " ++ (decimal segsize ++ (codes ", services " ++ (decimal services ++ (codes ", info " ++ (decimal info
+    ++ user_data_words user_data)))))
 
 abbrev pub service_name : (interrupt : Bool) → List ℕ
-service_name false = codes "link service of link "
-service_name true = codes "interrupt of link "
-
-abbrev pub again_words : (retransmitted : Bool) → List ℕ
-again_words false = []
-again_words true = codes ", sent again"
+service_name false = codes "link service"
+service_name true = codes "interrupt"
 
 abbrev pub nsp_words : NspValue → List ℕ
 nsp_words (DataSegment segment) = segment_words segment
-nsp_words (LinkService interrupt dst src rest) = service_name interrupt ++ (way_words dst src ++ unread_words rest)
-nsp_words (DataAck dst src acks) = codes "data ack of link " ++ (way_words dst src ++ ack_words acks)
-nsp_words (OtherDataAck dst src rest) = codes "other-data ack of link " ++ (way_words dst src ++ unread_words rest)
+nsp_words (LinkService interrupt dst src rest) = service_name interrupt ++ (codes " of link " ++ way_words dst src (unread_words rest))
+nsp_words (DataAck dst src acks) = codes "data ack of link " ++ way_words dst src (ack_words acks)
+nsp_words (OtherDataAck dst src rest) = codes "other-data ack of link " ++ way_words dst src (unread_words rest)
 nsp_words (ConnectAck dst) = codes "connect ack to link " ++ decimal dst
 nsp_words (NoOperation rest) = codes "no operation" ++ unread_words rest
 nsp_words (ConnectInitiate retransmitted src services info segsize user_data) =
-    codes "CI of link " ++ (decimal src ++ (again_words retransmitted ++ (codes ", "
-    ++ (connect_words services info segsize ++ user_data_words user_data))))
+    codes "CI of link " ++ (decimal src ++ (words_if retransmitted (codes ", sent again") ++ connect_words services info segsize user_data))
 nsp_words (ConnectConfirm dst src services info segsize user_data) =
-    codes "CC of link " ++ (way_words dst src ++ (codes ", " ++ (connect_words services info segsize ++ user_data_words user_data)))
+    codes "CC of link " ++ way_words dst src (connect_words services info segsize user_data)
 nsp_words (DisconnectInitiate dst src reason user_data) =
-    codes "DI of link " ++ (way_words dst src ++ (codes ", reason " ++ (decimal reason ++ user_data_words user_data)))
-nsp_words (DisconnectConfirm dst src reason) = codes "DC of link " ++ (way_words dst src ++ (codes ", reason " ++ decimal reason))
+    codes "DI of link " ++ way_words dst src (codes ", reason " ++ (decimal reason ++ user_data_words user_data))
+nsp_words (DisconnectConfirm dst src reason) = codes "DC of link " ++ way_words dst src (codes ", reason " ++ decimal reason)
 
 abbrev pub nsp_fault_words : NspFault → List ℕ
 nsp_fault_words UnknownFlag = codes "no message of NSP: the flag byte of none"

@@ -1,13 +1,19 @@
 -- What the packet of a data message is, in words (Routing Layer 2.0, packet formats).
-use Rattle.std.specs.Prelude.{ℕ, ◌/◌, ◌%◌, ◌==◌, List, [], ◌++◌, length, Bool, true, false, Result, Ok, Err, codes}
+use Rattle.std.specs.Prelude.{ℕ, ◌/◌, ◌%◌, ◌==◌, List, ◌++◌, length, Bool, false, Result, Ok, Err, codes}
 use Rattle.std.specs.Fmt.{decimal, digits}
 use Rattle.dna_packet.specs.declared.fault.PacketFault.{PacketFault}
 use Rattle.dna_packet.specs.declared.fault.PacketFault.TheVariants.{Padded, LongFormat, Short, UnknownFlags}
 use Rattle.dna_packet.specs.Packet.{PacketValue, Data, Control}
+use Rattle.nsp_link.specs.declared.failed.Nodes.{Nodes}
+use Rattle.why.specs.Words.{words_if}
 
 -- a node address: area.node
 abbrev pub address_words : ℕ → List ℕ
 address_words address = decimal (address / 1024) ++ (codes "." ++ decimal (address % 1024))
+
+-- `1.1 to 1.2`
+abbrev pub nodes_words : Nodes → List ℕ
+nodes_words n = address_words n.source ++ (codes " to " ++ address_words n.destination)
 
 -- a byte as two hexadecimal digits
 abbrev pub byte_digits : ℕ → List ℕ
@@ -17,18 +23,15 @@ byte_digits byte = digits 16 false (byte / 16) ++ digits 16 false (byte % 16)
 abbrev pub is_on_its_way_back : (rtflg : ℕ) → Bool
 is_on_its_way_back rtflg = (rtflg / 16 % 2) == 1
 
-abbrev pub way_back_words : Bool → List ℕ
-way_back_words false = []
-way_back_words true = codes ", on its way back"
-
 -- `flags 12, on its way back, 3 nodes passed`
 abbrev pub header_words : (rtflg forward : ℕ) → List ℕ
 header_words rtflg forward =
-    codes "flags " ++ (byte_digits rtflg ++ (way_back_words (is_on_its_way_back rtflg) ++ (codes ", " ++ (decimal forward ++ codes " nodes passed"))))
+    codes "flags " ++ (byte_digits rtflg ++ (words_if (is_on_its_way_back rtflg) (codes ", on its way back")
+    ++ (codes ", " ++ (decimal forward ++ codes " nodes passed"))))
 
 abbrev pub packet_words : PacketValue → List ℕ
 packet_words (Data rtflg dst src forward nsp) =
-    address_words src ++ (codes " to " ++ (address_words dst ++ (codes ", short data packet, " ++ header_words rtflg forward)))
+    nodes_words (record { source = src; destination = dst }) ++ (codes ", short data packet, " ++ header_words rtflg forward)
 packet_words (Control bytes) = codes "control packet, " ++ (decimal (length bytes) ++ codes " bytes, not read further")
 
 abbrev pub packet_fault_words : PacketFault → List ℕ

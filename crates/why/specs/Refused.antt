@@ -64,19 +64,20 @@ accusation_name Nobody = codes "nobody"
 accusation_name User = codes "user"
 accusation_name OtherEnd = codes "other end"
 
--- `"record": 21, "line": 23`: record i stands on line i + 2
-abbrev pub place_keys : (place : ℕ) → List ℕ
-place_keys place = codes "\"record\": " ++ (decimal place ++ (codes ", \"line\": " ++ decimal (place + 2)))
+-- `{"what": "refused", "side": "a", "record": 21, "line": 23`: record i stands on line i + 2
+abbrev pub place_keys : Side → (place : ℕ) → List ℕ
+place_keys side place =
+    codes "{\"what\": \"refused\", \"side\": \"" ++ (side_letter side ++ (codes "\", \"record\": " ++ (decimal place
+    ++ (codes ", \"line\": " ++ decimal (place + 2)))))
 
--- `"number": 8, "name": "WrongResponse"`
-abbrev pub reason_keys : Reason → List ℕ
-reason_keys reason = codes "\"number\": " ++ (decimal (reason_number reason) ++ (codes ", \"name\": \"" ++ (reason_name reason ++ codes "\"")))
+-- `, "number": 8, "name": "WrongResponse", "accuses": "sender"}`, and an LF
+abbrev pub reason_keys : Reason → Accusation → List ℕ
+reason_keys reason accusation =
+    codes ", \"number\": " ++ (decimal (reason_number reason) ++ (codes ", \"name\": \"" ++ (reason_name reason
+    ++ (codes "\", \"accuses\": \"" ++ (accusation_name accusation ++ codes "\"}\n")))))
 
--- the object, and an LF
 abbrev pub refused_line : RefusedLine → List ℕ
-refused_line r =
-    codes "{\"what\": \"refused\", \"side\": \"" ++ (side_letter r.side ++ (codes "\", " ++ (place_keys r.record_number
-    ++ (codes ", " ++ (reason_keys r.reason ++ (codes ", \"accuses\": \"" ++ (accusation_name r.accusation ++ codes "\"}\n")))))))
+refused_line r = place_keys r.side r.record_number ++ reason_keys r.reason r.accusation
 
 -- ---- the same in words, of a record of this side
 

@@ -8,18 +8,17 @@ use Rattle.why.specs.declared.sides.TheConstants.{LINKS_SHOWN}
 use Rattle.why.specs.declared.state_line.StateLine.{StateLine}
 use Rattle.why.specs.StateLine.{state_line}
 use Rattle.why.specs.StateText.{side_rows}
-use Rattle.why.specs.LinkLine.{link_line, link_row, has_open}
+use Rattle.why.specs.LinkLine.{link_told, has_open}
+use Rattle.why.specs.declared.form.Form.{Form}
+use Rattle.why.specs.declared.form.Form.TheVariants.{Object, Rows}
 
--- the object of a live link, and its row
-unfoldable pub live_line : Side → LinkView → List ℕ
-live_line side link = link_line side link
-
-unfoldable pub live_row : LinkView → List ℕ
-live_row link = link_row link
+-- a live link
+unfoldable pub live_told : Form → Side → LinkView → List ℕ
+live_told form side link = link_told form side link
 
 -- an object for the station, and one for each live link
 unfoldable pub side_lines : StateLine → (live : List LinkView) → List ℕ
-side_lines s live = state_line s ++ flat_map (live_line s.side) live
+side_lines s live = state_line s ++ flat_map (live_told Object s.side) live
 
 abbrev pub is_open : LinkView → Bool
 is_open v = has_open v.port.phase v.numbers
@@ -34,4 +33,4 @@ more_row more = if more == 0 then [] else codes "           and " ++ (decimal mo
 -- the rows of the station, of the links that are shown, and how many more are live
 unfoldable pub side_text : StateLine → (live : List LinkView) → List ℕ
 side_text s live =
-    (side_rows s ++ flat_map live_row (shown_links live)) ++ more_row (length live - length (shown_links live))
+    (side_rows s ++ flat_map (live_told Rows s.side) (shown_links live)) ++ more_row (length live - length (shown_links live))

@@ -1,6 +1,6 @@
 -- The check of the station that a message does not pass: its name, what is seen there, and what is allowed (DDCMP 4.1, startup state table,
 -- data transfer).
-use Rattle.std.specs.Prelude.{ℕ, Bool, true, false, nat_lt, if◌then◌else◌, Option, Some, None, List, [], ◌++◌, codes}
+use Rattle.std.specs.Prelude.{ℕ, Option, Some, None, List, ◌++◌, codes}
 use Rattle.std.specs.Fmt.{decimal}
 use Rattle.wire_base.specs.Side.{other_side, side_letter}
 use Rattle.wire_base.specs.declared.side.Side.{Side}
@@ -17,10 +17,11 @@ use Rattle.ddcmp_station.specs.declared.failed.FailedArrival.{FailedArrival}
 use Rattle.ddcmp_station.specs.declared.failed.FailedArrival.TheVariants.{Period, Keep}
 use Rattle.ddcmp_station.specs.declared.failed.PeriodNeed.{PeriodNeed}
 use Rattle.ddcmp_station.specs.declared.failed.PeriodNeed.TheVariants.{Anything, Fresh, OfPair}
-use Rattle.ddcmp_station.specs.declared.view.OpenCauses.{OpenCauses}
 use Rattle.why.specs.PacketWords.{byte_digits}
 use Rattle.why.specs.UnitWords.{reading_name}
 use Rattle.why.specs.StateLine.{state_name}
+use Rattle.why.specs.Causes.{allowed_reasons}
+use Rattle.why.specs.Words.{words_if, known_start}
 
 -- ---- a message that is sent
 
@@ -69,24 +70,10 @@ allowed_in Istrt = codes "STRT in ISTRT"
 allowed_in Astrt = codes "STACK in ASTRT"
 allowed_in Running = codes "ACK, NAK, REP or data in RUNNING"
 
--- a number that was given goes again
-abbrev pub if_again : Bool → List ℕ
-if_again true = codes " (again, as first sent)"
-if_again false = []
-
--- a reason of which a cause is open, in front of those that need none
-abbrev pub open_reason : (reason count : ℕ) → List ℕ
-open_reason reason count = if nat_lt 0 count then decimal reason ++ codes ", " else []
-
-abbrev pub allowed_reasons : OpenCauses → List ℕ
-allowed_reasons c =
-    codes "a NAK of reason " ++ (open_reason 1 c.header_check ++ (open_reason 2 c.data_check ++ (open_reason 3 c.rep_response
-    ++ (open_reason 8 c.no_buffer ++ codes "9, 16 or 17"))))
-
 abbrev pub sending_allowed : FailedSending → List ℕ
 sending_allowed (OfState state) = allowed_in state
 sending_allowed (RespIsLast x y) = codes "RESP " ++ decimal y
-sending_allowed (NumIsNext x y again) = codes "NUM " ++ (decimal y ++ if_again again)
+sending_allowed (NumIsNext x y again) = codes "NUM " ++ (decimal y ++ words_if again (codes " (again, as first sent)"))
 sending_allowed (NumIsHighest x y) = codes "NUM " ++ decimal y
 sending_allowed SomeOutstanding = codes "a REP while a packet is outstanding"
 sending_allowed (RoomIfNew x y) = codes "a new packet while at most " ++ (decimal y ++ codes " are outstanding")
@@ -110,17 +97,18 @@ arrival_seen side (Period needs tag own) reading =
     ++ then_with side tag.partner))))
 arrival_seen side Keep reading = reading_name reading ++ codes ", kept"
 
--- the other side's start that the message has to be of
-abbrev pub sent_in : Side → Option ℕ → List ℕ
-sent_in other None = []
-sent_in other (Some period) = codes ", sent in start " ++ (decimal period ++ (codes " of " ++ side_letter other))
+abbrev pub fresh : Side → (period : ℕ) → List ℕ
+fresh side period = codes "what goes with start " ++ (decimal period ++ (codes " of " ++ side_letter side))
+
+-- with the other side's start that the message has to be of, where that is known
+abbrev pub of_pair : Side → Tag → List ℕ
+of_pair side own = fresh side own.period ++ known_start (codes "sent in") (other_side side) own.partner
 
 -- what the row of the message needs
 abbrev pub needed : Side → PeriodNeed → Tag → List ℕ
 needed side Anything own = codes "any start"
-needed side Fresh own = codes "what goes with start " ++ (decimal own.period ++ (codes " of " ++ side_letter side))
-needed side OfPair own =
-    codes "what goes with start " ++ (decimal own.period ++ (codes " of " ++ (side_letter side ++ sent_in (other_side side) own.partner)))
+needed side Fresh own = fresh side own.period
+needed side OfPair own = of_pair side own
 
 abbrev pub arrival_allowed : Side → FailedArrival → ReadingValue → List ℕ
 arrival_allowed side (Period needs tag own) reading = needed side needs own

@@ -8,7 +8,7 @@ use Rattle.ddcmp_msg.specs.declared.nak_reason.NakReason.TheVariants.{HeaderForm
 use Rattle.ddcmp_msg.specs.declared.departure.Departure.{Departure}
 use Rattle.ddcmp_msg.specs.declared.departure.Departure.TheVariants.{UnknownStart, Maintenance, WrongLength, UnknownType, WrongField}
 use Rattle.ddcmp_msg.specs.Message.{MessageValue, Data, Ack, Nak, Rep, Strt, Stack, reason_number}
-use Rattle.ddcmp_msg.specs.Reading.{ReadingValue, Sound, HeaderBad, DataBad, Malformed, reading}
+use Rattle.ddcmp_msg.specs.Reading.{ReadingValue, Sound, HeaderBad, DataBad, Malformed}
 
 -- the flags, where there are any
 abbrev pub flag_words_by : (quick_sync select : Bool) → List ℕ
@@ -53,10 +53,6 @@ reading_words (Sound message) = message_words message
 reading_words HeaderBad = codes "header bad: fewer than 8 bytes, or the block check of the header is wrong"
 reading_words DataBad = codes "data bad: the data are cut, or their block check is wrong"
 reading_words (Malformed departure) = departure_words departure
-
--- what these bytes say
-abbrev pub unit_words : List ℕ → List ℕ
-unit_words bytes = reading_words (reading bytes)
 
 -- ---- the same in a few letters, as a picture has it
 

@@ -1,172 +1,97 @@
 //! The check of the station that an arrival does not pass, in words.
 
+ghost use Rattle.std.specs.Prelude.{◌≡◌};
+ghost use Rattle.std.specs.Fmt.{WritesOnOk};
+ghost use Rattle.ddcmp_msg.specs.Reading.{reading_view};
+ghost use Rattle.why.specs.StationChecks as spec;
+
 use crate::unit_words::ReadingName;
+use crate::words::write_known_start;
 use ddcmp_msg::Reading;
 use ddcmp_station::{FailedArrival, PeriodNeed, Tag};
-use std::fmt;
+use std::fmt::{self, Formatter, Write};
 use wire_base::Side;
 
 /// The name of the check in the tables of a station.
-#[derive(Clone, Copy)]
-pub struct ArrivalCheck {
-    pub failed: FailedArrival,
-}
-
-impl fmt::Display for ArrivalCheck {
-    ghost use Rattle.std.specs.Prelude.{Some};
-    ghost use Rattle.why.specs.StationChecks.{arrival_check};
-
-    ghost output = { λ check. Some (arrival_check check.failed) };
-
-    fn fmt<W: fmt::Write>(&self, f: &mut fmt::Formatter<W>) -> fmt::Result {
-        match self.failed {
-            FailedArrival::Period { .. } => f.write_str("Period"),
-            FailedArrival::Keep => f.write_str("Keep"),
-        }
+pub fn arrival_check(failed: FailedArrival) -> &'static str
+    ensures { result.now ≡ spec.arrival_check failed }
+{
+    match failed {
+        FailedArrival::Period { .. } => "Period",
+        FailedArrival::Keep => "Keep",
     }
 }
 
-/// What came to this side.
-#[derive(Clone, Copy)]
-pub struct ArrivalSeen<'a> {
-    pub side: Side,
-    pub failed: FailedArrival,
-    pub reading: Reading<'a>,
-}
-
-impl fmt::Display for ArrivalSeen<'_> {
-    ghost use Rattle.std.specs.Prelude.{Some};
-    ghost use Rattle.ddcmp_msg.specs.Reading.{reading_view};
-    ghost use Rattle.why.specs.StationChecks.{arrival_seen};
-
-    ghost output = { λ words. Some (arrival_seen words.side words.failed (reading_view words.reading)) };
-
-    fn fmt<W: fmt::Write>(&self, f: &mut fmt::Formatter<W>) -> fmt::Result {
-        let name = ReadingName {
-            reading: self.reading,
-        };
-        match self.failed {
-            FailedArrival::Period { seen, .. } => {
-                let Tag { period, partner } = seen;
-                let other = self.side.other();
-                let went = ThenWith {
-                    side: self.side,
-                    period: partner,
-                };
-                write!(f, "{name} sent in start {period} of {other}{went}")
-            }
-            FailedArrival::Keep => write!(f, "{name}, kept"),
-        }
-    }
-}
-
-// The start of this side that the other side's start went with.
-#[derive(Clone, Copy)]
-struct ThenWith {
+/// Writes what came to this side.
+pub fn write_arrival_seen<W: Write>(
+    f: &mut Formatter<W>,
     side: Side,
-    period: Option<u64>,
-}
-
-impl fmt::Display for ThenWith {
-    ghost use Rattle.std.specs.Prelude.{Some};
-    ghost use Rattle.why.specs.StationChecks.{then_with};
-
-    ghost output = { λ words. Some (then_with words.side words.period) };
-
-    fn fmt<W: fmt::Write>(&self, f: &mut fmt::Formatter<W>) -> fmt::Result {
-        let side = self.side;
-        match self.period {
-            Some(period) => write!(f, ", which then went with start {period} of {side}"),
-            None => write!(f, ", which then went with none of {side}"),
+    failed: FailedArrival,
+    reading: Reading<'_>,
+) -> fmt::Result
+    ensures { WritesOnOk W.write_str_gives f.old result (spec.arrival_seen side failed (reading_view reading.entry)) f.new }
+{
+    let name = ReadingName { reading };
+    match failed {
+        FailedArrival::Period { seen, .. } => {
+            let Tag { period, partner } = seen;
+            write!(f, "{name} sent in start {period} of {}", side.other())?;
+            write_then_with(f, side, partner)
         }
+        FailedArrival::Keep => write!(f, "{name}, kept"),
     }
 }
 
-/// What would be right to come: with it the check is passed.
-#[derive(Clone, Copy)]
-pub struct ArrivalAllowed<'a> {
-    pub side: Side,
-    pub failed: FailedArrival,
-    pub reading: Reading<'a>,
-}
-
-impl fmt::Display for ArrivalAllowed<'_> {
-    ghost use Rattle.std.specs.Prelude.{Some};
-    ghost use Rattle.ddcmp_msg.specs.Reading.{reading_view};
-    ghost use Rattle.why.specs.StationChecks.{arrival_allowed};
-
-    ghost output = { λ words. Some (arrival_allowed words.side words.failed (reading_view words.reading)) };
-
-    fn fmt<W: fmt::Write>(&self, f: &mut fmt::Formatter<W>) -> fmt::Result {
-        match self.failed {
-            FailedArrival::Period { needs, own, .. } => write!(
-                f,
-                "{}",
-                Needed {
-                    side: self.side,
-                    needs,
-                    own
-                }
-            ),
-            FailedArrival::Keep => {
-                let name = ReadingName {
-                    reading: self.reading,
-                };
-                write!(f, "{name}, not kept")
-            }
-        }
+// Writes the start of this side that the other side's start went with.
+fn write_then_with<W: Write>(f: &mut Formatter<W>, side: Side, period: Option<u64>) -> fmt::Result
+    ensures { WritesOnOk W.write_str_gives f.old result (spec.then_with side period) f.new }
+{
+    match period {
+        Some(period) => write!(f, ", which then went with start {period} of {side}"),
+        None => write!(f, ", which then went with none of {side}"),
     }
 }
 
-// What the row of a message needs of the starts.
-#[derive(Clone, Copy)]
-struct Needed {
+/// Writes what would be right to come: with it the check is passed.
+pub fn write_arrival_allowed<W: Write>(
+    f: &mut Formatter<W>,
+    side: Side,
+    failed: FailedArrival,
+    reading: Reading<'_>,
+) -> fmt::Result
+    ensures { WritesOnOk W.write_str_gives f.old result (spec.arrival_allowed side failed (reading_view reading.entry)) f.new }
+{
+    match failed {
+        FailedArrival::Period { needs, own, .. } => write_needed(f, side, needs, own),
+        FailedArrival::Keep => write!(f, "{}, not kept", ReadingName { reading }),
+    }
+}
+
+// Writes what the row of a message needs of the starts.
+fn write_needed<W: Write>(
+    f: &mut Formatter<W>,
     side: Side,
     needs: PeriodNeed,
     own: Tag,
-}
-
-impl fmt::Display for Needed {
-    ghost use Rattle.std.specs.Prelude.{Some};
-    ghost use Rattle.why.specs.StationChecks.{needed};
-
-    ghost output = { λ words. Some (needed words.side words.needs words.own) };
-
-    fn fmt<W: fmt::Write>(&self, f: &mut fmt::Formatter<W>) -> fmt::Result {
-        let side = self.side;
-        let Tag { period, partner } = self.own;
-        match self.needs {
-            PeriodNeed::Anything => f.write_str("any start"),
-            PeriodNeed::Fresh => write!(f, "what goes with start {period} of {side}"),
-            PeriodNeed::OfPair => {
-                let sent = SentIn {
-                    other: side.other(),
-                    period: partner,
-                };
-                write!(f, "what goes with start {period} of {side}{sent}")
-            }
-        }
+) -> fmt::Result
+    ensures { WritesOnOk W.write_str_gives f.old result (spec.needed side needs own) f.new }
+{
+    match needs {
+        PeriodNeed::Anything => f.write_str("any start"),
+        PeriodNeed::Fresh => write_fresh(f, side, own.period),
+        PeriodNeed::OfPair => write_of_pair(f, side, own),
     }
 }
 
-// The other side's start that the message has to be of, where one is known.
-#[derive(Clone, Copy)]
-struct SentIn {
-    other: Side,
-    period: Option<u64>,
+fn write_fresh<W: Write>(f: &mut Formatter<W>, side: Side, period: u64) -> fmt::Result
+    ensures { WritesOnOk W.write_str_gives f.old result (spec.fresh side period) f.new }
+{
+    write!(f, "what goes with start {period} of {side}")
 }
 
-impl fmt::Display for SentIn {
-    ghost use Rattle.std.specs.Prelude.{Some};
-    ghost use Rattle.why.specs.StationChecks.{sent_in};
-
-    ghost output = { λ words. Some (sent_in words.other words.period) };
-
-    fn fmt<W: fmt::Write>(&self, f: &mut fmt::Formatter<W>) -> fmt::Result {
-        let other = self.other;
-        match self.period {
-            Some(period) => write!(f, ", sent in start {period} of {other}"),
-            None => Ok(()),
-        }
-    }
+fn write_of_pair<W: Write>(f: &mut Formatter<W>, side: Side, own: Tag) -> fmt::Result
+    ensures { WritesOnOk W.write_str_gives f.old result (spec.of_pair side own) f.new }
+{
+    write_fresh(f, side, own.period)?;
+    write_known_start(f, "sent in", side.other(), own.partner)
 }

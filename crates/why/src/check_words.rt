@@ -1,67 +1,51 @@
 //! What is seen where a check is not passed, and what is allowed there.
 
-use crate::arrival_checks::{ArrivalAllowed, ArrivalSeen};
-use crate::link_arrival_checks::{LinkArrivalAllowed, LinkArrivalSeen};
-use crate::link_event_checks::{LinkEventAllowed, LinkEventSeen};
-use crate::link_sending_checks::{LinkSendingAllowed, LinkSendingSeen};
-use crate::nsp_fields::NspFaultWords;
-use crate::packet_words::PacketFaultWords;
-use crate::state_line::StateName;
-use crate::station_checks::{SendingAllowed, SendingSeen};
+ghost use Rattle.std.specs.Fmt.{WritesOnOk};
+ghost use Rattle.why.specs.Checks as spec;
+
+use crate::arrival_checks::{write_arrival_allowed, write_arrival_seen};
+use crate::checks::Check;
+use crate::link_arrival_checks::{write_link_arrival_allowed, write_link_arrival_seen};
+use crate::link_event_checks::{write_link_event_allowed, write_link_event_seen};
+use crate::link_sending_checks::{write_link_sending_allowed, write_link_sending_seen};
+use crate::nsp_words::nsp_fault_words;
+use crate::packet_words::packet_fault_words;
+use crate::state_line::state_name;
+use crate::station_checks::{write_sending_allowed, write_sending_seen};
 use crate::unit_words::{ReadingName, ReadingWords};
-use ddcmp_msg::Reading;
 use pair_judge::{Awaited, FailedCheck};
-use std::fmt;
+use std::fmt::{self, Formatter, Write};
 use wire_base::Side;
 
-/// What stands in a record of this side that does not pass the check, with the digits of its first bytes that are compared.
+/// What stands in the record that does not pass the check, with the digits of its first bytes that are compared.
 #[derive(Clone, Copy)]
 pub struct Seen<'a, 't> {
-    pub side: Side,
-    pub failed: FailedCheck,
-    pub reading: Reading<'a>,
-    pub front: &'t str,
+    pub check: Check<'a, 't>,
 }
 
 impl fmt::Display for Seen<'_, '_> {
     ghost use Rattle.std.specs.Prelude.{Some};
-    ghost use Rattle.ddcmp_msg.specs.Reading.{reading_view};
-    ghost use Rattle.why.specs.Checks as checks;
 
-    ghost output = { λ words. Some (checks.seen words.side words.failed (reading_view words.reading) words.front.now) };
+    ghost output = { λ words. Some (spec.seen_in (spec.check_value words.check)) };
 
-    fn fmt<W: fmt::Write>(&self, f: &mut fmt::Formatter<W>) -> fmt::Result {
-        let side = self.side;
-        let reading = self.reading;
-        let front = self.front;
-        match self.failed {
+    fn fmt<W: Write>(&self, f: &mut Formatter<W>) -> fmt::Result {
+        let side = self.check.side;
+        let reading = self.check.reading;
+        let front = self.check.fronts.seen;
+        match self.check.failed {
             FailedCheck::Message(_) => write!(f, "{}", ReadingWords { reading }),
             FailedCheck::HintOrder { seen, .. } => write!(f, "hint {seen}"),
-            FailedCheck::NoSuchUnit(awaited) => {
-                let hint = awaited.hint;
-                write!(f, "hint {hint}")
-            }
-            FailedCheck::NoOrder { own, other } => write!(f, "{}", BothWait { side, own, other }),
+            FailedCheck::NoSuchUnit(awaited) => write!(f, "hint {}", awaited.hint),
+            FailedCheck::NoOrder { own, other } => write_both_wait(f, side, own, other),
             FailedCheck::Undetected { .. } => write!(f, "{}", ReadingName { reading }),
-            FailedCheck::StationSending(failed) => write!(f, "{}", SendingSeen { failed, reading }),
-            FailedCheck::StationArrival(failed) => write!(
-                f,
-                "{}",
-                ArrivalSeen {
-                    side,
-                    failed,
-                    reading
-                }
-            ),
-            FailedCheck::StationEvent { seen } => {
-                let state = StateName { state: seen };
-                write!(f, "start in {state}")
-            }
-            FailedCheck::Packet(fault) => write!(f, "{}", PacketFaultWords { fault }),
-            FailedCheck::Nsp(fault) => write!(f, "{}", NspFaultWords { fault }),
-            FailedCheck::LinkSending(failed) => write!(f, "{}", LinkSendingSeen { failed, front }),
-            FailedCheck::LinkArrival(failed) => write!(f, "{}", LinkArrivalSeen { side, failed }),
-            FailedCheck::LinkEvent(failed) => write!(f, "{}", LinkEventSeen { failed, front }),
+            FailedCheck::StationSending(failed) => write_sending_seen(f, failed, reading),
+            FailedCheck::StationArrival(failed) => write_arrival_seen(f, side, failed, reading),
+            FailedCheck::StationEvent { seen } => write!(f, "start in {}", state_name(seen)),
+            FailedCheck::Packet(fault) => f.write_str(packet_fault_words(fault)),
+            FailedCheck::Nsp(fault) => f.write_str(nsp_fault_words(fault)),
+            FailedCheck::LinkSending(failed) => write_link_sending_seen(f, failed, front),
+            FailedCheck::LinkArrival(failed) => write_link_arrival_seen(f, side, failed),
+            FailedCheck::LinkEvent(failed) => write_link_event_seen(f, failed, front),
             FailedCheck::Noise => {
                 let name = ReadingName { reading };
                 write!(f, "{name}, which shows no damage")
@@ -70,121 +54,79 @@ impl fmt::Display for Seen<'_, '_> {
     }
 }
 
-// Both sides wait for a unit.
-#[derive(Clone, Copy)]
-struct BothWait {
+// Writes that both sides wait for a unit.
+fn write_both_wait<W: Write>(
+    f: &mut Formatter<W>,
     side: Side,
     own: Awaited,
     other: Awaited,
+) -> fmt::Result
+    ensures { WritesOnOk W.write_str_gives f.old result (spec.both_wait side own other) f.new }
+{
+    let sender = side.other();
+    let Awaited { hint, sent } = own;
+    let waits = other.hint;
+    write!(
+        f,
+        "hint {hint} while {sender} has sent {sent} units and waits for hint {waits} of {side}"
+    )
 }
 
-impl fmt::Display for BothWait {
-    ghost use Rattle.std.specs.Prelude.{Some};
-    ghost use Rattle.why.specs.Checks.{both_wait};
-
-    ghost output = { λ words. Some (both_wait words.side words.own words.other) };
-
-    fn fmt<W: fmt::Write>(&self, f: &mut fmt::Formatter<W>) -> fmt::Result {
-        let side = self.side;
-        let sender = side.other();
-        let Awaited { hint, sent } = self.own;
-        let waits = self.other.hint;
-        write!(
-            f,
-            "hint {hint} while {sender} has sent {sent} units and waits for hint {waits} of {side}"
-        )
-    }
-}
-
-/// What would be right there, with the digits of the first bytes: with it the check is passed. `unit_name` is the short name of the unit that the
-/// record names, with a comma and a blank behind it, or nothing.
+/// What would be right there, with the digits of the first bytes: with it the check is passed.
 #[derive(Clone, Copy)]
 pub struct Allowed<'a, 't> {
-    pub side: Side,
-    pub failed: FailedCheck,
-    pub reading: Reading<'a>,
-    pub front: &'t str,
-    pub unit_name: &'t str,
+    pub check: Check<'a, 't>,
 }
 
 impl fmt::Display for Allowed<'_, '_> {
     ghost use Rattle.std.specs.Prelude.{Some};
-    ghost use Rattle.ddcmp_msg.specs.Reading.{reading_view};
-    ghost use Rattle.why.specs.Checks as checks;
 
-    ghost output = { λ words. Some (checks.allowed words.side words.failed (reading_view words.reading) words.front.now words.unit_name.now) };
+    ghost output = { λ words. Some (spec.allowed_in (spec.check_value words.check)) };
 
-    fn fmt<W: fmt::Write>(&self, f: &mut fmt::Formatter<W>) -> fmt::Result {
-        let side = self.side;
+    fn fmt<W: Write>(&self, f: &mut Formatter<W>) -> fmt::Result {
+        let side = self.check.side;
         let other = side.other();
-        let front = self.front;
-        match self.failed {
+        let front = self.check.fronts.due;
+        match self.check.failed {
             FailedCheck::Message(_) => f.write_str("a sound message of DDCMP"),
             FailedCheck::HintOrder { lowest, .. } => write!(f, "hint {lowest} or a higher one"),
-            FailedCheck::NoSuchUnit(own) => write!(f, "{}", BelowWords { other, own }),
-            FailedCheck::NoOrder { own, .. } => write!(f, "{}", BelowWords { other, own }),
+            FailedCheck::NoSuchUnit(own) => write_below(f, other, own.sent),
+            FailedCheck::NoOrder { own, .. } => write_below(f, other, own.sent),
             FailedCheck::Undetected { unit } => {
-                let name = self.unit_name;
+                let name = self.check.fronts.unit_name;
                 write!(
                     f,
                     "{name}the bytes of unit {unit} of {other}; or damaged bytes"
                 )
             }
-            FailedCheck::StationSending(failed) => write!(f, "{}", SendingAllowed { failed }),
-            FailedCheck::StationArrival(failed) => write!(
-                f,
-                "{}",
-                ArrivalAllowed {
-                    side,
-                    failed,
-                    reading: self.reading
-                }
-            ),
-            FailedCheck::StationEvent { .. } => f.write_str("start in HALTED"),
-            FailedCheck::Packet(_) => {
-                f.write_str(
-                    "a routing control packet, or a short data packet of at least six bytes",
-                )
+            FailedCheck::StationSending(failed) => write_sending_allowed(f, failed),
+            FailedCheck::StationArrival(failed) => {
+                write_arrival_allowed(f, side, failed, self.check.reading)
             }
+            FailedCheck::StationEvent { .. } => f.write_str("start in HALTED"),
+            FailedCheck::Packet(_) => f.write_str(
+                "a routing control packet, or a short data packet of at least six bytes",
+            ),
             FailedCheck::Nsp(_) => {
                 f.write_str("a message of NSP with all its fields, and nothing behind its end")
             }
-            FailedCheck::LinkSending(failed) => {
-                write!(f, "{}", LinkSendingAllowed { failed, front })
-            }
-            FailedCheck::LinkArrival(failed) => write!(
-                f,
-                "{}",
-                LinkArrivalAllowed { side, failed }
-            ),
-            FailedCheck::LinkEvent(failed) => write!(f, "{}", LinkEventAllowed { failed, front }),
+            FailedCheck::LinkSending(failed) => write_link_sending_allowed(f, failed, front),
+            FailedCheck::LinkArrival(failed) => write_link_arrival_allowed(f, side, failed),
+            FailedCheck::LinkEvent(failed) => write_link_event_allowed(f, failed, front),
             FailedCheck::Noise => f.write_str("bytes that read as header bad or data bad"),
         }
     }
 }
 
-// The hints of units that the other side sent: they are counted from 0. Where it sent none, no receipt is right.
-#[derive(Clone, Copy)]
-struct BelowWords {
-    other: Side,
-    own: Awaited,
-}
-
-impl fmt::Display for BelowWords {
-    ghost use Rattle.std.specs.Prelude.{Some};
-    ghost use Rattle.why.specs.Checks.{below_words};
-
-    ghost output = { λ words. Some (below_words words.other words.own.sent) };
-
-    fn fmt<W: fmt::Write>(&self, f: &mut fmt::Formatter<W>) -> fmt::Result {
-        let other = self.other;
-        let sent = self.own.sent;
-        if sent == 0 {
-            return write!(f, "no receipt: {other} sent no unit");
-        }
-        write!(
-            f,
-            "a hint below {sent}, the number of units that {other} sent"
-        )
+// Writes the hints of units that the other side sent: they are counted from 0. Where it sent none, no receipt is right.
+fn write_below<W: Write>(f: &mut Formatter<W>, other: Side, sent: u64) -> fmt::Result
+    ensures { WritesOnOk W.write_str_gives f.old result (spec.below_words other sent) f.new }
+{
+    if sent == 0 {
+        return write!(f, "no receipt: {other} sent no unit");
     }
+    write!(
+        f,
+        "a hint below {sent}, the number of units that {other} sent"
+    )
 }

@@ -1,23 +1,28 @@
 //! The check that the refused record does not pass, over both layers and the line.
 
-use crate::arrival_checks::ArrivalCheck;
+ghost use Rattle.std.specs.Prelude.{◌≡◌};
+ghost use Rattle.std.specs.Fmt.{WritesOnOk};
+ghost use Rattle.why.specs.Checks as spec;
+
+use crate::arrival_checks::arrival_check;
 use crate::check_words::{Allowed, Seen};
 use crate::digits::Fronts;
-use crate::link_arrival_checks::LinkArrivalCheck;
-use crate::link_event_checks::LinkEventCheck;
-use crate::link_sending_checks::LinkSendingCheck;
-use crate::pages::Page;
-use crate::rules::RuleRow;
-use crate::station_checks::SendingCheck;
+use crate::form::Form;
+use crate::link_arrival_checks::link_arrival_check;
+use crate::link_event_checks::link_event_check;
+use crate::link_sending_checks::link_sending_check;
+use crate::pages::page;
+use crate::rules::rule_row;
+use crate::station_checks::sending_check;
 use ddcmp_msg::Reading;
 use pair_judge::{FailedCheck, Reason};
-use std::fmt;
+use std::fmt::{self, Formatter, Write};
 use wire_base::Side;
 
 /// The check that a record of this side does not pass, with the reason for which it is refused, how its bytes are read (`HeaderBad` of a
-/// user's record, which has none), and what is shown of both sides of it ([`Fronts`]). Printed as one JSON object with its LF.
+/// user's record, which has none), and what is shown of both sides of it ([`Fronts`]).
 #[derive(Clone, Copy)]
-pub struct CheckLine<'a, 't> {
+pub struct Check<'a, 't> {
     pub side: Side,
     pub reason: Reason,
     pub failed: FailedCheck,
@@ -25,122 +30,72 @@ pub struct CheckLine<'a, 't> {
     pub fronts: Fronts<'t>,
 }
 
-impl fmt::Display for CheckLine<'_, '_> {
-    ghost use Rattle.std.specs.Prelude.{Some};
-    ghost use Rattle.ddcmp_msg.specs.Reading.{reading_view};
-    ghost use Rattle.why.specs.Checks.{check_line};
-    ghost use Rattle.why.specs.Digits.{fronts_told};
-
-    ghost output = { λ line. Some (check_line line.side line.reason line.failed (reading_view line.reading)
-        (fronts_told line.fronts)) };
-
-    fn fmt<W: fmt::Write>(&self, f: &mut fmt::Formatter<W>) -> fmt::Result {
-        let CheckLine {
-            side,
-            reason,
-            failed,
-            reading,
-            fronts,
-        } = *self;
-        let name = CheckName { failed };
-        let seen = Seen {
-            side,
-            failed,
-            reading,
-            front: fronts.seen,
-        };
-        let allowed = Allowed {
-            side,
-            failed,
-            reading,
-            front: fronts.due,
-            unit_name: fronts.unit_name,
-        };
-        let page = Page { reason };
-        write!(
-            f,
-            "{{\"what\": \"check\", \"check\": \"{name}\", \"seen\": \"{seen}\", \"allowed\": \"{allowed}\", \"page\": \"{page}\"}}\n"
-        )
-    }
-}
-
-/// The same check in rows: what is seen and what is allowed, the rule, if it is one of the station, and the page of the reason.
+/// A check that is not passed: as one JSON object with its LF, or in rows: what is seen and what is allowed, the rule, if it is one of the
+/// station, and the page of the reason.
 #[derive(Clone, Copy)]
-pub struct CheckRows<'a, 't> {
-    pub side: Side,
-    pub reason: Reason,
-    pub failed: FailedCheck,
-    pub reading: Reading<'a>,
-    pub fronts: Fronts<'t>,
+pub struct CheckTold<'a, 't> {
+    pub form: Form,
+    pub check: Check<'a, 't>,
 }
 
-impl fmt::Display for CheckRows<'_, '_> {
+impl fmt::Display for CheckTold<'_, '_> {
     ghost use Rattle.std.specs.Prelude.{Some};
-    ghost use Rattle.ddcmp_msg.specs.Reading.{reading_view};
-    ghost use Rattle.why.specs.Checks.{check_rows};
-    ghost use Rattle.why.specs.Digits.{fronts_told};
+    ghost use Rattle.why.specs.Checks.{check_told, check_value};
 
-    ghost output = { λ rows. Some (check_rows rows.side rows.reason rows.failed (reading_view rows.reading)
-        (fronts_told rows.fronts)) };
+    ghost output = { λ told. Some (check_told told.form (check_value told.check)) };
 
-    fn fmt<W: fmt::Write>(&self, f: &mut fmt::Formatter<W>) -> fmt::Result {
-        let CheckRows {
-            side,
-            reason,
-            failed,
-            reading,
-            fronts,
-        } = *self;
-        let seen = Seen {
-            side,
-            failed,
-            reading,
-            front: fronts.seen,
-        };
-        let allowed = Allowed {
-            side,
-            failed,
-            reading,
-            front: fronts.due,
-            unit_name: fronts.unit_name,
-        };
-        let rule = RuleRow { failed };
-        let page = Page { reason };
-        write!(
-            f,
-            "  seen     {seen}\n  allowed  {allowed}\n{rule}  page     {page}\n"
-        )
+    fn fmt<W: Write>(&self, f: &mut Formatter<W>) -> fmt::Result {
+        match self.form {
+            Form::Object => write_object(f, self.check),
+            Form::Rows => write_rows(f, self.check),
+        }
     }
+}
+
+fn write_object<W: Write>(f: &mut Formatter<W>, check: Check<'_, '_>) -> fmt::Result
+    ensures { WritesOnOk W.write_str_gives f.old result (spec.check_line (spec.check_value check.entry)) f.new }
+{
+    let name = check_name(check.failed);
+    let seen = Seen { check };
+    let allowed = Allowed { check };
+    let page = page(check.reason);
+    write!(
+        f,
+        "{{\"what\": \"check\", \"check\": \"{name}\", \"seen\": \"{seen}\", \"allowed\": \"{allowed}\", \"page\": \"{page}\"}}\n"
+    )
+}
+
+fn write_rows<W: Write>(f: &mut Formatter<W>, check: Check<'_, '_>) -> fmt::Result
+    ensures { WritesOnOk W.write_str_gives f.old result (spec.check_rows (spec.check_value check.entry)) f.new }
+{
+    let seen = Seen { check };
+    let allowed = Allowed { check };
+    let rule = rule_row(check.failed);
+    let page = page(check.reason);
+    write!(
+        f,
+        "  seen     {seen}\n  allowed  {allowed}\n{rule}  page     {page}\n"
+    )
 }
 
 // The name of the check: of the station that in its tables.
-#[derive(Clone, Copy)]
-struct CheckName {
-    failed: FailedCheck,
-}
-
-impl fmt::Display for CheckName {
-    ghost use Rattle.std.specs.Prelude.{Some};
-    ghost use Rattle.why.specs.Checks.{check_name};
-
-    ghost output = { λ name. Some (check_name name.failed) };
-
-    fn fmt<W: fmt::Write>(&self, f: &mut fmt::Formatter<W>) -> fmt::Result {
-        match self.failed {
-            FailedCheck::Message(_) => f.write_str("message"),
-            FailedCheck::HintOrder { .. } => f.write_str("hint order"),
-            FailedCheck::NoSuchUnit(_) => f.write_str("hint"),
-            FailedCheck::NoOrder { .. } => f.write_str("order"),
-            FailedCheck::Undetected { .. } => f.write_str("the line"),
-            FailedCheck::StationSending(failed) => write!(f, "{}", SendingCheck { failed }),
-            FailedCheck::StationArrival(failed) => write!(f, "{}", ArrivalCheck { failed }),
-            FailedCheck::StationEvent { .. } => f.write_str("start"),
-            FailedCheck::Packet(_) => f.write_str("packet"),
-            FailedCheck::Nsp(_) => f.write_str("NSP message"),
-            FailedCheck::LinkSending(failed) => write!(f, "{}", LinkSendingCheck { failed }),
-            FailedCheck::LinkArrival(failed) => write!(f, "{}", LinkArrivalCheck { failed }),
-            FailedCheck::LinkEvent(failed) => write!(f, "{}", LinkEventCheck { failed }),
-            FailedCheck::Noise => f.write_str("noise"),
-        }
+fn check_name(failed: FailedCheck) -> &'static str
+    ensures { result.now ≡ spec.check_name failed }
+{
+    match failed {
+        FailedCheck::Message(_) => "message",
+        FailedCheck::HintOrder { .. } => "hint order",
+        FailedCheck::NoSuchUnit(_) => "hint",
+        FailedCheck::NoOrder { .. } => "order",
+        FailedCheck::Undetected { .. } => "the line",
+        FailedCheck::StationSending(failed) => sending_check(failed),
+        FailedCheck::StationArrival(failed) => arrival_check(failed),
+        FailedCheck::StationEvent { .. } => "start",
+        FailedCheck::Packet(_) => "packet",
+        FailedCheck::Nsp(_) => "NSP message",
+        FailedCheck::LinkSending(failed) => link_sending_check(failed),
+        FailedCheck::LinkArrival(failed) => link_arrival_check(failed),
+        FailedCheck::LinkEvent(failed) => link_event_check(failed),
+        FailedCheck::Noise => "noise",
     }
 }

@@ -5,10 +5,10 @@ ghost use Rattle.dna_packet.specs.Nsp as nsp;
 ghost use Rattle.dna_packet.specs.ReadingNsp.{nsp_at};
 ghost use Rattle.why.specs.Digits as spec;
 
-use crate::layers::{message_in, packet_in};
+use crate::layers::message_in_unit;
+use crate::words::words_if;
 use capture::Entry;
-use ddcmp_msg::read_unit;
-use dna_packet::{Nsp, read_nsp, read_packet};
+use dna_packet::{Nsp, read_nsp};
 use pair_judge::SideEnd;
 use std::alloc::{AllocError, Global};
 use std::fmt;
@@ -41,16 +41,10 @@ pub fn seen_bytes(entry: Entry, bytes: &[u8]) -> &[u8]
 {
     match entry {
         Entry::Up { .. } => bytes,
-        Entry::Sent
-        | Entry::Received { .. }
-        | Entry::Noise
-        | Entry::Start
-        | Entry::Halt
-        | Entry::Open { .. }
-        | Entry::Accept { .. }
-        | Entry::Reject { .. }
-        | Entry::In { .. }
-        | Entry::Close { .. } => carried_in_unit(bytes),
+        _ => match message_in_unit(bytes) {
+            Some(message) => carried_in(message),
+            None => &[],
+        },
     }
 }
 
@@ -63,42 +57,15 @@ pub fn due_bytes<'e>(end: &'e SideEnd, entry: Entry, bytes: &[u8]) -> &'e [u8]
             Some(due) => due,
             None => &[],
         },
-        Entry::Sent
-        | Entry::Received { .. }
-        | Entry::Noise
-        | Entry::Start
-        | Entry::Halt
-        | Entry::Open { .. }
-        | Entry::Accept { .. }
-        | Entry::Reject { .. }
-        | Entry::In { .. }
-        | Entry::Close { .. } => due_for_unit(end, bytes),
+        _ => match message_in_unit(bytes) {
+            Some(message) => due_for(end, message),
+            None => &[],
+        },
     }
 }
 
-// What the segment in a unit carries, if there is one.
-fn carried_in_unit(bytes: &[u8]) -> &[u8]
-    ensures { result.now ≡ spec.in_unit spec.carried_in bytes.now }
-{
-    match packet_in(read_unit(bytes)) {
-        Some(packet) => carried_in_packet(packet),
-        None => &[],
-    }
-}
-
-fn carried_in_packet(packet: &[u8]) -> &[u8]
-    ensures { result.now ≡ spec.in_packet spec.carried_in (Some packet.now) }
-{
-    let Ok(packet) = read_packet(packet) else {
-        return &[];
-    };
-    match message_in(packet) {
-        Some(message) => carried_in_message(message),
-        None => &[],
-    }
-}
-
-fn carried_in_message(message: &[u8]) -> &[u8]
+// What a message carries as a segment.
+fn carried_in(message: &[u8]) -> &[u8]
     ensures { result.now ≡ spec.carried_in (nsp_at message.now) }
 {
     match &read_nsp(message) {
@@ -112,41 +79,12 @@ fn carried_by<'a>(message: &Nsp<'a>) -> &'a [u8]
 {
     match message {
         Nsp::DataSegment(segment) => segment.body,
-        Nsp::LinkService(_)
-        | Nsp::DataAck(_)
-        | Nsp::OtherDataAck(_)
-        | Nsp::ConnectAck(_)
-        | Nsp::NoOperation(_)
-        | Nsp::ConnectInitiate(_)
-        | Nsp::ConnectConfirm(_)
-        | Nsp::DisconnectInitiate(_)
-        | Nsp::DisconnectConfirm(_) => &[],
+        _ => &[],
     }
 }
 
-// With what the segment in a unit is compared, if there is one.
-fn due_for_unit<'e>(end: &'e SideEnd, bytes: &[u8]) -> &'e [u8]
-    ensures { result.now ≡ spec.in_unit (spec.due_for end.now.links) bytes.now }
-{
-    match packet_in(read_unit(bytes)) {
-        Some(packet) => due_for_packet(end, packet),
-        None => &[],
-    }
-}
-
-fn due_for_packet<'e>(end: &'e SideEnd, packet: &[u8]) -> &'e [u8]
-    ensures { result.now ≡ spec.in_packet (spec.due_for end.now.links) (Some packet.now) }
-{
-    let Ok(packet) = read_packet(packet) else {
-        return &[];
-    };
-    match message_in(packet) {
-        Some(message) => due_for_message(end, message),
-        None => &[],
-    }
-}
-
-fn due_for_message<'e>(end: &'e SideEnd, message: &[u8]) -> &'e [u8]
+// With what that is compared.
+fn due_for<'e>(end: &'e SideEnd, message: &[u8]) -> &'e [u8]
     ensures { result.now ≡ spec.due_for end.now.links (nsp_at message.now) }
 {
     match &read_nsp(message) {
@@ -164,81 +102,30 @@ fn due_by<'e>(end: &'e SideEnd, message: &Nsp) -> &'e [u8]
             Some(due) => due,
             None => &[],
         },
-        Nsp::LinkService(_)
-        | Nsp::DataAck(_)
-        | Nsp::OtherDataAck(_)
-        | Nsp::ConnectAck(_)
-        | Nsp::NoOperation(_)
-        | Nsp::ConnectInitiate(_)
-        | Nsp::ConnectConfirm(_)
-        | Nsp::DisconnectInitiate(_)
-        | Nsp::DisconnectConfirm(_) => &[],
+        _ => &[],
     }
 }
 
-/// The front of so many bytes, behind a space: ` 0506`; nothing where there is none.
+/// The front of so many bytes behind these words, with two dots where it does not tell all of them. Printed as `: 0506..`; nothing where there
+/// is no byte.
 #[derive(Clone, Copy)]
-pub struct SpacedFront<'t> {
+pub struct FrontBehind<'l, 't> {
+    pub lead: &'l str,
     pub front: &'t str,
     pub count: usize,
 }
 
-impl fmt::Display for SpacedFront<'_> {
+impl fmt::Display for FrontBehind<'_, '_> {
     ghost use Rattle.std.specs.Prelude.{Some};
-    ghost use Rattle.why.specs.Digits.{spaced_front};
 
-    ghost output = { λ words. Some (spaced_front words.front.now words.count) };
+    ghost output = { λ words. Some (spec.front_behind words.lead.now words.front.now words.count) };
 
     fn fmt<W: fmt::Write>(&self, f: &mut fmt::Formatter<W>) -> fmt::Result {
-        let SpacedFront { front, count } = *self;
+        let FrontBehind { lead, front, count } = *self;
         if count == 0 {
             return Ok(());
         }
-        let dots = Dots { front, count };
-        write!(f, " {front}{dots}")
-    }
-}
-
-/// The front of so many bytes, behind a colon: `: 0506`; nothing where there is none.
-#[derive(Clone, Copy)]
-pub struct ToldFront<'t> {
-    pub front: &'t str,
-    pub count: usize,
-}
-
-impl fmt::Display for ToldFront<'_> {
-    ghost use Rattle.std.specs.Prelude.{Some};
-    ghost use Rattle.why.specs.Digits.{told_front};
-
-    ghost output = { λ words. Some (told_front words.front.now words.count) };
-
-    fn fmt<W: fmt::Write>(&self, f: &mut fmt::Formatter<W>) -> fmt::Result {
-        let ToldFront { front, count } = *self;
-        if count == 0 {
-            return Ok(());
-        }
-        let dots = Dots { front, count };
-        write!(f, ": {front}{dots}")
-    }
-}
-
-// Two dots where these digits do not tell all of so many bytes.
-#[derive(Clone, Copy)]
-struct Dots<'t> {
-    front: &'t str,
-    count: usize,
-}
-
-impl fmt::Display for Dots<'_> {
-    ghost use Rattle.std.specs.Prelude.{Some};
-    ghost use Rattle.why.specs.Digits.{dots};
-
-    ghost output = { λ words. Some (dots words.front.now words.count) };
-
-    fn fmt<W: fmt::Write>(&self, f: &mut fmt::Formatter<W>) -> fmt::Result {
-        if self.front.len() / 2 < self.count {
-            return f.write_str("..");
-        }
-        Ok(())
+        let dots = words_if(front.len() / 2 < count, "..");
+        write!(f, "{lead}{front}{dots}")
     }
 }

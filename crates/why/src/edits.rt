@@ -1,7 +1,11 @@
 //! What small edits of the captures tell.
 
-use crate::state_line::NumberOrNull;
-use std::fmt;
+ghost use Rattle.std.specs.Prelude.{◌≡◌};
+ghost use Rattle.std.specs.Fmt.{WritesOnOk};
+ghost use Rattle.why.specs.Edits as spec;
+
+use crate::words::{NumberOr, words_if};
+use std::fmt::{self, Formatter, Write};
 
 /// With fewer records than this behind the refusal, small edits tell nothing: most of them make the pair a run.
 pub const FEW_RECORDS: u64 = 20;
@@ -24,13 +28,14 @@ impl fmt::Display for EditsTried {
 
     ghost output = { λ edits. Some (edits_line edits) };
 
-    fn fmt<W: fmt::Write>(&self, f: &mut fmt::Formatter<W>) -> fmt::Result {
+    fn fmt<W: Write>(&self, f: &mut Formatter<W>) -> fmt::Result {
         let EditsTried {
             tried,
             accepted,
             records_behind,
         } = *self;
-        let behind = NumberOrNull {
+        let behind = NumberOr {
+            word: "null",
             number: records_behind,
         };
         write!(
@@ -52,8 +57,13 @@ impl fmt::Display for RecorderRow {
 
     ghost output = { λ row. Some (recorder_row row.edits) };
 
-    fn fmt<W: fmt::Write>(&self, f: &mut fmt::Formatter<W>) -> fmt::Result {
-        let Some(records) = self.edits.records_behind else {
+    fn fmt<W: Write>(&self, f: &mut Formatter<W>) -> fmt::Result {
+        let EditsTried {
+            tried,
+            accepted,
+            records_behind,
+        } = self.edits;
+        let Some(records) = records_behind else {
             return f.write_str(
                 "recorder no small edits were tried, since a capture can't be read again\n",
             );
@@ -65,54 +75,37 @@ impl fmt::Display for RecorderRow {
                 "recorder only {stand} behind it: small edits would tell nothing\n"
             );
         }
-        let words = TriedWords {
-            tried: self.edits.tried,
-            accepted: self.edits.accepted,
-            records,
-        };
-        write!(f, "{words}")
+        write_tried(f, tried, accepted, records)
     }
 }
 
-// How many edits were tried and make the pair a run.
-#[derive(Clone, Copy)]
-struct TriedWords {
+// Writes how many edits were tried and make the pair a run.
+fn write_tried<W: Write>(
+    f: &mut Formatter<W>,
     tried: u64,
     accepted: u64,
     records: u64,
-}
-
-impl fmt::Display for TriedWords {
-    ghost use Rattle.std.specs.Prelude.{Some};
-    ghost use Rattle.why.specs.Edits.{tried_words};
-
-    ghost output = { λ words. Some (tried_words words.tried words.accepted words.records) };
-
-    fn fmt<W: fmt::Write>(&self, f: &mut fmt::Formatter<W>) -> fmt::Result {
-        let TriedWords {
-            tried,
-            accepted,
-            records,
-        } = *self;
-        let stand = StandWords { records };
-        if tried == 0 {
-            return write!(
-                f,
-                "recorder no small edits were tried ({stand} behind it)\n"
-            );
-        }
-        if accepted == 0 {
-            return write!(
-                f,
-                "recorder none of {tried} small edits near by makes the pair a run ({stand} behind it)\n"
-            );
-        }
-        let make = MakeWord { accepted };
-        write!(
+) -> fmt::Result
+    ensures { WritesOnOk W.write_str_gives f.old result (spec.tried_words tried accepted records) f.new }
+{
+    let stand = StandWords { records };
+    if tried == 0 {
+        return write!(
             f,
-            "recorder {accepted} of {tried} small edits near by {make} the pair a run ({stand} behind it):\n"
-        )
+            "recorder no small edits were tried ({stand} behind it)\n"
+        );
     }
+    if accepted == 0 {
+        return write!(
+            f,
+            "recorder none of {tried} small edits near by makes the pair a run ({stand} behind it)\n"
+        );
+    }
+    let make = MakeWord { accepted };
+    write!(
+        f,
+        "recorder {accepted} of {tried} small edits near by {make} the pair a run ({stand} behind it):\n"
+    )
 }
 
 // How many records stand there.
@@ -123,11 +116,10 @@ struct StandWords {
 
 impl fmt::Display for StandWords {
     ghost use Rattle.std.specs.Prelude.{Some};
-    ghost use Rattle.why.specs.Edits.{stand_words};
 
-    ghost output = { λ words. Some (stand_words words.records) };
+    ghost output = { λ words. Some (spec.stand_words words.records) };
 
-    fn fmt<W: fmt::Write>(&self, f: &mut fmt::Formatter<W>) -> fmt::Result {
+    fn fmt<W: Write>(&self, f: &mut Formatter<W>) -> fmt::Result {
         let records = self.records;
         if records == 1 {
             return f.write_str("1 record stands");
@@ -144,11 +136,10 @@ struct MakeWord {
 
 impl fmt::Display for MakeWord {
     ghost use Rattle.std.specs.Prelude.{Some};
-    ghost use Rattle.why.specs.Edits.{make_words};
 
-    ghost output = { λ word. Some (make_words word.accepted) };
+    ghost output = { λ word. Some (spec.make_words word.accepted) };
 
-    fn fmt<W: fmt::Write>(&self, f: &mut fmt::Formatter<W>) -> fmt::Result {
+    fn fmt<W: Write>(&self, f: &mut Formatter<W>) -> fmt::Result {
         if self.accepted == 1 {
             return f.write_str("makes");
         }
@@ -169,7 +160,7 @@ impl fmt::Display for EditLine<'_> {
 
     ghost output = { λ line. Some (edit_line line.words.now) };
 
-    fn fmt<W: fmt::Write>(&self, f: &mut fmt::Formatter<W>) -> fmt::Result {
+    fn fmt<W: Write>(&self, f: &mut Formatter<W>) -> fmt::Result {
         let words = self.words;
         write!(
             f,
@@ -190,28 +181,18 @@ impl fmt::Display for EditRow<'_> {
 
     ghost output = { λ row. Some (edit_row row.words.now) };
 
-    fn fmt<W: fmt::Write>(&self, f: &mut fmt::Formatter<W>) -> fmt::Result {
+    fn fmt<W: Write>(&self, f: &mut Formatter<W>) -> fmt::Result {
         let words = self.words;
         write!(f, "           {words}\n")
     }
 }
 
 /// What edits that make the pair a run tell, below their rows; nothing where there are none.
-#[derive(Clone, Copy)]
-pub struct SoRow {
-    pub accepted: u64,
-}
-
-impl fmt::Display for SoRow {
-    ghost use Rattle.std.specs.Prelude.{Some};
-    ghost use Rattle.why.specs.Edits.{so_row};
-
-    ghost output = { λ row. Some (so_row row.accepted) };
-
-    fn fmt<W: fmt::Write>(&self, f: &mut fmt::Formatter<W>) -> fmt::Result {
-        if self.accepted == 0 {
-            return Ok(());
-        }
-        f.write_str("         So rather the recording is wrong than a node.\n")
-    }
+pub fn so_row(accepted: u64) -> &'static str
+    ensures { result.now ≡ spec.so_row accepted }
+{
+    words_if(
+        accepted > 0,
+        "         So rather the recording is wrong than a node.\n",
+    )
 }

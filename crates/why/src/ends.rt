@@ -7,16 +7,9 @@ use crate::link_line::is_live;
 use crate::state_line::StateLine;
 use capture::Entry;
 use nsp_link::LinkView;
-use pair_judge::{JudgedEnds, SideEnd};
+use pair_judge::SideEnd;
 use std::alloc::{AllocError, Global};
 use wire_base::Side;
-
-/// This side as it was before the refused record.
-pub fn state_of(ends: &JudgedEnds, side: Side) -> StateLine
-    ensures { result ≡ spec.state_of side ends.now }
-{
-    state_at(side, ends.end(side))
-}
 
 /// This end, of this side, as it was before the refused record.
 pub fn state_at(side: Side, end: &SideEnd) -> StateLine
@@ -31,15 +24,8 @@ pub fn state_at(side: Side, end: &SideEnd) -> StateLine
     }
 }
 
-/// The live links of this side as they were before the refused record, in the order in which they began. Fails for want of memory alone.
-pub fn live_links(alloc: Global, ends: &JudgedEnds, side: Side) -> Result<Vec<LinkView>, AllocError>
-    ensures { IfOk result (λ live. live.items ≡ spec.live_links side ends.now) }
-{
-    live_links_at(alloc, ends.end(side))
-}
-
-/// The live links of this end, likewise.
-pub fn live_links_at(alloc: Global, end: &SideEnd) -> Result<Vec<LinkView>, AllocError>
+/// The live links of this end as they were before the refused record, in the order in which they began. Fails for want of memory alone.
+pub fn live_links(alloc: Global, end: &SideEnd) -> Result<Vec<LinkView>, AllocError>
     ensures { IfOk result (λ live. live.items ≡ spec.live_by end.now) }
 {
     let mut live = Vec::new(alloc);

@@ -4,11 +4,12 @@ ghost use Rattle.std.specs.Prelude.{◌≡◌, option_map};
 ghost use Rattle.ddcmp_msg.specs.Reading.{reading_view};
 ghost use Rattle.ddcmp_msg.specs.Message.{view};
 ghost use Rattle.dna_packet.specs.Packet as packets;
+ghost use Rattle.dna_packet.specs.ReadingPacket.{packet_at};
 ghost use Rattle.why.specs.Layers as spec;
 
 use crate::packet_words::is_on_its_way_back;
-use ddcmp_msg::{Message, Reading};
-use dna_packet::Packet;
+use ddcmp_msg::{Message, Reading, read_unit};
+use dna_packet::{Packet, read_packet};
 
 /// The packet of a unit, if it is a sound data message (DDCMP 4.1, data message format).
 pub fn packet_in(reading: Reading<'_>) -> Option<&[u8]>
@@ -30,8 +31,18 @@ fn body_of(message: Message<'_>) -> Option<&[u8]>
     }
 }
 
-/// The message of a data packet, if it is not on its way back (Routing Layer 2.0, data packet format). Control packets carry none.
-pub fn message_in(packet: Packet<'_>) -> Option<&[u8]>
+/// The message of these bytes of a packet, if they are a data packet that is not on its way back (Routing Layer 2.0, data packet format). Control
+/// packets carry none.
+pub fn message_in(packet: &[u8]) -> Option<&[u8]>
+    ensures { option_map (λ message. message.now) result ≡ spec.message_of (packet_at packet.now) }
+{
+    match read_packet(packet) {
+        Ok(packet) => carried_by(packet),
+        Err(_) => None,
+    }
+}
+
+fn carried_by(packet: Packet<'_>) -> Option<&[u8]>
     ensures { option_map (λ message. message.now) result ≡ spec.message_in (packets.view packet.entry) }
 {
     match packet {
@@ -42,5 +53,15 @@ pub fn message_in(packet: Packet<'_>) -> Option<&[u8]>
             Some(nsp)
         }
         Packet::Control(_) => None,
+    }
+}
+
+/// The message in a unit of these bytes, if there is one.
+pub fn message_in_unit(bytes: &[u8]) -> Option<&[u8]>
+    ensures { option_map (λ message. message.now) result ≡ spec.message_in_unit bytes.now }
+{
+    match packet_in(read_unit(bytes)) {
+        Some(packet) => message_in(packet),
+        None => None,
     }
 }

@@ -1,97 +1,109 @@
 //! A live link, as a JSON object and as a row.
 
 ghost use Rattle.std.specs.Prelude.{◌≡◌, ◌||◌, ◌==◌, nat_lt, not};
+ghost use Rattle.std.specs.Fmt.{WritesOnOk};
 ghost use Rattle.why.specs.LinkLine as spec;
 
-use crate::link_fields::{
-    KnownAddress, KnownOrNull, LinkNumberKeys, LinkNumberWords, PhaseName, SegsizeWords,
-};
+use crate::form::Form;
+use crate::words::short_number_or;
 use dna_links::{Phase, Port};
 use nsp_link::{LinkNumbers, LinkView};
-use std::fmt;
+use std::fmt::{self, Formatter, Write};
 use wire_base::Side;
 
-/// A live link of a side where a record is refused, as it was before it (NSP 4.0, ports). Printed as one JSON object with its LF.
+/// A live link of a side where a record is refused, as it was before it (NSP 4.0, ports), with its LF.
 #[derive(Clone, Copy)]
-pub struct LinkLine {
+pub struct LinkTold {
+    pub form: Form,
     pub side: Side,
     pub link: LinkView,
 }
 
-impl fmt::Display for LinkLine {
+impl fmt::Display for LinkTold {
     ghost use Rattle.std.specs.Prelude.{Some};
 
-    ghost output = { λ line. Some (spec.link_line line.side line.link) };
+    ghost output = { λ told. Some (spec.link_told told.form told.side told.link) };
 
-    fn fmt<W: fmt::Write>(&self, f: &mut fmt::Formatter<W>) -> fmt::Result {
-        let LinkLine { side, link } = *self;
-        let port = PortKeys {
-            port: link.port,
-            segsize: link.segsize,
-        };
-        let numbers = LinkNumberKeys {
-            numbers: link.numbers,
-        };
-        write!(
-            f,
-            "{{\"what\": \"link\", \"side\": \"{side}\", {port}, {numbers}}}\n"
-        )
+    fn fmt<W: Write>(&self, f: &mut Formatter<W>) -> fmt::Result {
+        match self.form {
+            Form::Object => write_object(f, self.side, self.link),
+            Form::Rows => write_row(f, self.link),
+        }
     }
 }
 
-// The keys of a link's addresses, its phase and SEGSIZE.
-#[derive(Clone, Copy)]
-struct PortKeys {
-    port: Port,
-    segsize: u16,
+fn write_object<W: Write>(f: &mut Formatter<W>, side: Side, link: LinkView) -> fmt::Result
+    ensures { WritesOnOk W.write_str_gives f.old result (spec.link_line side link) f.new }
+{
+    write!(f, "{{\"what\": \"link\", \"side\": \"{side}\", ")?;
+    write_port(f, link.port, link.segsize)?;
+    f.write_str(", ")?;
+    write_numbers(f, Form::Object, link.numbers)?;
+    f.write_str("}\n")
 }
 
-impl fmt::Display for PortKeys {
-    ghost use Rattle.std.specs.Prelude.{Some};
+// Writes the keys of a link's addresses, its phase and SEGSIZE.
+fn write_port<W: Write>(f: &mut Formatter<W>, port: Port, segsize: u16) -> fmt::Result
+    ensures { WritesOnOk W.write_str_gives f.old result (spec.port_keys port segsize) f.new }
+{
+    let own = short_number_or("null", port.own);
+    let far = short_number_or("null", port.far);
+    let phase = phase_name(port.phase);
+    let segsize = short_number_or("null", known_segsize(port.phase, segsize));
+    write!(
+        f,
+        "\"own\": {own}, \"far\": {far}, \"phase\": \"{phase}\", \"segsize\": {segsize}"
+    )
+}
 
-    ghost output = { λ keys. Some (spec.port_keys keys.port keys.segsize) };
-
-    fn fmt<W: fmt::Write>(&self, f: &mut fmt::Formatter<W>) -> fmt::Result {
-        let port = self.port;
-        let own = KnownOrNull { number: port.own };
-        let far = KnownOrNull { number: port.far };
-        let phase = PhaseName { phase: port.phase };
-        let segsize = KnownOrNull {
-            number: known_segsize(port.phase, self.segsize),
-        };
-        write!(
-            f,
-            "\"own\": {own}, \"far\": {far}, \"phase\": \"{phase}\", \"segsize\": {segsize}"
-        )
+fn write_row<W: Write>(f: &mut Formatter<W>, link: LinkView) -> fmt::Result
+    ensures { WritesOnOk W.write_str_gives f.old result (spec.link_row link) f.new }
+{
+    let own = short_number_or("?", link.port.own);
+    let far = short_number_or("?", link.port.far);
+    let phase = phase_name(link.port.phase);
+    write!(f, "  link     {own}-{far} {phase}: ")?;
+    write_numbers(f, Form::Rows, link.numbers)?;
+    match known_segsize(link.port.phase, link.segsize) {
+        Some(segsize) => write!(f, ", SEGSIZE {segsize}\n"),
+        None => f.write_str("\n"),
     }
 }
 
-/// The same link as a row.
-#[derive(Clone, Copy)]
-pub struct LinkRow {
-    pub link: LinkView,
+// Writes the numbers of a link's segments.
+fn write_numbers<W: Write>(f: &mut Formatter<W>, form: Form, numbers: LinkNumbers) -> fmt::Result
+    ensures { WritesOnOk W.write_str_gives f.old result (spec.numbers_told form numbers) f.new }
+{
+    let LinkNumbers {
+        given,
+        acknowledged,
+        received,
+        last_sent,
+        ..
+    } = numbers;
+    match form {
+        Form::Object => write!(
+            f,
+            "\"given\": {given}, \"acknowledged\": {acknowledged}, \"received\": {received}, \"last_ack\": {last_sent}"
+        ),
+        Form::Rows => write!(
+            f,
+            "given {given}, acknowledged {acknowledged}, received {received}, last acknowledged {last_sent}"
+        ),
+    }
 }
 
-impl fmt::Display for LinkRow {
-    ghost use Rattle.std.specs.Prelude.{Some};
-
-    ghost output = { λ row. Some (spec.link_row row.link) };
-
-    fn fmt<W: fmt::Write>(&self, f: &mut fmt::Formatter<W>) -> fmt::Result {
-        let LinkView {
-            port,
-            segsize,
-            numbers,
-            ..
-        } = self.link;
-        let own = KnownAddress { address: port.own };
-        let far = KnownAddress { address: port.far };
-        let phase = PhaseName { phase: port.phase };
-        let words = LinkNumberWords { numbers };
-        let segsize = SegsizeWords {
-            segsize: known_segsize(port.phase, segsize),
-        };
-        write!(f, "  link     {own}-{far} {phase}: {words}{segsize}")
+/// The name of a link's phase.
+pub fn phase_name(phase: Phase) -> &'static str
+    ensures { result.now ≡ spec.phase_name phase }
+{
+    match phase {
+        Phase::Calling => "Calling",
+        Phase::Called => "Called",
+        Phase::Confirming => "Confirming",
+        Phase::Running => "RUN",
+        Phase::Disconnecting => "DI",
+        Phase::Ended => "ended",
     }
 }
 

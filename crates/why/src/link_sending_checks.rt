@@ -1,144 +1,102 @@
 //! The check of the links that a sent message does not pass, in words.
 
-use crate::link_check_fields::{AckRange, MissingWords, NodesWords, NumberWords, WantedWords};
-use crate::link_fields::PhaseName;
-use crate::piece_fields::{NextWords, OtherwiseWords, ShapeWords};
+ghost use Rattle.std.specs.Prelude.{◌≡◌};
+ghost use Rattle.std.specs.Fmt.{WritesOnOk};
+ghost use Rattle.why.specs.LinkChecks as spec;
+
+use crate::link_check_fields::{write_ack_range, write_missing, write_numbers, write_wanted};
+use crate::link_line::phase_name;
+use crate::packet_words::NodesWords;
+use crate::piece_fields::{ShapeWords, write_next};
 use nsp_link::FailedLinkSending;
-use std::fmt;
+use std::fmt::{self, Formatter, Write};
 
 /// The name of the check.
-#[derive(Clone, Copy)]
-pub struct LinkSendingCheck {
-    pub failed: FailedLinkSending,
+pub fn link_sending_check(failed: FailedLinkSending) -> &'static str
+    ensures { result.now ≡ spec.link_sending_check failed }
+{
+    match failed {
+        FailedLinkSending::Nodes { .. } => "nodes",
+        FailedLinkSending::NoLink(_) => "link",
+        FailedLinkSending::Phase { .. } => "phase",
+        FailedLinkSending::Live { .. } => "phase",
+        FailedLinkSending::Acknowledgement { .. } => "acknowledgement",
+        FailedLinkSending::Room { .. } => "window",
+        FailedLinkSending::Length { .. } => "segment length",
+        FailedLinkSending::NextPiece { .. } => "next piece",
+        FailedLinkSending::Number { .. } => "segment number",
+        FailedLinkSending::AsFirstGiven { .. } => "as first given",
+    }
 }
 
-impl fmt::Display for LinkSendingCheck {
-    ghost use Rattle.std.specs.Prelude.{Some};
-    ghost use Rattle.why.specs.LinkChecks.{link_sending_check};
-
-    ghost output = { λ check. Some (link_sending_check check.failed) };
-
-    fn fmt<W: fmt::Write>(&self, f: &mut fmt::Formatter<W>) -> fmt::Result {
-        match self.failed {
-            FailedLinkSending::Nodes { .. } => f.write_str("nodes"),
-            FailedLinkSending::NoLink(_) => f.write_str("link"),
-            FailedLinkSending::Phase { .. } => f.write_str("phase"),
-            FailedLinkSending::Live { .. } => f.write_str("phase"),
-            FailedLinkSending::Acknowledgement { .. } => f.write_str("acknowledgement"),
-            FailedLinkSending::Room { .. } => f.write_str("window"),
-            FailedLinkSending::Length { .. } => f.write_str("segment length"),
-            FailedLinkSending::NextPiece { .. } => f.write_str("next piece"),
-            FailedLinkSending::Number { .. } => f.write_str("segment number"),
-            FailedLinkSending::AsFirstGiven { .. } => f.write_str("as first given"),
+/// Writes what stands where a message does not pass the check, with the digits of the first bytes that are compared.
+pub fn write_link_sending_seen<W: Write>(
+    f: &mut Formatter<W>,
+    failed: FailedLinkSending,
+    front: &str,
+) -> fmt::Result
+    ensures { WritesOnOk W.write_str_gives f.old result (spec.link_sending_seen failed front.now) f.new }
+{
+    match failed {
+        FailedLinkSending::Nodes { seen, .. } => write!(f, "{}", NodesWords { nodes: seen }),
+        FailedLinkSending::NoLink(missing) => write_missing(f, missing),
+        FailedLinkSending::Phase { seen, .. } => write!(f, "a link in {}", phase_name(seen)),
+        FailedLinkSending::Live { .. } => f.write_str("a DC between the addresses of a live link"),
+        FailedLinkSending::Acknowledgement { seen, .. } => write!(f, "ACK {seen}"),
+        FailedLinkSending::Room { seen, .. } => {
+            write!(f, "a new segment while {seen} are outstanding")
+        }
+        FailedLinkSending::Length { seen, .. } => write!(f, "{seen} bytes"),
+        FailedLinkSending::NextPiece { seen, .. } => {
+            write!(f, "{}", ShapeWords { shape: seen, front })
+        }
+        FailedLinkSending::Number { seen, .. } => write!(f, "segment {seen}"),
+        FailedLinkSending::AsFirstGiven { number, seen, .. } => {
+            let shape = ShapeWords { shape: seen, front };
+            write!(f, "segment {number} again, otherwise: {shape}")
         }
     }
 }
 
-/// What stands where a message does not pass the check, with the digits of the first bytes that are compared.
-#[derive(Clone, Copy)]
-pub struct LinkSendingSeen<'t> {
-    pub failed: FailedLinkSending,
-    pub front: &'t str,
-}
-
-impl fmt::Display for LinkSendingSeen<'_> {
-    ghost use Rattle.std.specs.Prelude.{Some};
-    ghost use Rattle.why.specs.LinkChecks.{link_sending_seen};
-
-    ghost output = { λ words. Some (link_sending_seen words.failed words.front.now) };
-
-    fn fmt<W: fmt::Write>(&self, f: &mut fmt::Formatter<W>) -> fmt::Result {
-        match self.failed {
-            FailedLinkSending::Nodes { seen, .. } => write!(f, "{}", NodesWords { nodes: seen }),
-            FailedLinkSending::NoLink(missing) => write!(f, "{}", MissingWords { missing }),
-            FailedLinkSending::Phase { seen, .. } => {
-                let phase = PhaseName { phase: seen };
-                write!(f, "a link in {phase}")
-            }
-            FailedLinkSending::Live { .. } => {
-                f.write_str("a DC between the addresses of a live link")
-            }
-            FailedLinkSending::Acknowledgement { seen, .. } => write!(f, "ACK {seen}"),
-            FailedLinkSending::Room { seen, .. } => {
-                write!(f, "a new segment while {seen} are outstanding")
-            }
-            FailedLinkSending::Length { seen, .. } => write!(f, "{seen} bytes"),
-            FailedLinkSending::NextPiece { seen, .. } => {
-                let front = self.front;
-                write!(f, "{}", ShapeWords { shape: seen, front })
-            }
-            FailedLinkSending::Number { seen, .. } => write!(f, "segment {seen}"),
-            FailedLinkSending::AsFirstGiven { number, seen, .. } => {
-                let words = OtherwiseWords {
-                    number,
-                    shape: seen,
-                    front: self.front,
-                };
-                write!(f, "{words}")
-            }
+/// Writes what would be right there, with the digits of the first bytes: with it the check is passed.
+pub fn write_link_sending_allowed<W: Write>(
+    f: &mut Formatter<W>,
+    failed: FailedLinkSending,
+    front: &str,
+) -> fmt::Result
+    ensures { WritesOnOk W.write_str_gives f.old result (spec.link_sending_allowed failed front.now) f.new }
+{
+    match failed {
+        FailedLinkSending::Nodes { allowed, .. } => {
+            write!(f, "{}", NodesWords { nodes: allowed })
         }
-    }
-}
-
-/// What would be right there, with the digits of the first bytes: with it the check is passed.
-#[derive(Clone, Copy)]
-pub struct LinkSendingAllowed<'t> {
-    pub failed: FailedLinkSending,
-    pub front: &'t str,
-}
-
-impl fmt::Display for LinkSendingAllowed<'_> {
-    ghost use Rattle.std.specs.Prelude.{Some};
-    ghost use Rattle.why.specs.LinkChecks.{link_sending_allowed};
-
-    ghost output = { λ words. Some (link_sending_allowed words.failed words.front.now) };
-
-    fn fmt<W: fmt::Write>(&self, f: &mut fmt::Formatter<W>) -> fmt::Result {
-        match self.failed {
-            FailedLinkSending::Nodes { allowed, .. } => {
-                write!(f, "{}", NodesWords { nodes: allowed })
-            }
-            FailedLinkSending::NoLink(missing) => write!(f, "{}", WantedWords { missing }),
-            FailedLinkSending::Phase { allowed, .. } => {
-                let phase = PhaseName { phase: allowed };
-                write!(f, "a link in {phase}")
-            }
-            FailedLinkSending::Live { .. } => f.write_str("a DC between the addresses of none"),
-            FailedLinkSending::Acknowledgement { allowed, .. } => {
-                write!(f, "{}", AckRange { numbers: allowed })
-            }
-            FailedLinkSending::Room { allowed, .. } => {
-                write!(f, "a new segment while at most {allowed} are outstanding")
-            }
-            FailedLinkSending::Length { allowed, .. } => {
-                write!(f, "at most {allowed} bytes, the SEGSIZE of the other end")
-            }
-            FailedLinkSending::NextPiece { allowed, .. } => {
-                let front = self.front;
-                write!(
-                    f,
-                    "{}",
-                    NextWords {
-                        next: allowed,
-                        front
-                    }
-                )
-            }
-            FailedLinkSending::Number { allowed, .. } => {
-                let numbers = NumberWords { numbers: allowed };
-                write!(f, "segment {numbers}")
-            }
-            FailedLinkSending::AsFirstGiven {
-                number,
-                allowed,
-                ..
-            } => {
-                let shape = ShapeWords {
-                    shape: allowed,
-                    front: self.front,
-                };
-                write!(f, "segment {number} again, as at first: {shape}")
-            }
+        FailedLinkSending::NoLink(missing) => write_wanted(f, missing.wanted),
+        FailedLinkSending::Phase { allowed, .. } => {
+            write!(f, "a link in {}", phase_name(allowed))
+        }
+        FailedLinkSending::Live { .. } => f.write_str("a DC between the addresses of none"),
+        FailedLinkSending::Acknowledgement { allowed, .. } => write_ack_range(f, allowed),
+        FailedLinkSending::Room { allowed, .. } => {
+            write!(f, "a new segment while at most {allowed} are outstanding")
+        }
+        FailedLinkSending::Length { allowed, .. } => {
+            write!(f, "at most {allowed} bytes, the SEGSIZE of the other end")
+        }
+        FailedLinkSending::NextPiece { allowed, .. } => write_next(f, allowed, front),
+        FailedLinkSending::Number { allowed, .. } => {
+            f.write_str("segment ")?;
+            write_numbers(f, allowed)
+        }
+        FailedLinkSending::AsFirstGiven {
+            number,
+            allowed,
+            ..
+        } => {
+            let shape = ShapeWords {
+                shape: allowed,
+                front,
+            };
+            write!(f, "segment {number} again, as at first: {shape}")
         }
     }
 }

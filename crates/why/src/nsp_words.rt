@@ -1,108 +1,233 @@
 //! What a message of NSP says, in words (NSP 4.0, message formats).
 
-use crate::ack_words::AckWords;
-use crate::nsp_fields::{Unread, Way};
-use crate::nsp_messages::{
-    ConnectConfirmWords, ConnectInitiateWords, DataAckWords, DisconnectConfirmWords,
-    DisconnectInitiateWords, LinkServiceWords, OtherDataAckWords,
+ghost use Rattle.std.specs.Prelude.{◌≡◌};
+ghost use Rattle.std.specs.Fmt.{WritesOnOk};
+ghost use Rattle.dna_packet.specs.Nsp.{segment_view, view};
+ghost use Rattle.dna_packet.specs.ReadingNsp.{nsp_at};
+ghost use Rattle.dna_packet.specs.declared.nsp.Nsp.TheVariants as messages;
+ghost use Rattle.why.specs.NspWords as spec;
+
+use crate::ack_words::write_acks;
+use crate::words::words_if;
+use dna_packet::{
+    ConnectConfirm, ConnectInitiate, DataAck, DisconnectConfirm, DisconnectInitiate, LinkService,
+    Nsp, NspFault, OtherDataAck, Segment, read_nsp,
 };
-use dna_packet::{Nsp, Segment};
-use std::fmt;
+use std::fmt::{self, Formatter, Write};
 
-/// A message of NSP with its fields. Printed as `segment 1 of link 1 -> 2, a whole message, 1 bytes`: SRCADDR stands first. Of what it carries
-/// unread, the number of bytes alone is told.
+/// What these bytes are as a message of NSP, or why they are none.
 #[derive(Clone, Copy)]
-pub struct NspWords<'m, 'a> {
-    pub message: &'m Nsp<'a>,
+pub struct MessageWords<'a> {
+    pub bytes: &'a [u8],
 }
 
-impl fmt::Display for NspWords<'_, '_> {
+impl fmt::Display for MessageWords<'_> {
     ghost use Rattle.std.specs.Prelude.{Some};
-    ghost use Rattle.dna_packet.specs.Nsp.{view};
-    ghost use Rattle.why.specs.NspWords.{nsp_words};
 
-    ghost output = { λ words. Some (nsp_words (view words.message.now)) };
+    ghost output = { λ words. Some (spec.message_words (nsp_at words.bytes.now)) };
 
-    fn fmt<W: fmt::Write>(&self, f: &mut fmt::Formatter<W>) -> fmt::Result {
-        match self.message {
-            Nsp::DataSegment(segment) => write!(f, "{}", SegmentWords { segment }),
-            Nsp::LinkService(message) => write!(f, "{}", LinkServiceWords { message }),
-            Nsp::DataAck(message) => write!(f, "{}", DataAckWords { message }),
-            Nsp::OtherDataAck(message) => write!(f, "{}", OtherDataAckWords { message }),
-            Nsp::ConnectAck(message) => {
-                let dstaddr = message.dstaddr;
-                write!(f, "connect ack to link {dstaddr}")
-            }
-            Nsp::NoOperation(message) => {
-                let rest = Unread {
-                    bytes: message.rest,
-                };
-                write!(f, "no operation{rest}")
-            }
-            Nsp::ConnectInitiate(message) => write!(f, "{}", ConnectInitiateWords { message }),
-            Nsp::ConnectConfirm(message) => write!(f, "{}", ConnectConfirmWords { message }),
-            Nsp::DisconnectInitiate(message) => {
-                write!(f, "{}", DisconnectInitiateWords { message })
-            }
-            Nsp::DisconnectConfirm(message) => write!(f, "{}", DisconnectConfirmWords { message }),
+    fn fmt<W: Write>(&self, f: &mut Formatter<W>) -> fmt::Result {
+        match &read_nsp(self.bytes) {
+            Ok(message) => write_nsp(f, message),
+            Err(fault) => f.write_str(nsp_fault_words(*fault)),
         }
     }
 }
 
-// A segment with its acknowledgements and its part of a user's message.
-#[derive(Clone, Copy)]
-struct SegmentWords<'m, 'a> {
-    segment: &'m Segment<'a>,
-}
-
-impl fmt::Display for SegmentWords<'_, '_> {
-    ghost use Rattle.std.specs.Prelude.{Some};
-    ghost use Rattle.dna_packet.specs.Nsp.{segment_view};
-    ghost use Rattle.why.specs.NspWords.{segment_words};
-
-    ghost output = { λ words. Some (segment_words (segment_view words.segment.now)) };
-
-    fn fmt<W: fmt::Write>(&self, f: &mut fmt::Formatter<W>) -> fmt::Result {
-        let segment = self.segment;
-        let number = segment.number;
-        let way = Way {
-            dstaddr: segment.dstaddr,
-            srcaddr: segment.srcaddr,
-        };
-        let acks = AckWords {
-            acks: &segment.acks,
-        };
-        let piece = PieceWords {
-            begins: segment.begins,
-            ends: segment.ends,
-        };
-        let count = segment.body.len();
-        write!(
-            f,
-            "segment {number} of link {way}{acks}, {piece}, {count} bytes"
-        )
+// Writes a message of NSP with its fields, as `segment 1 of link 1 -> 2, a whole message, 1 bytes`: SRCADDR stands first. Of what it carries
+// unread, the number of bytes alone is told.
+fn write_nsp<W: Write>(f: &mut Formatter<W>, message: &Nsp<'_>) -> fmt::Result
+    ensures { WritesOnOk W.write_str_gives f.old result (spec.nsp_words (view message.now)) f.new }
+{
+    match message {
+        Nsp::DataSegment(segment) => write_segment(f, segment),
+        Nsp::LinkService(message) => write_link_service(f, message),
+        Nsp::DataAck(message) => write_data_ack(f, message),
+        Nsp::OtherDataAck(message) => write_other_data_ack(f, message),
+        Nsp::ConnectAck(message) => write!(f, "connect ack to link {}", message.dstaddr),
+        Nsp::NoOperation(message) => {
+            let count = message.rest.len();
+            write!(f, "no operation, {count} bytes, not read further")
+        }
+        Nsp::ConnectInitiate(message) => write_connect_initiate(f, message),
+        Nsp::ConnectConfirm(message) => write_connect_confirm(f, message),
+        Nsp::DisconnectInitiate(message) => write_disconnect_initiate(f, message),
+        Nsp::DisconnectConfirm(message) => write_disconnect_confirm(f, message),
     }
 }
 
-/// Which part of a user's message a segment is.
-#[derive(Clone, Copy)]
-pub struct PieceWords {
-    pub begins: bool,
-    pub ends: bool,
+// Writes a segment with its acknowledgements and its part of a user's message.
+fn write_segment<W: Write>(f: &mut Formatter<W>, segment: &Segment<'_>) -> fmt::Result
+    ensures { WritesOnOk W.write_str_gives f.old result (spec.segment_words (segment_view segment.now)) f.new }
+{
+    let number = segment.number;
+    write!(
+        f,
+        "segment {number} of link {} -> {}",
+        segment.srcaddr, segment.dstaddr
+    )?;
+    write_acks(f, &segment.acks)?;
+    let piece = piece_words(segment.begins, segment.ends);
+    write!(f, ", {piece}, {} bytes", segment.body.len())
 }
 
-impl fmt::Display for PieceWords {
-    ghost use Rattle.std.specs.Prelude.{Some};
-    ghost use Rattle.why.specs.NspWords.{piece_words};
+fn write_link_service<W: Write>(f: &mut Formatter<W>, message: &LinkService<'_>) -> fmt::Result
+    ensures { WritesOnOk W.write_str_gives f.old result (spec.nsp_words (view (messages.LinkService message.now))) f.new }
+{
+    let name = service_name(message.interrupt);
+    let LinkService {
+        dstaddr,
+        srcaddr,
+        rest,
+        ..
+    } = *message;
+    write!(
+        f,
+        "{name} of link {srcaddr} -> {dstaddr}, {} bytes, not read further",
+        rest.len()
+    )
+}
 
-    ghost output = { λ words. Some (piece_words words.begins words.ends) };
+fn service_name(interrupt: bool) -> &'static str
+    ensures { result.now ≡ spec.service_name interrupt }
+{
+    if interrupt {
+        return "interrupt";
+    }
+    "link service"
+}
 
-    fn fmt<W: fmt::Write>(&self, f: &mut fmt::Formatter<W>) -> fmt::Result {
-        match (self.begins, self.ends) {
-            (true, true) => f.write_str("a whole message"),
-            (true, false) => f.write_str("begins a message"),
-            (false, true) => f.write_str("ends a message"),
-            (false, false) => f.write_str("inside a message"),
-        }
+fn write_data_ack<W: Write>(f: &mut Formatter<W>, message: &DataAck) -> fmt::Result
+    ensures { WritesOnOk W.write_str_gives f.old result (spec.nsp_words (view (messages.DataAck message.now))) f.new }
+{
+    write!(
+        f,
+        "data ack of link {} -> {}",
+        message.srcaddr, message.dstaddr
+    )?;
+    write_acks(f, &message.acks)
+}
+
+fn write_other_data_ack<W: Write>(f: &mut Formatter<W>, message: &OtherDataAck<'_>) -> fmt::Result
+    ensures { WritesOnOk W.write_str_gives f.old result (spec.nsp_words (view (messages.OtherDataAck message.now))) f.new }
+{
+    let OtherDataAck {
+        dstaddr,
+        srcaddr,
+        rest,
+    } = *message;
+    write!(
+        f,
+        "other-data ack of link {srcaddr} -> {dstaddr}, {} bytes, not read further",
+        rest.len()
+    )
+}
+
+fn write_connect_initiate<W: Write>(
+    f: &mut Formatter<W>,
+    message: &ConnectInitiate<'_>,
+) -> fmt::Result
+    ensures { WritesOnOk W.write_str_gives f.old result (spec.nsp_words (view (messages.ConnectInitiate message.now))) f.new }
+{
+    let again = words_if(message.retransmitted, ", sent again");
+    write!(f, "CI of link {}{again}", message.srcaddr)?;
+    write_connect_fields(
+        f,
+        message.services,
+        message.info,
+        message.segsize,
+        message.user_data,
+    )
+}
+
+fn write_connect_confirm<W: Write>(
+    f: &mut Formatter<W>,
+    message: &ConnectConfirm<'_>,
+) -> fmt::Result
+    ensures { WritesOnOk W.write_str_gives f.old result (spec.nsp_words (view (messages.ConnectConfirm message.now))) f.new }
+{
+    write!(f, "CC of link {} -> {}", message.srcaddr, message.dstaddr)?;
+    write_connect_fields(
+        f,
+        message.services,
+        message.info,
+        message.segsize,
+        message.user_data,
+    )
+}
+
+// Writes SEGSIZE, SERVICES and INFO of a CI or a CC, and how many bytes of user data it carries.
+fn write_connect_fields<W: Write>(
+    f: &mut Formatter<W>,
+    services: u8,
+    info: u8,
+    segsize: u16,
+    user_data: &[u8],
+) -> fmt::Result
+    ensures { WritesOnOk W.write_str_gives f.old result (spec.connect_words services info segsize user_data.now) f.new }
+{
+    let count = user_data.len();
+    write!(
+        f,
+        ", SEGSIZE {segsize}, services {services}, info {info}, {count} bytes of user data"
+    )
+}
+
+fn write_disconnect_initiate<W: Write>(
+    f: &mut Formatter<W>,
+    message: &DisconnectInitiate<'_>,
+) -> fmt::Result
+    ensures { WritesOnOk W.write_str_gives f.old result (spec.nsp_words (view (messages.DisconnectInitiate message.now))) f.new }
+{
+    let DisconnectInitiate {
+        dstaddr,
+        srcaddr,
+        reason,
+        user_data,
+    } = *message;
+    let count = user_data.len();
+    write!(
+        f,
+        "DI of link {srcaddr} -> {dstaddr}, reason {reason}, {count} bytes of user data"
+    )
+}
+
+fn write_disconnect_confirm<W: Write>(
+    f: &mut Formatter<W>,
+    message: &DisconnectConfirm,
+) -> fmt::Result
+    ensures { WritesOnOk W.write_str_gives f.old result (spec.nsp_words (view (messages.DisconnectConfirm message.now))) f.new }
+{
+    let DisconnectConfirm {
+        dstaddr,
+        srcaddr,
+        reason,
+    } = *message;
+    write!(f, "DC of link {srcaddr} -> {dstaddr}, reason {reason}")
+}
+
+// Which part of a user's message a segment is.
+fn piece_words(begins: bool, ends: bool) -> &'static str
+    ensures { result.now ≡ spec.piece_words begins ends }
+{
+    match (begins, ends) {
+        (true, true) => "a whole message",
+        (true, false) => "begins a message",
+        (false, true) => "ends a message",
+        (false, false) => "inside a message",
+    }
+}
+
+/// Why bytes are no message of NSP.
+pub fn nsp_fault_words(fault: NspFault) -> &'static str
+    ensures { result.now ≡ spec.nsp_fault_words fault }
+{
+    match fault {
+        NspFault::UnknownFlag => "no message of NSP: the flag byte of none",
+        NspFault::MissingField => "no message of NSP: a field is missing or cut",
+        NspFault::BadAckWord => "no message of NSP: a wrong acknowledgement word",
+        NspFault::BadSegnum => "no message of NSP: a wrong segment number",
+        NspFault::TrailingBytes => "no message of NSP: bytes behind its end",
+        NspFault::NonzeroDstaddr => "no message of NSP: DSTADDR of a CI is not 0",
     }
 }

@@ -1,62 +1,59 @@
 //! What the packet of a data message is, in words (Routing Layer 2.0, packet formats).
 
 ghost use Rattle.std.specs.Prelude.{◌≡◌};
+ghost use Rattle.std.specs.Fmt.{WritesOnOk};
+ghost use Rattle.dna_packet.specs.Packet.{view};
+ghost use Rattle.dna_packet.specs.ReadingPacket.{packet_at};
 ghost use Rattle.why.specs.PacketWords as spec;
 
-use dna_packet::{Packet, PacketFault};
-use std::fmt;
+use crate::words::words_if;
+use dna_packet::{Packet, PacketFault, read_packet};
+use nsp_link::Nodes;
+use std::fmt::{self, Formatter, Write};
 
-/// A packet. Printed as `1.1 to 1.2, short data packet, flags 02, 0 nodes passed`, or as a control packet, of which no more is read.
+/// What these bytes are as a packet, or why they are none.
 #[derive(Clone, Copy)]
-pub struct PacketWords<'a> {
-    pub packet: Packet<'a>,
+pub struct RoutingWords<'a> {
+    pub bytes: &'a [u8],
 }
 
-impl fmt::Display for PacketWords<'_> {
+impl fmt::Display for RoutingWords<'_> {
     ghost use Rattle.std.specs.Prelude.{Some};
-    ghost use Rattle.dna_packet.specs.Packet.{view};
-    ghost use Rattle.why.specs.PacketWords.{packet_words};
 
-    ghost output = { λ words. Some (packet_words (view words.packet)) };
+    ghost output = { λ words. Some (spec.routing_words (packet_at words.bytes.now)) };
 
-    fn fmt<W: fmt::Write>(&self, f: &mut fmt::Formatter<W>) -> fmt::Result {
-        match self.packet {
-            Packet::Data {
-                rtflg,
-                dst,
-                src,
-                forward,
-                ..
-            } => {
-                let source = AddressWords { address: src };
-                let destination = AddressWords { address: dst };
-                let header = HeaderWords { rtflg, forward };
-                write!(f, "{source} to {destination}, short data packet, {header}")
-            }
-            Packet::Control(bytes) => {
-                let count = bytes.len();
-                write!(f, "control packet, {count} bytes, not read further")
-            }
+    fn fmt<W: Write>(&self, f: &mut Formatter<W>) -> fmt::Result {
+        match read_packet(self.bytes) {
+            Ok(packet) => write_packet(f, packet),
+            Err(fault) => f.write_str(packet_fault_words(fault)),
         }
     }
 }
 
-/// A node address. Printed as `1.2`: its area and its number there.
-#[derive(Clone, Copy)]
-pub struct AddressWords {
-    pub address: u16,
-}
-
-impl fmt::Display for AddressWords {
-    ghost use Rattle.std.specs.Prelude.{Some};
-    ghost use Rattle.why.specs.PacketWords.{address_words};
-
-    ghost output = { λ words. Some (address_words words.address) };
-
-    fn fmt<W: fmt::Write>(&self, f: &mut fmt::Formatter<W>) -> fmt::Result {
-        let area = self.address / 1024;
-        let node = self.address % 1024;
-        write!(f, "{area}.{node}")
+// Writes a packet, as `1.1 to 1.2, short data packet, flags 02, 0 nodes passed`, or as a control packet, of which no more is read.
+fn write_packet<W: Write>(f: &mut Formatter<W>, packet: Packet<'_>) -> fmt::Result
+    ensures { WritesOnOk W.write_str_gives f.old result (spec.packet_words (view packet.entry)) f.new }
+{
+    match packet {
+        Packet::Data {
+            rtflg,
+            dst,
+            src,
+            forward,
+            ..
+        } => {
+            let nodes = NodesWords {
+                nodes: Nodes {
+                    source: src,
+                    destination: dst,
+                },
+            };
+            let header = HeaderWords { rtflg, forward };
+            write!(f, "{nodes}, short data packet, {header}")
+        }
+        Packet::Control(bytes) => {
+            write!(f, "control packet, {} bytes, not read further", bytes.len())
+        }
     }
 }
 
@@ -69,16 +66,41 @@ struct HeaderWords {
 
 impl fmt::Display for HeaderWords {
     ghost use Rattle.std.specs.Prelude.{Some};
-    ghost use Rattle.why.specs.PacketWords.{header_words};
 
-    ghost output = { λ words. Some (header_words words.rtflg words.forward) };
+    ghost output = { λ words. Some (spec.header_words words.rtflg words.forward) };
 
-    fn fmt<W: fmt::Write>(&self, f: &mut fmt::Formatter<W>) -> fmt::Result {
-        let digits = ByteDigits { byte: self.rtflg };
-        let way_back = WayBackWords { rtflg: self.rtflg };
-        let forward = self.forward;
+    fn fmt<W: Write>(&self, f: &mut Formatter<W>) -> fmt::Result {
+        let HeaderWords { rtflg, forward } = *self;
+        let digits = ByteDigits { byte: rtflg };
+        let way_back = words_if(is_on_its_way_back(rtflg), ", on its way back");
         write!(f, "flags {digits}{way_back}, {forward} nodes passed")
     }
+}
+
+/// Between which nodes a packet goes. Printed as `1.1 to 1.2`: of each its area and its number there.
+#[derive(Clone, Copy)]
+pub struct NodesWords {
+    pub nodes: Nodes,
+}
+
+impl fmt::Display for NodesWords {
+    ghost use Rattle.std.specs.Prelude.{Some};
+
+    ghost output = { λ words. Some (spec.nodes_words words.nodes) };
+
+    fn fmt<W: Write>(&self, f: &mut Formatter<W>) -> fmt::Result {
+        write_address(f, self.nodes.source)?;
+        f.write_str(" to ")?;
+        write_address(f, self.nodes.destination)
+    }
+}
+
+fn write_address<W: Write>(f: &mut Formatter<W>, address: u16) -> fmt::Result
+    ensures { WritesOnOk W.write_str_gives f.old result (spec.address_words address) f.new }
+{
+    let area = address / 1024;
+    let node = address % 1024;
+    write!(f, "{area}.{node}")
 }
 
 /// A byte as two hexadecimal digits.
@@ -89,34 +111,13 @@ pub struct ByteDigits {
 
 impl fmt::Display for ByteDigits {
     ghost use Rattle.std.specs.Prelude.{Some};
-    ghost use Rattle.why.specs.PacketWords.{byte_digits};
 
-    ghost output = { λ digits. Some (byte_digits digits.byte) };
+    ghost output = { λ digits. Some (spec.byte_digits digits.byte) };
 
-    fn fmt<W: fmt::Write>(&self, f: &mut fmt::Formatter<W>) -> fmt::Result {
+    fn fmt<W: Write>(&self, f: &mut Formatter<W>) -> fmt::Result {
         let high = self.byte / 16;
         let low = self.byte % 16;
         write!(f, "{high:x}{low:x}")
-    }
-}
-
-// That a packet is on its way back, where it is.
-#[derive(Clone, Copy)]
-struct WayBackWords {
-    rtflg: u8,
-}
-
-impl fmt::Display for WayBackWords {
-    ghost use Rattle.std.specs.Prelude.{Some};
-    ghost use Rattle.why.specs.PacketWords.{way_back_words};
-
-    ghost output = { λ words. Some (way_back_words (spec.is_on_its_way_back words.rtflg)) };
-
-    fn fmt<W: fmt::Write>(&self, f: &mut fmt::Formatter<W>) -> fmt::Result {
-        if is_on_its_way_back(self.rtflg) {
-            return f.write_str(", on its way back");
-        }
-        Ok(())
     }
 }
 
@@ -128,31 +129,15 @@ pub fn is_on_its_way_back(rtflg: u8) -> bool
 }
 
 /// Why bytes are no packet of a DDCMP circuit.
-#[derive(Clone, Copy)]
-pub struct PacketFaultWords {
-    pub fault: PacketFault,
-}
-
-impl fmt::Display for PacketFaultWords {
-    ghost use Rattle.std.specs.Prelude.{Some};
-    ghost use Rattle.why.specs.PacketWords.{packet_fault_words};
-
-    ghost output = { λ words. Some (packet_fault_words words.fault) };
-
-    fn fmt<W: fmt::Write>(&self, f: &mut fmt::Formatter<W>) -> fmt::Result {
-        match self.fault {
-            PacketFault::Padded => {
-                f.write_str("no packet of this circuit: padding stands in front of it")
-            }
-            PacketFault::LongFormat => {
-                f.write_str("no packet of this circuit: a long format data packet")
-            }
-            PacketFault::Short => {
-                f.write_str("no packet of this circuit: a field of its header is missing or cut")
-            }
-            PacketFault::UnknownFlags => {
-                f.write_str("no packet of this circuit: unknown routing flags")
-            }
+pub fn packet_fault_words(fault: PacketFault) -> &'static str
+    ensures { result.now ≡ spec.packet_fault_words fault }
+{
+    match fault {
+        PacketFault::Padded => "no packet of this circuit: padding stands in front of it",
+        PacketFault::LongFormat => "no packet of this circuit: a long format data packet",
+        PacketFault::Short => {
+            "no packet of this circuit: a field of its header is missing or cut"
         }
+        PacketFault::UnknownFlags => "no packet of this circuit: unknown routing flags",
     }
 }

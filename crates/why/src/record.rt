@@ -2,11 +2,10 @@
 
 ghost use Rattle.std.specs.Prelude.{◌≡◌, IfOk, string_bytes};
 ghost use Rattle.capture.specs.Text.{bytes_text};
-ghost use Rattle.why.specs.RecordLine.{record_line};
-ghost use Rattle.why.specs.RecordText as rows;
+ghost use Rattle.why.specs.RecordTold as spec;
 
-use crate::record_line::RecordKeys;
-use crate::record_rows::RecordRows;
+use crate::form::Form;
+use crate::record_told::RecordTold;
 use capture::Entry;
 use ddcmp_msg::read_unit;
 use std::alloc::{AllocError, Global};
@@ -14,10 +13,11 @@ use std::alloc::{AllocError, Global};
 /// The JSON object of the record of this entry and these bytes, with its LF: `{"what": "record", "kind": "s", "bytes": .., ..}`. The bytes are
 /// printed as hexadecimal digits alone, and whole. Fails for want of memory alone.
 pub fn record_json(alloc: Global, entry: Entry, bytes: &[u8]) -> Result<String, AllocError>
-    ensures { IfOk result (λ text. string_bytes text ≡ record_line entry bytes.now) }
+    ensures { IfOk result (λ text. string_bytes text ≡ spec.record_line entry bytes.now) }
 {
     let spelled = spelled(alloc, bytes)?;
-    let keys = RecordKeys {
+    let keys = RecordTold {
+        form: Form::Object,
         entry,
         digits: spelled.as_str(),
         reading: read_unit(bytes),
@@ -41,10 +41,11 @@ pub fn record_text(
     entry: Entry,
     bytes: &[u8],
 ) -> Result<String, AllocError>
-    ensures { IfOk result (λ text. string_bytes text ≡ rows.record_text name.now line entry bytes.now) }
+    ensures { IfOk result (λ text. string_bytes text ≡ spec.record_text name.now line entry bytes.now) }
 {
     let spelled = spelled(alloc, bytes)?;
-    let rows = RecordRows {
+    let rows = RecordTold {
+        form: Form::Rows,
         entry,
         digits: spelled.as_str(),
         reading: read_unit(bytes),

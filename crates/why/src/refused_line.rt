@@ -1,8 +1,11 @@
 //! The refusal, as a JSON object.
 
+ghost use Rattle.std.specs.Fmt.{WritesOnOk};
+ghost use Rattle.why.specs.Refused as spec;
+
 use crate::accusation::Accusation;
 use pair_judge::Reason;
-use std::fmt;
+use std::fmt::{self, Formatter, Write};
 use wire_base::Side;
 
 /// The record that is refused, with the reason and who is accused. Printed as one JSON object with its LF.
@@ -20,61 +23,38 @@ pub struct RefusedLine {
 
 impl fmt::Display for RefusedLine {
     ghost use Rattle.std.specs.Prelude.{Some};
-    ghost use Rattle.why.specs.Refused.{refused_line};
 
-    ghost output = { λ line. Some (refused_line line) };
+    ghost output = { λ line. Some (spec.refused_line line) };
 
-    fn fmt<W: fmt::Write>(&self, f: &mut fmt::Formatter<W>) -> fmt::Result {
-        let RefusedLine {
-            side,
-            record_number,
-            reason,
-            accusation,
-        } = *self;
-        let place = PlaceKeys { record_number };
-        let reason = ReasonKeys { reason };
-        write!(
-            f,
-            "{{\"what\": \"refused\", \"side\": \"{side}\", {place}, {reason}, \"accuses\": \"{accusation}\"}}\n"
-        )
+    fn fmt<W: Write>(&self, f: &mut Formatter<W>) -> fmt::Result {
+        write_place(f, self.side, self.record_number)?;
+        write_reason(f, self.reason, self.accusation)
     }
 }
 
-// Where the record stands.
-#[derive(Clone, Copy)]
-struct PlaceKeys {
-    record_number: u64,
+// Writes where the record stands.
+fn write_place<W: Write>(f: &mut Formatter<W>, side: Side, place: u64) -> fmt::Result
+    ensures { WritesOnOk W.write_str_gives f.old result (spec.place_keys side place) f.new }
+{
+    // Wide, since a record's number may be any u64.
+    let line = u128::from(place) + 2;
+    write!(
+        f,
+        "{{\"what\": \"refused\", \"side\": \"{side}\", \"record\": {place}, \"line\": {line}"
+    )
 }
 
-impl fmt::Display for PlaceKeys {
-    ghost use Rattle.std.specs.Prelude.{Some};
-    ghost use Rattle.why.specs.Refused.{place_keys};
-
-    ghost output = { λ keys. Some (place_keys keys.record_number) };
-
-    fn fmt<W: fmt::Write>(&self, f: &mut fmt::Formatter<W>) -> fmt::Result {
-        let number = self.record_number;
-        // Wide, since a record's number may be any u64.
-        let line = u128::from(number) + 2;
-        write!(f, "\"record\": {number}, \"line\": {line}")
-    }
-}
-
-// Why it is refused.
-#[derive(Clone, Copy)]
-struct ReasonKeys {
+// Writes why it is refused, and who is accused.
+fn write_reason<W: Write>(
+    f: &mut Formatter<W>,
     reason: Reason,
-}
-
-impl fmt::Display for ReasonKeys {
-    ghost use Rattle.std.specs.Prelude.{Some};
-    ghost use Rattle.why.specs.Refused.{reason_keys};
-
-    ghost output = { λ keys. Some (reason_keys keys.reason) };
-
-    fn fmt<W: fmt::Write>(&self, f: &mut fmt::Formatter<W>) -> fmt::Result {
-        let reason = self.reason;
-        let number = reason.number();
-        write!(f, "\"number\": {number}, \"name\": \"{reason}\"")
-    }
+    accusation: Accusation,
+) -> fmt::Result
+    ensures { WritesOnOk W.write_str_gives f.old result (spec.reason_keys reason accusation) f.new }
+{
+    let number = reason.number();
+    write!(
+        f,
+        ", \"number\": {number}, \"name\": \"{reason}\", \"accuses\": \"{accusation}\"}}\n"
+    )
 }

@@ -4,7 +4,8 @@ ghost use Rattle.std.specs.Prelude.{◌≡◌, ◌++◌, IfOk, OnOk, string_byte
 ghost use Rattle.std.specs.List.{filter, flat_map};
 ghost use Rattle.why.specs.Sides as spec;
 
-use crate::link_line::{LinkLine, LinkRow, has_open};
+use crate::form::Form;
+use crate::link_line::{LinkTold, has_open};
 use crate::state_line::StateLine;
 use crate::state_text::SideRows;
 use nsp_link::LinkView;
@@ -21,7 +22,7 @@ pub fn side_json(alloc: Global, state: StateLine, live: &[LinkView]) -> Result<S
     ensures { IfOk result (λ text. string_bytes text ≡ spec.side_lines state live.now) }
 {
     let mut text = format!(in alloc; "{state}")?;
-    put_lines(&mut text, state.side, live)?;
+    put_links(&mut text, Form::Object, state.side, live)?;
     Ok(text)
 }
 
@@ -43,52 +44,37 @@ pub fn side_text(alloc: Global, state: StateLine, live: &[LinkView]) -> Result<S
     let rows = SideRows { state };
     let mut text = format!(in alloc; "{rows}")?;
     if live.len() <= LINKS_SHOWN {
-        put_rows(&mut text, live)?;
+        put_links(&mut text, Form::Rows, state.side, live)?;
         return Ok(text);
     }
     let unfinished = open_links(alloc, live)?;
     let shown = first_links(unfinished.as_slice());
-    put_rows(&mut text, shown)?;
+    put_links(&mut text, Form::Rows, state.side, shown)?;
     put_more(&mut text, live.len() - shown.len())?;
     Ok(text)
 }
 
-// Appends the JSON objects of links.
-fn put_lines(text: &mut String, side: Side, links: &[LinkView]) -> Result<(), AllocError>
-    ensures { OnOk result (string_bytes text.new ≡ string_bytes text.old ++ flat_map (spec.live_line side) links.now) }
+// Appends links.
+fn put_links(
+    text: &mut String,
+    form: Form,
+    side: Side,
+    links: &[LinkView],
+) -> Result<(), AllocError>
+    ensures { OnOk result (string_bytes text.new ≡ string_bytes text.old ++ flat_map (spec.live_told form side) links.now) }
 {
     for link in links {
-        put_line(text, side, *link)?;
+        put_link(text, form, side, *link)?;
     }
     Ok(())
 }
 
-// Appends the JSON object of a link.
-#[tactic(auto, unfolding(crate::specs::Sides::live_line))]
-fn put_line(text: &mut String, side: Side, link: LinkView) -> Result<(), AllocError>
-    ensures { OnOk result (string_bytes text.new ≡ string_bytes text.old ++ spec.live_line side link) }
+// Appends a link.
+#[tactic(auto, unfolding(crate::specs::Sides::live_told))]
+fn put_link(text: &mut String, form: Form, side: Side, link: LinkView) -> Result<(), AllocError>
+    ensures { OnOk result (string_bytes text.new ≡ string_bytes text.old ++ spec.live_told form side link) }
 {
-    let line = LinkLine { side, link };
-    write!(text, "{line}")
-}
-
-// Appends the row of a link.
-#[tactic(auto, unfolding(crate::specs::Sides::live_row))]
-fn put_row(text: &mut String, link: LinkView) -> Result<(), AllocError>
-    ensures { OnOk result (string_bytes text.new ≡ string_bytes text.old ++ spec.live_row link) }
-{
-    let row = LinkRow { link };
-    write!(text, "{row}")
-}
-
-// Appends the rows of links.
-fn put_rows(text: &mut String, links: &[LinkView]) -> Result<(), AllocError>
-    ensures { OnOk result (string_bytes text.new ≡ string_bytes text.old ++ flat_map spec.live_row links.now) }
-{
-    for link in links {
-        put_row(text, *link)?;
-    }
-    Ok(())
+    write!(text, "{}", LinkTold { form, side, link })
 }
 
 // Appends how many more links are live, where there are any.

@@ -1,6 +1,12 @@
 //! The JSON line of a side.
 
-use ddcmp_station::{OpenCauses, State, StationView};
+ghost use Rattle.std.specs.Prelude.{◌≡◌};
+ghost use Rattle.why.specs.StateLine as spec;
+
+use crate::causes::CausesObject;
+use crate::form::Form;
+use crate::words::NumberOr;
+use ddcmp_station::{State, StationView};
 use std::fmt;
 use wire_base::Side;
 
@@ -21,9 +27,8 @@ pub struct StateLine {
 
 impl fmt::Display for StateLine {
     ghost use Rattle.std.specs.Prelude.{Some};
-    ghost use Rattle.why.specs.StateLine.{state_line};
 
-    ghost output = { λ line. Some (state_line line) };
+    ghost output = { λ line. Some (spec.state_line line) };
 
     fn fmt<W: fmt::Write>(&self, f: &mut fmt::Formatter<W>) -> fmt::Result {
         let StateLine {
@@ -49,20 +54,21 @@ struct StationKeys {
 
 impl fmt::Display for StationKeys {
     ghost use Rattle.std.specs.Prelude.{Some};
-    ghost use Rattle.why.specs.StateLine.{station_keys};
 
-    ghost output = { λ keys. Some (station_keys keys.station) };
+    ghost output = { λ keys. Some (spec.station_keys keys.station) };
 
     fn fmt<W: fmt::Write>(&self, f: &mut fmt::Formatter<W>) -> fmt::Result {
         let station = self.station;
-        let state = StateName {
-            state: station.state,
-        };
+        let state = state_name(station.state);
         let period = station.period;
-        let partner = NumberOrNull {
+        let partner = NumberOr {
+            word: "null",
             number: station.partner,
         };
-        let numbers = NumberKeys { station };
+        let numbers = NumbersTold {
+            form: Form::Object,
+            station,
+        };
         let causes = CausesObject {
             causes: station.open_causes,
         };
@@ -73,144 +79,44 @@ impl fmt::Display for StationKeys {
     }
 }
 
-// The keys of its numbers.
+/// The numbers of a station.
 #[derive(Clone, Copy)]
-struct NumberKeys {
-    station: StationView,
+pub struct NumbersTold {
+    pub form: Form,
+    pub station: StationView,
 }
 
-impl fmt::Display for NumberKeys {
+impl fmt::Display for NumbersTold {
     ghost use Rattle.std.specs.Prelude.{Some};
-    ghost use Rattle.why.specs.StateLine.{number_keys};
 
-    ghost output = { λ keys. Some (number_keys keys.station) };
+    ghost output = { λ told. Some (spec.numbers_told told.form told.station) };
 
     fn fmt<W: fmt::Write>(&self, f: &mut fmt::Formatter<W>) -> fmt::Result {
         let received = self.station.received;
         let acknowledged = self.station.acknowledged;
         let given = self.station.given;
         let to_send = self.station.to_send;
-        write!(
-            f,
-            "\"r\": {received}, \"a\": {acknowledged}, \"n\": {given}, \"t\": {to_send}"
-        )
+        match self.form {
+            Form::Object => write!(
+                f,
+                "\"r\": {received}, \"a\": {acknowledged}, \"n\": {given}, \"t\": {to_send}"
+            ),
+            Form::Rows => write!(
+                f,
+                "R {received} received   A {acknowledged} acknowledged   N {given} given   T {to_send} next to send"
+            ),
+        }
     }
 }
 
 /// The name of a station's state.
-#[derive(Clone, Copy)]
-pub struct StateName {
-    pub state: State,
-}
-
-impl fmt::Display for StateName {
-    ghost use Rattle.std.specs.Prelude.{Some};
-    ghost use Rattle.why.specs.StateLine.{state_name};
-
-    ghost output = { λ name. Some (state_name name.state) };
-
-    fn fmt<W: fmt::Write>(&self, f: &mut fmt::Formatter<W>) -> fmt::Result {
-        match self.state {
-            State::Halted => f.write_str("HALTED"),
-            State::Istrt => f.write_str("ISTRT"),
-            State::Astrt => f.write_str("ASTRT"),
-            State::Running => f.write_str("RUNNING"),
-        }
-    }
-}
-
-/// A number, or `null`.
-#[derive(Clone, Copy)]
-pub struct NumberOrNull {
-    pub number: Option<u64>,
-}
-
-impl fmt::Display for NumberOrNull {
-    ghost use Rattle.std.specs.Prelude.{Some};
-    ghost use Rattle.why.specs.StateLine.{number_or_null};
-
-    ghost output = { λ n. Some (number_or_null n.number) };
-
-    fn fmt<W: fmt::Write>(&self, f: &mut fmt::Formatter<W>) -> fmt::Result {
-        match self.number {
-            Some(number) => write!(f, "{number}"),
-            None => f.write_str("null"),
-        }
-    }
-}
-
-// The reasons that have open causes, with how many.
-#[derive(Clone, Copy)]
-struct CausesObject {
-    causes: OpenCauses,
-}
-
-impl fmt::Display for CausesObject {
-    ghost use Rattle.std.specs.Prelude.{Some};
-    ghost use Rattle.why.specs.StateLine.{open_causes};
-
-    ghost output = { λ object. Some (open_causes object.causes) };
-
-    fn fmt<W: fmt::Write>(&self, f: &mut fmt::Formatter<W>) -> fmt::Result {
-        let OpenCauses {
-            header_check,
-            data_check,
-            rep_response,
-            no_buffer,
-        } = self.causes;
-        let has_header = header_check > 0;
-        let has_data = data_check > 0;
-        let has_rep = rep_response > 0;
-        let header = CauseEntry {
-            behind: false,
-            reason: 1,
-            count: header_check,
-        };
-        let data = CauseEntry {
-            behind: has_header,
-            reason: 2,
-            count: data_check,
-        };
-        let rep = CauseEntry {
-            behind: has_header || has_data,
-            reason: 3,
-            count: rep_response,
-        };
-        let buffer = CauseEntry {
-            behind: has_header || has_data || has_rep,
-            reason: 8,
-            count: no_buffer,
-        };
-        write!(f, "{{{header}{data}{rep}{buffer}}}")
-    }
-}
-
-// One reason, if it has open causes; behind another one it is set off.
-#[derive(Clone, Copy)]
-struct CauseEntry {
-    behind: bool,
-    reason: u8,
-    count: u64,
-}
-
-impl fmt::Display for CauseEntry {
-    ghost use Rattle.std.specs.Prelude.{Some};
-    ghost use Rattle.why.specs.StateLine.{cause_entry};
-
-    ghost output = { λ entry. Some (cause_entry entry.behind entry.reason entry.count) };
-
-    fn fmt<W: fmt::Write>(&self, f: &mut fmt::Formatter<W>) -> fmt::Result {
-        let CauseEntry {
-            behind,
-            reason,
-            count,
-        } = *self;
-        if count == 0 {
-            return Ok(());
-        }
-        if behind {
-            return write!(f, ", \"{reason}\": {count}");
-        }
-        write!(f, "\"{reason}\": {count}")
+pub fn state_name(state: State) -> &'static str
+    ensures { result.now ≡ spec.state_name state }
+{
+    match state {
+        State::Halted => "HALTED",
+        State::Istrt => "ISTRT",
+        State::Astrt => "ASTRT",
+        State::Running => "RUNNING",
     }
 }

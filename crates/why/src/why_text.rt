@@ -1,21 +1,17 @@
 //! All that is said of a refused record.
 
-ghost use Rattle.std.specs.Prelude.{◌≡◌, ◌++◌, IfOk, OnOk, string_bytes};
+ghost use Rattle.std.specs.Prelude.{◌≡◌, IfOk, string_bytes};
 ghost use Rattle.why.specs.Whole as spec;
 
 use crate::accusation::{Accusation, AccusedRow};
-use crate::checks::{CheckLine, CheckRows};
-use crate::edits::{EditsTried, RecorderRow, SoRow};
-use crate::ends::{live_links, state_of};
-use crate::front_texts::FrontTexts;
-use crate::record::{record_json, record_text};
+use crate::edits::{EditsTried, RecorderRow, so_row};
+use crate::ends::state_at;
+use crate::form::Form;
 use crate::refused_line::RefusedLine;
-use crate::sides::{side_json, side_text};
+use crate::refused_record::{RefusedRecord, end_told, record_objects, record_rows};
 use capture::Entry;
-use ddcmp_msg::read_unit;
-use pair_judge::{FailedCheck, JudgedEnds, Reason, SideEnd};
+use pair_judge::{FailedCheck, JudgedEnds, Reason};
 use std::alloc::{AllocError, Global};
-use std::fmt::Write;
 use wire_base::Side;
 
 /// A record that is refused.
@@ -65,13 +61,11 @@ pub fn why_json(
 ) -> Result<String, AllocError>
     ensures { IfOk result (λ text. string_bytes text ≡ spec.why_lines refusal.entry ends.now edits.now tried) }
 {
-    let mut text = refused_object(alloc, refusal)?;
-    put_record_object(alloc, &mut text, refusal)?;
-    put_own_check_object(alloc, &mut text, refusal, ends)?;
-    put_side_objects(alloc, &mut text, ends, refusal.side)?;
-    put_side_objects(alloc, &mut text, ends, refusal.side.other())?;
-    put_edit_objects(&mut text, edits, tried)?;
-    Ok(text)
+    let side = refusal.side;
+    let record = record_objects(alloc, record_of(refusal), ends.end(side), refusal.unit_name)?;
+    let own = side_told(alloc, Form::Object, side, ends)?;
+    let other = side_told(alloc, Form::Object, side.other(), ends)?;
+    format!(in alloc; "{record}{own}{other}{edits}{tried}")
 }
 
 /// All rows of a refused record behind the line of the verdict: the record and the unit that its hint names; the check; both sides with their
@@ -84,190 +78,61 @@ pub fn why_rows(
 ) -> Result<String, AllocError>
     ensures { IfOk result (λ text. string_bytes text ≡ spec.why_rows refusal.entry ends.now shown.entry) }
 {
-    let mut text = record_rows(alloc, refusal, shown)?;
-    put_own_check_rows(alloc, &mut text, refusal, ends)?;
-    put_side_rows(alloc, &mut text, ends, refusal.side)?;
-    put_side_rows(alloc, &mut text, ends, refusal.side.other())?;
-    put_ladder(&mut text, shown)?;
-    put_accused(&mut text, refusal)?;
-    put_recorder(&mut text, shown)?;
-    Ok(text)
-}
-
-// The JSON object of the refusal.
-#[tactic(auto, unfolding(crate::specs::Whole::refused_part))]
-fn refused_object(alloc: Global, refusal: Refusal<'_>) -> Result<String, AllocError>
-    ensures { IfOk result (λ text. string_bytes text ≡ spec.refused_part refusal.entry) }
-{
-    let refused = RefusedLine {
-        side: refusal.side,
-        record_number: refusal.place,
-        reason: refusal.reason,
+    let side = refusal.side;
+    let Shown {
+        name,
+        unit,
+        ladder,
+        ..
+    } = shown;
+    let end = ends.end(side);
+    let record = record_rows(
+        alloc,
+        record_of(refusal),
+        end,
+        name,
+        unit,
+        refusal.unit_name,
+    )?;
+    let own = side_told(alloc, Form::Rows, side, ends)?;
+    let other = side_told(alloc, Form::Rows, side.other(), ends)?;
+    let accused = AccusedRow {
+        side,
         accusation: refusal.accusation,
     };
-    format!(in alloc; "{refused}")
+    let recorder = recorder_rows(alloc, shown)?;
+    format!(in alloc; "{record}{own}{other}\n{ladder}\n{accused}{recorder}")
 }
 
-// Appends the JSON object of the record.
-#[tactic(auto, unfolding(crate::specs::Whole::record_object))]
-fn put_record_object(
-    alloc: Global,
-    text: &mut String,
-    refusal: Refusal<'_>,
-) -> Result<(), AllocError>
-    ensures { OnOk result (string_bytes text.new ≡ string_bytes text.old ++ spec.record_object refusal.entry) }
+// The record without what only a pair tells of it.
+fn record_of(refusal: Refusal<'_>) -> RefusedRecord<'_>
+    ensures { result ≡ spec.record_of refusal.entry }
 {
-    let object = record_json(alloc, refusal.says, refusal.bytes)?;
-    text.push_str(object.as_str())
+    RefusedRecord {
+        line: RefusedLine {
+            side: refusal.side,
+            record_number: refusal.place,
+            reason: refusal.reason,
+            accusation: refusal.accusation,
+        },
+        failed: Some(refusal.failed),
+        says: refusal.says,
+        bytes: refusal.bytes,
+    }
 }
 
-// Appends the JSON objects of the edits that make the pair a run, and of how many were tried.
-#[tactic(auto, unfolding(crate::specs::Whole::edit_objects))]
-fn put_edit_objects(text: &mut String, edits: &str, tried: EditsTried) -> Result<(), AllocError>
-    ensures { OnOk result (string_bytes text.new ≡ string_bytes text.old ++ spec.edit_objects edits.now tried) }
+// A side and its live links.
+fn side_told(alloc: Global, form: Form, side: Side, ends: &JudgedEnds) -> Result<String, AllocError>
+    ensures { IfOk result (λ text. string_bytes text ≡ spec.side_told form side ends.now) }
 {
-    write!(text, "{edits}{tried}")
+    let end = ends.end(side);
+    end_told(alloc, form, state_at(side, end), end)
 }
 
-// Appends the rows before the record between two empty ones.
-#[tactic(auto, unfolding(crate::specs::Whole::ladder_part))]
-fn put_ladder(text: &mut String, shown: Shown<'_>) -> Result<(), AllocError>
-    ensures { OnOk result (string_bytes text.new ≡ string_bytes text.old ++ spec.ladder_part shown.entry) }
-{
-    let ladder = shown.ladder;
-    write!(text, "\n{ladder}\n")
-}
-
-// The rows of the record and of the unit that its hint names, and an empty one.
-#[tactic(auto, unfolding(crate::specs::Whole::record_part))]
-fn record_rows(alloc: Global, refusal: Refusal<'_>, shown: Shown<'_>) -> Result<String, AllocError>
-    ensures { IfOk result (λ text. string_bytes text ≡ spec.record_part refusal.entry shown.entry) }
-{
-    let line = u128::from(refusal.place) + 2;
-    let record = record_text(alloc, shown.name, line, refusal.says, refusal.bytes)?;
-    let unit = shown.unit;
-    format!(in alloc; "{record}{unit}\n")
-}
-
-// Appends the JSON object of the check.
-#[tactic(auto, unfolding(crate::specs::Whole::check_object))]
-fn put_check_object(
-    alloc: Global,
-    text: &mut String,
-    refusal: Refusal<'_>,
-    end: &SideEnd,
-) -> Result<(), AllocError>
-    ensures { OnOk result (string_bytes text.new ≡ string_bytes text.old ++ spec.check_object refusal.entry end.now) }
-{
-    let fronts = FrontTexts::of(alloc, end, refusal.says, refusal.bytes, refusal.unit_name)?;
-    let line = CheckLine {
-        side: refusal.side,
-        reason: refusal.reason,
-        failed: refusal.failed,
-        reading: read_unit(refusal.bytes),
-        fronts: fronts.lent(),
-    };
-    write!(text, "{line}")
-}
-
-// The same at the end of the record's side.
-#[tactic(auto, unfolding(crate::specs::Whole::own_check_object))]
-fn put_own_check_object(
-    alloc: Global,
-    text: &mut String,
-    refusal: Refusal<'_>,
-    ends: &JudgedEnds,
-) -> Result<(), AllocError>
-    ensures { OnOk result (string_bytes text.new ≡ string_bytes text.old ++ spec.own_check_object refusal.entry ends.now) }
-{
-    put_check_object(alloc, text, refusal, ends.end(refusal.side))
-}
-
-// Appends the rows of the check, and an empty one.
-#[tactic(auto, unfolding(crate::specs::Whole::check_part))]
-fn put_check_rows(
-    alloc: Global,
-    text: &mut String,
-    refusal: Refusal<'_>,
-    end: &SideEnd,
-) -> Result<(), AllocError>
-    ensures { OnOk result (string_bytes text.new ≡ string_bytes text.old ++ spec.check_part refusal.entry end.now) }
-{
-    let fronts = FrontTexts::of(alloc, end, refusal.says, refusal.bytes, refusal.unit_name)?;
-    let rows = CheckRows {
-        side: refusal.side,
-        reason: refusal.reason,
-        failed: refusal.failed,
-        reading: read_unit(refusal.bytes),
-        fronts: fronts.lent(),
-    };
-    write!(text, "{rows}\n")
-}
-
-// The same at the end of the record's side.
-#[tactic(auto, unfolding(crate::specs::Whole::own_check_part))]
-fn put_own_check_rows(
-    alloc: Global,
-    text: &mut String,
-    refusal: Refusal<'_>,
-    ends: &JudgedEnds,
-) -> Result<(), AllocError>
-    ensures { OnOk result (string_bytes text.new ≡ string_bytes text.old ++ spec.own_check_part refusal.entry ends.now) }
-{
-    put_check_rows(alloc, text, refusal, ends.end(refusal.side))
-}
-
-// Appends the JSON objects of a side and of its live links.
-#[tactic(auto, unfolding(crate::specs::Whole::side_objects))]
-fn put_side_objects(
-    alloc: Global,
-    text: &mut String,
-    ends: &JudgedEnds,
-    side: Side,
-) -> Result<(), AllocError>
-    ensures { OnOk result (string_bytes text.new ≡ string_bytes text.old ++ spec.side_objects side ends.now) }
-{
-    let live = live_links(alloc, ends, side)?;
-    let lines = side_json(alloc, state_of(ends, side), live.as_slice())?;
-    text.push_str(lines.as_str())
-}
-
-// Appends the rows of a side and of its live links.
-#[tactic(auto, unfolding(crate::specs::Whole::side_part))]
-fn put_side_rows(
-    alloc: Global,
-    text: &mut String,
-    ends: &JudgedEnds,
-    side: Side,
-) -> Result<(), AllocError>
-    ensures { OnOk result (string_bytes text.new ≡ string_bytes text.old ++ spec.side_part side ends.now) }
-{
-    let live = live_links(alloc, ends, side)?;
-    let rows = side_text(alloc, state_of(ends, side), live.as_slice())?;
-    text.push_str(rows.as_str())
-}
-
-// Appends the row of who is accused.
-#[tactic(auto, unfolding(crate::specs::Whole::accused_part))]
-fn put_accused(text: &mut String, refusal: Refusal<'_>) -> Result<(), AllocError>
-    ensures { OnOk result (string_bytes text.new ≡ string_bytes text.old ++ spec.accused_part refusal.entry) }
-{
-    let row = AccusedRow {
-        side: refusal.side,
-        accusation: refusal.accusation,
-    };
-    write!(text, "{row}")
-}
-
-// Appends the rows of what small edits tell of the recorder.
-#[tactic(auto, unfolding(crate::specs::Whole::recorder_part))]
-fn put_recorder(text: &mut String, shown: Shown<'_>) -> Result<(), AllocError>
-    ensures { OnOk result (string_bytes text.new ≡ string_bytes text.old ++ spec.recorder_part shown.entry) }
+// The rows of what small edits tell of the recorder.
+fn recorder_rows(alloc: Global, shown: Shown<'_>) -> Result<String, AllocError>
+    ensures { IfOk result (λ text. string_bytes text ≡ spec.recorder_rows shown.entry) }
 {
     let row = RecorderRow { edits: shown.tried };
-    let edits = shown.edits;
-    let so = SoRow {
-        accepted: shown.tried.accepted,
-    };
-    write!(text, "{row}{edits}{so}")
+    format!(in alloc; "{row}{}{}", shown.edits, so_row(shown.tried.accepted))
 }

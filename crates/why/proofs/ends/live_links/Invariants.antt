@@ -2,7 +2,7 @@ use Rattle.std.proofs.Common.{◌≡◌, map, take}
 use Rattle.std.specs.List.{filter}
 use Rattle.nsp_link.specs.View.{view_of}
 use Rattle.why.specs.Ends.{is_live_view}
-use Rattle.why.proofs.ends.live_links_at.Given as goal
+use Rattle.why.proofs.ends.live_links.Given as goal
 
 abbrev pub invariant-loop-number : goal.invariant-loop-number
 invariant-loop-number l =

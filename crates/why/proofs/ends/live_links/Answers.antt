@@ -4,7 +4,7 @@ use Rattle.nsp_link.specs.View.{view_of}
 use Rattle.nsp_link.specs.declared.view.LinkView.{LinkView}
 use Rattle.why.specs.Ends.{if_live, is_live_view}
 use Rattle.why.proofs.Kept.{seen_all, seen_more}
-use Rattle.why.proofs.ends.live_links_at.Goals as goal
+use Rattle.why.proofs.ends.live_links.Goals as goal
 
 pub loop-number-preserved : goal.loop-number-preserved
 loop-number-preserved c =

@@ -1,0 +1,85 @@
+//! What stands in several phrases.
+
+ghost use Rattle.std.specs.Prelude.{◌≡◌};
+ghost use Rattle.std.specs.Fmt.{WritesOnOk};
+ghost use Rattle.why.specs.Words as spec;
+
+use std::fmt::{self, Formatter, Write};
+use wire_base::Side;
+
+/// These words, where that is so; else none.
+pub fn words_if(is_so: bool, words: &str) -> &str
+    ensures { result.now ≡ spec.words_if is_so words.now }
+{
+    if is_so {
+        return words;
+    }
+    ""
+}
+
+/// A number, or this word where there is none.
+#[derive(Clone, Copy)]
+pub struct NumberOr<'w> {
+    pub word: &'w str,
+    pub number: Option<u64>,
+}
+
+impl fmt::Display for NumberOr<'_> {
+    ghost use Rattle.std.specs.Prelude.{Some};
+
+    ghost output = { λ words. Some (spec.number_or words.word.now words.number) };
+
+    fn fmt<W: Write>(&self, f: &mut Formatter<W>) -> fmt::Result {
+        match self.number {
+            Some(number) => write!(f, "{number}"),
+            None => f.write_str(self.word),
+        }
+    }
+}
+
+/// The same of a short number.
+pub fn short_number_or(word: &str, number: Option<u16>) -> NumberOr<'_>
+    ensures { spec.number_or result.word.now result.number ≡ spec.number_or word.now number }
+{
+    let number = match number {
+        Some(number) => Some(u64::from(number)),
+        None => None,
+    };
+    NumberOr { word, number }
+}
+
+/// Writes a start of a side behind what is said of it, as `, goes with start 1 of b`; nothing where the start is not known.
+pub fn write_known_start<W: Write>(
+    f: &mut Formatter<W>,
+    verb: &str,
+    side: Side,
+    period: Option<u64>,
+) -> fmt::Result
+    ensures { WritesOnOk W.write_str_gives f.old result (spec.known_start verb.now side period) f.new }
+{
+    match period {
+        Some(period) => write!(f, ", {verb} start {period} of {side}"),
+        None => Ok(()),
+    }
+}
+
+/// Numbers from a first one through a last one. Printed as `1 to 2`, or as the one where both are the same.
+#[derive(Clone, Copy)]
+pub struct Range {
+    pub first: u16,
+    pub last: u16,
+}
+
+impl fmt::Display for Range {
+    ghost use Rattle.std.specs.Prelude.{Some};
+
+    ghost output = { λ range. Some (spec.range range.first range.last) };
+
+    fn fmt<W: Write>(&self, f: &mut Formatter<W>) -> fmt::Result {
+        let Range { first, last } = *self;
+        if first == last {
+            return write!(f, "{first}");
+        }
+        write!(f, "{first} to {last}")
+    }
+}
