@@ -18,7 +18,7 @@ use Rattle.player_end.specs.inner.Index.{LivesAt, among_live, live_of, place_amo
 use Rattle.player_end.specs.inner.Links.{changed_to, gone, retried_end, with_change}
 use Rattle.player_end.specs.inner.Index.{IsIndexed}
 use Rattle.player_end.proofs.Indexed.{Knows, changed_indexed, same_indexed, set_indexed}
-use Rattle.player_end.proofs.Keeping.{Keeps, same_port}
+use Rattle.player_end.proofs.Keeping.{Keeps, same_port, as_made, keeps_acted, keeps_called, keeps_closed, keeps_confirmed, keeps_acks}
 use Rattle.player_end.proofs.Searching.{lives, place_same}
 use Rattle.player_end.proofs.Turns.{chosen_stands}
 
@@ -85,6 +85,10 @@ module _ {items : List LinkEnd} {confirms : List EndConfirm} {s : KeptLinks} {n 
   pub kept_made : (f : LinkEnd → LinkEnd) {m : LinkEnd} → Keeps l m → m ≡ f l → (link : LinkEnd) →
       slice_get s.links n ≡ Some link → live_of (with_it m) ≡ changed (place_among n s.links) (f link) (live_of s)
   kept_made f keeps e link found = live_made f e (keeps.live l_lives) link found
+
+  pub kept_by : {f : LinkEnd → LinkEnd} → ((k : LinkEnd) → Keeps k (f k)) → {m : LinkEnd} → m ≡ f l → (link : LinkEnd) →
+      slice_get s.links n ≡ Some link → live_of (with_it m) ≡ changed (place_among n s.links) (f link) (live_of s)
+  kept_by {f} keeps made = kept_made f (as_made made (keeps l)) made
 
   pub kept_if_ok : {A E : Type 0} (r : Result A E) (f : LinkEnd → LinkEnd) {m : LinkEnd} → Keeps l m → OnOk r (m ≡ f l) → (link : LinkEnd) →
       slice_get s.links n ≡ Some link → OnOk r (live_of (with_it m) ≡ changed (place_among n s.links) (f link) (live_of s))
@@ -181,6 +185,14 @@ module _ {items : List LinkEnd} {confirms : List EndConfirm} {s : KeptLinks} {n 
   pub no_retry : (r : Bool) → (r ≡ false → retried l.port.phase ≡ None) → (link : LinkEnd) → slice_get s.links n ≡ Some link → r ≡ false →
       retried link.port.phase ≡ None
   no_retry r h link found e = ap (λ (k : LinkEnd). retried k.port.phase) (sym (same_link link found)) ∙ h e
+
+-- a change that leaves its addresses, as the tactic finds it
+pub change_indexed : {items : List LinkEnd} {confirms : List EndConfirm} {s : KeptLinks} {n : ℕ} {l m k : LinkEnd} {h c : Knows}
+    {marks marks' : List ℕ} → m ≡ k → Keeps l k → l ≡ get_or items n l → record { links = items; confirms = confirms } ≡ s →
+    n < length s.links → LivesAt n s → marks' ≡ slice_set marks n 1 → IsIndexed items h c marks → IsIndexed (set items n m) h c marks'
+change_indexed made keeps there is within live marked index = index_made (in_place is within there live) index marked (as_made made keeps)
+
+pub ruleset changes = (change_indexed, keeps_acted, keeps_called, keeps_closed, keeps_confirmed, keeps_acks)
 
 -- one begins
 pub begun_made : (items : List LinkEnd) (confirms : List EndConfirm) (s : KeptLinks) → record { links = items; confirms = confirms } ≡ s →
