@@ -22,8 +22,8 @@ use Rattle.dna_links.specs.CutFlow.{IsOrdered, IsAnswered}
 use Rattle.dna_links.specs.Captures.{given_address}
 use Rattle.dna_links.specs.Runs.{SentMessage}
 use Rattle.dna_node.specs.Layers.{stations}
-use Rattle.dna_play.specs.Owed.{Debt, timer_debt, OwesStrt}
-use Rattle.dna_play.specs.LinkOwed.{LinkOwed, InitiateTurn, ConfirmTurn, DisconnectTurn, retried, changed, LinkDebt}
+use Rattle.dna_play.specs.Owed.{Debt, timer_debt, OwesStrt, Owed}
+use Rattle.dna_play.specs.LinkOwed.{LinkOwed, InitiateTurn, ConfirmTurn, DisconnectTurn, retried, changed, LinkDebt, LinksOwed}
 use Rattle.dna_play.specs.Player.{End, station_of, links_of, after_record, new_end}
 use Rattle.dna_play.specs.Player as player
 use Rattle.dna_play.specs.Stepped.{owing_more, Stop, Stepped, links_owing_more}
@@ -127,19 +127,19 @@ module _ (e : End) (h : Stage e) (numbers : HasNumbers (links_of e.half).links) 
     ahead = h.ahead;
   }
 
--- ---- timers
+-- ---- timers, and one thing more is owed
 
 module _ (e : End) (h : Stage e) where
+  -- what is owed changes alone
+  owed_stage : (owed : Owed) (links_owed : LinksOwed) → StationPays (station_of e.half) owed →
+      LinkHolds (links_of e.half).links e.addresses links_owed → Stage (record e { owed = owed; links_owed = links_owed })
+  owed_stage owed links_owed pays links =
+      record { pays = pays; packets = h.packets; links = links; plain = h.plain; few = h.few; ahead = h.ahead }
+
   pub timer_stage : (debt : Debt) → timer_debt (player.variables_of e.half).state (player.variables_of e.half) ≡ Some debt →
       Stage (owing_more (Some debt) e)
-  timer_stage debt is = subst (λ (o : Option Debt). Stage (owing_more o e)) is (record {
-    pays = timer_pays (player.variables_of e.half) (station_of e.half).causes e.owed (player.variables_of e.half).state h.pays;
-    packets = h.packets;
-    links = h.links;
-    plain = h.plain;
-    few = h.few;
-    ahead = h.ahead;
-  })
+  timer_stage debt is = subst (λ (o : Option Debt). Stage (owing_more o e)) is (owed_stage _ _
+      (timer_pays (player.variables_of e.half) (station_of e.half).causes e.owed (player.variables_of e.half).state h.pays) h.links)
 
   retried_fits : (l : LinkOf TrueFlow) (o : LinkOwed) (phase : Phase) → l.port.phase ≡ phase → (change : LinkOwed → LinkOwed) →
       retried phase ≡ Some change → OwedFits l o → OwedFits l (change o)
@@ -155,39 +155,16 @@ module _ (e : End) (h : Stage e) where
 
   pub retry_stage : (number : ℕ) (link : LinkOf TrueFlow) (change : LinkOwed → LinkOwed) → slice_get (links_of e.half).links number ≡ Some link →
       retried link.port.phase ≡ Some change → Stage (record e { links_owed = changed number change e.links_owed })
-  retry_stage number link change there is = record {
-    pays = h.pays;
-    packets = h.packets;
-    links = change_holds (links_of e.half).links e.addresses e.links_owed h.links number change
-        (λ l o at owes. let same = same_Some link l (sym there ∙ at) in
-        retried_fits l o link.port.phase (ap (λ (x : LinkOf TrueFlow). x.port.phase) (sym same)) change is (h.links.owes number l o at owes));
-    plain = h.plain;
-    few = h.few;
-    ahead = h.ahead;
-  }
+  retry_stage number link change there is = owed_stage _ _ h.pays (change_holds (links_of e.half).links e.addresses e.links_owed h.links number change
+      (λ l o at owes. let same = same_Some link l (sym there ∙ at) in
+      retried_fits l o link.port.phase (ap (λ (x : LinkOf TrueFlow). x.port.phase) (sym same)) change is (h.links.owes number l o at owes)))
 
--- ---- one thing more is owed
-
-module _ (e : End) (h : Stage e) where
   pub link_debt_stage : (debt : LinkDebt) → DebtHolds (links_of e.half).links e.addresses debt → Stage (links_owing_more debt e)
-  link_debt_stage debt holds = record {
-    pays = h.pays;
-    packets = h.packets;
-    links = debt_holds (links_of e.half).links e.addresses e.links_owed h.links debt holds;
-    plain = h.plain;
-    few = h.few;
-    ahead = h.ahead;
-  }
+  link_debt_stage debt holds = owed_stage _ _ h.pays (debt_holds (links_of e.half).links e.addresses e.links_owed h.links debt holds)
 
   pub strt_stage : Stage (owing_more (Some OwesStrt) e)
-  strt_stage = record {
-    pays = debt_pays (player.variables_of e.half) (station_of e.half).causes e.owed (Some OwesStrt) (λ reason is. absurd cc) (λ is. absurd cc) h.pays;
-    packets = h.packets;
-    links = h.links;
-    plain = h.plain;
-    few = h.few;
-    ahead = h.ahead;
-  }
+  strt_stage = owed_stage _ _ (debt_pays (player.variables_of e.half) (station_of e.half).causes e.owed (Some OwesStrt) (λ reason is. absurd cc)
+      (λ is. absurd cc) h.pays) h.links
 
   pub passing_stage : Stage (passing e)
   passing_stage = record { pays = h.pays; packets = h.packets; links = h.links; plain = h.plain; few = h.few; ahead = let a = h.ahead in omega arith }

@@ -212,19 +212,15 @@ module _ (own other : LinkSide) (most others : ℕ) (h : IsAddressedSide own oth
 
   message_same : (m : NspValue) → u.packet.message ≡ m → message_arrived true_flows of_anyone own.links m u.truth ≡ message_arrived true_flows
       of_partner own.links m u.truth
-  message_same (ConnectInitiate retransmitted src services info segsize user_data) is = refl
-  message_same (ConnectAck dst) is = refl
-  message_same (NoOperation rest) is = refl
   message_same (ConnectConfirm dst src services info segsize user_data) is = with_same (CallingAt dst) own.links (Ok own.links) _ _
       (λ number link found. ap
       (λ (b : Bool). check b CrossedLink (Ok (changed number (confirmed true_flows of_anyone src segsize tag link) own.links)))
       (sym (for_it src dst number link (ap source is) (ap target is) found)))
-  message_same (DisconnectInitiate dst src reason user_data) is = refl
-  message_same (DisconnectConfirm dst src reason) is = refl
   message_same (DataSegment segment) is = acted_same segment.srcaddr segment.dstaddr _ (ap source is) (ap target is)
   message_same (DataAck dst src acks) is = acted_same src dst _ (ap source is) (ap target is)
   message_same (LinkService interrupt dst src rest) is = acted_same src dst _ (ap source is) (ap target is)
   message_same (OtherDataAck dst src rest) is = acted_same src dst _ (ap source is) (ap target is)
+  message_same m is = refl
 
   pub anyone_same : links_arrived of_anyone own.links u.packet u.truth ≡ links_arrived of_partner own.links u.packet u.truth
   anyone_same = ap (check _ WrongNode) (message_same u.packet.message refl)

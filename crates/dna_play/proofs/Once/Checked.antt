@@ -52,22 +52,16 @@ either_row false r e = refl
 pub row_is_data : (state : State) (m : MessageValue) → has_packet (row state m).effects ≡ true → is_data m ≡ true
 row_is_data Halted m e = absurd cc
 row_is_data Istrt (Strt flags) e = absurd cc
-row_is_data Istrt (Stack flags) e = absurd cc
 row_is_data Istrt m e = absurd cc
 row_is_data Astrt (Strt flags) e = absurd cc
-row_is_data Astrt (Stack flags) e = absurd cc
 row_is_data Astrt (Ack flags resp) e = let never = either_row (eqb resp 0) _ refl in absurd (never_true (sym e ∙ never))
   where
     never_true : true ≡ false → ⊥
     never_true e = cc
 row_is_data Astrt (Data flags resp num body) e = refl
 row_is_data Astrt m e = absurd cc
-row_is_data Running (Strt flags) e = absurd cc
-row_is_data Running (Stack flags) e = absurd cc
-row_is_data Running (Ack flags resp) e = absurd cc
-row_is_data Running (Nak flags reason resp) e = absurd cc
-row_is_data Running (Rep flags num) e = absurd cc
 row_is_data Running (Data flags resp num body) e = refl
+row_is_data Running m e = absurd cc
 
 -- ---- one record
 
@@ -132,10 +126,8 @@ module _ (own other : Half LayersNode LayersUnit) where
         (layers_machine judged) own.state (hint + 1) kept (damage read)
     damage_same true read_as.HeaderBad = refl
     damage_same false read_as.HeaderBad = refl
-    damage_same true read_as.DataBad = refl
-    damage_same false read_as.DataBad = refl
-    damage_same kept (read_as.Sound m) = refl
-    damage_same kept (read_as.Malformed departure) = refl
+    damage_same true read = refl
+    damage_same false read = refl
 
     comes_same : (kept : Bool) (read : ReadingValue) (b : Bool) →
         comes (layers_machine by_bytes) own.state (hint + 1) kept (coming_by b unit read) ≡ comes (layers_machine judged) own.state (hint + 1) kept
@@ -151,25 +143,15 @@ module _ (own other : Half LayersNode LayersUnit) where
   sent_same : (bytes : List ℕ) (r : ReadingValue) → sent_step (layers_machine by_bytes) own.state bytes r ≡ sent_step (layers_machine judged)
       own.state bytes r
   sent_same bytes (read_as.Sound m) = refl
-  sent_same bytes read_as.HeaderBad = refl
-  sent_same bytes read_as.DataBad = refl
-  sent_same bytes (read_as.Malformed departure) = refl
+  sent_same bytes read = refl
 
   noise_same : (r : ReadingValue) → noise_step (layers_machine by_bytes) own.state r ≡ noise_step (layers_machine judged) own.state r
   noise_same (read_as.Sound m) = refl
-  noise_same read_as.HeaderBad = refl
-  noise_same read_as.DataBad = refl
-  noise_same (read_as.Malformed departure) = refl
+  noise_same read = refl
 
   user_same : (event : Event) → user_step (layers_machine by_bytes) own.state event ≡ user_step (layers_machine judged) own.state event
   user_same events.Start = refl
-  user_same events.Halt = refl
-  user_same (events.Open link) = refl
-  user_same (events.Accept partner link) = refl
-  user_same (events.Reject partner link) = refl
-  user_same (events.In link bytes) = refl
-  user_same (events.Up link bytes) = refl
-  user_same (events.Close link) = refl
+  user_same event = refl
 
   -- each record becomes the same
   pub record_same : IsReady → (r : Record) → advance (step (layers_machine by_bytes)) own other r ≡ advance (step (layers_machine judged)) own other r

@@ -14,12 +14,7 @@ use Rattle.dna_play.proofs.Ends.Stage.{HasNumbers}
 
 head_stays : (rules : Rules) (own other h : Half LayersNode LayersUnit) (r : Record) → OnTop rules own other r h → h.state.head ≡ own.state.head
 head_stays rules own other h r (Counted bytes reason) = refl
-head_stays rules own other h r (Unheard bytes) = refl
-head_stays rules own other h r (ByStation event) = refl
-head_stays rules own other h r (ByLinks event of_links links is done) = refl
-head_stays rules own other h r (Again bytes m old) = refl
-head_stays rules own other h r (First bytes m new links carried made) = refl
-head_stays rules own other h r (Receipt hint kept bytes unit arrival there links met) = refl
+head_stays rules own other h r on_top = refl
 
 pub heads_stay : {w end : World LayersNode LayersUnit} {of_a of_b : List Record} → Run layers_pair w of_a of_b end →
     (end.a.state.head ≡ w.a.state.head) × (end.b.state.head ≡ w.b.state.head)

@@ -100,10 +100,7 @@ module _ (rule : PartnerRule) (s : Links) (owed : LinksOwed) (counted : Counted 
       after_all s (repeated_call_debt n phase) ≡ keeping.changed (place n) (keeping.called_again phase (end_of l o)) live
   call_again n l o far found owes Called = owes_more n l o (LiveTo far) (live_to_lives far) found owes ConnectAckTurn
   call_again n l o far found owes Confirming = owes_more n l o (LiveTo far) (live_to_lives far) found owes ConfirmTurn
-  call_again n l o far found owes Calling = stays n l o (LiveTo far) (live_to_lives far) found owes
-  call_again n l o far found owes Running = stays n l o (LiveTo far) (live_to_lives far) found owes
-  call_again n l o far found owes Disconnecting = stays n l o (LiveTo far) (live_to_lives far) found owes
-  call_again n l o far found owes Ended = stays n l o (LiveTo far) (live_to_lives far) found owes
+  call_again n l o far found owes phase = stays n l o (LiveTo far) (live_to_lives far) found owes
 
   call_kept : (src segsize : ℕ) →
       with_link {R = Result Links LinkRefusal} (LiveTo src) s (Ok (begun (called true_flows rule src segsize truth.tag) s)) (λ number link. Ok s)

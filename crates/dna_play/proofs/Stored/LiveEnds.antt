@@ -88,11 +88,7 @@ module _ (test : LinkTest) where
 
 phase_stays : (phase : Phase) → same_phase phase phase ≡ true
 phase_stays Calling = refl
-phase_stays Called = refl
-phase_stays Confirming = refl
-phase_stays Running = refl
-phase_stays Disconnecting = refl
-phase_stays Ended = refl
+phase_stays phase = refl
 
 none_more : (number : ℕ) → distance (wire number) (wire number) ≡ 0
 none_more number = omega arith

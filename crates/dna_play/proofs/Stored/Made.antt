@@ -51,9 +51,7 @@ use Rattle.dna_play.specs.KeptPlay.{with_links}
 
 state_stays : (state : State) → same_state state state ≡ true
 state_stays Halted = refl
-state_stays Istrt = refl
-state_stays Astrt = refl
-state_stays states.Running = refl
+state_stays state = refl
 
 -- it owes what it owed, where no REP is owed once all is acknowledged
 pub owed_same : {L : Type 0} (k : StationVariables L) (owed : Owed) → (owed.rep ≡ true → all_acknowledged k ≡ false) → still_owed k k owed ≡ owed

@@ -251,15 +251,4 @@ module _ (own : End) (other : PlayHalf) (counted : Counted (links_of own.half).l
         AreDistinct left.links → IsLined left m →
         ((after_message m).owed.rep ≡ true → all_acknowledged (player.variables_of (after_message m).half) ≡ false) → Got (after_message m) (Some m)
     message_got (DataSegment segment) near does distinct lined rep = segment_got segment near does distinct lined rep
-    message_got (ConnectInitiate retransmitted src services info segsize user_data) near does distinct lined rep =
-        plain (ConnectInitiate retransmitted src services info segsize user_data) tt refl refl near does
-    message_got (ConnectAck dst) near does distinct lined rep = plain (ConnectAck dst) tt refl refl near does
-    message_got (NoOperation rest) near does distinct lined rep = plain (NoOperation rest) tt refl refl near does
-    message_got (ConnectConfirm dst src services info segsize user_data) near does distinct lined rep =
-        plain (ConnectConfirm dst src services info segsize user_data) tt refl refl near does
-    message_got (DisconnectInitiate dst src reason user_data) near does distinct lined rep =
-        plain (DisconnectInitiate dst src reason user_data) tt refl refl near does
-    message_got (DisconnectConfirm dst src reason) near does distinct lined rep = plain (DisconnectConfirm dst src reason) tt refl refl near does
-    message_got (DataAck dst src acks) near does distinct lined rep = plain (DataAck dst src acks) tt refl refl near does
-    message_got (LinkService interrupt dst src rest) near does distinct lined rep = plain (LinkService interrupt dst src rest) tt refl refl near does
-    message_got (OtherDataAck dst src rest) near does distinct lined rep = plain (OtherDataAck dst src rest) tt refl refl near does
+    message_got m near does distinct lined rep = plain m tt refl refl near does

@@ -35,8 +35,7 @@ kept_station s owed = station_with (cut_of s).variables owed
 sent_variables : (w : WireStation (Unit {0})) (m : MessageValue) (change : Change) →
     (wire_sends w m change).variables ≡ keeping.variables_sent change (body_of m) w.variables
 sent_variables w m Nothing = refl
-sent_variables w m UseCause = refl
-sent_variables w m SendPacket = refl
+sent_variables w m change = refl
 
 pub station_sent : (s : Station) (owed : Owed) → IsOrdered s → (c : Choice) (m : MessageValue) →
     station_with (cut_of (after_sending s m)).variables (after_choice c (left_owed s (after_sending s m) owed)) ≡ keeping.after_sent c m
@@ -87,6 +86,4 @@ module _ (s : Station) (owed : Owed) where
 -- whether the packet of what came can be taken
 pub can_keep_same : (own : End) (read : ReadingValue) → receiving.can_keep own read ≡ keeping.can_keep read (kept own).station
 can_keep_same own (read_as.Sound m) = refl
-can_keep_same own read_as.HeaderBad = refl
-can_keep_same own read_as.DataBad = refl
-can_keep_same own (read_as.Malformed departure) = refl
+can_keep_same own read = refl
