@@ -10,7 +10,7 @@ use Rattle.wire_base.specs.BlockCheck.{HasGoodCheck}
 use Rattle.wire_base.proofs.BlockCheck.{one_byte_shows}
 use Rattle.wire_base.proofs.BlockCheckTests.{AreBytes-take, AreBytes-drop}
 use Rattle.ddcmp_msg.specs.declared.flags.Flags.{Flags}
-use Rattle.ddcmp_msg.specs.Message.{MessageValue, Data, Ack, Nak, Rep, Strt, Stack, IsBytes}
+use Rattle.ddcmp_msg.specs.Message.{MessageValue, Data, IsBytes}
 use Rattle.ddcmp_msg.specs.Spelling.{header, IsUnit}
 use Rattle.ddcmp_msg.specs.Reading.{HeaderBad, DataBad, reading, count_of}
 use Rattle.ddcmp_msg.specs.ReadingRule.{HasGoodHeader, HasGoodData, IsReading, start_of}
@@ -111,11 +111,7 @@ data_shows before x y after fits sent counts far h ne got =
 
 is_data : (message : MessageValue) (unit : List ℕ) → IsUnit message unit → 8 < length unit → IsData unit
 is_data (Data flags resp num body) unit u long = data_parts flags resp num body unit u
-is_data (Ack flags resp) unit u long = absurd (omega (arith, control_ends _ unit u u.rest_is))
-is_data (Nak flags reason resp) unit u long = absurd (omega (arith, control_ends _ unit u u.rest_is))
-is_data (Rep flags num) unit u long = absurd (omega (arith, control_ends _ unit u u.rest_is))
-is_data (Strt flags) unit u long = absurd (omega (arith, control_ends _ unit u u.rest_is))
-is_data (Stack flags) unit u long = absurd (omega (arith, control_ends _ unit u u.rest_is))
+is_data other unit u long = absurd (omega (arith, control_ends _ unit u u.rest_is))
 
 -- ---- any change of one byte
 

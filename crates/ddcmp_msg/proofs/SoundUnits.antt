@@ -82,6 +82,4 @@ ack_unit unit sound other is_ack =
 
 pub no_departure : (result : Reading) → ((message : Message) → result ≡ variants.Sound message → ⊥) → IsSound (reading_view result) → ⊥
 no_departure (variants.Sound message) other sound = other message refl
-no_departure variants.HeaderBad other sound = sound
-no_departure variants.DataBad other sound = sound
-no_departure (variants.Malformed departure) other sound = sound
+no_departure result other sound = sound

@@ -5,7 +5,7 @@ use Rattle.std.specs.Prelude.{slice_range}
 use Rattle.std.proofs.lemmas.List.{length-append, length-drop, length-take, take-append-drop, take_at, take-take, take_all}
 use Rattle.wire_base.specs.BlockCheck.{HasGoodCheck}
 use Rattle.wire_base.proofs.BlockCheckTests.{test_from_good}
-use Rattle.ddcmp_msg.specs.Message.{MessageValue, Data, Ack, Nak, Rep, Strt, Stack, IsInRange, IsBytes}
+use Rattle.ddcmp_msg.specs.Message.{MessageValue, Data, IsInRange, IsBytes}
 use Rattle.ddcmp_msg.specs.Spelling.{header, control, numbered, with_check, rest_of, spelling, IsChecked, IsRest, IsUnit}
 use Rattle.ddcmp_msg.specs.Reading.{count_of, type_of, subtype_of, unit_flags, receiver_of, sender_of, address_of}
 use Rattle.ddcmp_msg.specs.ReadingRule.{HasGoodHeader, HasGoodData, start_of}
@@ -103,11 +103,7 @@ checked_once field bytes fits c =
 
 rest_once : (message : MessageValue) (rest : List ℕ) → IsBytes rest → IsRest message rest → rest ≡ rest_of message
 rest_once (Data flags resp num body) rest fits h = checked_once body rest fits h
-rest_once (Ack flags resp) rest fits h = h
-rest_once (Nak flags reason resp) rest fits h = h
-rest_once (Rep flags num) rest fits h = h
-rest_once (Strt flags) rest fits h = h
-rest_once (Stack flags) rest fits h = h
+rest_once other rest fits h = h
 
 pub spelled_once : (message : MessageValue) (unit : List ℕ) → IsUnit message unit → unit ≡ spelling message
 unfolding spelling

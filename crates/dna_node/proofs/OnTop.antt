@@ -188,9 +188,7 @@ module _ (rules : Rules) (own other h : Half LayersNode LayersUnit) where
   by_reading : (bytes : List ℕ) (r : ReadingValue) → answered own other (sent_step (layers_machine rules) own.state bytes r) ≡ Made h →
       Follows (Sent bytes) (answered low low_other (sent_step (station_machine rules.periods) low.state bytes r))
   by_reading bytes (read_as.Sound m) made = by_refusal bytes m (sending_refusal s.station m) made
-  by_reading bytes read_as.HeaderBad made = absurd cc
-  by_reading bytes read_as.DataBad made = absurd cc
-  by_reading bytes (read_as.Malformed departure) made = absurd cc
+  by_reading bytes other made = absurd cc
 
   -- ---- a receipt
 

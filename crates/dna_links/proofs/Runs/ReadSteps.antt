@@ -100,9 +100,7 @@ module _ (events : List LinkEventValue) (s : Links) (o : AreOwned events s.links
     giving_none (Open link) n g address = (refl, refl)
     giving_none (Accept far link) n g address = (refl, refl)
     giving_none (Reject far link) n g address = (refl, refl)
-    giving_none (In link message) n g address = absurd cc
-    giving_none (Up link message) n g address = absurd cc
-    giving_none (Close link) n g address = absurd cc
+    giving_none other n g address = absurd cc
 
     gives_other : (address : ℕ) → (own ≡ address → ⊥) → gives_address address event ≡ false
     gives_other address differs = ap (λ (x : Option ℕ). is_at x address) gives ∙ ne_eqb own address differs

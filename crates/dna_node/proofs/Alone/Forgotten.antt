@@ -1,6 +1,6 @@
 -- What is asked of the other end looks at nothing that the end alone forgets.
 use Rattle.std.proofs.Common.{◌≡◌, ℕ, Bool, cond, leb, Option, Some, None, Result, Ok, Err, List, refl, ap}
-use Rattle.ddcmp_msg.specs.Message.{MessageValue, Data, Ack, Nak, Rep, Strt, Stack}
+use Rattle.ddcmp_msg.specs.Message.{MessageValue, Data, Ack, Nak}
 use Rattle.dna_packet.specs.declared.ack_word.AckWord.{AckWord}
 use Rattle.dna_packet.specs.Nsp.{NspValue, DataSegment, DataAck}
 use Rattle.dna_station.specs.declared.state.State.{State}
@@ -43,9 +43,7 @@ module _ {L : Type 0} (forget_label : L → L) (k : StationVariables L) where
   wrong_response_of_along (Data flags resp num body) = wrong_response_along resp
   wrong_response_of_along (Ack flags resp) = wrong_response_along resp
   wrong_response_of_along (Nak flags reason resp) = wrong_response_along resp
-  wrong_response_of_along (Rep flags num) = refl
-  wrong_response_of_along (Strt flags) = refl
-  wrong_response_of_along (Stack flags) = refl
+  wrong_response_of_along other = refl
 
 -- ---- over both layers
 
@@ -54,9 +52,7 @@ wrong_unit_along s (Data flags resp num body) =
     ap (λ (o : Option StepRefusal). or_else o (wrong_content (content body))) (wrong_response_along forget_tag s.station.variables resp)
 wrong_unit_along s (Ack flags resp) = wrong_response_along forget_tag s.station.variables resp
 wrong_unit_along s (Nak flags reason resp) = wrong_response_along forget_tag s.station.variables resp
-wrong_unit_along s (Rep flags num) = refl
-wrong_unit_along s (Strt flags) = refl
-wrong_unit_along s (Stack flags) = refl
+wrong_unit_along s other = refl
 
 wrong_acks_along : (own far : ℕ) (acks : List AckWord) (s : WireLinks) → wrong_acks own far acks (forget_links s) ≡ wrong_acks own far acks s
 wrong_acks_along own far acks s =

@@ -1,8 +1,8 @@
 -- In RUNNING a RESP of a right end is among A to N, whatever labels stand beside the packets.
 use Rattle.std.proofs.Common.{◌≡◌, ℕ, ◌-◌, None, List, length, drop, refl, ap, ◌∙◌, subst, arith, le-leb}
-use Rattle.ddcmp_msg.specs.Message.{MessageValue, Data, Ack, Nak, Rep, Strt, Stack}
+use Rattle.ddcmp_msg.specs.Message.{MessageValue, Data, Ack, Nak}
 use Rattle.dna_station.specs.declared.state.State.{State}
-use Rattle.dna_station.specs.declared.state.State.TheVariants.{Halted, Istrt, Astrt, Running}
+use Rattle.dna_station.specs.declared.state.State.TheVariants.{Running}
 use Rattle.dna_station.specs.Table.{row}
 use Rattle.dna_station.specs.Station.{Station, wire}
 use Rattle.dna_station.specs.Truth.{Truth}
@@ -29,14 +29,10 @@ module _ {L : Type 0} (all : List (HeldPacket L)) (s : Station) (fits : AreLabel
       (state : State) → s.state ≡ state → wrong_response_in state (cut all s).variables (resp_of m) ≡ None
   response_right m u within near Running e =
       among (resp_of m) u.response (near (subst (λ (state : State). AreNear s u (row state m).effects) e within.near)) within.wire_numbers.response
-  response_right m u within near Halted e = refl
-  response_right m u within near Istrt e = refl
-  response_right m u within near Astrt e = refl
+  response_right m u within near other e = refl
 
   pub message_right : (m : MessageValue) (u : Truth) → IsWithin s m u → wrong_response_of (cut all s).variables m ≡ None
   message_right (Data flags resp num body) u within = response_right (Data flags resp num body) u within (λ near. near.0) s.state refl
   message_right (Ack flags resp) u within = response_right (Ack flags resp) u within (λ near. near.0) s.state refl
   message_right (Nak flags reason resp) u within = response_right (Nak flags reason resp) u within (λ near. near.0) s.state refl
-  message_right (Rep flags num) u within = refl
-  message_right (Strt flags) u within = refl
-  message_right (Stack flags) u within = refl
+  message_right other u within = refl

@@ -3,7 +3,7 @@ use Rattle.std.proofs.Common.{◌≡◌, ℕ, ◌≤◌, true, Option, Some, Non
 use Rattle.std.specs.Prelude.{slice_get}
 use Rattle.std.proofs.lemmas.Option.{slice_get-map}
 use Rattle.two_nodes.specs.Nodes.{Half, World}
-use Rattle.ddcmp_msg.specs.Message.{MessageValue, Data, Ack, Nak, Rep, Strt, Stack}
+use Rattle.ddcmp_msg.specs.Message.{MessageValue, Data, Ack, Nak}
 use Rattle.capture.specs.declared.record.Record.{Record}
 use Rattle.dna_station.specs.declared.head.Head.{Head}
 use Rattle.dna_station.specs.declared.refusal.StationRefusal.{StationRefusal}
@@ -59,9 +59,7 @@ module _ (s : Layers) (ordered : IsOrdered s.station) where
       message_right (tagged_packets s) s.station (layers_labelled s) ordered (Ack flags resp) u within
   unit_right (Nak flags reason resp) u carried within reads =
       message_right (tagged_packets s) s.station (layers_labelled s) ordered (Nak flags reason resp) u within
-  unit_right (Rep flags num) u carried within reads = refl
-  unit_right (Strt flags) u carried within reads = refl
-  unit_right (Stack flags) u carried within reads = refl
+  unit_right other u carried within reads = refl
 
 -- ---- a packet that is taken
 

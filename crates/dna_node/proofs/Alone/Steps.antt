@@ -67,9 +67,7 @@ module _ {S K : Type 0} {judge : Machine S K} {one : EndOf S K} {forget : S → 
         subst (Agrees (Sent bytes) (answered own other (sends n bytes m (judge.sends n.station m))))
         (ap (end.does v) (sym (along.sends n.station m)) ∙ sends_left v (one.machine.sends v.station m))
         (sends_agree bytes m (judge.sends n.station m))
-    sent_agrees bytes read_as.HeaderBad = λ seen. refl
-    sent_agrees bytes read_as.DataBad = λ seen. refl
-    sent_agrees bytes (Malformed departure) = λ seen. refl
+    sent_agrees bytes other = λ seen. refl
 
     noise_by : (bytes : List ℕ) (o : Result S StepRefusal) →
         Agrees (Noise bytes) (answered own other (does n o)) (end.does v (forget_result forget o))

@@ -59,9 +59,7 @@ module _ (n : Node) (own other : List SentUnit) (h : IsSound n own other) (their
         record { least = omega arith; most = a.1 }
     effect_near now AnswerRep l = let x = is_near l.1 in let e = asks l.0 in let p = x.given_least in let q = x.given_most in
         record { least = omega arith; most = omega arith }
-    effect_near now (GoTo state) l = tt
-    effect_near now TakePartner l = tt
-    effect_near now SetBack l = tt
+    effect_near now other l = tt
 
     effects_near : (now : State) (effects : List Effect) → AreLawful n.station unit.message unit.known.tag now effects →
         AreNear n.station unit.known effects

@@ -4,7 +4,7 @@ use Rattle.std.proofs.lemmas.Bool.{eqb-true}
 use Rattle.std.proofs.lemmas.List.{map-append}
 use Rattle.std.proofs.lemmas.List.Sums.{fold-append}
 use Rattle.two_nodes.specs.Nodes.{Half, World, Run}
-use Rattle.ddcmp_msg.specs.Message.{MessageValue, Data, Ack, Nak, Rep, Strt, Stack}
+use Rattle.ddcmp_msg.specs.Message.{MessageValue, Data, Nak}
 use Rattle.ddcmp_msg.specs.Reading.{ReadingValue, reading}
 use Rattle.ddcmp_msg.specs.Reading as read_as
 use Rattle.capture.specs.declared.record.Record.{Record}
@@ -77,10 +77,7 @@ sending_given s (Data flags resp num body) ordered allowed =
     (sym (number_tells s num ordered (eqb-true num (wire s.next_to_send) (sending_passed s (Data flags resp num body) refl allowed).0))))
 sending_given s (Nak flags reason resp) ordered allowed =
     more_given s (after_sending s (Nak flags reason resp)) (read_as.Sound (Nak flags reason resp)) refl (sym (append-nil s.packets))
-sending_given s (Ack flags resp) ordered allowed = more_given s s (read_as.Sound (Ack flags resp)) refl (sym (append-nil s.packets))
-sending_given s (Rep flags num) ordered allowed = more_given s s (read_as.Sound (Rep flags num)) refl (sym (append-nil s.packets))
-sending_given s (Strt flags) ordered allowed = more_given s s (read_as.Sound (Strt flags)) refl (sym (append-nil s.packets))
-sending_given s (Stack flags) ordered allowed = more_given s s (read_as.Sound (Stack flags)) refl (sym (append-nil s.packets))
+sending_given s other ordered allowed = more_given s s (read_as.Sound other) refl (sym (append-nil s.packets))
 
 -- ---- any record
 
