@@ -7,7 +7,7 @@ ghost use Rattle.capture.specs.Faulty.{CountsReads};
 ghost use Rattle.dna_node.specs.Kind.{both_layers};
 ghost use Rattle.pair_judge.specs.Ends.{verdict_in};
 ghost use Rattle.pair_judge.specs.Faulty.{is_failed_read_of};
-ghost use Rattle.pair_judge.specs.Judged.{IfTold, IsAcceptance, IsExact, IsFaultyWhere, IsRefusalWhere};
+ghost use Rattle.pair_judge.specs.Judged.{IsAnswer};
 ghost use Rattle.pair_judge.specs.Watched.{only};
 ghost use Rattle.coverage.specs.Covered.{WasCovered};
 
@@ -27,13 +27,7 @@ pub fn judge_covered<R: Read, S: Read>(
     a: &mut Tally<R>,
     b: &mut Tally<S>,
 ) -> Result<Watched<Cover>, JudgeFault>
-    ensures exact { IfTold (R.remaining (tally_lent a.old)) (S.remaining (tally_lent b.old))
-        (λ bytes_a bytes_b. IsExact both_layers bytes_a bytes_b (verdict_in (only result (λ watched. watched.ends)))) }
-    ensures accepted { IfTold (R.remaining (tally_lent a.old)) (S.remaining (tally_lent b.old))
-        (λ bytes_a bytes_b. IsAcceptance both_layers bytes_a bytes_b (verdict_in (only result (λ watched. watched.ends)))) }
-    ensures refused { IsRefusalWhere both_layers (R.remaining (tally_lent a.old)) (S.remaining (tally_lent b.old))
-        (verdict_in (only result (λ watched. watched.ends))) }
-    ensures faulty { IsFaultyWhere both_layers (R.remaining (tally_lent a.old)) (S.remaining (tally_lent b.old))
+    ensures answer { IsAnswer both_layers (R.remaining (tally_lent a.old)) (S.remaining (tally_lent b.old))
         (verdict_in (only result (λ watched. watched.ends))) }
     ensures covered { IfOk result (λ watched.
         WasCovered (R.remaining (tally_lent a.old)) (S.remaining (tally_lent b.old)) watched.ends watched.observer) }

@@ -7,7 +7,7 @@ ghost use Rattle.capture.specs.Faulty.{CountsReads};
 ghost use Rattle.dna_node.specs.Kind.{both_layers, stations_alone};
 ghost use Rattle.pair_judge.specs.Ends.{verdict_in};
 ghost use Rattle.pair_judge.specs.Faulty.{is_failed_read_of};
-ghost use Rattle.pair_judge.specs.Judged.{IfTold, IsAcceptance, IsExact, IsFaultyWhere, IsRefusalWhere};
+ghost use Rattle.pair_judge.specs.Judged.{IsAnswer};
 ghost use Rattle.pair_judge.specs.Watched.{WasTold, only};
 
 use super::decide;
@@ -34,13 +34,7 @@ pub fn judge_told<O: Observer, R: Read, S: Read>(
     observer: O,
 ) -> Result<Watched<O>, JudgeFault>
     requires { O.told observer [] }
-    ensures exact { IfTold (R.remaining (tally_lent a.old)) (S.remaining (tally_lent b.old))
-        (λ bytes_a bytes_b. IsExact both_layers bytes_a bytes_b (verdict_in (only result (λ watched. watched.ends)))) }
-    ensures accepted { IfTold (R.remaining (tally_lent a.old)) (S.remaining (tally_lent b.old))
-        (λ bytes_a bytes_b. IsAcceptance both_layers bytes_a bytes_b (verdict_in (only result (λ watched. watched.ends)))) }
-    ensures refused { IsRefusalWhere both_layers (R.remaining (tally_lent a.old)) (S.remaining (tally_lent b.old))
-        (verdict_in (only result (λ watched. watched.ends))) }
-    ensures faulty { IsFaultyWhere both_layers (R.remaining (tally_lent a.old)) (S.remaining (tally_lent b.old))
+    ensures answer { IsAnswer both_layers (R.remaining (tally_lent a.old)) (S.remaining (tally_lent b.old))
         (verdict_in (only result (λ watched. watched.ends))) }
     ensures told { IfOk result (λ watched.
         WasTold both_layers (R.remaining (tally_lent a.old)) (S.remaining (tally_lent b.old)) watched.ends (O.told watched.observer)) }
@@ -61,13 +55,7 @@ pub fn judge_line_told<O: Observer, R: Read, S: Read>(
     observer: O,
 ) -> Result<Watched<O>, JudgeFault>
     requires { O.told observer [] }
-    ensures exact { IfTold (R.remaining (tally_lent a.old)) (S.remaining (tally_lent b.old))
-        (λ bytes_a bytes_b. IsExact stations_alone bytes_a bytes_b (verdict_in (only result (λ watched. watched.ends)))) }
-    ensures accepted { IfTold (R.remaining (tally_lent a.old)) (S.remaining (tally_lent b.old))
-        (λ bytes_a bytes_b. IsAcceptance stations_alone bytes_a bytes_b (verdict_in (only result (λ watched. watched.ends)))) }
-    ensures refused { IsRefusalWhere stations_alone (R.remaining (tally_lent a.old)) (S.remaining (tally_lent b.old))
-        (verdict_in (only result (λ watched. watched.ends))) }
-    ensures faulty { IsFaultyWhere stations_alone (R.remaining (tally_lent a.old)) (S.remaining (tally_lent b.old))
+    ensures answer { IsAnswer stations_alone (R.remaining (tally_lent a.old)) (S.remaining (tally_lent b.old))
         (verdict_in (only result (λ watched. watched.ends))) }
     ensures told { IfOk result (λ watched.
         WasTold stations_alone (R.remaining (tally_lent a.old)) (S.remaining (tally_lent b.old)) watched.ends (O.told watched.observer)) }

@@ -7,7 +7,7 @@ ghost use Rattle.capture.specs.Faulty.{CountsReads};
 ghost use Rattle.dna_node.specs.Kind.{both_layers};
 ghost use Rattle.pair_judge.specs.Ends.{StandsFor, verdict_in};
 ghost use Rattle.pair_judge.specs.Faulty.{is_failed_read_of};
-ghost use Rattle.pair_judge.specs.Judged.{IfTold, IsAcceptance, IsExact, IsFaultyWhere, IsRefusalWhere};
+ghost use Rattle.pair_judge.specs.Judged.{IsAnswer};
 ghost use Rattle.pair_judge.specs.Watched.{WasTold, only};
 
 use super::decide;
@@ -43,12 +43,7 @@ pub fn judge_with_ends<R: Read, S: Read>(
     a: &mut Tally<R>,
     b: &mut Tally<S>,
 ) -> Result<JudgedEnds, JudgeFault>
-    ensures exact { IfTold (R.remaining (tally_lent a.old)) (S.remaining (tally_lent b.old))
-        (λ bytes_a bytes_b. IsExact both_layers bytes_a bytes_b (verdict_in result)) }
-    ensures accepted { IfTold (R.remaining (tally_lent a.old)) (S.remaining (tally_lent b.old))
-        (λ bytes_a bytes_b. IsAcceptance both_layers bytes_a bytes_b (verdict_in result)) }
-    ensures refused { IsRefusalWhere both_layers (R.remaining (tally_lent a.old)) (S.remaining (tally_lent b.old)) (verdict_in result) }
-    ensures faulty { IsFaultyWhere both_layers (R.remaining (tally_lent a.old)) (S.remaining (tally_lent b.old)) (verdict_in result) }
+    ensures answer { IsAnswer both_layers (R.remaining (tally_lent a.old)) (S.remaining (tally_lent b.old)) (verdict_in result) }
     ensures stands { IfOk result (λ ends. StandsFor (R.remaining (tally_lent a.old)) (S.remaining (tally_lent b.old)) ends ends.verdict) }
     ensures reads_a { CountsReads (is_failed_read_of Side.A result) (tally_faults a.old) (tally_faults a.new) }
     ensures reads_b { CountsReads (is_failed_read_of Side.B result) (tally_faults b.old) (tally_faults b.new) }
@@ -72,13 +67,7 @@ pub fn judge_watched<O: Observer, R: Read, S: Read>(
     observer: O,
 ) -> Result<Watched<O>, JudgeFault>
     requires { O.told observer [] }
-    ensures exact { IfTold (R.remaining (tally_lent a.old)) (S.remaining (tally_lent b.old))
-        (λ bytes_a bytes_b. IsExact both_layers bytes_a bytes_b (verdict_in (only result (λ watched. watched.ends)))) }
-    ensures accepted { IfTold (R.remaining (tally_lent a.old)) (S.remaining (tally_lent b.old))
-        (λ bytes_a bytes_b. IsAcceptance both_layers bytes_a bytes_b (verdict_in (only result (λ watched. watched.ends)))) }
-    ensures refused { IsRefusalWhere both_layers (R.remaining (tally_lent a.old)) (S.remaining (tally_lent b.old))
-        (verdict_in (only result (λ watched. watched.ends))) }
-    ensures faulty { IsFaultyWhere both_layers (R.remaining (tally_lent a.old)) (S.remaining (tally_lent b.old))
+    ensures answer { IsAnswer both_layers (R.remaining (tally_lent a.old)) (S.remaining (tally_lent b.old))
         (verdict_in (only result (λ watched. watched.ends))) }
     ensures stands { IfOk result (λ watched.
         StandsFor (R.remaining (tally_lent a.old)) (S.remaining (tally_lent b.old)) watched.ends watched.ends.verdict) }

@@ -23,12 +23,12 @@ returns-in-Accepted g c =
     let of_a = c.new-tally_a.ensures.lent in
     let of_b = c.new-tally_b.ensures.lent in
     explains_acceptance c.args.printout.form _ _ _ _ _ told.watched.ends (record {
-      exact = rw (of_a, of_b) at told.ensures.exact;
-      accepted = rw (of_a, of_b) at told.ensures.accepted;
+      exact = rw (of_a, of_b) at told.ensures.answer.exact;
+      accepted = rw (of_a, of_b) at told.ensures.answer.accepted;
       refused = carried of_b (λ lent. IsRefusalWhere both_layers (g.A.Read.remaining c.args.a.now) (g.B.Read.remaining lent.now)
           (Ok told.watched.ends.verdict)) (carried of_a (λ lent. IsRefusalWhere both_layers (g.A.Read.remaining lent.now)
-          (g.B.Read.remaining (tally_lent c.new-tally_b.result).now) (Ok told.watched.ends.verdict)) told.ensures.refused);
-      faulty = told.ensures.faulty;
+          (g.B.Read.remaining (tally_lent c.new-tally_b.result).now) (Ok told.watched.ends.verdict)) told.ensures.answer.refused);
+      faulty = told.ensures.answer.faulty;
     }) (rw (of_a, of_b) at told.ensures.stands) c.in-Accepted.summary (sym c.verdict.ensures ∙ c.in-Accepted.is) c.print_accepted.ensures
 
 pub returns-in-Ok-refused_text : goal.returns-in-Ok-refused_text
@@ -37,12 +37,12 @@ returns-in-Ok-refused_text g c =
     let of_a = c.new-tally_a.ensures.lent in
     let of_b = c.new-tally_b.ensures.lent in
     explains_refusal c.args.printout.form _ _ _ (moved g.E.Write.contents c.args.err.now c.args.err.now) _ told.watched.ends (record {
-      exact = rw (of_a, of_b) at told.ensures.exact;
-      accepted = rw (of_a, of_b) at told.ensures.accepted;
+      exact = rw (of_a, of_b) at told.ensures.answer.exact;
+      accepted = rw (of_a, of_b) at told.ensures.answer.accepted;
       refused = carried of_b (λ lent. IsRefusalWhere both_layers (g.A.Read.remaining c.args.a.now) (g.B.Read.remaining lent.now)
           (Ok told.watched.ends.verdict)) (carried of_a (λ lent. IsRefusalWhere both_layers (g.A.Read.remaining lent.now)
-          (g.B.Read.remaining (tally_lent c.new-tally_b.result).now) (Ok told.watched.ends.verdict)) told.ensures.refused);
-      faulty = told.ensures.faulty;
+          (g.B.Read.remaining (tally_lent c.new-tally_b.result).now) (Ok told.watched.ends.verdict)) told.ensures.answer.refused);
+      faulty = told.ensures.answer.faulty;
     }) (rw (of_a, of_b) at told.ensures.stands)
     (record { side = c.in-Refused.side; place = c.in-Refused.place; reason = c.in-Refused.reason })
     (sym c.verdict.ensures ∙ c.in-Refused.is) _ c.in-Ok-refused_text.ensures

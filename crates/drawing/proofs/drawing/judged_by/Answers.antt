@@ -4,12 +4,8 @@ use Rattle.drawing.proofs.drawing.judged_by.Goals as goal
 
 pub returns-in-Links-clause-answer : goal.returns-in-Links-clause-answer
 returns-in-Links-clause-answer g c =
-    let said = c.judge_told.ensures in
-    answered c.args.judging Links _ _ _ c.in-Links.is
-    (record { exact = said.exact; accepted = said.accepted; refused = said.refused; faulty = said.faulty })
+    answered c.args.judging Links _ _ _ c.in-Links.is c.judge_told.ensures.answer
 
 pub returns-in-Line-clause-answer : goal.returns-in-Line-clause-answer
 returns-in-Line-clause-answer g c =
-    let said = c.judge_line_told.ensures in
-    answered c.args.judging Line _ _ _ c.in-Line.is
-    (record { exact = said.exact; accepted = said.accepted; refused = said.refused; faulty = said.faulty })
+    answered c.args.judging Line _ _ _ c.in-Line.is c.judge_line_told.ensures.answer
