@@ -10,6 +10,8 @@ use Rattle.why.specs.UnitWords.{nak_words}
 use Rattle.why.specs.Words.{words_if}
 use Rattle.why.specs.declared.causes.CauseForm.{CauseForm}
 use Rattle.why.specs.declared.causes.CauseForm.TheVariants.{Key, Counted, Number}
+use Rattle.why.specs.declared.form.Form.{Form}
+use Rattle.why.specs.declared.form.Form.TheVariants.{Object, Rows}
 
 -- `"8": 2`, `2 x reason 8 (no buffer)`, `8`
 abbrev pub cause : CauseForm → NakReason → (count : ℕ) → List ℕ
@@ -47,6 +49,10 @@ causes_object c = codes "{" ++ (cause_list Key c ++ codes "}")
 -- what a NAK may still answer
 abbrev pub causes_words : OpenCauses → List ℕ
 causes_words c = if has_any c then cause_list Counted c else codes "none"
+
+abbrev pub causes_told : Form → OpenCauses → List ℕ
+causes_told Object c = causes_object c
+causes_told Rows c = causes_words c
 
 -- the reasons of which a cause is open, in front of those that need none
 abbrev pub allowed_reasons : OpenCauses → List ℕ

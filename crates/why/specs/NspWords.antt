@@ -10,9 +10,9 @@ use Rattle.dna_packet.specs.Nsp.{NspValue, DataSegment, LinkService, DataAck, Ot
 use Rattle.dna_packet.specs.Nsp.{DisconnectInitiate, DisconnectConfirm, SegmentValue}
 use Rattle.why.specs.Words.{words_if}
 
--- `1 -> 2`: SRCADDR and DSTADDR, in front of what follows
-abbrev pub way_words : (dst src : ℕ) → (rest : List ℕ) → List ℕ
-way_words dst src rest = decimal src ++ (codes " -> " ++ (decimal dst ++ rest))
+-- `CC of link 1 -> 2`: behind the name of a message, SRCADDR and DSTADDR
+abbrev pub of_link : (name : List ℕ) → (src dst : ℕ) → List ℕ
+of_link name src dst = name ++ (codes " of link " ++ (decimal src ++ (codes " -> " ++ decimal dst)))
 
 -- an acknowledgement word; of the other subchannel it says so
 abbrev pub ack_word_words : AckQualifier → ℕ → List ℕ
@@ -36,21 +36,23 @@ piece_words false false = codes "inside a message"
 
 abbrev pub segment_words : SegmentValue → List ℕ
 segment_words s =
-    codes "segment " ++ (decimal s.number ++ (codes " of link " ++ way_words s.dstaddr s.srcaddr (ack_words s.acks
+    codes "segment " ++ (decimal s.number ++ (of_link [] s.srcaddr s.dstaddr ++ (ack_words s.acks
     ++ (codes ", " ++ (piece_words s.begins s.ends ++ (codes ", " ++ (decimal (length s.body) ++ codes " bytes")))))))
 
 -- what follows the fields that are read
 abbrev pub unread_words : List ℕ → List ℕ
 unread_words rest = codes ", " ++ (decimal (length rest) ++ codes " bytes, not read further")
 
+abbrev pub no_operation_words : List ℕ → List ℕ
+no_operation_words rest = codes "no operation" ++ unread_words rest
+
 abbrev pub user_data_words : List ℕ → List ℕ
 user_data_words bytes = codes ", " ++ (decimal (length bytes) ++ codes " bytes of user data")
 
--- `, SEGSIZE 512, services 1, info 2, 0 bytes of user data`
-abbrev pub connect_words : (services info segsize : ℕ) → (user_data : List ℕ) → List ℕ
-connect_words services info segsize user_data =
-    codes ", SEGSIZE " ++ (decimal segsize ++ (codes ", services " ++ (decimal services ++ (codes ", info " ++ (decimal info
-    ++ user_data_words user_data)))))
+-- `, SEGSIZE 512, services 1, info 2`
+abbrev pub connect_words : (services info segsize : ℕ) → List ℕ
+connect_words services info segsize =
+    codes ", SEGSIZE " ++ (decimal segsize ++ (codes ", services " ++ (decimal services ++ (codes ", info " ++ decimal info))))
 
 abbrev pub service_name : (interrupt : Bool) → List ℕ
 service_name false = codes "link service"
@@ -58,18 +60,19 @@ service_name true = codes "interrupt"
 
 abbrev pub nsp_words : NspValue → List ℕ
 nsp_words (DataSegment segment) = segment_words segment
-nsp_words (LinkService interrupt dst src rest) = service_name interrupt ++ (codes " of link " ++ way_words dst src (unread_words rest))
-nsp_words (DataAck dst src acks) = codes "data ack of link " ++ way_words dst src (ack_words acks)
-nsp_words (OtherDataAck dst src rest) = codes "other-data ack of link " ++ way_words dst src (unread_words rest)
+nsp_words (LinkService interrupt dst src rest) = of_link (service_name interrupt) src dst ++ unread_words rest
+nsp_words (DataAck dst src acks) = of_link (codes "data ack") src dst ++ ack_words acks
+nsp_words (OtherDataAck dst src rest) = of_link (codes "other-data ack") src dst ++ unread_words rest
 nsp_words (ConnectAck dst) = codes "connect ack to link " ++ decimal dst
-nsp_words (NoOperation rest) = codes "no operation" ++ unread_words rest
+nsp_words (NoOperation rest) = no_operation_words rest
 nsp_words (ConnectInitiate retransmitted src services info segsize user_data) =
-    codes "CI of link " ++ (decimal src ++ (words_if retransmitted (codes ", sent again") ++ connect_words services info segsize user_data))
+    codes "CI of link " ++ (decimal src ++ (words_if retransmitted (codes ", sent again")
+    ++ (connect_words services info segsize ++ user_data_words user_data)))
 nsp_words (ConnectConfirm dst src services info segsize user_data) =
-    codes "CC of link " ++ way_words dst src (connect_words services info segsize user_data)
+    of_link (codes "CC") src dst ++ (connect_words services info segsize ++ user_data_words user_data)
 nsp_words (DisconnectInitiate dst src reason user_data) =
-    codes "DI of link " ++ way_words dst src (codes ", reason " ++ (decimal reason ++ user_data_words user_data))
-nsp_words (DisconnectConfirm dst src reason) = codes "DC of link " ++ way_words dst src (codes ", reason " ++ decimal reason)
+    of_link (codes "DI") src dst ++ (codes ", reason " ++ (decimal reason ++ user_data_words user_data))
+nsp_words (DisconnectConfirm dst src reason) = of_link (codes "DC") src dst ++ (codes ", reason " ++ decimal reason)
 
 abbrev pub nsp_fault_words : NspFault → List ℕ
 nsp_fault_words UnknownFlag = codes "no message of NSP: the flag byte of none"

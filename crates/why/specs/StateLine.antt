@@ -5,7 +5,7 @@ use Rattle.wire_base.specs.Side.{side_letter}
 use Rattle.dna_station.specs.declared.state.State.{State}
 use Rattle.dna_station.specs.declared.state.State.TheVariants.{Halted, Istrt, Astrt, Running}
 use Rattle.ddcmp_station.specs.declared.view.StationView.{StationView}
-use Rattle.why.specs.Causes.{causes_object}
+use Rattle.why.specs.Causes.{causes_told}
 use Rattle.why.specs.Words.{number_or}
 use Rattle.why.specs.declared.form.Form.{Form}
 use Rattle.why.specs.declared.form.Form.TheVariants.{Object, Rows}
@@ -31,7 +31,7 @@ abbrev pub station_keys : StationView → List ℕ
 station_keys v =
     codes "\"station\": \"" ++ (state_name v.state ++ (codes "\", \"start\": " ++ (decimal v.period
     ++ (codes ", \"goes_with\": " ++ (number_or (codes "null") v.partner ++ (codes ", " ++ (numbers_told Object v
-    ++ (codes ", \"open_causes\": " ++ causes_object v.open_causes))))))))
+    ++ (codes ", \"open_causes\": " ++ causes_told Object v.open_causes))))))))
 
 abbrev pub state_line : StateLine → List ℕ
 state_line s =

@@ -5,7 +5,7 @@ use Rattle.wire_base.specs.Side.{other_side, side_letter}
 use Rattle.wire_base.specs.declared.side.Side.{Side}
 use Rattle.dna_station.specs.Station.{wire}
 use Rattle.ddcmp_station.specs.declared.view.StationView.{StationView}
-use Rattle.why.specs.Causes.{causes_words}
+use Rattle.why.specs.Causes.{causes_told}
 use Rattle.why.specs.StateLine.{state_name, numbers_told}
 use Rattle.why.specs.Words.{known_start}
 use Rattle.why.specs.declared.form.Form.TheVariants.{Rows}
@@ -29,7 +29,7 @@ outstanding_row v = outstanding_by v.outstanding (wire (v.acknowledged + 1)) v.g
 abbrev pub started_rows : Side → StationView → List ℕ
 started_rows side v =
     codes "  station  " ++ (station_words side v ++ (codes "\n  numbers  " ++ (numbers_told Rows v
-    ++ (codes "\n" ++ (outstanding_row v ++ (codes "           NAKs owed or open: " ++ (causes_words v.open_causes ++ codes "\n")))))))
+    ++ (codes "\n" ++ (outstanding_row v ++ (codes "           NAKs owed or open: " ++ (causes_told Rows v.open_causes ++ codes "\n")))))))
 
 -- a station that was never started has no numbers
 abbrev pub station_rows : Side → StationView → List ℕ

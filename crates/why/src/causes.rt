@@ -4,6 +4,7 @@ ghost use Rattle.std.specs.Prelude.{◌≡◌};
 ghost use Rattle.std.specs.Fmt.{WritesOnOk};
 ghost use Rattle.why.specs.Causes as spec;
 
+use crate::form::Form;
 use crate::unit_words::nak_words;
 use crate::words::words_if;
 use ddcmp_msg::NakReason;
@@ -21,58 +22,54 @@ pub enum CauseForm {
     Number,
 }
 
-/// The open causes as a JSON object. Printed as `{"1": 2, "8": 1}`.
+/// What a NAK may still answer: as a JSON object, `{"1": 2, "8": 1}`, or in a row as `1 x reason 8 (no buffer)`, where `none` stands for none.
 #[derive(Clone, Copy)]
-pub struct CausesObject {
+pub struct CausesTold {
+    pub form: Form,
     pub causes: OpenCauses,
 }
 
-impl fmt::Display for CausesObject {
+impl fmt::Display for CausesTold {
     ghost use Rattle.std.specs.Prelude.{Some};
 
-    ghost output = { λ object. Some (spec.causes_object object.causes) };
+    ghost output = { λ told. Some (spec.causes_told told.form told.causes) };
 
     fn fmt<W: Write>(&self, f: &mut Formatter<W>) -> fmt::Result {
-        let list = CauseList {
-            form: CauseForm::Key,
-            causes: self.causes,
-        };
-        write!(f, "{{{list}}}")
-    }
-}
-
-/// What a NAK may still answer. Printed as `1 x reason 8 (no buffer)`, or as `none`.
-#[derive(Clone, Copy)]
-pub struct CausesWords {
-    pub causes: OpenCauses,
-}
-
-impl fmt::Display for CausesWords {
-    ghost use Rattle.std.specs.Prelude.{Some};
-
-    ghost output = { λ words. Some (spec.causes_words words.causes) };
-
-    fn fmt<W: Write>(&self, f: &mut Formatter<W>) -> fmt::Result {
-        if has_any(self.causes) {
-            let list = CauseList {
-                form: CauseForm::Counted,
-                causes: self.causes,
-            };
-            return write!(f, "{list}");
+        match self.form {
+            Form::Object => {
+                let list = CauseList {
+                    form: CauseForm::Key,
+                    causes: self.causes,
+                };
+                write!(f, "{{{list}}}")
+            }
+            Form::Rows => write_counted(f, self.causes),
         }
-        f.write_str("none")
     }
+}
+
+fn write_counted<W: Write>(f: &mut Formatter<W>, causes: OpenCauses) -> fmt::Result
+    ensures { WritesOnOk W.write_str_gives f.old result (spec.causes_words causes) f.new }
+{
+    if has_any(causes) {
+        let list = CauseList {
+            form: CauseForm::Counted,
+            causes,
+        };
+        return write!(f, "{list}");
+    }
+    f.write_str("none")
 }
 
 /// Writes the reasons that a NAK may have: those of which a cause is open, and those that need none.
 pub fn write_allowed_reasons<W: Write>(f: &mut Formatter<W>, causes: OpenCauses) -> fmt::Result
     ensures { WritesOnOk W.write_str_gives f.old result (spec.allowed_reasons causes) f.new }
 {
-    let list = CauseList {
-        form: CauseForm::Number,
-        causes,
-    };
     if has_any(causes) {
+        let list = CauseList {
+            form: CauseForm::Number,
+            causes,
+        };
         return write!(f, "a NAK of reason {list}, 9, 16 or 17");
     }
     f.write_str("a NAK of reason 9, 16 or 17")

@@ -45,10 +45,7 @@ fn write_nsp<W: Write>(f: &mut Formatter<W>, message: &Nsp<'_>) -> fmt::Result
         Nsp::DataAck(message) => write_data_ack(f, message),
         Nsp::OtherDataAck(message) => write_other_data_ack(f, message),
         Nsp::ConnectAck(message) => write!(f, "connect ack to link {}", message.dstaddr),
-        Nsp::NoOperation(message) => {
-            let count = message.rest.len();
-            write!(f, "no operation, {count} bytes, not read further")
-        }
+        Nsp::NoOperation(message) => write_no_operation(f, message.rest),
         Nsp::ConnectInitiate(message) => write_connect_initiate(f, message),
         Nsp::ConnectConfirm(message) => write_connect_confirm(f, message),
         Nsp::DisconnectInitiate(message) => write_disconnect_initiate(f, message),
@@ -61,11 +58,8 @@ fn write_segment<W: Write>(f: &mut Formatter<W>, segment: &Segment<'_>) -> fmt::
     ensures { WritesOnOk W.write_str_gives f.old result (spec.segment_words (segment_view segment.now)) f.new }
 {
     let number = segment.number;
-    write!(
-        f,
-        "segment {number} of link {} -> {}",
-        segment.srcaddr, segment.dstaddr
-    )?;
+    write!(f, "segment {number}")?;
+    write_of_link(f, "", segment.srcaddr, segment.dstaddr)?;
     write_acks(f, &segment.acks)?;
     let piece = piece_words(segment.begins, segment.ends);
     write!(f, ", {piece}, {} bytes", segment.body.len())
@@ -75,17 +69,8 @@ fn write_link_service<W: Write>(f: &mut Formatter<W>, message: &LinkService<'_>)
     ensures { WritesOnOk W.write_str_gives f.old result (spec.nsp_words (view (messages.LinkService message.now))) f.new }
 {
     let name = service_name(message.interrupt);
-    let LinkService {
-        dstaddr,
-        srcaddr,
-        rest,
-        ..
-    } = *message;
-    write!(
-        f,
-        "{name} of link {srcaddr} -> {dstaddr}, {} bytes, not read further",
-        rest.len()
-    )
+    write_of_link(f, name, message.srcaddr, message.dstaddr)?;
+    write_unread(f, message.rest)
 }
 
 fn service_name(interrupt: bool) -> &'static str
@@ -100,27 +85,15 @@ fn service_name(interrupt: bool) -> &'static str
 fn write_data_ack<W: Write>(f: &mut Formatter<W>, message: &DataAck) -> fmt::Result
     ensures { WritesOnOk W.write_str_gives f.old result (spec.nsp_words (view (messages.DataAck message.now))) f.new }
 {
-    write!(
-        f,
-        "data ack of link {} -> {}",
-        message.srcaddr, message.dstaddr
-    )?;
+    write_of_link(f, "data ack", message.srcaddr, message.dstaddr)?;
     write_acks(f, &message.acks)
 }
 
 fn write_other_data_ack<W: Write>(f: &mut Formatter<W>, message: &OtherDataAck<'_>) -> fmt::Result
     ensures { WritesOnOk W.write_str_gives f.old result (spec.nsp_words (view (messages.OtherDataAck message.now))) f.new }
 {
-    let OtherDataAck {
-        dstaddr,
-        srcaddr,
-        rest,
-    } = *message;
-    write!(
-        f,
-        "other-data ack of link {srcaddr} -> {dstaddr}, {} bytes, not read further",
-        rest.len()
-    )
+    write_of_link(f, "other-data ack", message.srcaddr, message.dstaddr)?;
+    write_unread(f, message.rest)
 }
 
 fn write_connect_initiate<W: Write>(
@@ -131,13 +104,8 @@ fn write_connect_initiate<W: Write>(
 {
     let again = words_if(message.retransmitted, ", sent again");
     write!(f, "CI of link {}{again}", message.srcaddr)?;
-    write_connect_fields(
-        f,
-        message.services,
-        message.info,
-        message.segsize,
-        message.user_data,
-    )
+    write_connect_fields(f, message.services, message.info, message.segsize)?;
+    write_user_data(f, message.user_data)
 }
 
 fn write_connect_confirm<W: Write>(
@@ -146,31 +114,21 @@ fn write_connect_confirm<W: Write>(
 ) -> fmt::Result
     ensures { WritesOnOk W.write_str_gives f.old result (spec.nsp_words (view (messages.ConnectConfirm message.now))) f.new }
 {
-    write!(f, "CC of link {} -> {}", message.srcaddr, message.dstaddr)?;
-    write_connect_fields(
-        f,
-        message.services,
-        message.info,
-        message.segsize,
-        message.user_data,
-    )
+    write_of_link(f, "CC", message.srcaddr, message.dstaddr)?;
+    write_connect_fields(f, message.services, message.info, message.segsize)?;
+    write_user_data(f, message.user_data)
 }
 
-// Writes SEGSIZE, SERVICES and INFO of a CI or a CC, and how many bytes of user data it carries.
+// Writes SEGSIZE, SERVICES and INFO of a CI or a CC.
 fn write_connect_fields<W: Write>(
     f: &mut Formatter<W>,
     services: u8,
     info: u8,
     segsize: u16,
-    user_data: &[u8],
 ) -> fmt::Result
-    ensures { WritesOnOk W.write_str_gives f.old result (spec.connect_words services info segsize user_data.now) f.new }
+    ensures { WritesOnOk W.write_str_gives f.old result (spec.connect_words services info segsize) f.new }
 {
-    let count = user_data.len();
-    write!(
-        f,
-        ", SEGSIZE {segsize}, services {services}, info {info}, {count} bytes of user data"
-    )
+    write!(f, ", SEGSIZE {segsize}, services {services}, info {info}")
 }
 
 fn write_disconnect_initiate<W: Write>(
@@ -179,17 +137,9 @@ fn write_disconnect_initiate<W: Write>(
 ) -> fmt::Result
     ensures { WritesOnOk W.write_str_gives f.old result (spec.nsp_words (view (messages.DisconnectInitiate message.now))) f.new }
 {
-    let DisconnectInitiate {
-        dstaddr,
-        srcaddr,
-        reason,
-        user_data,
-    } = *message;
-    let count = user_data.len();
-    write!(
-        f,
-        "DI of link {srcaddr} -> {dstaddr}, reason {reason}, {count} bytes of user data"
-    )
+    write_of_link(f, "DI", message.srcaddr, message.dstaddr)?;
+    write!(f, ", reason {}", message.reason)?;
+    write_user_data(f, message.user_data)
 }
 
 fn write_disconnect_confirm<W: Write>(
@@ -198,12 +148,41 @@ fn write_disconnect_confirm<W: Write>(
 ) -> fmt::Result
     ensures { WritesOnOk W.write_str_gives f.old result (spec.nsp_words (view (messages.DisconnectConfirm message.now))) f.new }
 {
-    let DisconnectConfirm {
-        dstaddr,
-        srcaddr,
-        reason,
-    } = *message;
-    write!(f, "DC of link {srcaddr} -> {dstaddr}, reason {reason}")
+    write_of_link(f, "DC", message.srcaddr, message.dstaddr)?;
+    write!(f, ", reason {}", message.reason)
+}
+
+fn write_no_operation<W: Write>(f: &mut Formatter<W>, rest: &[u8]) -> fmt::Result
+    ensures { WritesOnOk W.write_str_gives f.old result (spec.no_operation_words rest.now) f.new }
+{
+    f.write_str("no operation")?;
+    write_unread(f, rest)
+}
+
+// Writes the link of a message behind its name, as `CC of link 1 -> 2`.
+fn write_of_link<W: Write>(
+    f: &mut Formatter<W>,
+    name: &str,
+    srcaddr: u16,
+    dstaddr: u16,
+) -> fmt::Result
+    ensures { WritesOnOk W.write_str_gives f.old result (spec.of_link name.now srcaddr dstaddr) f.new }
+{
+    write!(f, "{name} of link {srcaddr} -> {dstaddr}")
+}
+
+// Writes how many bytes follow the fields that are read.
+fn write_unread<W: Write>(f: &mut Formatter<W>, rest: &[u8]) -> fmt::Result
+    ensures { WritesOnOk W.write_str_gives f.old result (spec.unread_words rest.now) f.new }
+{
+    write!(f, ", {} bytes, not read further", rest.len())
+}
+
+// Writes how many bytes of user data a message of connecting or disconnecting carries.
+fn write_user_data<W: Write>(f: &mut Formatter<W>, bytes: &[u8]) -> fmt::Result
+    ensures { WritesOnOk W.write_str_gives f.old result (spec.user_data_words bytes.now) f.new }
+{
+    write!(f, ", {} bytes of user data", bytes.len())
 }
 
 // Which part of a user's message a segment is.

@@ -3,7 +3,7 @@
 ghost use Rattle.std.specs.Prelude.{◌≡◌};
 ghost use Rattle.why.specs.StateLine as spec;
 
-use crate::causes::CausesObject;
+use crate::causes::CausesTold;
 use crate::form::Form;
 use crate::words::NumberOr;
 use ddcmp_station::{State, StationView};
@@ -69,7 +69,8 @@ impl fmt::Display for StationKeys {
             form: Form::Object,
             station,
         };
-        let causes = CausesObject {
+        let causes = CausesTold {
+            form: Form::Object,
             causes: station.open_causes,
         };
         write!(

@@ -3,7 +3,7 @@
 ghost use Rattle.std.specs.Fmt.{WritesOnOk};
 ghost use Rattle.why.specs.StateText as spec;
 
-use crate::causes::CausesWords;
+use crate::causes::CausesTold;
 use crate::form::Form;
 use crate::state_line::{NumbersTold, StateLine, state_name};
 use crate::words::write_known_start;
@@ -52,7 +52,8 @@ fn write_station<W: Write>(f: &mut Formatter<W>, side: Side, station: StationVie
     };
     write!(f, "\n  numbers  {numbers}\n")?;
     write_outstanding(f, station)?;
-    let causes = CausesWords {
+    let causes = CausesTold {
+        form: Form::Rows,
         causes: station.open_causes,
     };
     write!(f, "           NAKs owed or open: {causes}\n")
