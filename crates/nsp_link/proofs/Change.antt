@@ -11,12 +11,13 @@ use Rattle.dna_links.specs.User.{delivered}
 use Rattle.dna_links.specs.Sending.{carries, truth_of}
 use Rattle.std.proofs.lemmas.Option.{slice_get_read}
 use Rattle.dna_links.specs.LookUps.{is_live, is_at}
-use Rattle.dna_links.specs.Links.{LinkOf, changed, with_flow, ended}
+use Rattle.dna_links.specs.Links.{LinkOf, changed, in_phase, with_flow, ended}
 use Rattle.dna_links.specs.Arriving.{of_partner, confirmed}
 use Rattle.dna_links.specs.declared.tag.LinkTag.{LinkTag}
 use Rattle.dna_links.specs.WireFlow.{WireFlow, wire_flows, sending, delivers}
 use Rattle.dna_links.specs.WireLinks.{WireLinks}
 use Rattle.dna_links.specs.declared.port.Phase.{Phase}
+use Rattle.dna_links.specs.declared.port.Phase.TheVariants.{Running}
 use Rattle.dna_links.specs.declared.port.Port.{Port}
 use Rattle.dna_links.specs.LookUps.{is_called, is_calling}
 use Rattle.nsp_link.specs.inner.Index.{IsIndexed, Stays, lives_to}
@@ -148,3 +149,22 @@ module _ {node peer : ℕ} {items : List (LinkOf WireFlow)} {s : WireLinks} {n :
           lived (ap (λ (k : LinkOf WireFlow). is_live k.port.phase) made) (ap (λ (k : LinkOf WireFlow). is_calling k.port.phase) made)
           (sym (ap (λ (p : Port). cond (is_calling p.phase) (suc w') w') same) ∙ wait)
           (λ q. sym (ap (λ (p : Port). cond (is_at p.far q) (suc (r' q)) (r' q)) same) ∙ counts q)
+
+-- ---- that the index stays one, as the tactic finds it
+
+module _ {node peer : ℕ} {items : List (LinkOf WireFlow)} {s : WireLinks} {n : ℕ} {l m : LinkOf WireFlow} {h c : ℕ → Option ℕ} {r : ℕ → ℕ}
+    {w : ℕ} where
+  pub stays_index : Stays l m → l ≡ get_or items n l → record { node = node; peer = peer; links = items } ≡ s → n < length s.links →
+      IsIndexed items h c r w → IsIndexed (set items n m) h c r w
+  stays_index stays there is within index = change_indexed (in_place is within there) index stays
+
+  pub keeps_index : m ≡ with_flow m.flow l → l ≡ get_or items n l → record { node = node; peer = peer; links = items } ≡ s →
+      n < length s.links → IsIndexed items h c r w → IsIndexed (set items n m) h c r w
+  keeps_index rest there is within index = kept_indexed (in_place is within there) index rest
+
+  pub runs_index : (flow : WireFlow) → m ≡ with_flow flow (in_phase Running l) → l ≡ get_or items n l →
+      record { node = node; peer = peer; links = items } ≡ s → n < length s.links → LivesAt n s → IsIndexed items h c r w →
+      IsIndexed (set items n m) h c r w
+  runs_index flow made there is within live index = moved_indexed (in_place is within there) index Running live made refl refl refl refl
+
+pub ruleset changes = (stays_index, keeps_index, runs_index)

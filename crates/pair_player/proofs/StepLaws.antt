@@ -1,14 +1,16 @@
 -- The words behind the letter of a side: what is read is the step's one spelling, and its spelling is read.
-use Rattle.std.proofs.Common.{◌≡◌, ℕ, ◌<◌, ◌≤◌, List, ◌∷◌, ◌++◌, length, Option, Some, Ok, refl, ap, subst, ◌∙◌, arith, lit<}
+use Rattle.std.proofs.Common.{◌≡◌, ℕ, ◌<◌, ◌≤◌, List, ◌∷◌, ◌++◌, length, Option, Some, Result, Ok, refl, ap, subst, ◌∙◌, arith, lit<}
 use Rattle.std.specs.Prelude.{codes, IfSome}
 use Rattle.std.specs.Fmt.{decimal}
 use Rattle.std.specs.Str.{bytes_eq}
 use Rattle.std.proofs.lemmas.Bool.{cond_both}
 use Rattle.std.proofs.lemmas.Slice.Eq.{bytes_eq-Decides}
 use Rattle.ddcmp_msg.specs.Message.{IsBytes}
+use Rattle.capture.specs.declared.fault.Departure.{Departure}
 use Rattle.capture.specs.declared.limit.TheConstants.{MAX_HINT, MAX_LINK, MAX_UNIT, MAX_MESSAGE}
+use Rattle.capture.specs.Range.{IsLink}
 use Rattle.capture.specs.Text.{spaced}
-use Rattle.capture.specs.Reading.{after, cut_at, number_at, positive_at, bytes_at, message_at}
+use Rattle.capture.specs.Reading.{◌>>=◌, must, or_else, after, cut_at, number_at, positive_at, bytes_at, message_at}
 use Rattle.capture.proofs.PartLaws.{after_takes, cut_takes, cut_again}
 use Rattle.capture.proofs.NumberLaws.{number_takes, number_again, decimal_lacks}
 use Rattle.capture.proofs.BytesLaws.{IsBytesOf, IsLongOf, bytes_shows, bytes_again, limited, limited_then}
@@ -73,26 +75,24 @@ damage_again place value p q =
 
 -- ---- a step of a link
 
+-- a word, and the address of a link behind it
+word_shows : (text word : List ℕ) (step : ℕ → StepValue) (otherwise : Result StepValue Departure) →
+    ((link : ℕ) → text ≡ word ++ decimal link → IsLink link → IsStepOf text (step link)) →
+    Shows (IsStepOf text) (IsLongStepOf text) otherwise → Shows (IsStepOf text) (IsLongStepOf text)
+    (or_else (after word text) (λ rest. must (positive_at MAX_LINK rest) >>= λ link. Ok (step link)) otherwise)
+word_shows text word step otherwise spelled later =
+    shows_or_else (IsStepOf text) (IsLongStepOf text) (after word text) _ _
+    (λ rest e. shows_must (IsStepOf text) (IsLongStepOf text) (positive_at MAX_LINK rest) _ (λ link f.
+    let p = link_takes rest link f in
+    spelled link (after_takes word text rest e ∙ ap (λ (t : List ℕ). word ++ t) p.0) p.1)) later
+
 link_step_shows : (text : List ℕ) → Shows (IsStepOf text) (IsLongStepOf text) (link_step_at text)
 unfolding link_step_at
 link_step_shows text =
-    shows_or_else (IsStepOf text) (IsLongStepOf text) (after (codes "accept ") text) _ _
-    (λ rest e. shows_must (IsStepOf text) (IsLongStepOf text) (positive_at MAX_LINK rest) _ (λ partner f.
-    let p = link_takes rest partner f in
-    (after_takes (codes "accept ") text rest e ∙ ap (λ (t : List ℕ). codes "accept " ++ t) p.0, p.1, no_bytes, omega arith)))
-    (shows_or_else (IsStepOf text) (IsLongStepOf text) (after (codes "reject ") text) _ _
-    (λ rest e. shows_must (IsStepOf text) (IsLongStepOf text) (positive_at MAX_LINK rest) _ (λ partner f.
-    let p = link_takes rest partner f in
-    (after_takes (codes "reject ") text rest e ∙ ap (λ (t : List ℕ). codes "reject " ++ t) p.0, p.1, no_bytes, omega arith)))
-    (shows_or_else (IsStepOf text) (IsLongStepOf text) (after (codes "close ") text) _ _
-    (λ rest e. shows_must (IsStepOf text) (IsLongStepOf text) (positive_at MAX_LINK rest) _ (λ link f.
-    let p = link_takes rest link f in
-    (after_takes (codes "close ") text rest e ∙ ap (λ (t : List ℕ). codes "close " ++ t) p.0, p.1, no_bytes, omega arith)))
-    (shows_or_else (IsStepOf text) (IsLongStepOf text) (after (codes "retry ") text) _ _
-    (λ rest e. shows_must (IsStepOf text) (IsLongStepOf text) (positive_at MAX_LINK rest) _ (λ link f.
-    let p = link_takes rest link f in
-    (after_takes (codes "retry ") text rest e ∙ ap (λ (t : List ℕ). codes "retry " ++ t) p.0, p.1, no_bytes, omega arith)))
-    tt)))
+    word_shows text (codes "accept ") Accept _ (λ link is fits. (is, fits, no_bytes, omega arith))
+    (word_shows text (codes "reject ") Reject _ (λ link is fits. (is, fits, no_bytes, omega arith))
+    (word_shows text (codes "close ") Close _ (λ link is fits. (is, fits, no_bytes, omega arith))
+    (word_shows text (codes "retry ") Retry _ (λ link is fits. (is, fits, no_bytes, omega arith)) tt)))
 
 -- ---- steps
 

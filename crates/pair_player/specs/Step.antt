@@ -1,26 +1,31 @@
--- What a step of the code says, without where its message lies in memory.
+-- What a step of the code says with the bytes beside it, without where these lie in memory.
+use Rattle.std.specs.Prelude.{ℕ, List, []}
 use Rattle.dna_play.specs.Script.{StepValue, ScriptStep, Start, Halt, Timer, Send, Deliver, Refuse, Lose, Damage, Noise, Open, Accept, Reject, In}
 use Rattle.dna_play.specs.Script.{Close, Retry}
 use Rattle.pair_player.specs.declared.step.Step.{Step}
 use Rattle.pair_player.specs.declared.step.Step.TheVariants as steps
 use Rattle.pair_player.specs.declared.step.ScriptStep as lines
 
-abbrev pub view : Step → StepValue
-view steps.Start = Start
-view steps.Halt = Halt
-view steps.Timer = Timer
-view steps.Send = Send
-view steps.Deliver = Deliver
-view steps.Refuse = Refuse
-view steps.Lose = Lose
-view (steps.Damage place value) = Damage place value
-view (steps.Noise bytes) = Noise bytes.now
-view steps.Open = Open
-view (steps.Accept partner) = Accept partner
-view (steps.Reject partner) = Reject partner
-view (steps.In link message) = In link message.now
-view (steps.Close link) = Close link
-view (steps.Retry link) = Retry link
+abbrev pub step_with : Step → List ℕ → StepValue
+step_with steps.Start bytes = Start
+step_with steps.Halt bytes = Halt
+step_with steps.Timer bytes = Timer
+step_with steps.Send bytes = Send
+step_with steps.Deliver bytes = Deliver
+step_with steps.Refuse bytes = Refuse
+step_with steps.Lose bytes = Lose
+step_with (steps.Damage place value) bytes = Damage place value
+step_with steps.Noise bytes = Noise bytes
+step_with steps.Open bytes = Open
+step_with (steps.Accept partner) bytes = Accept partner
+step_with (steps.Reject partner) bytes = Reject partner
+step_with (steps.In link) bytes = In link bytes
+step_with (steps.Close link) bytes = Close link
+step_with (steps.Retry link) bytes = Retry link
+
+-- with no bytes
+abbrev pub plain : Step → StepValue
+plain step = step_with step []
 
 abbrev pub view_of_line : lines.ScriptStep → ScriptStep
-view_of_line line = record { side = line.side; step = view line.step }
+view_of_line line = record { side = line.side; step = step_with line.step line.bytes.now }

@@ -5,7 +5,7 @@ ghost use Rattle.dna_play.specs.Receipt.{damaged, is_damage};
 ghost use Rattle.dna_play.specs.KeptPlay.{kept_plays};
 ghost use Rattle.dna_play.specs.KeptPlay as kept;
 ghost use Rattle.dna_play.specs.KeptPlayed.{kept_plays_step, new_pair};
-ghost use Rattle.pair_player.specs.Step.{view, view_of_line};
+ghost use Rattle.pair_player.specs.Step.{step_with, view_of_line};
 ghost use Rattle.player_end.specs.Stepping.{HasUnit, StopMeans, with_lines};
 ghost use Rattle.pair_player.specs.Stepping.{Asks, AsksMemory, CanBeHurt, CanCome, sends, sides, with_text};
 
@@ -85,6 +85,7 @@ impl Ends {
                 &mut self.to_a,
                 &mut self.to_b,
                 step.step,
+                step.bytes,
                 text,
             ),
             Side::B => step_of(
@@ -93,26 +94,28 @@ impl Ends {
                 &mut self.to_b,
                 &mut self.to_a,
                 step.step,
+                step.bytes,
                 text,
             ),
         }
     }
 }
 
-// A step of an end, with the line to it and the line from it.
+// A step of an end, with the bytes beside it, the line to the end and the line from it.
 #[tactic(auto, using(crate::proofs::Sides::sides_of), unfolding(dna_play::specs::KeptPlay::kept_plays))]
 fn step_of(
     alloc: Global,
     end: &mut RingEnd,
     coming: &mut Line,
     going: &mut Line,
-    step: Step<'_>,
+    step: Step,
+    bytes: &[u8],
     text: &mut Vec<u8>,
 ) -> Result<(), StepFault>
-    ensures ok { OnOk result (sides (view step.entry) coming.old going.old text.old.items (kept_plays end.old coming.old (view step.entry))
-        ≡ Ok (end.new, coming.new, going.new, text.new.items)) }
-    ensures stop { IfErr result (λ fault. StopMeans (kept_plays end.old coming.old (view step.entry)) fault) }
-    ensures memory { result ≡ Err StepFault.OutOfMemory → AsksMemory end.old coming.old (view step.entry) }
+    ensures ok { OnOk result (sides (step_with step bytes.now) coming.old going.old text.old.items
+        (kept_plays end.old coming.old (step_with step bytes.now)) ≡ Ok (end.new, coming.new, going.new, text.new.items)) }
+    ensures stop { IfErr result (λ fault. StopMeans (kept_plays end.old coming.old (step_with step bytes.now)) fault) }
+    ensures memory { result ≡ Err StepFault.OutOfMemory → AsksMemory end.old coming.old (step_with step bytes.now) }
 {
     match step {
         Step::Start => end.start(text),
@@ -123,11 +126,11 @@ fn step_of(
         Step::Refuse => deliver(end, coming, false, text),
         Step::Lose => lose(end, coming),
         Step::Damage { place, value } => deliver_damaged(alloc, end, coming, place, value, text),
-        Step::Noise { bytes } => end.hear(bytes, text),
+        Step::Noise => end.hear(bytes, text),
         Step::Open => end.open(text),
         Step::Accept { partner } => end.accept(partner, text),
         Step::Reject { partner } => end.reject(partner, text),
-        Step::In { link, message } => end.hand_in(link, message, text),
+        Step::In { link } => end.hand_in(link, bytes, text),
         Step::Close { link } => end.close(link, text),
         Step::Retry { link } => end.retry(link),
     }

@@ -5,7 +5,6 @@
 #![tactic(auto)]
 
 mod ends;
-mod entry;
 mod fault;
 mod laws;
 mod limit;

@@ -11,9 +11,8 @@ ghost use Rattle.pair_player.specs.inner.Entries.{stepped_in};
 ghost use Rattle.pair_player.specs.Reader.{Advances, Opens, TakesStep};
 ghost use Rattle.pair_player.specs.Step.{view_of_line};
 
-use crate::entry::LineEntry;
 use crate::limit::MAX_STEPS;
-use crate::step::ScriptStep;
+use crate::step::{LineEntry, ScriptStep};
 use crate::words::line_into;
 use capture::{CaptureFault, LineFault, LineReader, MAX_MESSAGE, Phase, open_list};
 use std::alloc::Global;

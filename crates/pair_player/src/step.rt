@@ -1,12 +1,20 @@
 //! One step of a script: what one end of the line does.
 
+ghost use Rattle.std.specs.Prelude.{◌≡◌, ◌≤◌};
+ghost use Rattle.capture.specs.declared.limit.TheConstants.{MAX_MESSAGE as MOST};
+ghost use Rattle.dna_play.specs.ScriptText.{most_bytes};
+ghost use Rattle.pair_player.specs.Step.{plain, view_of_line};
+ghost use Rattle.pair_player.specs.inner.Entries.{line_with};
+
+use capture::{MAX_MESSAGE, MAX_UNIT};
 use wire_base::Side;
 
-/// What an end does, or what becomes of the next unit that is on the line to it. Its message or noise is lent by the reader.
+/// What an end does, or what becomes of the next unit that is on the line to it, but for its message or noise, which stands beside it. It is
+/// small and lends nothing.
 ///
 /// Addresses of links are from 1 to 65,535: `link` is one of this end, `partner` one of the other end.
 #[derive(Clone, Copy, Debug, PartialEq, Eq)]
-pub enum Step<'a> {
+pub enum Step {
     /// The user starts the station.
     Start,
     /// The user halts the station.
@@ -28,10 +36,8 @@ pub enum Step<'a> {
         /// What the byte is changed with, by exclusive or: at most 999,999,999,999,999,999.
         value: u64,
     },
-    /// Bytes come that nobody sent, at most 16,393; the next unit stays on the line.
-    Noise {
-        bytes: &'a [u8],
-    },
+    /// The bytes beside it come, at most 16,393, and nobody sent them; the next unit stays on the line.
+    Noise,
     /// The user opens a link.
     Open,
     /// The user accepts the call of the partner's link.
@@ -42,10 +48,9 @@ pub enum Step<'a> {
     Reject {
         partner: u16,
     },
-    /// The user hands in a message, of at most 65,535 bytes.
+    /// The user hands in the message beside it, of at most 65,535 bytes.
     In {
         link: u16,
-        message: &'a [u8],
     },
     /// The user closes a link.
     Close {
@@ -57,10 +62,55 @@ pub enum Step<'a> {
     },
 }
 
-/// One line of a script behind its head.
+impl Step {
+    /// How many bytes may stand beside it.
+    pub fn most(self) -> usize
+        ensures most { result ≡ most_bytes (plain self) }
+        ensures room { result ≤ MOST }
+    {
+        match self {
+            Step::Noise => MAX_UNIT,
+            Step::Start
+            | Step::Halt
+            | Step::Timer
+            | Step::Send
+            | Step::Deliver
+            | Step::Refuse
+            | Step::Lose
+            | Step::Damage { .. }
+            | Step::Open
+            | Step::Accept { .. }
+            | Step::Reject { .. }
+            | Step::In { .. }
+            | Step::Close { .. }
+            | Step::Retry { .. } => MAX_MESSAGE,
+        }
+    }
+}
+
+/// One line of a script behind its head. Its message or noise is lent by the reader.
 #[derive(Clone, Copy, Debug, PartialEq, Eq)]
 pub struct ScriptStep<'a> {
     /// The end that the step is of.
     pub side: Side,
-    pub step: Step<'a>,
+    pub step: Step,
+    /// The message or the noise; no bytes beside any other step.
+    pub bytes: &'a [u8],
+}
+
+/// A line of a script but for its message or noise.
+#[derive(Clone, Copy, Debug, PartialEq, Eq)]
+pub struct LineEntry {
+    pub side: Side,
+    pub step: Step,
+}
+
+impl LineEntry {
+    /// The line's step, with these bytes. Takes no memory.
+    pub fn with(self, bytes: &[u8]) -> ScriptStep<'_>
+        ensures { view_of_line result ≡ line_with self bytes.now }
+    {
+        let LineEntry { side, step } = self;
+        ScriptStep { side, step, bytes }
+    }
 }

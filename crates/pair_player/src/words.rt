@@ -4,42 +4,43 @@ ghost use Rattle.std.specs.Prelude.{◌≡◌, ◌≤◌, length, IfOk};
 ghost use Rattle.std.specs.Option.{option_map};
 ghost use Rattle.capture.specs.Reading.{must};
 ghost use Rattle.capture.specs.declared.limit.TheConstants.{MAX_MESSAGE};
-ghost use Rattle.pair_player.specs.inner.Entries.{parted, plain, told};
+ghost use Rattle.pair_player.specs.Step.{plain};
+ghost use Rattle.pair_player.specs.inner.Entries.{parted, told};
 ghost use Rattle.pair_player.specs.inner.Reading.{damage_at, line_at, link_step_at, plain_at, step_at};
 
-use crate::entry::{LineEntry, StepEntry};
+use crate::step::{LineEntry, Step};
 use capture::{
     Departure, MAX_HINT, after, bytes_into, cut_at, link_of, message_of, number_of, side_of,
 };
 
 // A step of one word.
 #[tactic(auto, unfolding(crate::specs::inner::Reading::plain_at))]
-fn plain_of(text: &[u8]) -> Option<StepEntry>
+fn plain_of(text: &[u8]) -> Option<Step>
     ensures { option_map plain result ≡ plain_at text.now }
 {
     if text == b"start".as_slice() {
-        return Some(StepEntry::Start);
+        return Some(Step::Start);
     }
     if text == b"halt".as_slice() {
-        return Some(StepEntry::Halt);
+        return Some(Step::Halt);
     }
     if text == b"timer".as_slice() {
-        return Some(StepEntry::Timer);
+        return Some(Step::Timer);
     }
     if text == b"send".as_slice() {
-        return Some(StepEntry::Send);
+        return Some(Step::Send);
     }
     if text == b"deliver".as_slice() {
-        return Some(StepEntry::Deliver);
+        return Some(Step::Deliver);
     }
     if text == b"refuse".as_slice() {
-        return Some(StepEntry::Refuse);
+        return Some(Step::Refuse);
     }
     if text == b"lose".as_slice() {
-        return Some(StepEntry::Lose);
+        return Some(Step::Lose);
     }
     if text == b"open".as_slice() {
-        return Some(StepEntry::Open);
+        return Some(Step::Open);
     }
     None
 }
@@ -56,31 +57,31 @@ fn damage_of(text: &[u8]) -> Option<(u64, u64)>
 
 // A step of a link that has no message.
 #[tactic(auto, unfolding(crate::specs::inner::Reading::link_step_at))]
-fn link_step_of(text: &[u8]) -> Option<StepEntry>
+fn link_step_of(text: &[u8]) -> Option<Step>
     ensures { link_step_at text.now ≡ must (option_map plain result) }
 {
     if let Some(rest) = after(text, b"accept ") {
         let partner = link_of(rest)?;
-        return Some(StepEntry::Accept { partner });
+        return Some(Step::Accept { partner });
     }
     if let Some(rest) = after(text, b"reject ") {
         let partner = link_of(rest)?;
-        return Some(StepEntry::Reject { partner });
+        return Some(Step::Reject { partner });
     }
     if let Some(rest) = after(text, b"close ") {
         let link = link_of(rest)?;
-        return Some(StepEntry::Close { link });
+        return Some(Step::Close { link });
     }
     if let Some(rest) = after(text, b"retry ") {
         let link = link_of(rest)?;
-        return Some(StepEntry::Retry { link });
+        return Some(Step::Retry { link });
     }
     None
 }
 
 // What the line says behind the letter of its side, with the text of its BYTES, where it has any; `None` where it can be no step's.
 #[tactic(auto, unfolding(crate::specs::inner::Reading::step_at))]
-fn entry_of(text: &[u8]) -> Option<(StepEntry, Option<&[u8]>)>
+fn entry_of(text: &[u8]) -> Option<(Step, Option<&[u8]>)>
     ensures { step_at text.now ≡ told (option_map (λ parts. (parts.0, option_map (λ digits. digits.now) parts.1)) result) }
 {
     if let Some(entry) = plain_of(text) {
@@ -88,14 +89,14 @@ fn entry_of(text: &[u8]) -> Option<(StepEntry, Option<&[u8]>)>
     }
     if let Some(rest) = after(text, b"in ") {
         let (link, digits) = message_of(rest)?;
-        return Some((StepEntry::In { link }, Some(digits)));
+        return Some((Step::In { link }, Some(digits)));
     }
     if let Some(digits) = after(text, b"noise ") {
-        return Some((StepEntry::Noise, Some(digits)));
+        return Some((Step::Noise, Some(digits)));
     }
     if let Some(rest) = after(text, b"damage ") {
         let (place, value) = damage_of(rest)?;
-        return Some((StepEntry::Damage { place, value }, None));
+        return Some((Step::Damage { place, value }, None));
     }
     let entry = link_step_of(text)?;
     Some((entry, None))

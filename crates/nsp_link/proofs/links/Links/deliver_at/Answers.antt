@@ -1,8 +1,9 @@
-use Rattle.nsp_link.proofs.Change.{in_place, kept_indexed, change_none, told_made}
+use Rattle.std.proofs.Common.{rules}
+use Rattle.nsp_link.proofs.Change.{in_place, changes, change_none, told_made}
 use Rattle.nsp_link.proofs.links.Links.deliver_at.Goals as goal
 
 pub invariant_of-self : goal.invariant_of-self
-invariant_of-self g c = kept_indexed (in_place c.self.view_is c.requires.within c.index_mut.ensures.value) c.self.invariant c.deliver.ensures.rest
+invariant_of-self g c = search (rules, changes)
 
 pub returns-clause-told : goal.returns-clause-told
 returns-clause-told g c =

@@ -1,10 +1,11 @@
+use Rattle.std.proofs.Common.{rules}
 use Rattle.dna_links.specs.Links.{with_flow}
 use Rattle.dna_links.specs.WireFlow.{hands_in}
-use Rattle.nsp_link.proofs.Change.{in_place, kept_indexed, made_if_ok}
+use Rattle.nsp_link.proofs.Change.{in_place, changes, made_if_ok}
 use Rattle.nsp_link.proofs.links.Links.hand_in_at.Goals as goal
 
 pub invariant_of-self : goal.invariant_of-self
-invariant_of-self g c = kept_indexed (in_place c.self.view_is c.requires.within c.index_mut.ensures.value) c.self.invariant c.hand_in.ensures.rest
+invariant_of-self g c = search (rules, changes)
 
 pub returns-clause-ok : goal.returns-clause-ok
 returns-clause-ok g c =

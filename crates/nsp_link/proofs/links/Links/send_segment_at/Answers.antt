@@ -1,14 +1,13 @@
-use Rattle.std.proofs.Common.{IfErr}
+use Rattle.std.proofs.Common.{IfErr, rules}
 use Rattle.dna_packet.specs.Nsp.{segment_view}
 use Rattle.dna_links.specs.Sending.{segment_of}
 use Rattle.dna_links.specs.WireFlow.{wire_flows, is_new}
 use Rattle.nsp_link.specs.Fault.{IsFault}
-use Rattle.nsp_link.proofs.Change.{in_place, kept_indexed, carried_if_ok, holds_there}
+use Rattle.nsp_link.proofs.Change.{in_place, changes, carried_if_ok, holds_there}
 use Rattle.nsp_link.proofs.links.Links.send_segment_at.Goals as goal
 
 pub invariant_of-self : goal.invariant_of-self
-invariant_of-self g c =
-    kept_indexed (in_place c.self.view_is c.requires.within c.index_mut.ensures.value) c.self.invariant c.send_segment.ensures.rest
+invariant_of-self g c = search (rules, changes)
 
 pub returns-clause-ok : goal.returns-clause-ok
 returns-clause-ok g c =

@@ -1,14 +1,13 @@
-use Rattle.std.proofs.Common.{◌≡◌, true, IfErr}
+use Rattle.std.proofs.Common.{◌≡◌, true, IfErr, rules}
 use Rattle.dna_packet.specs.Nsp.{segment_view}
 use Rattle.dna_links.specs.Arriving.{of_partner, running}
 use Rattle.dna_links.specs.WireFlow.{wire_flows, takes_segment}
 use Rattle.nsp_link.specs.Flow.{is_held}
-use Rattle.nsp_link.proofs.Change.{in_place, change_indexed, made_if_ok, holds_there}
+use Rattle.nsp_link.proofs.Change.{in_place, changes, made_if_ok, holds_there}
 use Rattle.nsp_link.proofs.links.Links.take_segment_at.Goals as goal
 
 pub invariant_of-self : goal.invariant_of-self
-invariant_of-self g c =
-    change_indexed (in_place c.self.view_is c.requires.within c.index_mut.ensures.value) c.self.invariant c.take_segment.ensures.stays
+invariant_of-self g c = search (rules, changes)
 
 pub returns-clause-ok : goal.returns-clause-ok
 returns-clause-ok g c =
