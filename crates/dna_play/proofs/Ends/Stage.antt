@@ -163,8 +163,8 @@ module _ (e : End) (h : Stage e) where
   link_debt_stage debt holds = owed_stage _ _ h.pays (debt_holds (links_of e.half).links e.addresses e.links_owed h.links debt holds)
 
   pub strt_stage : Stage (owing_more (Some OwesStrt) e)
-  strt_stage = owed_stage _ _ (debt_pays (player.variables_of e.half) (station_of e.half).causes e.owed (Some OwesStrt) (λ reason is. absurd cc)
-      (λ is. absurd cc) h.pays) h.links
+  strt_stage = owed_stage _ _ (debt_pays (player.variables_of e.half) (station_of e.half).causes e.owed (Some OwesStrt) tt
+      h.pays) h.links
 
   pub passing_stage : Stage (passing e)
   passing_stage = record { pays = h.pays; packets = h.packets; links = h.links; plain = h.plain; few = h.few; ahead = let a = h.ahead in omega arith }
