@@ -1,6 +1,6 @@
 -- What a station of the player owes stays payable, whatever its user does, whatever it sends of what is owed, and whatever comes.
 use Rattle.std.proofs.Common.{◌≡◌, ℕ, ◌+◌, Bool, true, false, ◌&&◌, not, cond, eqb, nat_lt, nat_le, Option, Some, List, [], ◌∷◌, length, fold, refl}
-use Rattle.std.proofs.Common.{sym, ap, ap₂, ◌∙◌, subst}
+use Rattle.std.proofs.Common.{sym, ap, ap₂, ◌∙◌}
 use Rattle.std.proofs.lemmas.Bool.{and_parts}
 use Rattle.ddcmp_msg.specs.Message.{MessageValue, Data, Nak, Rep, Strt}
 use Rattle.ddcmp_msg.specs.declared.flags.Flags.{Flags}
@@ -18,7 +18,7 @@ use Rattle.dna_station.specs.Station.{wire}
 use Rattle.dna_station.specs.WireStation.{StationVariables, WireStation, wire_after_event}
 use Rattle.dna_station.specs.WireBook.{acknowledges, wire_acknowledged_by, wire_responded, wire_is_next, wire_does, wire_book, wire_after_sending}
 use Rattle.dna_station.specs.WireBook.{wire_after_arrival}
-use Rattle.dna_play.specs.Owed.{Owed, Debt, OwesRep, OwesNak, with_debt, data_debt, rep_debt, damage_debt, same_state, can_take, message_debt}
+use Rattle.dna_play.specs.Owed.{Owed, Debt, OwesNak, with_debt, data_debt, rep_debt, damage_debt, same_state, can_take, message_debt}
 use Rattle.dna_play.specs.Owed.{arrival_debt, still_owed}
 use Rattle.dna_play.specs.NextSent.{LinkEnd, Choice, SendNak, after_choice}
 use Rattle.dna_play.specs.Compose.{no_flags, packet_with, message_of}

@@ -5,7 +5,7 @@ use Rattle.std.specs.Prelude.{slice_get, slice_set, position}
 use Rattle.std.proofs.lemmas.List.{set-set}
 use Rattle.std.proofs.lemmas.Option.{same_Some}
 use Rattle.dna_links.specs.declared.port.Phase.{Phase}
-use Rattle.dna_links.specs.declared.port.Phase.TheVariants.{Calling, Called, Confirming, Running, Disconnecting, Ended}
+use Rattle.dna_links.specs.declared.port.Phase.TheVariants.{Calling}
 use Rattle.dna_links.specs.declared.port.LinkTest.{LinkTest}
 use Rattle.dna_links.specs.LookUps.{passes}
 use Rattle.dna_links.specs.Flow.{wire, distance}
