@@ -1,6 +1,6 @@
 -- The two ends of the player: each is a node over both layers, on true numbers, with what it owes. An end knows no tags, so the two rules on them
 -- are left out of its steps; what it owes and sends goes by what a node keeps.
-use Rattle.std.specs.Prelude.{ℕ, if◌then◌else◌, Option, Some, None, List, []}
+use Rattle.std.specs.Prelude.{ℕ, Bool, true, if◌then◌else◌, Option, Some, None, List, []}
 use Rattle.two_nodes.specs.Nodes.{Answer, Half, Outcome, Made, Waits, Refused, advance}
 use Rattle.capture.specs.declared.record.Record.{Record}
 use Rattle.dna_station.specs.declared.head.Head.{Head}
