@@ -24,7 +24,7 @@ use Rattle.dna_play.proofs.Links.Owing.{sent_turn_fits, ahead_less}
 use Rattle.dna_play.proofs.Ends.UnitLines.{IsOfBytes}
 use Rattle.dna_play.proofs.Ends.SendMakes.{sent_left, again_after, first_after}
 use Rattle.dna_play.proofs.Ends.StationStage.{sent_stage, sent_packets}
-use Rattle.dna_play.proofs.Links.Stage.{LinkHolds, left_links, same_holds, sent_holds, first_sent_holds, change_holds}
+use Rattle.dna_play.proofs.Links.Stage.{LinkHolds, left_links, sent_holds, first_sent_holds, change_holds}
 use Rattle.dna_play.proofs.Ends.Stage.{Stage, Known, station_stage}
 use Rattle.dna_links.proofs.Runs.Sides.{set_same}
 use Rattle.dna_play.specs.KeptLinks.{gave_by}

@@ -1,5 +1,5 @@
 -- What the links of an end of the player choose next they may send.
-use Rattle.std.proofs.Common.{◌≡◌, ℕ, zero, suc, ◌≤◌, Bool, true, false, ◌&&◌, ◌||◌, not, eqb, nat_lt, cond, Option, Some, None, List, [], ◌∷◌}
+use Rattle.std.proofs.Common.{◌≡◌, ℕ, ◌≤◌, Bool, true, false, ◌&&◌, ◌||◌, not, eqb, nat_lt, cond, Option, Some, None, [], ◌∷◌}
 use Rattle.std.proofs.Common.{length, Result, Ok, Err, refl, ap, ap₂, ◌∙◌, subst, arith, eq-eqb, le-ltb, ltb-true, eqb-true}
 use Rattle.std.specs.Prelude.{slice_get, is_some}
 use Rattle.two_nodes.proofs.Reached.{slice_get_none}

@@ -1,5 +1,5 @@
 -- What a message of the links that is sent makes of the link that has sent it, as its node keeps it.
-use Rattle.std.proofs.Common.{◌≡◌, ℕ, zero, suc, ◌+◌, ◌≤◌, true, false, Option, Some, None, List, [], ◌∷◌, length, Result, Ok, refl, sym, ap}
+use Rattle.std.proofs.Common.{◌≡◌, ℕ, ◌+◌, ◌≤◌, true, false, Option, Some, None, List, [], ◌∷◌, length, Result, Ok, refl, sym, ap}
 use Rattle.std.proofs.Common.{◌∙◌, subst, arith, eq-eqb, length-drop, ap₂, length-append}
 use Rattle.std.specs.Prelude.{slice_get, is_some}
 use Rattle.two_nodes.proofs.Reached.{slice_get_none}

@@ -9,7 +9,6 @@ use Rattle.dna_node.specs.Rules.{by_bytes}
 use Rattle.dna_play.proofs.Ends.DamagedUnits.{ShownDamage, OfHeader, OfData, read_of, arrival_of}
 use Rattle.dna_play.proofs.Ends.Stage.{Stage, Known, station_stage}
 use Rattle.dna_play.proofs.Ends.StationStage.{damage_stage, arrived_packets}
-use Rattle.dna_play.proofs.Links.Stage.{same_holds}
 use Rattle.dna_play.proofs.Played.Cases.{made_case}
 use Rattle.dna_play.proofs.Played.Runs.{line_makes, makes_tells}
 use Rattle.dna_play.proofs.Played.Steps.{PlayHalf}

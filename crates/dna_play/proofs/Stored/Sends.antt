@@ -9,7 +9,7 @@ use Rattle.capture.specs.declared.record.Record.TheVariants.{Sent}
 use Rattle.dna_station.specs.declared.head.Head.{Head}
 use Rattle.dna_links.specs.declared.port.Port.{Port}
 use Rattle.dna_links.specs.LookUps.{is_live}
-use Rattle.dna_links.specs.Links.{LinkOf, Carried}
+use Rattle.dna_links.specs.Links.{LinkOf}
 use Rattle.dna_links.specs.Sending as links_sending
 use Rattle.dna_links.specs.TrueFlow.{TrueFlow, Numbers, true_flows}
 use Rattle.dna_links.specs.TrueLinks.{Links}
