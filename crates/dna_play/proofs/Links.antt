@@ -11,7 +11,7 @@ pub mod Debts
 pub mod Fits
 pub mod Made
 pub mod Phases
--- all this is kept
+-- what may become of a link, of its message that is sent, and so of all
 pub mod Goes
 pub mod Turns
 pub mod Stage

@@ -16,7 +16,6 @@ pub mod SidesLined
 pub mod Facts
 -- their captures have few records
 pub mod WaitingRecords
-pub mod Few
 pub mod FewRecords
 -- the next step goes by its rule
 pub mod Stages

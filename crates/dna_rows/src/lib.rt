@@ -4,7 +4,8 @@
 //! and nothing stands on it.
 //!
 //! A table is a record, and a row is a field of it: its name says the rule, its type has the bytes, the records and the answer, and `computed`
-//! says that the table is right, by computation. Where the rule is turned in the definition, the table is refused, and the row is named. The
-//! rows stand by subject: `Station`, `Line`, `Links`, `Layers`, `Packets`, `Alone`, `NotJudged`, `Player`, `Limits`. `Courses` has how far two
-//! captures come, `Verdicts` how a verdict is read off there, `Scripts` what a script stands for, `Units` and `Captures` what rows are made of.
+//! says that the table is right, by one search that computes each row. Where the rule is turned in the definition, its row is false: the table is
+//! refused, and the row is named. A table that is too much for one search stands as two. The rows stand by subject: `Station`, `Line`, `Links`,
+//! `Layers`, `Packets`, `Alone`, `NotJudged`, `Player`, `Limits`. `Courses` has how far two captures come, `Verdicts` how a verdict is read off
+//! there, `Scripts` what a script stands for, `Units` and `Captures` what rows are made of.
 #![tactic(auto)]

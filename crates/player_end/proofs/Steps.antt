@@ -1,6 +1,6 @@
 -- What a step of the user makes of an end that keeps all links that ever were.
 use Rattle.std.proofs.Common.{◌≡◌, ℕ, ◌+◌, ◌<◌, ◌≤◌, Bool, true, ◌&&◌, cond, nat_le, Some, List, [], ◌++◌, length}
-use Rattle.std.proofs.Common.{Result, Ok, Err, refl, sym, ap, ◌∙◌, lt-ltb, le-leb}
+use Rattle.std.proofs.Common.{Result, Ok, Err, refl, sym, subst, ap, ◌∙◌, lt-ltb, le-leb}
 use Rattle.std.specs.Prelude.{slice_get}
 use Rattle.std.proofs.lemmas.List.{append-nil}
 use Rattle.capture.specs.declared.event.Event.{Event}
@@ -52,10 +52,10 @@ module _ (head : Head) (station : KeptStation) (s : KeptLinks) (addresses passed
       closes_made : closes e own ≡ closing
       closes_made = closes_by ∙ ap (λ (b : Bool). if_so b closing) h
 
-      pub closes_lines : (after : KeptLinks) (text t : List ℕ) → live_of after ≡ changed place (closed link) (live_of s) →
+      closing_lines : (after : KeptLinks) (text t : List ℕ) → live_of after ≡ changed place (closed link) (live_of s) →
           t ≡ text ++ record_line Number (User (events.Close own)) →
           with_lines text (closes e own) ≡ Ok (end_with head station after addresses passed, [], t)
-      closes_lines after text t is line =
+      closing_lines after text t is line =
           ap (with_lines text) closes_made
           ∙ made_lines (events.Close own) (with_links (changed place (closed link) (live_of s)) e) text t line
           ∙ ap (λ (l : KeptLinks). Ok (with_links l e, [], t)) (sym is)
@@ -77,10 +77,10 @@ module _ (head : Head) (station : KeptStation) (s : KeptLinks) (addresses passed
             hands_by ∙ ap (λ (b : Bool). if_so (b && nat_le (length message) MAX_MESSAGE) handing) h
             ∙ ap (λ (b : Bool). if_so b handing) (le-leb (length message) MAX_MESSAGE short)
 
-        pub hands_lines : (after : KeptLinks) (text t : List ℕ) → live_of after ≡ changed place (handed message link) (live_of s) →
+        handing_lines : (after : KeptLinks) (text t : List ℕ) → live_of after ≡ changed place (handed message link) (live_of s) →
             t ≡ text ++ record_line Number (User (events.In own message)) →
             with_lines text (hands_in e own message) ≡ Ok (end_with head station after addresses passed, [], t)
-        hands_lines after text t is line =
+        handing_lines after text t is line =
             ap (with_lines text) hands_made
             ∙ made_lines (events.In own message) (with_links (changed place (handed message link) (live_of s)) e) text t line
             ∙ ap (λ (l : KeptLinks). Ok (with_links l e, [], t)) (sym is)
@@ -101,12 +101,44 @@ module _ (head : Head) (station : KeptStation) (s : KeptLinks) (addresses passed
         with_passed (CalledBy partner) s (Err BadStep) (λ (p : ℕ) (l : LinkEnd). giving e (given p l)) n link refl found at
         ∙ ap (λ (b : Bool). cond b (answering (addresses + 1)) (Err Full)) (lt-ltb addresses MAX_LINK room) ∙ ap answering (sym next)
 
-    pub answers_lines : (after : KeptLinks) (text t : List ℕ) →
+    answering_lines : (after : KeptLinks) (text t : List ℕ) →
         live_of after ≡ changed (place_among n s.links) (change address link) (live_of s) → t ≡ text ++ record_line Number (User (event address)) →
         with_lines text (answers e partner change event) ≡ Ok (end_with head station after address passed, [], t)
-    answers_lines after text t is line =
+    answering_lines after text t is line =
         ap (with_lines text) answers_made
         ∙ made_lines (event address) (with_links (changed (place_among n s.links) (change address link) (live_of s))
         (record e { addresses = address }))
         text t line
         ∙ ap (λ (l : KeptLinks). Ok (with_links l (record e { addresses = address }), [], t)) (sym is)
+
+-- ---- of an end that is seen so
+
+module _ {head : Head} {station : KeptStation} {addresses passed : ℕ} {end : KeptEnd} (s : KeptLinks)
+    (shown : end_with head station s addresses passed ≡ end) where
+  pub closes_lines : (own : ℕ) {n : ℕ} {link : LinkEnd} → place_of (LiveAt own) s.links ≡ Some n → slice_get s.links n ≡ Some link →
+      is_connected link.port.phase ≡ true → (after : KeptLinks) (text : List ℕ) {t : List ℕ} →
+      live_of after ≡ changed (place_among n s.links) (closed link) (live_of s) → t ≡ text ++ record_line Number (User (events.Close own)) →
+      with_lines text (closes end own) ≡ Ok (end_with head station after addresses passed, [], t)
+  closes_lines own {n} {link} found at h after text {t} is line =
+      ap (λ (x : KeptEnd). with_lines text (closes x own)) (sym shown)
+      ∙ closing_lines head station s addresses passed own n link found at h after text t is line
+
+  pub hands_lines : (own : ℕ) (message : List ℕ) {n : ℕ} {link : LinkEnd} → place_of (LiveAt own) s.links ≡ Some n →
+      slice_get s.links n ≡ Some link → takes_messages link.port.phase ≡ true → length message ≤ MAX_MESSAGE →
+      (after : KeptLinks) (text : List ℕ) {t : List ℕ} → live_of after ≡ changed (place_among n s.links) (handed message link) (live_of s) →
+      t ≡ text ++ record_line Number (User (events.In own message)) →
+      with_lines text (hands_in end own message) ≡ Ok (end_with head station after addresses passed, [], t)
+  hands_lines own message {n} {link} found at h short after text {t} is line =
+      ap (λ (x : KeptEnd). with_lines text (hands_in x own message)) (sym shown)
+      ∙ handing_lines head station s addresses passed own n link found at message h short after text t is line
+
+  pub answers_lines : (partner : ℕ) (change : (address : ℕ) → LinkEnd → LinkEnd) (event : (address : ℕ) → Event) {n address : ℕ} {link : LinkEnd} →
+      place_of (CalledBy partner) s.links ≡ Some n → slice_get s.links n ≡ Some link → address ≡ end.addresses + 1 → end.addresses < MAX_LINK →
+      (after : KeptLinks) (text : List ℕ) {t : List ℕ} → live_of after ≡ changed (place_among n s.links) (change address link) (live_of s) →
+      t ≡ text ++ record_line Number (User (event address)) →
+      with_lines text (answers end partner change event) ≡ Ok (end_with head station after address passed, [], t)
+  answers_lines partner change event {n} {address} {link} found at next room after text {t} is line =
+      ap (λ (x : KeptEnd). with_lines text (answers x partner change event)) (sym shown)
+      ∙ answering_lines head station s addresses passed partner n link found at change event address
+      (next ∙ ap (λ (x : KeptEnd). x.addresses + 1) (sym shown)) (subst (λ (x : KeptEnd). x.addresses < MAX_LINK) (sym shown) room)
+      after text t is line

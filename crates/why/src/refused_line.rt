@@ -9,7 +9,7 @@ use std::fmt::{self, Formatter, Write};
 use wire_base::Side;
 
 /// The record that is refused, with the reason and who is accused. Printed as one JSON object with its LF.
-#[derive(Clone, Copy, Debug, PartialEq, Eq)]
+#[derive(Clone, Copy)]
 pub struct RefusedLine {
     /// Its side.
     pub side: Side,

@@ -99,41 +99,36 @@ module _ {L : Type 0} where
   lessened v d owed strt stack ack rep less p =
       record { nak = λ reason e. p.nak reason (sym (aside reason owed strt stack ack rep) ∙ e); rep = λ e. p.rep (less e) }
 
+  -- what is newly owed can be paid: a NAK has an open cause, and for a REP a packet is outstanding
+  abbrev pub CanPay : StationVariables L → Causes → Option Debt → Type 0
+  CanPay v d (Some OwesRep) = all_acknowledged v ≡ false
+  CanPay v d (Some (OwesNak reason)) = has_cause reason d ≡ true
+  CanPay v d debt = Unit {0}
+
   -- with one thing more
-  pub debt_pays : (v : StationVariables L) (d : Causes) (owed : Owed) (debt : Option Debt) →
-      ((reason : NakReason) → debt ≡ Some (OwesNak reason) → has_cause reason d ≡ true) → (debt ≡ Some OwesRep → all_acknowledged v ≡ false) →
-      IsPayable v d owed → IsPayable v d (with_debt debt owed)
-  debt_pays v d owed None has rep p = p
-  debt_pays v d owed (Some OwesStrt) has rep p = lessened v d owed true owed.stack owed.ack owed.rep (λ e. e) p
-  debt_pays v d owed (Some OwesStack) has rep p = lessened v d owed owed.strt true owed.ack owed.rep (λ e. e) p
-  debt_pays v d owed (Some OwesAck) has rep p = lessened v d owed owed.strt owed.stack true owed.rep (λ e. e) p
-  debt_pays v d owed (Some OwesRep) has rep p =
-      record { nak = λ reason e. p.nak reason (sym (aside reason owed owed.strt owed.stack owed.ack true) ∙ e); rep = λ e. rep refl }
-  debt_pays v d owed (Some (OwesNak reason)) has rep p =
+  pub debt_pays : (v : StationVariables L) (d : Causes) (owed : Owed) (debt : Option Debt) → CanPay v d debt → IsPayable v d owed →
+      IsPayable v d (with_debt debt owed)
+  debt_pays v d owed None can p = p
+  debt_pays v d owed (Some OwesStrt) can p = lessened v d owed true owed.stack owed.ack owed.rep (λ e. e) p
+  debt_pays v d owed (Some OwesStack) can p = lessened v d owed owed.strt true owed.ack owed.rep (λ e. e) p
+  debt_pays v d owed (Some OwesAck) can p = lessened v d owed owed.strt owed.stack true owed.rep (λ e. e) p
+  debt_pays v d owed (Some OwesRep) can p =
+      record { nak = λ reason e. p.nak reason (sym (aside reason owed owed.strt owed.stack owed.ack true) ∙ e); rep = λ e. can }
+  debt_pays v d owed (Some (OwesNak reason)) can p =
       record {
-        nak = λ other e. nak_added reason other d owed (has reason refl) (p.nak other) e;
-        rep = λ e. p.rep
-            (sym (rep_aside reason true owed) ∙ e);
+        nak = λ other e. nak_added reason other d owed can (p.nak other) e;
+        rep = λ e. p.rep (sym (rep_aside reason true owed) ∙ e);
       }
 
-  -- ---- the timer runs out
-
+  -- the timer runs out
   pub timer_pays : (k : StationVariables L) (c : Causes) (owed : Owed) (state : State) → IsPayable k c owed →
       IsPayable k c (with_debt (timer_debt state k) owed)
-  timer_pays k c owed state p = debt_pays k c owed (timer_debt state k) (λ reason e. never_nak state reason e) (λ e. outstanding state e) p
+  timer_pays k c owed state p = debt_pays k c owed (timer_debt state k) (can state) p
     where
-      no_nak : (b : Bool) (reason : NakReason) → ◌≡◌ {A = Option Debt} (Some (cond b OwesAck OwesRep)) (Some (OwesNak reason)) → ⊥
-      no_nak true reason e = cc
-      no_nak false reason e = cc
+      answers : (b : Bool) → all_acknowledged k ≡ b → CanPay k c (Some (cond b OwesAck OwesRep))
+      answers true is = tt
+      answers false is = is
 
-      never_nak : (state : State) (reason : NakReason) → timer_debt state k ≡ Some (OwesNak reason) → has_cause reason c ≡ true
-      never_nak Running reason e = absurd (no_nak (all_acknowledged k) reason e)
-      never_nak state reason e = absurd cc
-
-      is_rep : (b : Bool) → ◌≡◌ {A = Option Debt} (Some (cond b OwesAck OwesRep)) (Some OwesRep) → b ≡ false
-      is_rep true e = absurd cc
-      is_rep false e = refl
-
-      outstanding : (state : State) → timer_debt state k ≡ Some OwesRep → all_acknowledged k ≡ false
-      outstanding Running e = is_rep (all_acknowledged k) e
-      outstanding state e = absurd cc
+      can : (state : State) → CanPay k c (timer_debt state k)
+      can Running = answers (all_acknowledged k) refl
+      can state = tt

@@ -25,7 +25,7 @@ use Rattle.dna_play.proofs.Ends.ReceiptMakes.{came_left, hurt_left, HasCome, Non
 use Rattle.dna_play.proofs.Ends.DamagedUnits.{ShownDamage, read_of, arrival_of}
 use Rattle.dna_play.proofs.Ends.StationStage.{sound_stage, damage_stage, arrived_packets}
 use Rattle.dna_play.proofs.Links.Stage.{LinkHolds, left_links, same_holds, came_holds, debt_holds}
-use Rattle.dna_play.proofs.Ends.Stage.{Stage, Known, ordered_of}
+use Rattle.dna_play.proofs.Ends.Stage.{Stage, Known, ordered_of, station_stage}
 use Rattle.dna_links.specs.declared.tag.LinkTag.{LinkTag}
 
 module _ (own other : End) (h : Stage own) (theirs : Stage other) (known : Known own other) where
@@ -88,12 +88,6 @@ module _ (own other : End) (h : Stage own) (theirs : Stage other) (known : Known
 
     pub hurt_stage : (d : ShownDamage) →
         Stage (after_receipt own (read_of d) false (after_record own (hurt_left own.half other.half own.passed unit there ahead d)))
-    hurt_stage d = record {
-      pays = damage_stage (station_of own.half) own.owed h.pays d;
-      packets = arrived_packets (station_of own.half) (after_arrival (station_of own.half) (arrival_of d) false)
-          (arrival_packets (station_of own.half) (arrival_of d) false) h.packets;
-      links = same_holds s own.addresses own.links_owed h.links (ordered_of s.links known.numbers);
-      plain = h.plain;
-      few = h.few;
-      ahead = omega arith;
-    }
+    hurt_stage d = station_stage own h known.numbers _ _ _ _ _ (damage_stage (station_of own.half) own.owed h.pays d)
+        (arrived_packets (station_of own.half) (after_arrival (station_of own.half) (arrival_of d) false)
+        (arrival_packets (station_of own.half) (arrival_of d) false) h.packets) (omega arith)

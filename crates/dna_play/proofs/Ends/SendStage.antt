@@ -24,8 +24,8 @@ use Rattle.dna_play.proofs.Links.Owing.{sent_turn_fits, ahead_less}
 use Rattle.dna_play.proofs.Ends.UnitLines.{IsOfBytes}
 use Rattle.dna_play.proofs.Ends.SendMakes.{sent_left, again_after, first_after}
 use Rattle.dna_play.proofs.Ends.StationStage.{sent_stage, sent_packets}
-use Rattle.dna_play.proofs.Links.Stage.{LinkHolds, left_links, same_holds, sent_holds, first_sent_holds, change_holds}
-use Rattle.dna_play.proofs.Ends.Stage.{Stage, Known}
+use Rattle.dna_play.proofs.Links.Stage.{LinkHolds, left_links, sent_holds, first_sent_holds, change_holds}
+use Rattle.dna_play.proofs.Ends.Stage.{Stage, Known, station_stage}
 use Rattle.dna_links.proofs.Runs.Sides.{set_same}
 use Rattle.dna_play.specs.KeptLinks.{gave_by}
 use Rattle.dna_play.proofs.Links.Turns.{TurnMade, turn_made, gave_ahead}
@@ -46,14 +46,9 @@ module _ (own other : End) (h : Stage own) (known : Known own other) where
       message_of c own.half.state.head (player.variables_of own.half) ends ≡ Some m → IsOfBytes m →
       Stage (after_sending c (after_record own (sent_left own.half other.half m (again_after own.half other.half m))))
   stage_again (SendNew one) never m put b = absurd (never one refl)
-  stage_again c never m put b = record {
-    pays = sent_stage (station_of own.half) own.owed h.pays known.bounded.ordered c own.half.state.head ends m put;
-    packets = sent_packets (station_of own.half) m b h.packets;
-    links = same_holds s own.addresses own.links_owed h.links ordered;
-    plain = h.plain;
-    few = h.few;
-    ahead = h.ahead;
-  }
+  stage_again c never m put b = station_stage own h known.numbers _ _ _ _ _
+      (sent_stage (station_of own.half) own.owed h.pays known.bounded.ordered c own.half.state.head ends m put)
+      (sent_packets (station_of own.half) m b h.packets) h.ahead
 
   -- ---- a new packet
 

@@ -1,6 +1,6 @@
 -- What holds of an end of the player at any time of a script, with what is known of both in a run that is checked: all that it chooses it may
 -- send; and that it is kept by what its user does and by its timers.
-use Rattle.std.proofs.Common.{◌≡◌, ℕ, ◌<◌, ◌≤◌, ◌^◌, Option, Some, Ok, sym, ap, ◌∙◌, subst, arith, Result}
+use Rattle.std.proofs.Common.{◌≡◌, ℕ, ◌<◌, ◌≤◌, ◌^◌, Option, Some, List, Ok, sym, ap, ◌∙◌, subst, arith, Result}
 use Rattle.std.specs.Prelude.{slice_get}
 use Rattle.std.proofs.lemmas.Option.{same_Some}
 use Rattle.two_nodes.specs.Nodes.{stepped}
@@ -13,7 +13,7 @@ use Rattle.dna_station.specs.declared.state.StationEvent.TheVariants as events
 use Rattle.dna_links.specs.declared.port.Phase.{Phase}
 use Rattle.dna_links.specs.declared.port.Phase.TheVariants.{Calling, Confirming, Running, Disconnecting}
 use Rattle.dna_station.specs.Bounds as bounds
-use Rattle.dna_station.specs.Station.{after_event}
+use Rattle.dna_station.specs.Station.{Station, after_event}
 use Rattle.dna_links.specs.Links.{LinkOf}
 use Rattle.dna_links.specs.User.{LinkEventValue}
 use Rattle.dna_links.specs.TrueFlow.{TrueFlow, true_flows}
@@ -21,7 +21,7 @@ use Rattle.dna_links.specs.TrueLinks.{Links, links_user}
 use Rattle.dna_links.specs.CutFlow.{IsOrdered, IsAnswered}
 use Rattle.dna_links.specs.Captures.{given_address}
 use Rattle.dna_links.specs.Runs.{SentMessage}
-use Rattle.dna_node.specs.Layers.{stations}
+use Rattle.dna_node.specs.Layers.{stations, LayersUnit}
 use Rattle.dna_play.specs.Owed.{Debt, timer_debt, OwesStrt, Owed}
 use Rattle.dna_play.specs.LinkOwed.{LinkOwed, InitiateTurn, ConfirmTurn, DisconnectTurn, retried, changed, LinkDebt, LinksOwed}
 use Rattle.dna_play.specs.Player.{End, station_of, links_of, after_record, new_end}
@@ -101,31 +101,34 @@ module _ (e : End) (h : Stage e) (numbers : HasNumbers (links_of e.half).links) 
     ahead = h.ahead;
   }
 
-  -- ---- the user of the station
+  -- ---- the station
+
+  -- it is another then, and the links stay
+  pub station_stage : (station : Station) (owed : Owed) (front passed : ℕ) (sent : List LayersUnit) → StationPays station owed →
+      PacketsFit station → front ≤ passed → Stage (record (after_record e (record {
+        state = record e.half.state { station = record e.half.state.station { station = station }; front = front };
+        sent = sent;
+      })) { owed = owed; passed = passed })
+  station_stage station owed front passed sent pays packets ahead = record {
+    pays = pays;
+    packets = packets;
+    links = same_holds (links_of e.half) e.addresses e.links_owed h.links (ordered_of (links_of e.half).links numbers);
+    plain = h.plain;
+    few = h.few;
+    ahead = ahead;
+  }
 
   abbrev with_station : StationEvent → PlayHalf
   with_station event =
       stepped e.half (record e.half.state { station = record e.half.state.station { station = after_event (station_of e.half) event } })
 
   pub start_event_stage : (station_of e.half).state ≡ Halted → Stage (after_record e (with_station events.Start))
-  start_event_stage is = record {
-    pays = start_stage (station_of e.half) e.owed h.pays is;
-    packets = event_packets (station_of e.half) events.Start h.packets;
-    links = same_holds (links_of e.half) e.addresses e.links_owed h.links (ordered_of (links_of e.half).links numbers);
-    plain = h.plain;
-    few = h.few;
-    ahead = h.ahead;
-  }
+  start_event_stage is = station_stage _ _ _ _ _ (start_stage (station_of e.half) e.owed h.pays is)
+      (event_packets (station_of e.half) events.Start h.packets) h.ahead
 
   pub halt_event_stage : Stage (after_record e (with_station events.Halt))
-  halt_event_stage = record {
-    pays = halt_stage (station_of e.half) e.owed h.pays;
-    packets = h.packets;
-    links = same_holds (links_of e.half) e.addresses e.links_owed h.links (ordered_of (links_of e.half).links numbers);
-    plain = h.plain;
-    few = h.few;
-    ahead = h.ahead;
-  }
+  halt_event_stage = station_stage _ _ _ _ _ (halt_stage (station_of e.half) e.owed h.pays)
+      (event_packets (station_of e.half) events.Halt h.packets) h.ahead
 
 -- ---- timers, and one thing more is owed
 
@@ -163,8 +166,8 @@ module _ (e : End) (h : Stage e) where
   link_debt_stage debt holds = owed_stage _ _ h.pays (debt_holds (links_of e.half).links e.addresses e.links_owed h.links debt holds)
 
   pub strt_stage : Stage (owing_more (Some OwesStrt) e)
-  strt_stage = owed_stage _ _ (debt_pays (player.variables_of e.half) (station_of e.half).causes e.owed (Some OwesStrt) (λ reason is. absurd cc)
-      (λ is. absurd cc) h.pays) h.links
+  strt_stage = owed_stage _ _ (debt_pays (player.variables_of e.half) (station_of e.half).causes e.owed (Some OwesStrt) tt
+      h.pays) h.links
 
   pub passing_stage : Stage (passing e)
   passing_stage = record { pays = h.pays; packets = h.packets; links = h.links; plain = h.plain; few = h.few; ahead = let a = h.ahead in omega arith }

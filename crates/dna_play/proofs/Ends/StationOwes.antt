@@ -1,6 +1,6 @@
 -- What a station of the player owes stays payable, whatever its user does, whatever it sends of what is owed, and whatever comes.
 use Rattle.std.proofs.Common.{◌≡◌, ℕ, ◌+◌, Bool, true, false, ◌&&◌, not, cond, eqb, nat_lt, nat_le, Option, Some, List, [], ◌∷◌, length, fold, refl}
-use Rattle.std.proofs.Common.{sym, ap, ap₂, ◌∙◌, subst}
+use Rattle.std.proofs.Common.{sym, ap, ap₂, ◌∙◌}
 use Rattle.std.proofs.lemmas.Bool.{and_parts}
 use Rattle.ddcmp_msg.specs.Message.{MessageValue, Data, Nak, Rep, Strt}
 use Rattle.ddcmp_msg.specs.declared.flags.Flags.{Flags}
@@ -18,14 +18,14 @@ use Rattle.dna_station.specs.Station.{wire}
 use Rattle.dna_station.specs.WireStation.{StationVariables, WireStation, wire_after_event}
 use Rattle.dna_station.specs.WireBook.{acknowledges, wire_acknowledged_by, wire_responded, wire_is_next, wire_does, wire_book, wire_after_sending}
 use Rattle.dna_station.specs.WireBook.{wire_after_arrival}
-use Rattle.dna_play.specs.Owed.{Owed, Debt, OwesRep, OwesNak, with_debt, data_debt, rep_debt, damage_debt, same_state, can_take, message_debt}
+use Rattle.dna_play.specs.Owed.{Owed, Debt, OwesNak, with_debt, data_debt, rep_debt, damage_debt, same_state, can_take, message_debt}
 use Rattle.dna_play.specs.Owed.{arrival_debt, still_owed}
 use Rattle.dna_play.specs.NextSent.{LinkEnd, Choice, SendNak, after_choice}
 use Rattle.dna_play.specs.Compose.{no_flags, packet_with, message_of}
 use Rattle.dna_station.proofs.Steps.Effects.{kept_by_all}
 use Rattle.dna_play.proofs.Ends.DamagedUnits.{ShownDamage, OfHeader, OfData, read_of, arrival_of}
 use Rattle.dna_play.proofs.Ends.StationPays.{IsPayable, IsPut, PutStrt, PutStack, PutNak, PutRep, PutAgain, PutNew, PutAck, put_is}
-use Rattle.dna_play.proofs.Ends.OwedPays.{StayOpen, one_more, now_open, used_up, rep_aside, still, lessened, debt_pays}
+use Rattle.dna_play.proofs.Ends.OwedPays.{StayOpen, one_more, now_open, used_up, rep_aside, still, lessened, CanPay, debt_pays}
 
 module _ {L : Type 0} where
   -- ---- the user
@@ -131,53 +131,31 @@ module _ {L : Type 0} where
 
       -- ---- what is newly owed for it
 
-      abbrev Open : NakReason → Type 0
-      Open reason = has_cause reason (wire_after_arrival w (Sound m tag) kept).causes ≡ true
+      abbrev Can : Option Debt → Type 0
+      Can debt = let v = wire_after_arrival w (Sound m tag) kept in CanPay v.variables v.causes debt
 
-      data_opens : (b now : Bool) (reason : NakReason) → (b ≡ true → now ≡ false → Open NoBuffer) → data_debt b now ≡ Some (OwesNak reason) →
-          Open reason
-      data_opens true true reason has e = absurd cc
-      data_opens true false reason has e = let same : NoBuffer ≡ reason = cc in subst Open same (has refl refl)
-      data_opens false now reason has e = absurd cc
+      data_can : (b now : Bool) → (b ≡ true → now ≡ false → Can (Some (OwesNak NoBuffer))) → Can (data_debt b now)
+      data_can true true has = tt
+      data_can true false has = has refl refl
+      data_can false now has = tt
 
-      rep_opens : (b : Bool) (reason : NakReason) → (b ≡ false → Open RepResponse) →
-          ◌≡◌ {A = Option Debt} (Some (rep_debt b)) (Some (OwesNak reason)) → Open reason
-      rep_opens true reason has e = absurd cc
-      rep_opens false reason has e = let same : RepResponse ≡ reason = cc in subst Open same (has refl)
+      rep_can : (b : Bool) → (b ≡ false → Can (Some (OwesNak RepResponse))) → Can (Some (rep_debt b))
+      rep_can true has = tt
+      rep_can false has = has refl
 
-      taken_opens : can_take k m ≡ true → kept ≡ false → Open NoBuffer
+      taken_opens : can_take k m ≡ true → kept ≡ false → Can (Some (OwesNak NoBuffer))
       taken_opens can none = let parts = and_parts _ _ can in not_kept_opens none (row k.state m).effects w parts.0 parts.1
 
-    message_opens : (state : State) → k.state ≡ state → (m : MessageValue) (tag : Tag) (kept : Bool) (reason : NakReason) →
-        message_debt state k m kept ≡ Some (OwesNak reason) → Open m tag kept reason
-    message_opens Istrt is (Strt flags) tag kept reason e = absurd cc
-    message_opens Astrt is (Data flags resp num body) tag kept reason e =
-        let m = Data flags resp num body in data_opens m tag kept (can_take k m) kept reason (taken_opens m tag kept) e
-    message_opens Running is (Data flags resp num body) tag kept reason e =
-        let m = Data flags resp num body in data_opens m tag kept (can_take k m) kept reason (taken_opens m tag kept) e
-    message_opens Running is (Rep flags num) tag kept reason e = rep_opens (Rep flags num) tag kept (eqb num k.received) reason
+    message_can : (state : State) → k.state ≡ state → (m : MessageValue) (tag : Tag) (kept : Bool) → Can m tag kept (message_debt state k m kept)
+    message_can Istrt is (Strt flags) tag kept = tt
+    message_can Astrt is (Data flags resp num body) tag kept =
+        let m = Data flags resp num body in data_can m tag kept (can_take k m) kept (taken_opens m tag kept)
+    message_can Running is (Data flags resp num body) tag kept =
+        let m = Data flags resp num body in data_can m tag kept (can_take k m) kept (taken_opens m tag kept)
+    message_can Running is (Rep flags num) tag kept = rep_can (Rep flags num) tag kept (eqb num k.received)
         (λ other. ap (λ (s : State). has_cause RepResponse (fold (comes (Rep flags num) tag kept) w (row s (Rep flags num)).effects).causes) is
-        ∙ ap (λ (b : Bool). has_cause RepResponse (cond b w.causes (with_cause RepResponse w.causes))) other ∙ now_open RepResponse w.causes) e
-    message_opens state is m tag kept reason e = absurd cc
-
-    message_no_rep : (state : State) (m : MessageValue) (kept : Bool) → message_debt state k m kept ≡ Some OwesRep → ⊥
-    message_no_rep state m kept e = go state m e
-      where
-        data_no : (b now : Bool) → data_debt b now ≡ Some OwesRep → ⊥
-        data_no true true e = cc
-        data_no true false e = cc
-        data_no false now e = cc
-
-        rep_no : (b : Bool) → ◌≡◌ {A = Option Debt} (Some (rep_debt b)) (Some OwesRep) → ⊥
-        rep_no true e = cc
-        rep_no false e = cc
-
-        go : (state : State) (m : MessageValue) → message_debt state k m kept ≡ Some OwesRep → ⊥
-        go Istrt (Strt flags) e = cc
-        go Astrt (Data flags resp num body) e = data_no (can_take k (Data flags resp num body)) kept e
-        go Running (Data flags resp num body) e = data_no (can_take k (Data flags resp num body)) kept e
-        go Running (Rep flags num) e = rep_no (eqb num k.received) e
-        go state m e = cc
+        ∙ ap (λ (b : Bool). has_cause RepResponse (cond b w.causes (with_cause RepResponse w.causes))) other ∙ now_open RepResponse w.causes)
+    message_can state is m tag kept = tt
 
     -- a sound message
     pub sound_pays : (m : MessageValue) (tag : Tag) (kept : Bool) →
@@ -185,7 +163,7 @@ module _ {L : Type 0} where
     sound_pays m tag kept =
         let v = wire_after_arrival w (Sound m tag) kept in
         debt_pays v.variables v.causes (still_owed k v.variables owed) (message_debt k.state k m kept)
-        (λ reason e. message_opens k.state refl m tag kept reason e) (λ e. absurd (message_no_rep k.state m kept e))
+        (message_can k.state refl m tag kept)
         (still k v.variables w.causes v.causes owed (λ same reason e. all_open m tag kept (row k.state m).effects w reason e) p)
 
     -- damage
@@ -195,9 +173,7 @@ module _ {L : Type 0} where
       where
         go : (state : State) (b : Bool) → b ≡ counts_damage state →
             let v = cond b (wire_book.counts reason w) w in Pays v (with_debt (damage_debt state reason) (still_owed k v.variables owed))
-        go Running true e = debt_pays k (with_cause reason w.causes) (still_owed k k owed) (Some (OwesNak reason))
-            (λ other f. let same : reason ≡ other = cc in
-            subst (λ (r : NakReason). has_cause r (with_cause reason w.causes) ≡ true) same (now_open reason w.causes)) (λ f. absurd cc)
+        go Running true e = debt_pays k (with_cause reason w.causes) (still_owed k k owed) (Some (OwesNak reason)) (now_open reason w.causes)
             (still k k w.causes (with_cause reason w.causes) owed (λ same other f. one_more reason w.causes other f) p)
         go Running false e = absurd cc
         go state true e = absurd cc

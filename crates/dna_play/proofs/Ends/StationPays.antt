@@ -59,58 +59,42 @@ module _ {L : Type 0} (k : StationVariables L) (owed : Owed) (asked : Option Lin
       same : (x : Choice) → ◌≡◌ {A = Option Choice} (Some x) (Some c) → x ≡ c
       same x e = cc
 
+  either_chosen : (state : State) (b : Bool) (x y : Option Choice) → (b ≡ true → x ≡ Some c → Chosen state) → (b ≡ false → y ≡ Some c → Chosen state) →
+      cond b x y ≡ Some c → Chosen state
+  either_chosen state true x y p q e = p refl e
+  either_chosen state false x y p q e = q refl e
+
+  none_chosen : (state : State) → ◌≡◌ {A = Option Choice} None (Some c) → Chosen state
+  none_chosen state e = absurd cc
+
   when_chosen : (state : State) (b : Bool) (x : Choice) → (b ≡ true → IsChosen k owed asked state x) → when b x ≡ Some c → Chosen state
   when_chosen state true x p e = same_choice state x (p refl) e
-  when_chosen state false x p e = absurd cc
+  when_chosen state false x p e = none_chosen state e
 
   else_chosen : (first next : Option Choice) → (first ≡ Some c → Chosen Running) → (next ≡ Some c → Chosen Running) → or_else first next ≡ Some c →
       Chosen Running
   else_chosen None next p q e = q e
   else_chosen (Some x) next p q e = p e
 
+  nak_or : (reason : NakReason) (next : Option Choice) → (next ≡ Some c → Chosen Running) →
+      cond (owes_nak reason owed) (Some (SendNak reason)) next ≡ Some c → Chosen Running
+  nak_or reason next q e = either_chosen Running (owes_nak reason owed) (Some (SendNak reason)) next
+      (λ is f. same_choice Running (SendNak reason) (ByNak reason is) f) (λ is f. q f) e
+
   nak_chosen : lowest_nak owed ≡ Some c → Chosen Running
-  nak_chosen e = header owed.header_check refl e
-    where
-      buffer : (b : Bool) → owed.no_buffer ≡ b → cond b (Some (SendNak NoBuffer)) None ≡ Some c → Chosen Running
-      buffer true is e = same_choice Running (SendNak NoBuffer) (ByNak NoBuffer is) e
-      buffer false is e = absurd cc
-
-      rep : (b : Bool) → owed.rep_response ≡ b → cond b (Some (SendNak RepResponse)) (cond owed.no_buffer (Some (SendNak NoBuffer)) None) ≡ Some c →
-          Chosen Running
-      rep true is e = same_choice Running (SendNak RepResponse) (ByNak RepResponse is) e
-      rep false is e = buffer owed.no_buffer refl e
-
-      data_ : (b : Bool) → owed.data_check ≡ b →
-          cond b (Some (SendNak DataCheck))
-          (cond owed.rep_response (Some (SendNak RepResponse)) (cond owed.no_buffer (Some (SendNak NoBuffer)) None)) ≡ Some c →
-          Chosen Running
-      data_ true is e = same_choice Running (SendNak DataCheck) (ByNak DataCheck is) e
-      data_ false is e = rep owed.rep_response refl e
-
-      header : (b : Bool) → owed.header_check ≡ b →
-          cond b (Some (SendNak HeaderCheck))
-          (cond owed.data_check (Some (SendNak DataCheck))
-          (cond owed.rep_response (Some (SendNak RepResponse)) (cond owed.no_buffer (Some (SendNak NoBuffer)) None))) ≡ Some c →
-          Chosen Running
-      header true is e = same_choice Running (SendNak HeaderCheck) (ByNak HeaderCheck is) e
-      header false is e = data_ owed.data_check refl e
+  nak_chosen e =
+      nak_or HeaderCheck _ (nak_or DataCheck _ (nak_or RepResponse _ (nak_or NoBuffer None (none_chosen Running)))) e
 
   data_chosen : data_choice k asked ≡ Some c → Chosen Running
-  data_chosen e = go (wire_is_new k) refl e
+  data_chosen e = either_chosen Running (wire_is_new k) _ (Some SendAgain)
+      (λ new f. either_chosen Running (nat_lt (length k.held) WINDOW) (new_packet asked) None (λ room g. message asked refl new room g)
+      (λ full g. none_chosen Running g) f)
+      (λ old f. same_choice Running SendAgain (ByAgain old) f) e
     where
       message : (o : Option LinkChoice) → asked ≡ o → wire_is_new k ≡ true → nat_lt (length k.held) WINDOW ≡ true → new_packet o ≡ Some c →
           Chosen Running
       message None is new room e = absurd cc
       message (Some m) is new room e = same_choice Running (SendNew m) (ByNew m new room is) e
-
-      room : (b : Bool) → nat_lt (length k.held) WINDOW ≡ b → wire_is_new k ≡ true → cond b (new_packet asked) None ≡ Some c → Chosen Running
-      room true is new e = message asked refl new is e
-      room false is new e = absurd cc
-
-      go : (b : Bool) → wire_is_new k ≡ b → cond b (cond (nat_lt (length k.held) WINDOW) (new_packet asked) None) (Some SendAgain) ≡ Some c →
-          Chosen Running
-      go true is e = room (nat_lt (length k.held) WINDOW) refl is e
-      go false is e = same_choice Running SendAgain (ByAgain is) e
 
   pub chosen : (state : State) → choice_in state k owed asked ≡ Some c → Chosen state
   chosen Halted e = absurd cc

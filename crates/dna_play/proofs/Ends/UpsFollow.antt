@@ -1,6 +1,6 @@
 -- What a receipt makes whole the user gets at once: each delivery that follows it is made.
 use Rattle.std.proofs.Common.{◌≡◌, ℕ, suc, ◌+◌, Bool, true, false, cond, Option, Some, None, List, [], ◌∷◌, ◌++◌, drop, Ok, Err, refl, sym, ap, ◌∙◌}
-use Rattle.std.proofs.Common.{arith, append_assoc, ◌⊎◌, inl, inr}
+use Rattle.std.proofs.Common.{arith, append_assoc, ◌⊎◌, inl, inr, ap₂}
 use Rattle.std.specs.Prelude.{slice_get}
 use Rattle.std.proofs.lemmas.List.{drop-drop}
 use Rattle.std.proofs.lemmas.Slice.Eq.{bytes_eq-Decides}
@@ -25,48 +25,50 @@ use Rattle.dna_play.proofs.Links.Pays.{found_at, with_found}
 
 -- ---- the first message that is whole is the next one, and the others are whole behind it
 
-pub record IsNextWhole (begun : List ℕ) (pieces : List (Option Piece)) (message : List ℕ) (rest : List (List ℕ)) : Type 0 where
-  pub w : Whole
-  pub is : next_message pieces ≡ Some w
-  pub message_is : begun ++ w.message ≡ message
-  pub left : complete [] (drop w.pieces pieces) ≡ rest
-
-same_first : (x y : List ℕ) (xs ys : List (List ℕ)) → x ∷ xs ≡ y ∷ ys → x ≡ y
-same_first x y xs ys e = cc
-
-same_rest : (x y : List ℕ) (xs ys : List (List ℕ)) → x ∷ xs ≡ y ∷ ys → xs ≡ ys
-same_rest x y xs ys e = cc
-
 pub drop_more : {X : Type 0} (n : ℕ) (x : X) (xs : List X) → drop (n + 1) (x ∷ xs) ≡ drop n xs
 drop_more n x xs = ap (λ (k : ℕ). drop k (x ∷ xs)) (more n)
   where
     more : (n : ℕ) → n + 1 ≡ suc n
     more n = omega arith
 
-pub next_whole : (begun : List ℕ) (pieces : List (Option Piece)) (message : List ℕ) (rest : List (List ℕ)) → complete begun pieces ≡ message ∷ rest →
-    IsNextWhole begun pieces message rest
-next_whole begun [] message rest e = absurd cc
-next_whole begun (None ∷ later) message rest e = absurd cc
-next_whole begun (Some p ∷ later) message rest e = go p.ends refl e (next_whole (begun ++ p.body) later message rest)
+abbrev from_next : (begun : List ℕ) → List (Option Piece) → Option Whole → List (List ℕ)
+from_next begun pieces None = []
+from_next begun pieces (Some w) = (begun ++ w.message) ∷ complete [] (drop w.pieces pieces)
+
+complete_next : (begun : List ℕ) (pieces : List (Option Piece)) → complete begun pieces ≡ from_next begun pieces (next_message pieces)
+complete_next begun [] = refl
+complete_next begun (None ∷ later) = refl
+complete_next begun (Some p ∷ later) = go p.ends (next_message later) (complete_next (begun ++ p.body) later)
   where
-    go : (b : Bool) → p.ends ≡ b → cond b ((begun ++ p.body) ∷ complete [] later) (complete (begun ++ p.body) later) ≡ message ∷ rest →
-        (complete (begun ++ p.body) later ≡ message ∷ rest → IsNextWhole (begun ++ p.body) later message rest) →
-        IsNextWhole begun (Some p ∷ later) message rest
-    go true ends e next = record {
-      w = record { pieces = 1; message = p.body };
-      is = ap (λ (b : Bool). cond b (Some (record { pieces = 1; message = p.body })) (with_piece p (next_message later))) ends;
-      message_is = same_first _ message _ rest e;
-      left = same_rest _ message _ rest e;
-    }
-    go false ends e next =
-        let n = next e in
-        record {
-          w = record { pieces = n.w.pieces + 1; message = p.body ++ n.w.message };
-          is = ap (λ (b : Bool). cond b (Some (record { pieces = 1; message = p.body })) (with_piece p (next_message later))) ends ∙
-              ap (with_piece p) n.is;
-          message_is = sym (append_assoc begun p.body n.w.message) ∙ n.message_is;
-          left = ap (complete []) (drop_more n.w.pieces (Some p) later) ∙ n.left;
-        }
+    go : (b : Bool) (o : Option Whole) → complete (begun ++ p.body) later ≡ from_next (begun ++ p.body) later o →
+        cond b ((begun ++ p.body) ∷ complete [] later) (complete (begun ++ p.body) later)
+        ≡ from_next begun (Some p ∷ later) (cond b (Some (record { pieces = 1; message = p.body })) (with_piece p o))
+    go true o e = refl
+    go false None e = e
+    go false (Some v) e = e ∙ ap₂ (λ (message : List ℕ) (rest : List (Option Piece)). message ∷ complete [] rest)
+        (append_assoc begun p.body v.message) (sym (drop_more v.pieces (Some p) later))
+
+-- where nothing is whole there is no next message
+pub none_next : (pieces : List (Option Piece)) → complete [] pieces ≡ [] → next_message pieces ≡ None
+none_next pieces e = go (next_message pieces) (sym (complete_next [] pieces) ∙ e)
+  where
+    go : (o : Option Whole) → from_next [] pieces o ≡ [] → o ≡ None
+    go None e = refl
+    go (Some w) e = absurd cc
+
+pub record IsNextWhole (pieces : List (Option Piece)) (message : List ℕ) (rest : List (List ℕ)) : Type 0 where
+  pub w : Whole
+  pub is : next_message pieces ≡ Some w
+  pub message_is : w.message ≡ message
+  pub left : complete [] (drop w.pieces pieces) ≡ rest
+
+pub next_whole : (pieces : List (Option Piece)) (message : List ℕ) (rest : List (List ℕ)) → complete [] pieces ≡ message ∷ rest →
+    IsNextWhole pieces message rest
+next_whole pieces message rest e = go (next_message pieces) refl (sym (complete_next [] pieces) ∙ e)
+  where
+    go : (o : Option Whole) → next_message pieces ≡ o → from_next [] pieces o ≡ message ∷ rest → IsNextWhole pieces message rest
+    go None is e = absurd cc
+    go (Some w) is e = record { w = w; is = is; message_is = cc; left = cc }
 
 -- the flow after it is delivered, which came in so many pieces
 abbrev pub delivering : List ℕ → Whole → TrueFlow → TrueFlow
@@ -82,7 +84,7 @@ pub record DeliversNext (f : TrueFlow) (message : List ℕ) (rest : List (List �
 pub delivers_next : (f : TrueFlow) (message : List ℕ) (rest : List (List ℕ)) → complete [] (drop f.passed f.received) ≡ message ∷ rest →
     DeliversNext f message rest
 delivers_next f message rest e =
-    let n = next_whole [] (drop f.passed f.received) message rest e in
+    let n = next_whole (drop f.passed f.received) message rest e in
     record {
       w = n.w;
       is = n.is;

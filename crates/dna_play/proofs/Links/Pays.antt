@@ -1,7 +1,8 @@
 -- What the links of an end of the player choose next they may send.
-use Rattle.std.proofs.Common.{◌≡◌, ℕ, zero, suc, ◌≤◌, Bool, true, false, ◌&&◌, ◌||◌, not, eqb, nat_lt, cond, Option, Some, None, List, [], ◌∷◌}
+use Rattle.std.proofs.Common.{◌≡◌, ℕ, ◌≤◌, Bool, true, false, ◌&&◌, ◌||◌, not, eqb, nat_lt, cond, Option, Some, None, [], ◌∷◌}
 use Rattle.std.proofs.Common.{length, Result, Ok, Err, refl, ap, ap₂, ◌∙◌, subst, arith, eq-eqb, le-ltb, ltb-true, eqb-true}
 use Rattle.std.specs.Prelude.{slice_get, is_some}
+use Rattle.two_nodes.proofs.Reached.{slice_get_none}
 use Rattle.std.proofs.lemmas.Bool.{and_parts}
 use Rattle.std.proofs.lemmas.Option.{same_Some}
 use Rattle.dna_packet.specs.Nsp.{NspValue, DataSegment, DisconnectConfirm}
@@ -207,14 +208,6 @@ module _ (s : Links) where
             sends_segment l.segsize (segment_with it p) l.flow ≡ Ok sent → MaySendIt (DataSegment (segment_with it p))
         sent_may p found running sent e = (_, run_may own far n l (segment_of true_flows (segment_with it p)) found running sent e)
 
-        no_repeat : slice_get it.variables.outstanding owed.ahead ≡ None → length it.variables.outstanding ≤ owed.ahead
-        no_repeat none = beyond it.variables.outstanding owed.ahead none
-          where
-            beyond : (xs : List Piece) (i : ℕ) → slice_get xs i ≡ None → length xs ≤ i
-            beyond [] i none = omega arith
-            beyond (x ∷ xs) zero none = absurd cc
-            beyond (x ∷ xs) (suc i) none = let e = beyond xs i none in omega arith
-
         is_new : (b c : Bool) → (b || c) ≡ true → b ≡ false → c ≡ true
         is_new true c e f = absurd cc
         is_new false c e f = e
@@ -223,7 +216,7 @@ module _ (s : Links) where
             slice_get it.variables.outstanding owed.ahead ≡ o → MaySendIt (DataSegment (segment_with it (piece_to_send o it.variables.unsent)))
         go found running wide (Some p) at = let m = again_may l.flow ordered answered l.port owed l.segsize p at in sent_may p found running m.0 m.1
         go found running wide None at =
-            let beyond = no_repeat at in let within = pays.ahead in
+            let beyond = slice_get_none it.variables.outstanding owed.ahead at in let within = pays.ahead in
             let new = is_new (has_repeat it) (has_new it) due (le-ltb owed.ahead (length it.variables.outstanding) beyond) in
             let parts = and_parts (nat_lt (length it.variables.outstanding) REACH) (has_more it.variables.unsent.messages) new in
             let m = new_may l.flow ordered answered l.port owed l.segsize wide (ltb-true _ _ parts.0) (omega arith) parts.1 in

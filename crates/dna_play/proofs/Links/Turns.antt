@@ -1,7 +1,8 @@
 -- What a message of the links that is sent makes of the link that has sent it, as its node keeps it.
-use Rattle.std.proofs.Common.{◌≡◌, ℕ, zero, suc, ◌+◌, ◌≤◌, true, false, Option, Some, None, List, [], ◌∷◌, length, Result, Ok, refl, sym, ap}
+use Rattle.std.proofs.Common.{◌≡◌, ℕ, ◌+◌, ◌≤◌, true, false, Option, Some, None, List, [], ◌∷◌, length, Result, Ok, refl, sym, ap}
 use Rattle.std.proofs.Common.{◌∙◌, subst, arith, eq-eqb, length-drop, ap₂, length-append}
 use Rattle.std.specs.Prelude.{slice_get, is_some}
+use Rattle.two_nodes.proofs.Reached.{slice_get_none}
 use Rattle.std.proofs.lemmas.Bool.{and_parts, ne_eqb}
 use Rattle.std.proofs.lemmas.List.{drop-append-le}
 use Rattle.std.proofs.lemmas.Option.{same_Some, slice_get_within}
@@ -44,11 +45,6 @@ module _ (l : LinkOf TrueFlow) (o : LinkOwed) (ordered : IsOrdered l.flow) (with
   abbrev segment_by : Option Piece → SegmentValue
   segment_by again = segment_with (end_of l o) (piece_to_send again l.flow.unsent)
 
-  none_behind_it : (pieces : List Piece) (n : ℕ) → slice_get pieces n ≡ None → length pieces ≤ n
-  none_behind_it [] n at = omega arith
-  none_behind_it (p ∷ pieces) zero at = absurd cc
-  none_behind_it (p ∷ pieces) (suc n) at = let less = none_behind_it pieces n at in omega arith
-
   -- it is new where none is to be sent again
   pub segment_gave : (segsize : ℕ) (sent : Sending TrueFlow Numbers) (again : Option Piece) → slice_get (variables_of l).outstanding o.ahead ≡ again →
       sends_segment segsize (segment_by again) l.flow ≡ Ok sent → end_of (with_flow sent.flow l) o ≡ gave again (end_of l o)
@@ -62,7 +58,7 @@ module _ (l : LinkOf TrueFlow) (o : LinkOwed) (ordered : IsOrdered l.flow) (with
           (drop-append-le f.acknowledged f.given (p ∷ []) ordered.given)
       go None at g (GivesAgain last old) =
           let counted = length-drop f.acknowledged f.given in let some = ordered.given in
-          let all = none_behind_it (variables_of l).outstanding o.ahead at in
+          let all = slice_get_none (variables_of l).outstanding o.ahead at in
           let new : is_new (segment_by None) f ≡ true = eq-eqb _ _ (omega arith) in
           let e = sym new ∙ old in absurd cc
       go (Some p) at g (GivesIt last new) =

@@ -88,18 +88,13 @@ delivery_takes message f g e =
     omega arith
 
 -- acknowledgements change nothing of it
-acks_keep : (acks : List ℕ) (f : TrueFlow) →
-    ((fold flow.acknowledged_through f acks).received ≡ f.received) × ((fold flow.acknowledged_through f acks).passed ≡ f.passed)
-acks_keep [] f = (refl, refl)
-acks_keep (ack ∷ acks) f = let r = acks_keep acks (flow.acknowledged_through f ack) in let t = one _ in (r.0 ∙ t.0, r.1 ∙ t.1)
-  where
-    one : (b : Bool) →
-        ((cond b (record f { acknowledged = ack }) f).received ≡ f.received) × ((cond b (record f { acknowledged = ack }) f).passed ≡ f.passed)
-    one true = (refl, refl)
-    one false = (refl, refl)
-
 acks_wait : (acks : List ℕ) (f : TrueFlow) → waiting_in (fold flow.acknowledged_through f acks) ≡ waiting_in f
-acks_wait acks f = let k = acks_keep acks f in ap₂ (λ (n : ℕ) (pieces : List (Option Piece)). filled (drop n pieces)) k.1 k.0
+acks_wait [] f = refl
+acks_wait (ack ∷ acks) f = acks_wait acks (flow.acknowledged_through f ack) ∙ one _
+  where
+    one : (b : Bool) → waiting_in (cond b (record f { acknowledged = ack }) f) ≡ waiting_in f
+    one true = refl
+    one false = refl
 
 segment_adds : (s : SegmentValue) (known : Numbers) (f : TrueFlow) → waiting_in (flow.takes_segment s known f) ≤ waiting_in f + 1
 segment_adds s known f =

@@ -1,11 +1,10 @@
 -- Addresses of both sides' links at any time, where each is given once; and that the rule on link partners asks nothing then.
-use Rattle.std.proofs.Common.{◌≡◌, ℕ, ◌+◌, ◌⊎◌, inl, inr, Bool, true, ◌&&◌, Option, Some, None, List, [], ◌∷◌, ◌++◌, length, Ok, refl, sym, ap, ap₂}
+use Rattle.std.proofs.Common.{◌≡◌, ℕ, ◌⊎◌, inl, inr, Bool, true, ◌&&◌, Option, Some, None, List, [], ◌∷◌, ◌++◌, length, Ok, refl, sym, ap, ap₂}
 use Rattle.std.proofs.Common.{◌∙◌, subst, eq-eqb, eqb, eqb-true}
 use Rattle.std.specs.Prelude.{slice_get, is_some}
 use Rattle.std.proofs.lemmas.Bool.{and_parts}
 use Rattle.std.proofs.lemmas.Option.{same_Some}
-use Rattle.dna_packet.specs.Nsp.{NspValue, DataSegment, LinkService, DataAck, OtherDataAck, ConnectAck, NoOperation, ConnectInitiate, ConnectConfirm}
-use Rattle.dna_packet.specs.Nsp.{DisconnectInitiate, DisconnectConfirm}
+use Rattle.dna_packet.specs.Nsp.{NspValue, DataSegment, LinkService, DataAck, OtherDataAck, ConnectConfirm}
 use Rattle.dna_station.specs.declared.link_refusal.LinkRefusal.TheVariants.{WrongNode, CrossedLink}
 use Rattle.dna_links.specs.declared.tag.LinkTag.{LinkTag}
 use Rattle.dna_links.specs.declared.port.LinkTest.{LinkTest}
@@ -42,76 +41,69 @@ record StaysAddressed (own left other : LinkSide) (most others : ℕ) : Type 0 w
 -- ---- one step
 
 module _ (own other : LinkSide) (most others : ℕ) (h : IsAddressedSide own other most) (theirs : IsAddressedSide other own others) where
-  -- the links of this side change, and keep their addresses
-  links_left : (links : Links) (front top : ℕ) → LeavesAddressed own.links other.links.links links top →
-      StaysAddressed own (record { links = links; sent = own.sent; front = front }) other top others
-  links_left links front top l = record {
+  -- a message that goes from this node to the other one, of a link that has its addresses
+  abbrev IsTold : Links → SentMessage → Type 0
+  IsTold links u = IsAddressed links.links other.links.links u.packet.message u.truth.tag ×
+      ((u.packet.src ≡ own.links.node) × (u.packet.dst ≡ own.links.peer))
+
+  -- the links of this side change, and keep their addresses; what was sent then was sent before, or is told
+  side_left : (left : LinkSide) (top : ℕ) → LeavesAddressed own.links other.links.links left.links top →
+      ((k : ℕ) (u : SentMessage) → slice_get left.sent k ≡ Some (Some u) → (slice_get own.sent k ≡ Some (Some u)) ⊎ IsTold left.links u) →
+      StaysAddressed own left other top others
+  side_left left top l new = record {
     of_left = record {
       links = l.addressed;
-      told = λ k u at. message_kept own.links.links other.links.links links.links other.links.links u.packet.message u.truth.tag l.keeps (λ i n o. o)
-          (h.told k u at);
-      from = λ k u at. let f = h.from k u at in (f.0 ∙ sym l.nodes.node_is, f.1 ∙ sym l.nodes.peer_is);
+      told = λ k u at. (told k u (new k u at)).0;
+      from = λ k u at. let f = (told k u (new k u at)).1 in (f.0 ∙ sym l.nodes.node_is, f.1 ∙ sym l.nodes.peer_is);
     };
     of_other = record {
-      links = addressed_beside other.links.links own.links.links links.links others l.keeps theirs.links;
-      told = λ k u at. message_kept other.links.links own.links.links other.links.links links.links u.packet.message u.truth.tag (λ i n o. o)
+      links = addressed_beside other.links.links own.links.links left.links.links others l.keeps theirs.links;
+      told = λ k u at. message_kept other.links.links own.links.links other.links.links left.links.links u.packet.message u.truth.tag (λ i n o. o)
           l.keeps (theirs.told k u at);
       from = theirs.from;
     };
     nodes = l.nodes;
   }
-
-  -- and a packet is first sent
-  sends_left : (links : Links) (message : Option SentMessage) → LeavesAddressed own.links other.links.links links most →
-      ((u : SentMessage) → message ≡ Some u → IsAddressed links.links other.links.links u.packet.message u.truth.tag ×
-      ((u.packet.src ≡ own.links.node) × (u.packet.dst ≡ own.links.peer))) → StaysAddressed own (sends own links message) other most others
-  sends_left links message l this =
-      let left = links_left links own.front most l in
-      record {
-        of_left = record {
-          links = l.addressed;
-          told = λ k u at. told k u (at_pushed own.sent message (Some u) k at);
-          from = λ k u at. let f = from k u (at_pushed own.sent message (Some u) k at) in
-              (f.0 ∙ sym l.nodes.node_is, f.1 ∙ sym l.nodes.peer_is);
-        };
-        of_other = record { links = left.of_other.links; told = left.of_other.told; from = theirs.from };
-        nodes = l.nodes;
-      }
     where
-      told : (k : ℕ) (u : SentMessage) → (slice_get own.sent k ≡ Some (Some u)) ⊎ ((k ≡ length own.sent) × (message ≡ Some u)) →
-          IsAddressed links.links other.links.links u.packet.message u.truth.tag
-      told k u (inl at) = message_kept own.links.links other.links.links links.links other.links.links u.packet.message u.truth.tag l.keeps
-          (λ i n o. o) (h.told k u at)
-      told k u (inr e) = (this u e.1).0
+      told : (k : ℕ) (u : SentMessage) → (slice_get own.sent k ≡ Some (Some u)) ⊎ IsTold left.links u → IsTold left.links u
+      told k u (inl at) = (
+        message_kept own.links.links other.links.links left.links.links other.links.links u.packet.message u.truth.tag l.keeps (λ i n o. o)
+            (h.told k u at),
+        h.from k u at,
+      )
+      told k u (inr this) = this
 
-      from : (k : ℕ) (u : SentMessage) → (slice_get own.sent k ≡ Some (Some u)) ⊎ ((k ≡ length own.sent) × (message ≡ Some u)) →
-          (u.packet.src ≡ own.links.node) × (u.packet.dst ≡ own.links.peer)
-      from k u (inl at) = h.from k u at
-      from k u (inr e) = (this u e.1).1
+  -- a packet is first sent
+  sends_left : (links : Links) (message : Option SentMessage) → LeavesAddressed own.links other.links.links links most →
+      ((u : SentMessage) → message ≡ Some u → IsTold links u) → StaysAddressed own (sends own links message) other most others
+  sends_left links message l this = side_left (sends own links message) most l (λ k u at. go k u (at_pushed own.sent message (Some u) k at))
+    where
+      go : (k : ℕ) (u : SentMessage) → (slice_get own.sent k ≡ Some (Some u)) ⊎ ((k ≡ length own.sent) × (message ≡ Some u)) →
+          (slice_get own.sent k ≡ Some (Some u)) ⊎ IsTold links u
+      go k u (inl at) = inl at
+      go k u (inr e) = inr (this u e.1)
 
   step_left : (left : LinkSide) (events : List LinkEventValue) → AddressesRise most events → LinkStep own other events left →
       StaysAddressed own left other (highest most events) others
-  step_left left events rise (ByUser event links does) = links_left links own.front (higher most (given_address event))
-      (user_addressed own.links other.links.links most h.links event links rise.0 (user_did true_flows own.links links event does))
+  step_left left events rise (ByUser event links does) = side_left left (higher most (given_address event))
+      (user_addressed own.links other.links.links most h.links event links rise.0 (user_did true_flows own.links links event does)) (λ k u at. inl at)
   step_left left events rise (Sends packet made does) =
       let l = sent_stays own.links other.links.links most h.links packet.message made (sent_did true_flows own.links made packet does) in
       let c = checked _ _ _ made does in
       let m = sent_from own.links other.links.links most h.links packet.message made c.1 in
       let p = and_parts (eqb packet.src own.links.node) (eqb packet.dst own.links.peer) c.0 in
       sends_left made.links (Some (record { packet = packet; truth = made.truth })) l
-      (λ u e. subst (λ (x : SentMessage). IsAddressed made.links.links other.links.links x.packet.message x.truth.tag ×
-      ((x.packet.src ≡ own.links.node) × (x.packet.dst ≡ own.links.peer)))
-      (same_Some (record { packet = packet; truth = made.truth }) u e) (
+      (λ u e. subst (IsTold made.links) (same_Some (record { packet = packet; truth = made.truth }) u e) (
         message_kept own.links.links other.links.links made.links.links other.links.links packet.message made.truth.tag l.keeps (λ i n o. o) m,
         (eqb-true packet.src own.links.node p.0, eqb-true packet.dst own.links.peer p.1),
       ))
   step_left left events rise SendsNone =
       sends_left own.links None (same_links own.links other.links.links most h.links) (λ u e. absurd cc)
-  step_left left events rise (Keeps place unit links ahead there does) = links_left links (place + 1) most
+  step_left left events rise (Keeps place unit links ahead there does) = side_left left most
       (came_stays own.links other.links.links most h.links unit.truth unit.packet.message links (theirs.told place unit there).from
-      (arrived_did true_flows of_partner own.links links unit.truth unit.packet does))
+      (arrived_did true_flows of_partner own.links links unit.truth unit.packet does)) (λ k u at. inl at)
   step_left left events rise (KeepsNone place ahead there) =
-      links_left own.links (place + 1) most (same_links own.links other.links.links most h.links)
+      side_left left most (same_links own.links other.links.links most h.links) (λ k u at. inl at)
 
 -- ---- all steps
 

@@ -9,7 +9,7 @@ use Rattle.two_nodes.specs.Nodes.{Half, World, Run, Done, concluded, read, answe
 use Rattle.two_nodes.specs.Cutting.{cut_world}
 use Rattle.two_nodes.proofs.Lasting.{lasts}
 use Rattle.two_nodes.proofs.Order.{one_more_of_a, one_more_of_b, exchange}
-use Rattle.ddcmp_msg.specs.Message.{MessageValue, Data, Ack, Nak, Rep, Strt, Stack}
+use Rattle.ddcmp_msg.specs.Message.{MessageValue, Data, Ack, Strt}
 use Rattle.ddcmp_msg.specs.Reading.{ReadingValue, reading}
 use Rattle.ddcmp_msg.specs.Reading as read_as
 use Rattle.capture.specs.declared.event.Event.{Event}

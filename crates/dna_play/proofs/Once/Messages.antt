@@ -1,5 +1,5 @@
 -- Where no link address is given twice, each message names its sender and its sender's partner by their addresses.
-use Rattle.std.proofs.Common.{◌≡◌, ℕ, Bool, true, Option, Some, None, Result, Ok, Err, refl, sym, ◌∙◌, subst, ap}
+use Rattle.std.proofs.Common.{◌≡◌, ℕ, inl, Bool, true, Option, Some, None, Result, Ok, Err, refl, sym, ◌∙◌, subst, ap}
 use Rattle.std.specs.Prelude.{slice_get}
 use Rattle.std.proofs.lemmas.Bool.{and_parts}
 use Rattle.dna_packet.specs.Nsp.{NspValue, DataSegment, LinkService, DataAck, OtherDataAck, ConnectAck, NoOperation, ConnectInitiate, ConnectConfirm}
@@ -20,8 +20,7 @@ use Rattle.dna_links.specs.TrueLinks.{Links}
 use Rattle.dna_links.proofs.Runs.Reads.{at_is}
 use Rattle.dna_links.proofs.Tables.Outcomes.{looked, checked, SentDid, OfNone, Stays, EndsCalled, Segment, Acks, IsFound, Connects, ArrivedDid}
 use Rattle.dna_links.proofs.Tables.Outcomes.{Ignores, Begins, Confirms, Ends, TakesSegment, TakesAcks, TakesOther}
-use Rattle.dna_play.proofs.Once.Addresses.{LinkList, Owner, owner_kept, KeepsAddresses, AreAddressed, kept_keeps, set_addressed, push_unnamed}
-use Rattle.dna_play.proofs.Once.Addresses.{push_keeps, LeavesAddressed, one_kept}
+use Rattle.dna_play.proofs.Once.Addresses.{LinkList, Owner, owner_kept, KeepsAddresses, AreAddressed, LeavesAddressed, one_left, one_kept, one_more}
 use Rattle.std.proofs.lemmas.Option.{same_Some}
 use Rattle.dna_links.specs.declared.port.Phase.TheVariants.{Running}
 
@@ -185,21 +184,11 @@ module _ (s : Links) (others : LinkList) (most : ℕ) (h : AreAddressed s.links 
         ArrivedDid true_flows of_partner s m truth left → Stays' left
     came_stays m left from Ignores = same_links
     came_stays m left from (Begins far segsize is none) =
-        let k = called true_flows of_partner far segsize truth.tag in
-        record {
-          addressed = push_unnamed s.links k others most refl
-              (λ a e. subst (Owner others truth.tag.link) (same_Some far a e) (from far (connects_from m far segsize is))) h;
-          keeps = push_keeps s.links k;
-          nodes = record { node_is = refl; peer_is = refl };
-        }
+        one_more s others most h (called true_flows of_partner far segsize truth.tag) tt
+        (λ a e. subst (Owner others truth.tag.link) (same_Some far a e) (from far (connects_from m far segsize is)), λ c. refl)
     came_stays m left from (Confirms own far segsize number link is found may) =
-        let k = confirmed true_flows of_partner far segsize truth.tag link in
-        record {
-          addressed = set_addressed s.links number link k found.there others most refl
-              (λ a e. subst (Owner others truth.tag.link) (same_Some far a e) (from far (connects_from m far segsize is))) (λ c. absurd cc) h;
-          keeps = kept_keeps s.links number link k found.there refl;
-          nodes = record { node_is = refl; peer_is = refl };
-        }
+        one_left s others most h None tt number link (confirmed true_flows of_partner far segsize truth.tag link) found.there (inl refl)
+        (λ a e. subst (Owner others truth.tag.link) (same_Some far a e) (from far (connects_from m far segsize is)), λ c. absurd cc)
     came_stays m left from (Ends test number link found) = ended_kept number link found.there
     came_stays m left from (TakesSegment own far segment number link is found may) = acted_kept own far number link _ found
     came_stays m left from (TakesAcks own far dst src acks number link is found may) = acted_kept own far number link _ found

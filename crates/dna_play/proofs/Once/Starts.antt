@@ -27,7 +27,7 @@ use Rattle.dna_station.specs.Node.{Node}
 use Rattle.dna_station.specs.Pair.{pair}
 use Rattle.dna_links.proofs.Runs.Sides.{all_pushed}
 use Rattle.dna_play.proofs.Once.Orderly.{starts_in, starts, starts-join}
-use Rattle.dna_station.proofs.Steps.Effects.{kept_by_all, Stays, does_stays, sending_stays, by_response, by_packet, by_rep}
+use Rattle.dna_station.proofs.Steps.Effects.{sending_stays, by_response, by_packet, by_rep, arrival_stays}
 use Rattle.dna_station.proofs.Steps.Happens.{Happens, ComesOf, Itself, BadHeader, BadData, Nothing, UserEvent, Sending, Receipt, Counted, Unheard}
 use Rattle.dna_station.proofs.Steps.Happens.{happens, event_of}
 use Rattle.dna_station.proofs.Bounds.Numbers.{unit_of}
@@ -182,11 +182,7 @@ receipt_begun : (s : Station) (own : List SentUnit) (periods further : ℕ) (uni
     (kept : Bool) → ComesOf unit bytes arrival → UnitBegun periods further unit →
     AreBegun s own periods → AreBegun (after_arrival s arrival kept) own periods
 receipt_begun s own periods further unit bytes (Sound m u) kept (Itself same) begun h =
-    let stays = kept_by_all (Stays s) (does m u kept)
-    (λ t effect k. let d = does_stays m u kept t effect in
-    record { earlier = d.earlier ∙ k.earlier; period = d.period ∙ k.period; packets = d.packets ∙ k.packets }) (row s.state m).effects s
-    (record { earlier = refl; period = refl; packets = refl }) in
-    let p = stays.period in
+    let p = (arrival_stays s (Sound m u) kept).period in
     record {
       started = λ e. let l = h.started (off_stays m u kept s s.state refl e) in omega arith;
       partner = rows_go u kept s periods begun.first begun.last s.state m refl h.partner;
@@ -225,21 +221,6 @@ module _ (own other : Half Node SentUnit) (mine : AreBegun own.state.station own
   no_start : (event : Event) → begins event ≡ false → starts_in (User event) ≡ 0
   no_start event e = ap (λ (b : Bool). cond b 1 0) e
 
-  arrival_period : (arrival : ArrivalValue Truth) (kept : Bool) → (after_arrival own.state.station arrival kept).period ≡ own.state.station.period
-  arrival_period (Sound m u) kept =
-      kept_by_all (λ (t : Station). t.period ≡ own.state.station.period) (does m u kept) (λ t effect e. (does_stays m u kept t effect).period ∙ e)
-      (row own.state.station.state m).effects own.state.station refl
-  arrival_period HeaderBad kept = go (counts_damage own.state.station.state)
-    where
-      go : (b : Bool) → (cond b (station_book.counts HeaderCheck own.state.station) own.state.station).period ≡ own.state.station.period
-      go true = refl
-      go false = refl
-  arrival_period DataBad kept = go (counts_damage own.state.station.state)
-    where
-      go : (b : Bool) → (cond b (station_book.counts DataCheck own.state.station) own.state.station).period ≡ own.state.station.period
-      go true = refl
-      go false = refl
-
   record_leaves : (r : Record) (h : Half Node SentUnit) → Happens judged.periods own other r h → LeavesBegun own other h r
   record_leaves r h (Nothing event quiet) = same_period _ (User event) refl (no_start event quiet) mine
   record_leaves r h (Counted bytes reason) =
@@ -250,7 +231,7 @@ module _ (own other : Half Node SentUnit) (mine : AreBegun own.state.station own
       same_period _ (Sent bytes) (sending_stays own.state.station m).period refl
       (sending_begun own.state.station own.sent other.state.station.period bytes m allowed mine)
   record_leaves r h (Receipt hint kept bytes unit arrival there ahead comes allowed) =
-      same_period _ (Received hint kept bytes) (arrival_period arrival kept) refl
+      same_period _ (Received hint kept bytes) (arrival_stays own.state.station arrival kept).period refl
       (receipt_begun own.state.station own.sent other.state.station.period own.state.station.period unit bytes arrival kept comes
       (theirs.units hint unit there) mine)
 

@@ -60,10 +60,6 @@ abbrev pub AllOf : (Stepped → Type 0) → Result Stepped Stop → Type 0
 AllOf P (Ok stepped) = P stepped
 AllOf P (Err stop) = Unit {0}
 
-pub each : {P Q : Stepped → Type 0} → ((stepped : Stepped) → P stepped → Q stepped) → (result : Result Stepped Stop) → AllOf P result → AllOf Q result
-each more (Ok stepped) p = more stepped p
-each more (Err stop) p = tt
-
 -- what each delivery keeps, a receipt keeps with all that is got then
 module _ (other : PlayHalf) (P : Stepped → Type 0)
     (delivers : (so_far : Stepped) (address : ℕ) (message : List ℕ) (half : PlayHalf) → P so_far →

@@ -1,5 +1,5 @@
 -- What a script plays that starts each side at most once is a run of two captures, as a judge has it.
-use Rattle.std.proofs.Common.{◌≡◌, ℕ, ◌≤◌, List, take, Ok, Err, subst, arith}
+use Rattle.std.proofs.Common.{◌≡◌, ℕ, ◌≤◌, List, take, Ok, Err, arith}
 use Rattle.two_nodes.specs.Nodes.{Run}
 use Rattle.capture.specs.declared.record.Record.{Record}
 use Rattle.dna_node.specs.LayersPair.{layers_pair, layers_start}
@@ -10,7 +10,8 @@ use Rattle.dna_play.proofs.Once.Orderly.{IsOrderly}
 use Rattle.dna_play.proofs.Played.Runs.{reached_played}
 use Rattle.dna_play.proofs.Once.Checked.{is_checked_run}
 use Rattle.dna_play.proofs.Played.Order.{InOrder, order_join, nothing_in_order}
-use Rattle.dna_play.proofs.Played.StepMakes.{Orderly, plays_orderly}
+use Rattle.dna_play.proofs.Played.StepMakes.{in_order}
+use Rattle.dna_play.proofs.Played.Walk.{step_comes}
 use Rattle.dna_play.proofs.Played.Reached.{Reached, NoStep, StepOfA, StepOfB, exchanged, whole_reached, stopped_reached}
 
 -- so many starts of each side so far, and addresses in order
@@ -24,7 +25,7 @@ in_order_of_a : {script : Script} {steps count_a count_b : ℕ} {later : List Sc
 in_order_of_a NoStep = nothing_in_order 0
 in_order_of_a (StepOfA {count_a = count_a} so_far step made at before is) =
     order_join 0 so_far.a.addresses made.end.addresses count_a (starts_now step.step) so_far.of_a made.records (in_order_of_a before)
-    (subst (Orderly so_far.a (starts_now step.step)) is (plays_orderly so_far.a so_far.b.half step.step))
+    (in_order (step_comes so_far.a so_far.b.half step.step made is))
 in_order_of_a (StepOfB so_far step made at before is) = in_order_of_a before
 
 pub reached_in_order : {script : Script} {steps count_a count_b : ℕ} {later : List ScriptStep} {so_far : Played} →

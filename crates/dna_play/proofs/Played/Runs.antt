@@ -21,7 +21,8 @@ use Rattle.dna_play.specs.PlayRun.{player_pair, world_of, ArePlayed}
 use Rattle.dna_node.proofs.OnTop.{OnTop, follows}
 use Rattle.dna_play.proofs.Played.PlayLines.{line_told}
 use Rattle.dna_play.proofs.Played.Steps.{PlayHalf, MakesAll, Nothing, First}
-use Rattle.dna_play.proofs.Played.StepMakes.{Good, plays_good}
+use Rattle.dna_play.proofs.Played.StepMakes.{makes_all}
+use Rattle.dna_play.proofs.Played.Walk.{step_comes}
 use Rattle.dna_play.proofs.Played.Reached.{exchanged_ends, exchanged_script, after_a, Reached, NoStep, StepOfA, StepOfB, whole_reached}
 use Rattle.dna_play.proofs.Played.Reached.{stopped_reached}
 
@@ -94,7 +95,7 @@ step_of_a : (script : Script) (so_far : Played) (step : StepValue) (made : Stepp
     AreMade script (world_of (after_a so_far made)) (so_far.of_a ++ made.records) so_far.of_b
 step_of_a script so_far step made is h =
     more_of_a script so_far.b.half so_far.of_a so_far.of_b
-    (subst (Good so_far.a.half so_far.b.half) is (plays_good so_far.a so_far.b.half step)) h
+    (makes_all (step_comes so_far.a so_far.b.half step made is)) h
 
 pub reached_played : {script : Script} {steps count_a count_b : ℕ} {later : List ScriptStep} {so_far : Played} →
     Reached script steps count_a count_b later so_far → ArePlayed script so_far

@@ -11,7 +11,8 @@ use Rattle.dna_play.proofs.Played.Runs.{reached_played}
 use Rattle.dna_play.proofs.Played.Checked.{reached_in_order}
 use Rattle.dna_play.proofs.Played.Facts.{Going, later_a}
 use Rattle.dna_play.proofs.Ends.Stage.{Stage, new_stage, Staged}
-use Rattle.dna_play.proofs.Played.StepMakes.{Passes, plays_passes}
+use Rattle.dna_play.proofs.Played.StepMakes.{passed_one}
+use Rattle.dna_play.proofs.Played.Walk.{step_comes}
 use Rattle.dna_play.proofs.Stored.Now.{KeptNow}
 use Rattle.dna_play.proofs.Stored.Left.{tidy_of_a}
 use Rattle.dna_play.proofs.Stored.Steps.{step_right}
@@ -57,7 +58,7 @@ staged_by_a : (so_far : Played) (steps : ℕ) → KeptNow so_far.a so_far.b → 
     (made : Stepped) → plays so_far.a so_far.b.half step.step ≡ Ok made → Stages (after_a so_far made) (steps + 1)
 staged_by_a so_far steps now s step fits made is =
     let a = s.passed_a in let b = s.passed_b in
-    let passed : made.end.passed ≤ so_far.a.passed + 1 = subst (Passes so_far.a.passed) is (plays_passes so_far.a so_far.b.half step.step) in
+    let passed = passed_one step.step (step_comes so_far.a so_far.b.half step.step made is) in
     record {
       of_a = subst Staged is (right_staged so_far.a so_far.b step.step _ _ (step_right so_far.a so_far.b now step fits));
       of_b = s.of_b;

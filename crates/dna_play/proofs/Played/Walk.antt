@@ -1,5 +1,5 @@
 -- How what a step of a script makes comes about: the one walk over all kinds of step. What holds of each way to come about holds of every step.
-use Rattle.std.proofs.Common.{◌≡◌, ℕ, ◌+◌, ◌≤◌, Bool, false, Option, Some, None, List, [], ◌∷◌, ◌++◌, length, Result, refl, sym, subst, arith}
+use Rattle.std.proofs.Common.{◌≡◌, ℕ, ◌+◌, ◌≤◌, Bool, false, Option, Some, None, List, [], ◌∷◌, ◌++◌, length, Result, Ok, refl, sym, subst, arith}
 use Rattle.std.proofs.Common.{length-set}
 use Rattle.std.specs.Prelude.{slice_get, if◌then◌else◌}
 use Rattle.std.proofs.lemmas.Option.{slice_get_within}
@@ -186,7 +186,7 @@ module _ (own : End) (other : PlayHalf) where
 
   -- ---- the steps
 
-  pub plays_comes : (step : StepValue) → AllOf (Comes own other (starts_now step) (off_line step)) (plays own other step)
+  plays_comes : (step : StepValue) → AllOf (Comes own other (starts_now step) (off_line step)) (plays own other step)
   unfolding plays
   plays_comes Start = user_comes 1 events.Start (owing_more (Some OwesStrt)) (record { counted = refl; rise = tt; top = refl })
       (adds_owed (owing_more (Some OwesStrt)) (λ e. refl))
@@ -217,3 +217,7 @@ module _ (own : End) (other : PlayHalf) where
       (record { counted = refl; rise = (tt, tt); top = refl }) (adds_link_debt (Owes number DisconnectTurn)))
   plays_comes (Retry address) = link_case (AllOf (Comes own other 0 0)) (LiveAt address) (links_of own.half) _ (λ none. tt)
       (λ number link found. retrying_comes number (retried link.port.phase))
+
+  -- so what is made comes about
+  pub step_comes : (step : StepValue) (made : Stepped) → plays own other step ≡ Ok made → Comes own other (starts_now step) (off_line step) made
+  step_comes step made is = subst (AllOf (Comes own other (starts_now step) (off_line step))) is (plays_comes step)

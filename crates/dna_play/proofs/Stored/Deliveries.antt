@@ -1,14 +1,14 @@
 -- All that is whole of a link goes to the user at once: what the deliveries make of an end of the player. They change the flow of that link, and
 -- nothing else.
-use Rattle.std.proofs.Common.{◌≡◌, ℕ, ◌+◌, Bool, true, false, cond, Option, Some, None, List, [], ◌∷◌, ◌++◌, map, drop, Ok, refl, sym, ap, ap₂, ◌∙◌}
-use Rattle.std.proofs.Common.{arith, append-nil, append_assoc, length-set}
+use Rattle.std.proofs.Common.{◌≡◌, ℕ, ◌+◌, true, false, Option, Some, None, List, [], ◌∷◌, ◌++◌, map, drop, Ok, refl, sym, ap, ap₂, ◌∙◌, arith}
+use Rattle.std.proofs.Common.{append-nil, append_assoc, length-set}
 use Rattle.std.specs.Prelude.{slice_get, slice_set}
 use Rattle.std.proofs.lemmas.List.{drop-drop, set-set}
 use Rattle.capture.specs.declared.event.Event.TheVariants as events
 use Rattle.capture.specs.declared.record.Record.{Record}
 use Rattle.capture.specs.declared.record.Record.TheVariants.{User}
 use Rattle.dna_links.specs.LookUps.{is_at}
-use Rattle.dna_links.specs.Pieces.{Piece, Whole, with_piece, next_message, in_whole_messages}
+use Rattle.dna_links.specs.Pieces.{Piece, Whole, next_message, in_whole_messages}
 use Rattle.dna_links.specs.Links.{LinkOf, changed, with_flow}
 use Rattle.dna_links.specs.User as of_links
 use Rattle.dna_links.specs.TrueFlow.{TrueFlow}
@@ -23,7 +23,7 @@ use Rattle.dna_play.proofs.Played.Steps.{PlayHalf}
 use Rattle.dna_links.proofs.Cut.Ended.{Splits, splits}
 use Rattle.dna_links.proofs.Runs.Sides.{set_same}
 use Rattle.dna_play.proofs.Links.Made.{event_makes}
-use Rattle.dna_play.proofs.Ends.UpsFollow.{delivering, one_delivered, AllLined}
+use Rattle.dna_play.proofs.Ends.UpsFollow.{delivering, one_delivered, AllLined, none_next}
 use Rattle.dna_play.proofs.Ends.Stage.{with_left, Stage}
 use Rattle.dna_play.proofs.Stored.LiveLists.{set_back}
 use Rattle.dna_play.proofs.Stored.LiveEnds.{Counted, with_owed, still_same, left_set}
@@ -45,20 +45,6 @@ split_some pieces (Some v) w split is = split.1 ∙ ap (λ (x : Whole). x.pieces
     same : (v w : Whole) → ◌≡◌ {A = Option Whole} (Some v) (Some w) → v ≡ w
     same v w e = cc
 
--- where nothing is whole there is no next message
-none_next : (begun : List ℕ) (pieces : List (Option Piece)) → complete begun pieces ≡ [] → next_message pieces ≡ None
-none_next begun [] e = refl
-none_next begun (None ∷ later) e = refl
-none_next begun (Some p ∷ later) e = go p.ends refl e (none_next (begun ++ p.body) later)
-  where
-    go : (b : Bool) → p.ends ≡ b → cond b ((begun ++ p.body) ∷ complete [] later) (complete (begun ++ p.body) later) ≡ [] →
-        (complete (begun ++ p.body) later ≡ [] → next_message later ≡ None) →
-        cond p.ends (Some (record { pieces = 1; message = p.body })) (with_piece p (next_message later)) ≡ None
-    go true ends e next = absurd cc
-    go false ends e next =
-        ap (λ (b : Bool). cond b (Some (record { pieces = 1; message = p.body })) (with_piece p (next_message later))) ends ∙
-        ap (with_piece p) (next e)
-
 -- ---- the flow
 
 -- after all that is whole is delivered
@@ -71,7 +57,7 @@ flow_at f delivered passed = record f { delivered = delivered; passed = passed }
 none_got : (f : TrueFlow) → complete [] (drop f.passed f.received) ≡ [] → flow_got f [] ≡ f
 none_got f none =
     let pieces = drop f.passed f.received in
-    let zero = split_none pieces (next_message pieces) (splits pieces) (none_next [] pieces none) in
+    let zero = split_none pieces (next_message pieces) (splits pieces) (none_next pieces none) in
     let passed : f.passed + in_whole_messages pieces ≡ f.passed = omega arith in
     ap₂ (flow_at f) (append-nil f.delivered) passed
 

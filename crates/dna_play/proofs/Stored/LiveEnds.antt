@@ -5,7 +5,7 @@ use Rattle.std.specs.Prelude.{slice_get, slice_set, position}
 use Rattle.std.proofs.lemmas.List.{set-set}
 use Rattle.std.proofs.lemmas.Option.{same_Some}
 use Rattle.dna_links.specs.declared.port.Phase.{Phase}
-use Rattle.dna_links.specs.declared.port.Phase.TheVariants.{Calling, Called, Confirming, Running, Disconnecting, Ended}
+use Rattle.dna_links.specs.declared.port.Phase.TheVariants.{Calling}
 use Rattle.dna_links.specs.declared.port.LinkTest.{LinkTest}
 use Rattle.dna_links.specs.LookUps.{passes}
 use Rattle.dna_links.specs.Flow.{wire, distance}
@@ -99,16 +99,6 @@ lowered_none owed = ap (λ (ahead : ℕ). record owed { ahead = ahead }) (same o
     same : (n : ℕ) → n - 0 ≡ n
     same n = omega arith
 
--- in the same phase, with the same number acknowledged, a link owes what it owed
-pub still_same : (l k : LinkOf TrueFlow) (owed : LinkOwed) → k.port.phase ≡ l.port.phase → k.flow.acknowledged ≡ l.flow.acknowledged →
-    still_owed l k owed ≡ owed
-still_same l k owed phase number =
-    ap (λ (to : ℕ). lowered (distance (variables_of l).acknowledged (wire to)) (unless_left (same_phase l.port.phase k.port.phase) owed)) number
-    ∙ ap (λ (n : ℕ). lowered n (unless_left (same_phase l.port.phase k.port.phase) owed)) (none_more l.flow.acknowledged)
-    ∙ lowered_none (unless_left (same_phase l.port.phase k.port.phase) owed)
-    ∙ ap (λ (to : Phase). unless_left (same_phase l.port.phase to) owed) phase
-    ∙ ap (λ (stays : Bool). unless_left stays owed) (phase_stays l.port.phase)
-
 -- with the same number acknowledged, by its phase
 pub still_in_phase : (l k : LinkOf TrueFlow) (owed : LinkOwed) → k.flow.acknowledged ≡ l.flow.acknowledged →
     still_owed l k owed ≡ unless_left (same_phase l.port.phase k.port.phase) owed
@@ -116,6 +106,13 @@ still_in_phase l k owed number =
     ap (λ (to : ℕ). lowered (distance (variables_of l).acknowledged (wire to)) (unless_left (same_phase l.port.phase k.port.phase) owed)) number
     ∙ ap (λ (n : ℕ). lowered n (unless_left (same_phase l.port.phase k.port.phase) owed)) (none_more l.flow.acknowledged)
     ∙ lowered_none (unless_left (same_phase l.port.phase k.port.phase) owed)
+
+-- and in the same phase, a link owes what it owed
+pub still_same : (l k : LinkOf TrueFlow) (owed : LinkOwed) → k.port.phase ≡ l.port.phase → k.flow.acknowledged ≡ l.flow.acknowledged →
+    still_owed l k owed ≡ owed
+still_same l k owed phase number =
+    still_in_phase l k owed number ∙ ap (λ (to : Phase). unless_left (same_phase l.port.phase to) owed) phase
+    ∙ ap (λ (stays : Bool). unless_left stays owed) (phase_stays l.port.phase)
 
 pub all_same : (links : LinkList) (owed : List LinkOwed) → AreCounted links owed → all_still_owed links links owed ≡ owed
 all_same [] [] counted = refl

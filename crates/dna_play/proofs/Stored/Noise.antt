@@ -7,9 +7,8 @@ use Rattle.ddcmp_msg.specs.Reading.{ReadingValue, reading}
 use Rattle.dna_node.specs.Layers.{layers_machine}
 use Rattle.dna_node.specs.Rules.{by_bytes}
 use Rattle.dna_play.proofs.Ends.DamagedUnits.{ShownDamage, OfHeader, OfData, read_of, arrival_of}
-use Rattle.dna_play.proofs.Ends.Stage.{Stage, Known, ordered_of}
+use Rattle.dna_play.proofs.Ends.Stage.{Stage, Known, station_stage}
 use Rattle.dna_play.proofs.Ends.StationStage.{damage_stage, arrived_packets}
-use Rattle.dna_play.proofs.Links.Stage.{same_holds}
 use Rattle.dna_play.proofs.Played.Cases.{made_case}
 use Rattle.dna_play.proofs.Played.Runs.{line_makes, makes_tells}
 use Rattle.dna_play.proofs.Played.Steps.{PlayHalf}
@@ -73,15 +72,9 @@ module _ (own other : End) (now : KeptNow own other) (bytes : List ℕ) (lined :
   known = (facts_of now).known
 
   heard_as : (d : ShownDamage) → Stage (heard own (read_of d) (after_record own (damage_left own.half other.half d)))
-  heard_as d = record {
-    pays = damage_stage (station_of own.half) own.owed now.stage.pays d;
-    packets = arrived_packets (station_of own.half) (after_arrival (station_of own.half) (arrival_of d) false)
-        (arrival_packets (station_of own.half) (arrival_of d) false) now.stage.packets;
-    links = same_holds (links_of own.half) own.addresses own.links_owed now.stage.links (ordered_of (links_of own.half).links known.numbers);
-    plain = now.stage.plain;
-    few = now.stage.few;
-    ahead = now.stage.ahead;
-  }
+  heard_as d = station_stage own now.stage known.numbers _ _ _ _ _ (damage_stage (station_of own.half) own.owed now.stage.pays d)
+      (arrived_packets (station_of own.half) (after_arrival (station_of own.half) (arrival_of d) false)
+      (arrival_packets (station_of own.half) (arrival_of d) false) now.stage.packets) now.stage.ahead
 
   few_bytes : nat_le (length bytes) MAX_UNIT ≡ true
   few_bytes = (and_parts (are_bytes bytes) (nat_le (length bytes) MAX_UNIT) (and_parts (numbers_fit (recorded.Noise bytes)) _ lined).1).1

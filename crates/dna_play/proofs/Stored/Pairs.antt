@@ -14,10 +14,10 @@ use Rattle.dna_play.specs.KeptPlayed.{KeptMade, KeptPlayed, is_of_line, left_by,
 use Rattle.dna_play.specs.KeptPlayed.{with_records}
 use Rattle.dna_play.specs.KeptRun.{bytes_of, kept_stepped, IsKept, kept_pair, kept_played}
 use Rattle.dna_play.proofs.Played.Reached.{exchanged_ends, own_end, other_end, Reached, exchanged}
-use Rattle.dna_play.proofs.Played.StepMakes.{Good, plays_good}
-use Rattle.dna_play.proofs.Played.Walk.{off_line}
+use Rattle.dna_play.proofs.Played.StepMakes.{passed, makes_all}
+use Rattle.dna_play.proofs.Played.Walk.{off_line, step_comes}
 use Rattle.dna_play.proofs.Played.SentGrows.{Grows, all_grows}
-use Rattle.dna_play.proofs.Stored.Left.{AllLeave, plays_leaves, IsTidy, tidy_of_a}
+use Rattle.dna_play.proofs.Stored.Left.{tidy_of_a}
 
 -- ---- the lines
 
@@ -52,21 +52,21 @@ GoesAlong so_far side (Err stop) (Err other) = stop ≡ other
 GoesAlong so_far side (Ok next) (Err other) = ⊥
 GoesAlong so_far side (Err stop) (Ok made) = ⊥
 
-along_a : (so_far : Played) → IsTidy so_far.a so_far.b → IsTidy so_far.b so_far.a → (step : StepValue) → IsKept so_far.a so_far.b.half step →
+along_a : (so_far : Played) → so_far.b.passed ≤ length so_far.a.half.sent → (step : StepValue) → IsKept so_far.a so_far.b.half step →
     GoesAlong so_far A (plays_at so_far A step) (kept_plays_at (kept_pair so_far) A step)
-along_a so_far own other step same =
+along_a so_far few step same =
     subst (λ (k : Result KeptStepped Stop). GoesAlong so_far A (with_a so_far (plays so_far.a so_far.b.half step))
-    (kept_with_a (kept_pair so_far) step k)) same
-    (go (plays so_far.a so_far.b.half step) (plays_leaves so_far.a so_far.b.half own.counted step) (plays_good so_far.a so_far.b.half step))
+    (kept_with_a (kept_pair so_far) step k)) same (go (plays so_far.a so_far.b.half step) refl)
   where
-    go : (result : Result Stepped Stop) → AllLeave (so_far.a.passed + off_line step) result → Good so_far.a.half so_far.b.half result →
+    go : (result : Result Stepped Stop) → plays so_far.a so_far.b.half step ≡ result →
         GoesAlong so_far A (with_a so_far result) (kept_with_a (kept_pair so_far) step (kept_stepped so_far.a result))
-    go (Ok made) leaves good =
+    go (Ok made) is =
+        let c = step_comes so_far.a so_far.b.half step made is in
         let next : Played = record so_far { a = made.end; of_a = so_far.of_a ++ made.records } in
         ap₂ (λ (to_a to_b : List (List ℕ)). record (kept_played next) { pair = record (kept_pair next) { to_a = to_a; to_b = to_b } })
-        (ap (λ (n : ℕ). drop n (bytes_of so_far.b.half.sent)) leaves.passed ∙ line_left step so_far.a.passed (bytes_of so_far.b.half.sent))
-        (line_grows so_far.b.passed so_far.a.half.sent made.end.half.sent other.passed (all_grows so_far.b.half good))
-    go (Err stop) leaves good = refl
+        (ap (λ (n : ℕ). drop n (bytes_of so_far.b.half.sent)) (passed c) ∙ line_left step so_far.a.passed (bytes_of so_far.b.half.sent))
+        (line_grows so_far.b.passed so_far.a.half.sent made.end.half.sent few (all_grows so_far.b.half (makes_all c)))
+    go (Err stop) is = refl
 
 abbrev exchanged_kept : KeptPlayed → KeptPlayed
 exchanged_kept so_far = record {
@@ -75,10 +75,10 @@ exchanged_kept so_far = record {
   of_b = so_far.of_a;
 }
 
-along_b : (so_far : Played) → IsTidy so_far.b so_far.a → IsTidy so_far.a so_far.b → (step : StepValue) → IsKept so_far.b so_far.a.half step →
+along_b : (so_far : Played) → so_far.a.passed ≤ length so_far.b.half.sent → (step : StepValue) → IsKept so_far.b so_far.a.half step →
     GoesAlong so_far B (plays_at so_far B step) (kept_plays_at (kept_pair so_far) B step)
-along_b so_far own other step same = back (plays so_far.b so_far.a.half step) (kept_plays (kept_pair so_far).b (kept_pair so_far).to_b step)
-    (along_a (exchanged_ends so_far) own other step same)
+along_b so_far few step same = back (plays so_far.b so_far.a.half step) (kept_plays (kept_pair so_far).b (kept_pair so_far).to_b step)
+    (along_a (exchanged_ends so_far) few step same)
   where
     back : (result : Result Stepped Stop) (k : Result KeptStepped Stop) → GoesAlong (exchanged_ends so_far) A (with_a (exchanged_ends so_far) result)
         (kept_with_a (kept_pair (exchanged_ends so_far)) step k) → GoesAlong so_far B (with_b so_far result) (kept_with_b (kept_pair so_far) step k)
@@ -99,5 +99,5 @@ step_along so_far r step same = go step.side same
   where
     go : (side : Side) → kept_at so_far side step.step →
         GoesAlong so_far side (plays_at so_far side step.step) (kept_plays_at (kept_pair so_far) side step.step)
-    go A same = along_a so_far (tidy_of_a r) (tidy_of_a (exchanged r)) step.step same
-    go B same = along_b so_far (tidy_of_a (exchanged r)) (tidy_of_a r) step.step same
+    go A same = along_a so_far (tidy_of_a (exchanged r)).passed step.step same
+    go B same = along_b so_far (tidy_of_a r).passed step.step same

@@ -9,12 +9,13 @@ use Rattle.capture.specs.declared.record.Record.TheVariants.{Sent}
 use Rattle.dna_station.specs.declared.head.Head.{Head}
 use Rattle.dna_links.specs.declared.port.Port.{Port}
 use Rattle.dna_links.specs.LookUps.{is_live}
-use Rattle.dna_links.specs.Links.{LinkOf, Carried}
+use Rattle.dna_links.specs.Links.{LinkOf}
 use Rattle.dna_links.specs.Sending as links_sending
 use Rattle.dna_links.specs.TrueFlow.{TrueFlow, Numbers, true_flows}
 use Rattle.dna_links.specs.TrueLinks.{Links}
 use Rattle.dna_station.specs.WireStation.{StationVariables}
-use Rattle.dna_node.specs.Layers.{LayersUnit}
+use Rattle.dna_node.specs.Layers.{LayersUnit, LayersTruth}
+use Rattle.dna_station.specs.StationBook as station_book
 use Rattle.dna_play.specs.Script.{Send}
 use Rattle.dna_play.specs.LinkOwed.{LinkOwed, LinksOwed, EndConfirm, Turn, ConnectAckTurn}
 use Rattle.dna_play.specs.NextSent.{LinkEnd, LinkChoice, Confirms, OfLink, link_choice, without_turn, after_link_choice, Choice, SendNew, choice}
@@ -66,22 +67,22 @@ one_behind : (units : List LayersUnit) (unit : LayersUnit) → drop (length unit
 one_behind [] unit = refl
 one_behind (first ∷ units) unit = one_behind units unit
 
--- ---- a choice that names no message of the links
+-- ---- a choice
 
-abbrev IsOld : Choice → Type 0
-IsOld c = (one : LinkChoice) → c ≡ SendNew one → ⊥
+-- what the links owe after it
+abbrev owed_then : Choice → LinksOwed → LinksOwed
+owed_then (SendNew one) owed = after_link_choice one owed
+owed_then c owed = owed
 
-old_sending : (c : Choice) → IsOld c → (e : End) → after_sending c e ≡ record e { owed = after_choice c e.owed }
-old_sending (SendNew one) old e = absurd (old one refl)
-old_sending c old e = refl
+sending_is : (c : Choice) (e : End) → after_sending c e ≡ record e { owed = after_choice c e.owed; links_owed = owed_then c e.links_owed }
+sending_is (SendNew one) e = refl
+sending_is c e = refl
 
-old_links : (c : Choice) → IsOld c → (s : KeptLinks) → keeping.links_sent c s ≡ s
-old_links (SendNew one) old s = absurd (old one refl)
-old_links c old s = refl
-
-old_choice : (c : Choice) → IsOld c → (ends : List LinkEnd) → kept_choice ends c ≡ c
-old_choice (SendNew one) old ends = absurd (old one refl)
-old_choice c old ends = refl
+-- the station is the same, whichever of its links is named
+same_station : (ends : List LinkEnd) (c : Choice) (m : MessageValue) (s : KeptStation) →
+    of_station.after_sent c m s ≡ of_station.after_sent (kept_choice ends c) m s
+same_station ends (SendNew one) m s = refl
+same_station ends c m s = refl
 
 -- ---- the step
 
@@ -193,52 +194,44 @@ module _ (own other : End) (now : KeptNow own other) where
         ap (keeping.sends_choice (kept own)) (choices ∙ ap (option_map (kept_choice (link_ends_of own))) is)
         ∙ ap (keeping.sends_message (kept own) (kept_choice (link_ends_of own) c)) (message_live (link_ends_of own) c named head k ∙ put)
 
-    abbrev old_half : PlayHalf
-    old_half = sent_left own.half other.half m (again_after own.half other.half m)
+    -- with these links after it
+    module _ (links : Links) (known : LayersTruth) where
+      abbrev half : PlayHalf
+      half = sent_left own.half other.half m
+          (record own.half.state.station { station = station_book.after_sending (station_of own.half) m; links = links }, known)
 
-    old_kept : IsOld c →
-        kept_stepped own (Ok (record { end = after_sending c (after_record own old_half); records = Sent (spelling m) ∷ [] })) ≡ keeping.sends
-        (kept own)
-    old_kept old =
-        let unit : LayersUnit = record { bytes = spelling m; message = m; known = (again_after own.half other.half m).1 } in
-        ap (λ (e : End). kept_stepped own (Ok (record { end = e; records = Sent (spelling m) ∷ [] }))) (old_sending c old (after_record own old_half))
-        ∙ ap₂ (λ (station : KeptStation) (units : List (List ℕ)). step station (kept_links s.links (left_links s.links s.links owed)) units)
-        (station_sent (station_of own.half) own.owed facts.known.bounded.ordered c m) (one_behind own.half.sent unit)
-        ∙ ap (λ (links : KeptLinks). step (of_station.after_sent c m (kept own).station) links (spelling m ∷ []))
-        (record_same s.links owed now.counted ∙ sym (old_links c old (kept own).links))
-        ∙ ap (λ (x : Choice). step (of_station.after_sent x m (kept own).station) (keeping.links_sent x (kept own).links) (spelling m ∷ []))
-        (sym (old_choice c old (link_ends_of own)))
-        ∙ sym (of_kept (λ one e. absurd (old one e)))
+      all_kept : ((one : LinkChoice) → c ≡ SendNew one → NamesLive (link_ends_of own) one) →
+          kept_links links.links (owed_then c (left_links s.links links.links owed))
+          ≡ keeping.links_sent (kept_choice (link_ends_of own) c) (kept own).links →
+          kept_stepped own (Ok (record { end = after_sending c (after_record own half); records = Sent (spelling m) ∷ [] })) ≡ keeping.sends (kept own)
+      all_kept named same =
+          let unit : LayersUnit = record { bytes = spelling m; message = m; known = known } in
+          ap (λ (e : End). kept_stepped own (Ok (record { end = e; records = Sent (spelling m) ∷ [] }))) (sending_is c (after_record own half))
+          ∙ ap₂ (λ (station : KeptStation) (units : List (List ℕ)). step station
+          (kept_links links.links (owed_then c (left_links s.links links.links owed))) units)
+          (station_sent (station_of own.half) own.owed facts.known.bounded.ordered c m
+          ∙ same_station (link_ends_of own) c m (kept own).station) (one_behind own.half.sent unit)
+          ∙ ap (λ (all : KeptLinks). step (of_station.after_sent (kept_choice (link_ends_of own) c) m (kept own).station) all (spelling m ∷ [])) same
+          ∙ sym (of_kept named)
 
-  module _ (one : LinkChoice) (m : MessageValue) (is : choice k own.owed asked ≡ Some (SendNew one))
-      (put : message_of (SendNew one) head k ends ≡ Some m) (packet : Carried) (sent : links_sending.Sent TrueFlow Numbers) where
-    abbrev new_half : PlayHalf
-    new_half = sent_left own.half other.half m (first_after own.half other.half m packet sent)
-
-    new_kept : OneKept sent one →
-        kept_stepped own (Ok (record { end = after_sending (SendNew one) (after_record own new_half); records = Sent (spelling m) ∷ [] }))
-        ≡ keeping.sends (kept own)
-    new_kept h =
-        let unit : LayersUnit = record { bytes = spelling m; message = m; known = (first_after own.half other.half m packet sent).1 } in
-        ap₂ (λ (station : KeptStation) (units : List (List ℕ)). step (SendNew one) m is put station
-        (kept_links sent.links.links (after_link_choice one (left sent))) units)
-        (station_sent (station_of own.half) own.owed facts.known.bounded.ordered (SendNew one) m) (one_behind own.half.sent unit)
-        ∙ ap (λ (links : KeptLinks). step (SendNew one) m is put (of_station.after_sent (SendNew one) m (kept own).station) links (spelling m ∷ []))
-        h.links
-        ∙ sym (of_kept (SendNew one) m is put (λ x e. subst (NamesLive (link_ends_of own)) (same x e) h.named))
-      where
-        same : (x : LinkChoice) → SendNew one ≡ SendNew x → one ≡ x
-        same x e = cc
+  -- without a message of the links
+  old_same : (c : Choice) → ((one : LinkChoice) → c ≡ SendNew one → ⊥) →
+      kept_links s.links (owed_then c (left_links s.links s.links owed)) ≡ keeping.links_sent (kept_choice (link_ends_of own) c) (kept own).links
+  old_same (SendNew one) old = absurd (old one refl)
+  old_same c old = record_same s.links owed now.counted
 
   by_goes : (c : Choice) → choice k own.owed asked ≡ Some c → Goes own other now.stage now.theirs facts.known c →
       IsRight own other Send (keeping.sends (kept own)) (sends_choice own other.half (Some c))
   by_goes c is (GoesOld _ m put b old makes_it) =
-      sent_right c m is put _ makes_it (stage_again own other now.stage facts.known c old m put b) (old_kept c m is put old)
+      sent_right c m is put _ makes_it (stage_again own other now.stage facts.known c old m put b)
+      (all_kept c m is put s (again_after own.half other.half m).1 (λ one e. absurd (old one e)) (old_same c old))
   by_goes c is (GoesNew one message asked m put b packet sent of_it does_it makes_it) =
       let did = subst (λ (x : NspValue). SentDid true_flows s x sent) of_it (sent_did true_flows s sent packet does_it) in
+      let h = one_kept sent one message asked did in
       sent_right (SendNew one) m is put _ makes_it
       (stage_first own other now.stage facts.known one message asked packet sent of_it does_it m put b)
-      (new_kept one m is put packet sent (one_kept sent one message asked did))
+      (all_kept (SendNew one) m is put sent.links (first_after own.half other.half m packet sent).1
+      (λ x e. let same : one ≡ x = cc in subst (NamesLive (link_ends_of own)) same h.named) h.links)
 
   -- what is chosen is sent; else there is nothing to send
   choice_right : (o : Option Choice) → choice k own.owed asked ≡ o → IsRight own other Send (keeping.sends (kept own)) (sends_choice own other.half o)

@@ -1,15 +1,13 @@
 //! What an arrival does to the links.
 
-ghost use Rattle.std.specs.Prelude.{◌≡◌, ◌<◌, ◌==◌, ◌&&◌, Bool, Ok, Some, true, false, length, slice_get, option_map};
-ghost use Rattle.std.specs.Prelude.{OnOk, OnErr, IfOk, IfErr, IfSome};
+ghost use Rattle.std.specs.Prelude.{◌≡◌, ◌<◌, ◌==◌, ◌&&◌, Ok, Some, true, false, OnOk, OnErr, IfOk, IfErr};
 ghost use Rattle.std.specs.List.{AllByRecursion};
 ghost use Rattle.dna_packet.specs.AckWord.{IsAckWord};
 ghost use Rattle.dna_packet.specs.Nsp.{segment_view};
 ghost use Rattle.dna_packet.specs.Nsp as nsp;
 ghost use Rattle.dna_links.specs.Arriving.{of_partner, message_arrived, ends_link};
 ghost use Rattle.dna_links.specs.Arriving as arriving;
-ghost use Rattle.dna_links.specs.Links.{LinkOf, number_of};
-ghost use Rattle.dna_links.specs.WireFlow.{WireFlow, wire_flows};
+ghost use Rattle.dna_links.specs.WireFlow.{wire_flows};
 ghost use Rattle.dna_links.specs.WireLinks.{wire_links_arrived};
 ghost use Rattle.nsp_link.specs.Fault.{IsFault};
 ghost use Rattle.nsp_link.specs.PartnerRules.{partner_rule};
@@ -17,7 +15,6 @@ ghost use Rattle.nsp_link.specs.Phases.{arrival_takes_memory, holds_segment, beg
 
 use super::Links;
 use super::partner::{is_for, is_of_pair};
-use crate::link::Link;
 use crate::{LinkFault, LinkRefusal, LinkTag, Piece};
 use dna_links::LinkTest;
 use dna_packet::{ConnectConfirm, ConnectInitiate, DataAck, Nsp, Segment};
@@ -151,37 +148,14 @@ impl<W: Window<Piece, 4096> + Drop> Links<W> {
             self.old) false fault) }
         ensures err { OnErr result (self.new ≡ self.old) }
     {
-        let acting = self.acting::<OF_PAIR>(own, far, tag)?;
-        let Some((number, _link)) = acting else {
-            return Ok(());
-        };
-        self.run_at(number);
-        Ok(())
-    }
-
-    // The link that acts on a message with these addresses, and its number, if there is one: it is of its pair.
-    #[inline(always)]
-    #[tactic(auto, using(crate::proofs::Found::found_links))]
-    fn acting<const OF_PAIR: bool>(
-        &self,
-        own: u16,
-        far: u16,
-        tag: LinkTag,
-    ) -> Result<Option<(usize, &Link<W>)>, LinkFault>
-        ensures number { IfOk result (λ found. option_map (λ f. f.0) found ≡ number_of (LinkTest.ActedOn own far) self.now) }
-        ensures link { IfOk result (λ found. IfSome found (λ f. slice_get self.now.links f.0 ≡ Some f.1.now)) }
-        ensures within { IfOk result (λ found. IfSome found (λ f. f.0 < length self.now.links)) }
-        ensures pair { IfOk result (λ found. IfSome found (λ f. partner_rule OF_PAIR (arriving.is_of_pair f.0 f.1.now.partner tag) ≡ true)) }
-        ensures refused { (takes : LinkOf WireFlow → WireFlow) → IfErr result (λ fault. (memory : Bool) →
-            IsFault (arriving.acted_on wire_flows (partner_rule OF_PAIR) own far tag takes self.now) memory fault) }
-    {
         let Some((number, link)) = self.found(LinkTest::ActedOn { own, far }) else {
-            return Ok(None);
+            return Ok(());
         };
         if !is_of_pair::<OF_PAIR>(number, link.partner(), tag) {
             return Err(LinkFault::Refused(LinkRefusal::CrossedLink));
         }
-        Ok(Some((number, link)))
+        self.run_at(number);
+        Ok(())
     }
 
     // A data acknowledgement.
@@ -198,10 +172,16 @@ impl<W: Window<Piece, 4096> + Drop> Links<W> {
             message.now.srcaddr message.now.acks.items) (record { tag = tag; known = tt })) false fault) }
         ensures err { OnErr result (self.new ≡ self.old) }
     {
-        let acting = self.acting::<OF_PAIR>(message.dstaddr, message.srcaddr, tag)?;
-        let Some((number, _link)) = acting else {
+        let test = LinkTest::ActedOn {
+            own: message.dstaddr,
+            far: message.srcaddr,
+        };
+        let Some((number, link)) = self.found(test) else {
             return Ok(());
         };
+        if !is_of_pair::<OF_PAIR>(number, link.partner(), tag) {
+            return Err(LinkFault::Refused(LinkRefusal::CrossedLink));
+        }
         self.take_acks_at(number, &message.acks);
         Ok(())
     }
@@ -222,10 +202,16 @@ impl<W: Window<Piece, 4096> + Drop> Links<W> {
             (holds_segment self.old (segment_view segment.now)) fault) }
         ensures err { OnErr result (self.new ≡ self.old) }
     {
-        let acting = self.acting::<OF_PAIR>(segment.dstaddr, segment.srcaddr, tag)?;
-        let Some((number, _link)) = acting else {
+        let test = LinkTest::ActedOn {
+            own: segment.dstaddr,
+            far: segment.srcaddr,
+        };
+        let Some((number, link)) = self.found(test) else {
             return Ok(());
         };
+        if !is_of_pair::<OF_PAIR>(number, link.partner(), tag) {
+            return Err(LinkFault::Refused(LinkRefusal::CrossedLink));
+        }
         let Ok(()) = self.take_segment_at(number, segment) else {
             return Err(LinkFault::OutOfMemory);
         };

@@ -2,7 +2,7 @@ use Rattle.std.proofs.Common.{◌≡◌, false, rules, Some, refl, sym, subst, a
 use Rattle.std.specs.Option.{option_map}
 use Rattle.dna_play.specs.Kept.{KeptLinks}
 use Rattle.dna_play.specs.KeptPlay.{sends, sends_choice}
-use Rattle.dna_play.specs.NextSent.{choice, link_choice}
+use Rattle.dna_play.specs.NextSent.{SendNew, choice, link_choice}
 use Rattle.player_end.specs.declared.choice.Choice.{Choice}
 use Rattle.player_end.specs.inner.Composing.{is_new}
 use Rattle.player_end.specs.inner.Owing.{choice_view, link_choice_view}
@@ -20,29 +20,23 @@ send_new-requires-clause-next g c =
     ∙ chosen_message (link_choice_view c.in-New.message) i.station.variables i.station.owed (option_map link_choice_view c.choice-next.result)
     (sym c.in-Some.ensures ∙ ap (λ (x : Choice). Some (choice_view x)) c.in-New.is))
 
-pub returns-in-New-clause-ok : goal.returns-in-New-clause-ok
-returns-in-New-clause-ok g c =
+pub returns-in-New : goal.returns-in-New
+returns-in-New g c =
     let i = c.self.inside in
     let message = link_choice_view c.in-New.message in
+    let end = end_with i.head i.station i.links i.addresses i.passed in
     let all = ap (choice i.station.variables i.station.owed) (sym c.choice-next.ensures.choice) ∙ sym c.in-Some.ensures
     ∙ ap (λ (x : Choice). Some (choice_view x)) c.in-New.is in
-    rw (
+    let same =
     ap sends (sym c.self.view_is)
-    ∙ sends_of_links (end_with i.head i.station i.links i.addresses i.passed) i.links refl c.choice-next.ensures.live message all
-    ∙ ap (λ (t : KeptLinks). sends_new i.head i.station t i.addresses i.passed message) (sym c.choice-next.ensures.same)
-    ) (c.send_new.ensures.ok i.addresses i.passed)
-
-pub returns-in-New-clause-stop : goal.returns-in-New-clause-stop
-returns-in-New-clause-stop g c =
-    let i = c.self.inside in
-    let message = link_choice_view c.in-New.message in
-    let all = ap (choice i.station.variables i.station.owed) (sym c.choice-next.ensures.choice) ∙ sym c.in-Some.ensures
-    ∙ ap (λ (x : Choice). Some (choice_view x)) c.in-New.is in
-    rw (
-    ap sends (sym c.self.view_is)
-    ∙ sends_of_links (end_with i.head i.station i.links i.addresses i.passed) i.links refl c.choice-next.ensures.live message all
-    ∙ ap (λ (t : KeptLinks). sends_new i.head i.station t i.addresses i.passed message) (sym c.choice-next.ensures.same)
-    ) (c.send_new.ensures.stop i.addresses i.passed)
+    ∙ sends_of_links end i.links refl c.choice-next.ensures.live message all
+    ∙ ap (λ (t : KeptLinks). sends_new i.head i.station t i.addresses i.passed message) (sym c.choice-next.ensures.same) in
+    record {
+      ok = rw same (c.send_new.ensures.ok i.addresses i.passed);
+      short = c.send_new.ensures.short;
+      stop = rw same (c.send_new.ensures.stop i.addresses i.passed);
+      memory = λ e. subst HasUnit c.self.view_is (has_unit end i.links refl c.choice-next.ensures.live (SendNew message) all);
+    }
 
 pub returns-in-Strt : goal.returns-in-Strt
 returns-in-Strt g c =

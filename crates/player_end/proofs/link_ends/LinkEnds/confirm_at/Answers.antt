@@ -15,8 +15,8 @@ invariant_of-self g c =
 
 pub invariant_of-self-2 : goal.invariant_of-self-2
 invariant_of-self-2 g c =
-    index_far (in_place c.self.view_is c.requires.within c.index_mut.ensures.value c.requires.lives) c.self.invariant c.mark.ensures c.confirm.new.self
-    (ap (λ (k : LinkEnd). is_live k.port.phase) c.confirm.ensures)
+    index_far (in_place c.self.view_is c.requires.within c.index_mut.ensures.value c.requires.lives) c.self.invariant c.mark.ensures
+    c.confirm.new.self (ap (λ (k : LinkEnd). is_live k.port.phase) c.confirm.ensures)
     (ap (λ (k : LinkEnd). k.port.far) c.confirm.ensures) (ap (λ (k : LinkEnd). k.port.own) c.confirm.ensures) c.in_ok-insert.ensures.this
     c.insert.ensures.others
 

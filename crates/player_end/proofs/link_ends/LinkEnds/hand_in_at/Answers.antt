@@ -6,9 +6,11 @@ use Rattle.player_end.proofs.link_ends.LinkEnds.hand_in_at.Goals as goal
 pub invariant_of-self : goal.invariant_of-self
 invariant_of-self g c =
     index_made (in_place c.self.view_is c.requires.within c.index_mut.ensures.value c.requires.lives) c.self.invariant c.mark.ensures
-    (either_made c.hand_in-made.result c.hand_in-made.ensures.ok c.hand_in-made.ensures.err (keeps_handed c.args.message.now c.index_mut.result.now))
+    (either_made c.hand_in-made.result c.hand_in-made.ensures.ok c.hand_in-made.ensures.err
+    (keeps_handed c.args.message.now c.index_mut.result.now))
 
 pub returns : goal.returns
 returns g c =
-    kept_if_ok (in_place c.self.view_is c.requires.within c.index_mut.ensures.value c.requires.lives) c.hand_in-made.result (handed c.args.message.now)
-    (either_made c.hand_in-made.result c.hand_in-made.ensures.ok c.hand_in-made.ensures.err (keeps_handed c.args.message.now c.index_mut.result.now)) c.hand_in-made.ensures.ok
+    kept_if_ok (in_place c.self.view_is c.requires.within c.index_mut.ensures.value c.requires.lives) c.hand_in-made.result
+    (handed c.args.message.now) (either_made c.hand_in-made.result c.hand_in-made.ensures.ok c.hand_in-made.ensures.err
+    (keeps_handed c.args.message.now c.index_mut.result.now)) c.hand_in-made.ensures.ok

@@ -7,9 +7,11 @@ use Rattle.player_end.proofs.link_ends.LinkEnds.sent_at.Goals as goal
 pub invariant_of-self : goal.invariant_of-self
 invariant_of-self g c =
     index_made (in_place c.self.view_is c.requires.within c.index_mut.ensures.value c.requires.lives) c.self.invariant c.mark.ensures
-    (either_made c.sent-made.result c.sent-made.ensures.ok c.sent-made.ensures.err (keeps_sent (turn_view c.args.turn) c.index_mut.result.now))
+    (either_made c.sent-made.result c.sent-made.ensures.ok c.sent-made.ensures.err
+    (keeps_sent (turn_view c.args.turn) c.index_mut.result.now))
 
 pub returns : goal.returns
 returns g c =
-    kept_if_ok (in_place c.self.view_is c.requires.within c.index_mut.ensures.value c.requires.lives) c.sent-made.result (turn_sent (turn_view c.args.turn))
-    (either_made c.sent-made.result c.sent-made.ensures.ok c.sent-made.ensures.err (keeps_sent (turn_view c.args.turn) c.index_mut.result.now)) c.sent-made.ensures.ok
+    kept_if_ok (in_place c.self.view_is c.requires.within c.index_mut.ensures.value c.requires.lives) c.sent-made.result
+    (turn_sent (turn_view c.args.turn)) (either_made c.sent-made.result c.sent-made.ensures.ok c.sent-made.ensures.err
+    (keeps_sent (turn_view c.args.turn) c.index_mut.result.now)) c.sent-made.ensures.ok

@@ -7,4 +7,5 @@ pub invariant_of-self : goal.invariant_of-self
 invariant_of-self g c = search (rules, changes)
 
 pub returns : goal.returns
-returns g c = kept_by (in_place c.self.view_is c.requires.within c.index_mut.ensures.value c.requires.lives) (keeps_acks c.args.words.now) c.take_acks.ensures
+returns g c =
+    kept_by (in_place c.self.view_is c.requires.within c.index_mut.ensures.value c.requires.lives) (keeps_acks c.args.words.now) c.take_acks.ensures
