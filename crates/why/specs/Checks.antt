@@ -121,8 +121,7 @@ rule_row failed = []
 
 -- ---- together
 
--- a check that a record of this side does not pass, with the reason for which it is refused, how its bytes are read, and what is shown of both
--- sides of it
+-- a check that a record of this side does not pass, with the reason, how its bytes are read, and what is shown of both sides of the check
 pub record CheckValue : Type 0 where
   pub side : Side
   pub reason : Reason

@@ -35,8 +35,7 @@ why_lines r ends edits tried =
 abbrev pub recorder_rows : Shown → List ℕ
 recorder_rows shown = recorder_row shown.tried ++ (shown.edits.now ++ so_row shown.tried.accepted)
 
--- the record, the check, the side of the record, the other side, the rows before it between two empty ones, who is accused, and what small
--- edits tell
+-- the record, the check, the side of the record, the other side, the rows before it, who is accused, and what small edits tell
 abbrev pub why_rows : Refusal → ShownEnds → Shown → List ℕ
 why_rows r ends shown =
     record_rows (record_of r) (end_of r.side ends) shown.name.now shown.unit.now r.unit_name.now
