@@ -38,6 +38,9 @@ links_on_top_that leaves = record {
   Shows = λ (w : WireLayers) (s : Layers). w ≡ cut_layers s;
 }
 
+abbrev pub links_on_top : JudgeTop
+links_on_top = links_on_top_that false
+
 abbrev pub links_on_top_left : JudgeTop
 links_on_top_left = links_on_top_that true
 

@@ -1,7 +1,7 @@
-use Rattle.pair_judge.proofs.layers.linked.OnTopTop.delivers.Goals as goal
+use Rattle.pair_judge.proofs.layers.linked.LinksOnTopTop.delivers.Goals as goal
 
 pub returns : goal.returns
-returns g c =
+returns c =
     let d = c.captures_deliver_in_order.ensures in
     let m = c.layers_deliver_in_order.ensures in
     let stations = c.layers_run_as_stations.ensures.run in

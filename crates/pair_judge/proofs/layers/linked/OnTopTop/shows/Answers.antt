@@ -1,6 +1,0 @@
-use Rattle.pair_judge.proofs.Seen.{shown}
-use Rattle.pair_judge.proofs.layers.linked.OnTopTop.shows.Goals as goal
-
-pub returns : goal.returns
-returns g c = λ head_a head_b w of_a of_b run.
-    shown _ head_a head_b w of_a of_b (c.wire_layers_see_right.ensures.of_wire head_a head_b w of_a of_b run)
