@@ -125,7 +125,8 @@ module _ (nodes : NodeKind) where
       by_rest (ToCome bytes) = ([], sym (append-nil read.records))
       by_rest TheEnd = refl
 
-  module _ (laws : WholeLaws) (runs : DeliversInOrder nodes) (bytes_a bytes_b : List ℕ) (read_a read_b : ReadSoFar) (from_a : IsReadSoFar (Some bytes_a) read_a)
+  module _ (laws : WholeLaws) (runs : DeliversInOrder nodes) (bytes_a bytes_b : List ℕ) (read_a read_b : ReadSoFar)
+      (from_a : IsReadSoFar (Some bytes_a) read_a)
       (from_b : IsReadSoFar (Some bytes_b) read_b) where
     are_a_run : (summary : Summary) → read_a.behind ≡ TheEnd → read_b.behind ≡ TheEnd → IsCounted nodes (head_of read_a) (head_of read_b)
         read_a.records

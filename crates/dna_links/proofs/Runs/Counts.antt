@@ -99,7 +99,8 @@ module _ (s : Links) where
       deliveries made.links.links ≡ deliveries s.links
   sent_count m made sound (OfNone none) = refl
   sent_count m made sound (Stays number link none there) = refl
-  sent_count m made sound (EndsCalled far reason number link none is found) = set_same_count s.links number link (ended true_flows link) found.there refl
+  sent_count m made sound (EndsCalled far reason number link none is found) =
+      set_same_count s.links number link (ended true_flows link) found.there refl
   sent_count m made sound (Segment segment number link sent is found run does) =
       set_same_count s.links number link (with_flow sent.flow link) found.there
       (segment_sent link.flow (sound number link found.there) link.segsize segment sent does).sends.delivered

@@ -13,7 +13,8 @@ use Rattle.dna_station.specs.declared.link_refusal.LinkRefusal.TheVariants.{Wron
 use Rattle.dna_links.specs.Pieces.{Piece, piece_of, alike, same_piece, in_order, is_next_piece, without_piece}
 use Rattle.dna_links.specs.Flow.{Sending, REACH, wire, distance}
 use Rattle.dna_links.specs.Delivery.{IsCut}
-use Rattle.dna_links.specs.TrueFlow.{TrueFlow, Numbers, highest_given, highest_received, Named, all_named, sending, acks_named, sends_acks, sends_other, sends_new}
+use Rattle.dna_links.specs.TrueFlow.{TrueFlow, Numbers, highest_given, highest_received, Named, all_named, sending, acks_named}
+use Rattle.dna_links.specs.TrueFlow.{sends_acks, sends_other, sends_new}
 use Rattle.dna_links.specs.TrueFlow.{is_given, is_repeat, sends_again, is_new, segment_named, sends_segment}
 use Rattle.two_nodes.proofs.Numbered.{IsGiven, AcksFrom}
 use Rattle.dna_links.proofs.Tables.Outcomes.{checked}

@@ -1,5 +1,6 @@
 -- Segment numbers and their wire values, where they are near each other.
-use Rattle.std.proofs.Common.{◌≡◌, ℕ, ◌+◌, ◌-◌, ◌<◌, ◌≤◌, Bool, true, false, ◌&&◌, ◌||◌, ltb, leb, arith, lt-ltb, le-leb, leb-true, ltb-true, ◌⊎◌, inl, inr, refl}
+use Rattle.std.proofs.Common.{◌≡◌, ℕ, ◌+◌, ◌-◌, ◌<◌, ◌≤◌, Bool, true, false, ◌&&◌, ◌||◌, ltb, leb, arith, lt-ltb, le-leb}
+use Rattle.std.proofs.Common.{leb-true, ltb-true, ◌⊎◌, inl, inr, refl}
 use Rattle.std.proofs.lemmas.Bool.{cases_lt, lt-leb}
 use Rattle.dna_links.specs.Flow.{REACH, wire, distance}
 

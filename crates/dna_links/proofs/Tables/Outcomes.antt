@@ -230,7 +230,8 @@ module _ {D K : Type 0} (flows : Flows D K) where
         carries_did m number link (sends link) (λ sent is. d number link sent found c.0 is) c.1)
 
     called_ends : (dst src reason : ℕ) (r : Sent D K) → src ≡ 0 →
-        with_link (CalledBy dst) s (of_no_link flows s) (λ number link. ending flows s number link) ≡ r → SentDid s (DisconnectConfirm dst src reason) r
+        with_link (CalledBy dst) s (of_no_link flows s) (λ number link. ending flows s number link) ≡ r
+        → SentDid s (DisconnectConfirm dst src reason) r
     called_ends dst src reason r none e =
         looked (CalledBy dst) s (of_no_link flows s) (λ number link. ending flows s number link) r e
         (λ missing e. subst (λ (x : Sent D K). SentDid s (DisconnectConfirm dst src reason) x) e (OfNone refl))
@@ -273,8 +274,10 @@ module _ {D K : Type 0} (flows : Flows D K) where
 
   pub data ArrivedDid (rule : PartnerRule) (s : LinksOf D) (m : NspValue) (truth : LinkTruth K) : LinksOf D → Type 0 where
     Ignores : ArrivedDid rule s m truth s
-    Begins : (far segsize : ℕ) → Connects m far segsize → number_of (LiveTo far) s ≡ None → ArrivedDid rule s m truth (begun (called flows rule far segsize truth.tag) s)
-    Confirms : (own far segsize number : ℕ) (link : LinkOf D) → Connects m far segsize → IsFound (CallingAt own) s number link → rule (is_for number truth.tag) ≡ true →
+    Begins : (far segsize : ℕ) → Connects m far segsize → number_of (LiveTo far) s ≡ None
+        → ArrivedDid rule s m truth (begun (called flows rule far segsize truth.tag) s)
+    Confirms : (own far segsize number : ℕ) (link : LinkOf D) → Connects m far segsize → IsFound (CallingAt own) s number link
+        → rule (is_for number truth.tag) ≡ true →
         ArrivedDid rule s m truth (changed number (confirmed flows rule far segsize truth.tag link) s)
     Ends : (test : LinkTest) (number : ℕ) (link : LinkOf D) → IsFound test s number link →
         ArrivedDid rule s m truth (changed number (ended flows link) s)

@@ -74,7 +74,8 @@ module _ (own other : End) (h : Stage own) (known : Known own other) where
           slice_get (all_still_owed s.links made.links.links own.links_owed.links) number ≡ Some left → turn ≡ SegmentTurn →
           left.ahead + 1 ≤ length (variables_of k).outstanding
       more t k left at then_owes seg =
-          let is : t.left ≡ k = same_Some t.left k (sym (ap (λ (x : Links). slice_get x.links number) t.links ∙ set_same s.links number l t.left there)
+          let is : t.left ≡ k = same_Some t.left k (sym (ap (λ (x : Links). slice_get x.links number) t.links
+          ∙ set_same s.links number l t.left there)
           ∙ at) in
           let gone = gave_ahead l o (ordered number l there) (h.links.owes number l o there owes).ahead in
           let counted : length (variables_of k).outstanding ≡ length (gave_by SegmentTurn (end_of l o)).variables.outstanding =
@@ -84,7 +85,8 @@ module _ (own other : End) (h : Stage own) (known : Known own other) where
           omega arith
 
   module _ (one : LinkChoice) (message : NspValue) (asked : IsAsked s.links own.links_owed one message) (packet : Carried)
-      (made : links_sending.Sent TrueFlow Numbers) (of_it : packet.message ≡ message) (does_it : links_sent (links_of own.half) packet ≡ Ok made) where
+      (made : links_sending.Sent TrueFlow Numbers) (of_it : packet.message ≡ message)
+      (does_it : links_sent (links_of own.half) packet ≡ Ok made) where
     did : SentDid true_flows s message made
     did = subst (λ (x : NspValue). SentDid true_flows s x made) of_it (sent_did true_flows s made packet does_it)
 

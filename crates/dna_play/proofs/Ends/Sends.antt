@@ -105,14 +105,16 @@ module _ (own other : End) (h : Stage own) (theirs : Stage other) (known : Known
 
   allowed : (c : Choice) (m : MessageValue) → choice k own.owed asked ≡ Some c → message_of c head k ends ≡ Some m → sending_refusal station m ≡ None
   allowed c m is put =
-      sending_refusal_same (unlabelled station.packets) station labelled known.bounded.ordered m ∙ chosen_may (cut (unlabelled station.packets) station) own.owed
+      sending_refusal_same (unlabelled station.packets) station labelled known.bounded.ordered m
+      ∙ chosen_may (cut (unlabelled station.packets) station) own.owed
       asked h.pays head ends c m is put
 
   goes_old : (c : Choice) (m : MessageValue) → choice k own.owed asked ≡ Some c → message_of c head k ends ≡ Some m →
       ((one : LinkChoice) → c ≡ SendNew one → ⊥) → gives_number station m ≡ false → Goes c
   goes_old c m is put never old =
       let b = put_of_bytes station h.packets c head ends m (λ one e'. absurd (never one e')) (put_is k head ends m c put) in
-      GoesOld c m put b never (is_made own.half other.half m b (again_after own.half other.half m) (sends_old own.half other.half m (allowed c m is put) old))
+      GoesOld c m put b never (is_made own.half other.half m b (again_after own.half other.half m)
+      (sends_old own.half other.half m (allowed c m is put) old))
 
   -- of a number that was given, and of one that was not
   gives_as : (body : List ℕ) (b : Bool) → wire_is_new k ≡ b → gives_number station (data_with k body) ≡ b
@@ -129,14 +131,17 @@ module _ (own other : End) (h : Stage own) (theirs : Stage other) (known : Known
       goes_old SendAgain (data_with k (there.0).body) is (ap (packet_again k) there.1) (λ one e'. cc) (gives_as (there.0).body false old)
   goes_chosen state c is (ByNew one new room one_is) =
       let x = asked_of (links_of own.half).links own.links_owed one one_is in
-      let may = asked_may (links_of own.half) (links_of other.half).links own.addresses known.addressed own.links_owed links_pay known.numbers one x.message x.is in
+      let may = asked_may (links_of own.half) (links_of other.half).links own.addresses known.addressed own.links_owed
+      links_pay known.numbers one x.message x.is in
       let f = message_fits one x.message x.is in
       let m = data_with k (packet_with head x.message) in
       let put : message_of (SendNew one) head k ends ≡ Some m = ap (new_data k head) x.put in
       let b = data_of_bytes station (packet_with head x.message) (packet_fits head x.message f.bytes f.short) in
-      GoesNew one x.message x.is m put b (packet_of own.half other.half head known.head_own known.head_peer known.node known.peer x.message) may.0 refl
+      GoesNew one x.message x.is m put b (packet_of own.half other.half head known.head_own known.head_peer
+      known.node known.peer x.message) may.0 refl
       (packet_sent own.half other.half head known.head_own known.head_peer known.node known.peer x.message may)
-      (is_made own.half other.half m b (first_after own.half other.half m (packet_of own.half other.half head known.head_own known.head_peer known.node known.peer x.message) may.0)
+      (is_made own.half other.half m b (first_after own.half other.half m (packet_of own.half other.half head known.head_own known.head_peer
+      known.node known.peer x.message) may.0)
       (sends_new own.half other.half head known.head_own known.head_peer known.node known.peer m (allowed (SendNew one) m is put)
       (gives_as (packet_with head x.message) true new) x.message f may refl))
 

@@ -59,7 +59,8 @@ module _ {L : Type 0} (k : StationVariables L) (owed : Owed) (asked : Option Lin
       same : (x : Choice) → ◌≡◌ {A = Option Choice} (Some x) (Some c) → x ≡ c
       same x e = cc
 
-  either_chosen : (state : State) (b : Bool) (x y : Option Choice) → (b ≡ true → x ≡ Some c → Chosen state) → (b ≡ false → y ≡ Some c → Chosen state) →
+  either_chosen : (state : State) (b : Bool) (x y : Option Choice) → (b ≡ true → x ≡ Some c → Chosen state)
+      → (b ≡ false → y ≡ Some c → Chosen state) →
       cond b x y ≡ Some c → Chosen state
   either_chosen state true x y p q e = p refl e
   either_chosen state false x y p q e = q refl e

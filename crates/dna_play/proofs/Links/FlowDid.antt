@@ -13,7 +13,8 @@ use Rattle.dna_links.specs.Links.{check}
 
 -- its piece is given, or was given already
 pub data SegmentDid (f : TrueFlow) (s : SegmentValue) : TrueFlow → Type 0 where
-  GivesIt : (last : ℕ) → is_new s f ≡ true → SegmentDid f s (record f { last = last; given = f.given ++ piece_of s ∷ []; unsent = without_piece (piece_of s) f.unsent })
+  GivesIt : (last : ℕ) → is_new s f ≡ true
+      → SegmentDid f s (record f { last = last; given = f.given ++ piece_of s ∷ []; unsent = without_piece (piece_of s) f.unsent })
   GivesAgain : (last : ℕ) → is_new s f ≡ false → SegmentDid f s (record f { last = last })
 
 module _ (f : TrueFlow) where

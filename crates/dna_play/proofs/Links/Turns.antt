@@ -179,7 +179,8 @@ module _ (s : Links) (made : Sent TrueFlow Numbers) (n : ℕ) (l : LinkOf TrueFl
         unmoved DisconnectTurn refl (links_stay s (turn_message DisconnectTurn (end_of l o)) refl (λ dst reason e. cc) made did)
     turn_made DataAckTurn (DueFlag owed) did =
         let words = ack_of (variables_of l).received ∷ [] in
-        let r = acks_run s distinct n l there (address l.port.own) (run_owns shape (owes.turns DataAckTurn owed)) (address l.port.far) words made did in
+        let r = acks_run s distinct n l there (address l.port.own) (run_owns shape (owes.turns DataAckTurn owed)) (address l.port.far)
+        words made did in
         let d = acks_did l.flow words r.sent r.is in
         record {
           left = with_flow r.sent.flow l;

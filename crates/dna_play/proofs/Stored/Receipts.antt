@@ -230,7 +230,8 @@ module _ (own other : End) (now : KeptNow own other) where
       hurt = damaged place value unit.bytes
 
       differs : Damaged place value unit.bytes
-      differs = damage_is_seen unit.message unit.bytes place value (bytes_tested unit.bytes (facts.lined own.passed unit there).spelling.bytes) told is
+      differs = damage_is_seen unit.message unit.bytes place value (bytes_tested unit.bytes
+          (facts.lined own.passed unit there).spelling.bytes) told is
 
       bad_received : (d : ShownDamage) → reading hurt ≡ read_of d → IsReceived hurt (read_of d) false
       bad_received d e =

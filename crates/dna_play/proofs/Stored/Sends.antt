@@ -180,7 +180,8 @@ module _ (own other : End) (now : KeptNow own other) where
 
     -- this half is left
     sent_right : (half : PlayHalf) → makes own.half other.half (Sent (spelling m)) ≡ Some half → Stage (after_sending c (after_record own half)) →
-        kept_stepped own (Ok (record { end = after_sending c (after_record own half); records = Sent (spelling m) ∷ [] })) ≡ keeping.sends (kept own) →
+        kept_stepped own (Ok (record { end = after_sending c (after_record own half); records = Sent (spelling m) ∷ [] }))
+        ≡ keeping.sends (kept own) →
         IsRight own other Send (keeping.sends (kept own)) (sends_choice own other.half (Some c))
     sent_right half makes_it stage same =
         subst (IsRight own other Send (keeping.sends (kept own)))
@@ -203,7 +204,8 @@ module _ (own other : End) (now : KeptNow own other) where
       all_kept : ((one : LinkChoice) → c ≡ SendNew one → NamesLive (link_ends_of own) one) →
           kept_links links.links (owed_then c (left_links s.links links.links owed))
           ≡ keeping.links_sent (kept_choice (link_ends_of own) c) (kept own).links →
-          kept_stepped own (Ok (record { end = after_sending c (after_record own half); records = Sent (spelling m) ∷ [] })) ≡ keeping.sends (kept own)
+          kept_stepped own (Ok (record { end = after_sending c (after_record own half); records = Sent (spelling m) ∷ [] }))
+          ≡ keeping.sends (kept own)
       all_kept named same =
           let unit : LayersUnit = record { bytes = spelling m; message = m; known = known } in
           ap (λ (e : End). kept_stepped own (Ok (record { end = e; records = Sent (spelling m) ∷ [] }))) (sending_is c (after_record own half))
