@@ -4,3 +4,4 @@ pub mod Captured
 pub mod PageBlock
 pub mod Spelled
 pub mod Outlets
+pub mod ListTurn

@@ -21,6 +21,8 @@ mod limit;
 mod line_reader;
 mod line_words;
 mod list_head;
+mod list_item;
+mod list_reader;
 mod number;
 mod page;
 mod part;
@@ -54,6 +56,8 @@ pub use limit::{MAX_HINT, MAX_LINE, MAX_LINK, MAX_MARK, MAX_MESSAGE, MAX_RECORDS
 pub use line_reader::LineReader;
 pub use line_words::{put_head, put_head_line};
 pub use list_head::open_list;
+pub use list_item::ListItem;
+pub use list_reader::ListReader;
 pub use number::{number_of, positive_of};
 pub use page::{PAGE_SIZE, Page};
 pub use part::{after, cut_at};
