@@ -22,6 +22,7 @@ pub mod TextLaws
 pub mod SoFarLaws
 pub mod ListedHead
 pub mod ListedTake
+pub mod ListedLines
 pub mod ListedText
 pub mod ListedSoFar
 pub mod ConvertLaws

@@ -8,9 +8,10 @@ use Rattle.capture.specs.declared.fault.Departure.{Departure}
 use Rattle.capture.specs.Text.{ended}
 use Rattle.capture.specs.Range.{IsNode}
 use Rattle.capture.specs.Listed.{Listed, ListForm, IsBeginningOf, item_line, list_head, list_text, BeginsWithList, IsListSoFar, ItemDeparts}
-use Rattle.capture.specs.Listed.{ListHeadDeparts}
+use Rattle.capture.specs.Listed.{ListHeadDeparts, no_items, with_item}
 use Rattle.capture.proofs.SoFarLaws.{All-push, All-behind}
-use Rattle.capture.proofs.ListedText.{AreLinesOf, one_line, one_head, begun_lines, nothing_more, no_departure, no_end_departure, no_head_departure}
+use Rattle.capture.specs.ListLines.{AreLinesOf}
+use Rattle.capture.proofs.ListedText.{one_line, one_head, begun_lines, nothing_more, no_departure, no_end_departure, no_head_departure}
 
 abbrev list_of : {Item : Type 0} (node_a node_b : ℕ) (items : List Item) → Listed Item
 list_of node_a node_b items = record { node_a = node_a; node_b = node_b; items = items }
@@ -30,7 +31,7 @@ module _ {Item : Type 0} (form : ListForm Item) where
 
   -- the head was read
   pub opened : (text come : Option (List ℕ)) (node_a node_b : ℕ) → IsNode node_a → IsNode node_b →
-      Consumes text come (ended (list_head form.first_words node_a node_b)) → IsListSoFar form text (list_of node_a node_b []) come
+      Consumes text come (ended (list_head form.first_words node_a node_b)) → IsListSoFar form text (no_items node_a node_b) come
   opened text come node_a node_b a b head = record {
     fits = record { node_a = a; node_b = b; each = tt; few = omega arith };
     begins = subst (Consumes text come) (sym (append-nil (ended (list_head form.first_words node_a node_b)))) head;
@@ -38,7 +39,7 @@ module _ {Item : Type 0} (form : ListForm Item) where
 
   pub one_more : (text before after : Option (List ℕ)) (list : Listed Item) (item : Item) → IsListSoFar form text list before →
       length list.items < form.most → form.HasLine item → Consumes before after (item_line form item) →
-      IsListSoFar form text (record list { items = list.items ++ item ∷ [] }) after
+      IsListSoFar form text (with_item list item) after
   one_more text before after list item h few has_line consumes =
       let head = ended (list_head form.first_words list.node_a list.node_b) in
       let lines = flat_map (item_line form) list.items in

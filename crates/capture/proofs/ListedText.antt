@@ -9,26 +9,17 @@ use Rattle.capture.specs.Text.{ended}
 use Rattle.capture.specs.Range.{IsNode}
 use Rattle.capture.specs.Departing.{first_line, has_lf, LineDeparts}
 use Rattle.capture.specs.Listed.{ListForm, item_line, list_head, ItemDeparts, IsNoHead, ListHeadDeparts}
-use Rattle.capture.proofs.PartLaws.{HasNo}
-use Rattle.capture.proofs.ListedHead.{AreFirstWords, head_lacks, head_short, same_head}
+use Rattle.capture.specs.ListLines.{AreLinesOf}
+use Rattle.capture.proofs.ListedHead.{head_lacks, head_short, same_head}
+use Rattle.capture.proofs.ListedLines.{first_words, item_lacks}
 use Rattle.capture.proofs.TextLaws.{ended_first, same_ended, line_some, line_once, whole_or_not}
-
--- what lines and the first words of a head have to keep
-pub record AreLinesOf {Item : Type 0} (form : ListForm Item) : Type 0 where
-  pub lacks : (item : Item) → form.HasLine item → HasNo 10 (form.line item)
-  pub short : (item : Item) → form.HasLine item → length (form.line item) ≤ MAX_LINE
-  pub same : (p q : Item) → form.HasLine p → form.HasLine q → form.line p ≡ form.line q → p ≡ q
-  -- the words of a line fit, and depart in one way at most
-  pub fit : (kind : Departure) (item : Item) → form.HasLine item → form.WordsDepart kind (form.line item) → ⊥
-  pub once : (line : List ℕ) (a b : Departure) → form.WordsDepart a line → form.WordsDepart b line → a ≡ b
-  pub first : AreFirstWords form.first_words
 
 module _ {Item : Type 0} (form : ListForm Item) (lines : AreLinesOf form) where
   -- ---- lines
 
   pub one_line : (p q : Item) (x y : List ℕ) → form.HasLine p → form.HasLine q → item_line form p ++ x ≡ item_line form q ++ y → (p ≡ q) × (x ≡ y)
   one_line p q x y h k e =
-      let same = same_ended (form.line p) (form.line q) x y (lines.lacks p h) (lines.lacks q k) e in
+      let same = same_ended (form.line p) (form.line q) x y (item_lacks form lines p h) (item_lacks form lines q k) e in
       (lines.same p q h k same.0, same.1)
 
   -- both heads name the same nodes, and what follows is the same
@@ -36,8 +27,8 @@ module _ {Item : Type 0} (form : ListForm Item) (lines : AreLinesOf form) where
       ended (list_head form.first_words a b) ++ x ≡ ended (list_head form.first_words a' b') ++ y → (a ≡ a') × (b ≡ b') × (x ≡ y)
   one_head a b a' b' x y p q p' q' e =
       let head = list_head form.first_words in
-      let none = head_lacks form.first_words a b lines.first p q in
-      let same = same_ended (head a b) (head a' b') x y none (head_lacks form.first_words a' b' lines.first p' q') e in
+      let none = head_lacks form.first_words a b (first_words form lines) p q in
+      let same = same_ended (head a b) (head a' b') x y none (head_lacks form.first_words a' b' (first_words form lines) p' q') e in
       let nodes = same_head form.first_words a b a' b' p q p' q' same.0 in
       (nodes.0, nodes.1, same.1)
 
@@ -70,14 +61,14 @@ module _ {Item : Type 0} (form : ListForm Item) (lines : AreLinesOf form) where
   no_departure kind item rest items h few (inl d) = by_kind kind d
     where
       first : (first_line (item_line form item ++ rest) ≡ form.line item) × (has_lf (item_line form item ++ rest) ≡ true)
-      first = ended_first (form.line item) rest (lines.lacks item h)
+      first = ended_first (form.line item) rest (item_lacks form lines item h)
 
       by_kind : (k : Departure) → LineDeparts form.most items k (item_line form item ++ rest) → ⊥
       by_kind TooMany d = let le = d.0 in omega arith
       by_kind TooLong d = let long = d.1 in let short = lines.short item h in omega (arith, ap length first.0)
       by_kind Syntax d = let open_line = d.3 in let ended_line = first.1 in cc
   no_departure kind item rest items h few (inr d) =
-      let first = ended_first (form.line item) rest (lines.lacks item h) in
+      let first = ended_first (form.line item) rest (item_lacks form lines item h) in
       lines.fit kind item h (subst (form.WordsDepart kind) first.0 d.2)
 
   pub no_end_departure : (items : ℕ) (kind : Departure) → ItemDeparts form items kind [] → ⊥
@@ -91,16 +82,16 @@ module _ {Item : Type 0} (form : ListForm Item) (lines : AreLinesOf form) where
       ListHeadDeparts form.first_words kind (ended (list_head form.first_words node_a node_b) ++ rest) → ⊥
   no_head_departure TooMany node_a node_b rest p q d = d
   no_head_departure TooLong node_a node_b rest p q d =
-      let first = ended_first (list_head form.first_words node_a node_b) rest (head_lacks form.first_words node_a node_b lines.first p q) in
-      let short = head_short form.first_words node_a node_b lines.first p q in
+      let first = ended_first (list_head form.first_words node_a node_b) rest (head_lacks form.first_words node_a node_b (first_words form lines) p q) in
+      let short = head_short form.first_words node_a node_b (first_words form lines) p q in
       omega (arith, ap length first.0)
   no_head_departure Syntax node_a node_b rest p q (inl d) =
-      let first = ended_first (list_head form.first_words node_a node_b) rest (head_lacks form.first_words node_a node_b lines.first p q) in
+      let first = ended_first (list_head form.first_words node_a node_b) rest (head_lacks form.first_words node_a node_b (first_words form lines) p q) in
       let open_line = d.1 in
       let ended_line = first.1 in
       cc
   no_head_departure Syntax node_a node_b rest p q (inr d) =
-      let first = ended_first (list_head form.first_words node_a node_b) rest (head_lacks form.first_words node_a node_b lines.first p q) in
+      let first = ended_first (list_head form.first_words node_a node_b) rest (head_lacks form.first_words node_a node_b (first_words form lines) p q) in
       let none : IsNoHead form.first_words (list_head form.first_words node_a node_b) = subst (IsNoHead form.first_words) first.0 d.1 in
       none node_a node_b p q refl
 

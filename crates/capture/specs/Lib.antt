@@ -8,6 +8,7 @@ pub mod Lines
 pub mod Faulty
 pub mod Reader
 pub mod SoFar
+pub mod ListLines
 pub mod ListReader
 pub mod Writing
 pub mod Paged

@@ -1,6 +1,6 @@
 -- A text that lists items: a head with the addresses of two nodes, and a line for each item. How it is spelled, which lists have a text, and how a
 -- text departs from it, over what a line says.
-use Rattle.std.specs.Prelude.{◌≡◌, ℕ, ◌<◌, ◌≤◌, ◌⊎◌, false, List, ◌++◌, length, Option, option_and_then, Result, Ok, Err}
+use Rattle.std.specs.Prelude.{◌≡◌, ℕ, ◌<◌, ◌≤◌, ◌⊎◌, false, List, [], ◌∷◌, ◌++◌, length, Option, option_and_then, Result, Ok, Err}
 use Rattle.std.specs.List.{flat_map, AllByRecursion}
 use Rattle.std.specs.Io.KnownBytes.{Consumes}
 use Rattle.capture.specs.declared.limit.TheConstants.{MAX_LINE}
@@ -19,6 +19,14 @@ pub record Listed (Item : Type 0) : Type 0 where
   pub node_a : ℕ
   pub node_b : ℕ
   pub items : List Item
+
+-- no item yet
+abbrev pub no_items : {Item : Type 0} → (node_a node_b : ℕ) → Listed Item
+no_items node_a node_b = record { node_a = node_a; node_b = node_b; items = [] }
+
+-- the same with one item more
+abbrev pub with_item : {Item : Type 0} → Listed Item → Item → Listed Item
+with_item list item = record list { items = list.items ++ item ∷ [] }
 
 -- the second begins as the first, and may have more items
 pub record IsBeginningOf {Item : Type 0} (begun all : Listed Item) : Type 0 where

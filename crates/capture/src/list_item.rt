@@ -3,6 +3,7 @@
 ghost use Rattle.std.specs.Prelude.{◌≡◌, ℕ, ◌<◌, ◌≤◌, ◌^◌, List, length, take, IfOk, IfErr};
 ghost use Rattle.capture.specs.declared.limit.TheConstants.{MAX_LINE};
 ghost use Rattle.capture.specs.Listed.{ListForm};
+ghost use Rattle.capture.specs.ListLines.{AreLinesOf};
 ghost use Rattle.capture.specs.ListReader.{IsLineOf};
 
 use crate::fault::Departure;
@@ -43,4 +44,8 @@ pub trait ListItem {
         ensures departs { IfErr result (λ kind. form.WordsDepart kind line.now) }
         ensures len { IfOk result (λ read. read.1 ≤ ROOM) }
         ensures room { length room.new ≡ ROOM };
+
+    /// What its lines keep, so that a text of them is read in one way alone, as a function that does nothing.
+    fn lines_are_apart()
+        ensures { AreLinesOf form };
 }

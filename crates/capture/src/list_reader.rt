@@ -42,12 +42,12 @@ impl<I: ListItem> Model for ListReader<I> {
     ghost Value = { ListState };
 
     ghost view = { λ r. record {
-        node_a = r.node_a;
-        node_b = r.node_b;
-        items = r.lines.taken - 1;
-        phase = r.phase;
-        unread = r.lines.unread;
-        bytes = take r.len r.room.items;
+      node_a = r.node_a;
+      node_b = r.node_b;
+      items = r.lines.taken - 1;
+      phase = r.phase;
+      unread = r.lines.unread;
+      bytes = take r.len r.room.items;
     } };
 
     ghost invariant = { λ r. IsCounted I.form.most I.ROOM r.lines.taken r.len r.room.items };
@@ -94,7 +94,10 @@ impl<I: ListItem> ListReader<I> {
     /// the first LF or the end, and with `Syntax` where the first line has no LF, as in an empty text, or is no head; `Read` where a call of the
     /// reader failed, and at any other answer its count of them stands; `OutOfMemory` where there is no memory for the reader's block or for its
     /// room for bytes. Where a read failed the reader had given no whole line.
-    pub fn open<R: Read>(alloc: Global, reader: &mut Tally<R>) -> Result<ListReader<I>, CaptureFault>
+    pub fn open<R: Read>(
+        alloc: Global,
+        reader: &mut Tally<R>,
+    ) -> Result<ListReader<I>, CaptureFault>
         ensures opens { Opens I.form.first_words (R.remaining (tally_lent reader.old)) (R.remaining (tally_lent reader.new)) result }
         ensures cut { WhereReadFails (is_failed_read result)
             (IsCutBehind (R.remaining (tally_lent reader.old)) (R.remaining (tally_lent reader.new))) }
@@ -155,7 +158,10 @@ impl<I: ListItem> ListReader<I> {
     /// as an item's line departs. `Read` comes where a call of the reader failed, behind a piece of a line; at any other answer its count of them
     /// stands as it stood.
     #[inline(always)]
-    pub fn advance<R: Read>(&mut self, reader: &mut Tally<R>) -> Result<Option<I::Entry>, CaptureFault>
+    pub fn advance<R: Read>(
+        &mut self,
+        reader: &mut Tally<R>,
+    ) -> Result<Option<I::Entry>, CaptureFault>
         ensures advances { self.old.phase ≡ Phase.Reading → Advances I.form self.old self.new
             (to_come self.old.unread (R.remaining (tally_lent reader.old)))
             (to_come self.new.unread (R.remaining (tally_lent reader.new))) (with_bytes I.item self.new.bytes result) }
