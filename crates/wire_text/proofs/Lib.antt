@@ -1,4 +1,3 @@
 pub mod PieceLaws
 pub mod LackLaws
 pub mod TextLaws
-pub mod SoFarLaws

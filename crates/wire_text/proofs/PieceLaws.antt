@@ -11,16 +11,16 @@ use Rattle.wire_base.specs.declared.side.Side.TheVariants.{A, B}
 use Rattle.wire_base.specs.Side.{side_letter}
 use Rattle.capture.specs.declared.limit.TheConstants.{MAX_LINE}
 use Rattle.capture.specs.declared.fault.Departure.{Departure}
+use Rattle.capture.specs.declared.fault.Departure.TheVariants.{Syntax}
 use Rattle.capture.specs.Text.{bytes_text, spaced}
+use Rattle.capture.specs.ListReader.{IsLineOf}
 use Rattle.capture.specs.Reading.{any_bytes_at, bytes_at}
 use Rattle.capture.specs.Sided.{side_at}
 use Rattle.capture.proofs.BytesLaws.{IsBytesOf, IsLongOf, any_bytes_again, bytes_again, bytes_shows, limited}
 use Rattle.capture.proofs.SidedLaws.{side_again}
 use Rattle.capture.proofs.Shown.{Shows}
 use Rattle.wire_text.specs.declared.limit.TheConstants.{MAX_PIECE}
-use Rattle.wire_text.specs.WireText.{Piece, HasSpelling, piece_text}
-use Rattle.wire_text.specs.Reader.{piece}
-use Rattle.wire_text.specs.inner.Reading.{IsNoPiece, IsPieceOf}
+use Rattle.wire_text.specs.WireText.{Piece, HasSpelling, WordsDepart, piece, piece_text, wire_form}
 
 -- ---- the side
 
@@ -34,18 +34,18 @@ spaced_back B A x y e = let first : ◌≡◌ {A = ℕ} 98 97 = ap (λ (l : List
 -- ---- the piece
 
 pub piece_read : (line digits : List ℕ) (side : Side) (bytes : List ℕ) → line ≡ spaced (side_letter side) digits →
-    bytes_at MAX_PIECE digits ≡ Ok bytes → 1 ≤ length bytes → IsPieceOf line (piece side bytes)
+    bytes_at MAX_PIECE digits ≡ Ok bytes → 1 ≤ length bytes → IsLineOf wire_form line (piece side bytes)
 piece_read line digits side bytes e read some =
     from (subst (Shows (IsBytesOf MAX_PIECE digits) (IsLongOf MAX_PIECE digits)) read (bytes_shows MAX_PIECE digits))
   where
-    from : IsBytesOf MAX_PIECE digits bytes → IsPieceOf line (piece side bytes)
+    from : IsBytesOf MAX_PIECE digits bytes → IsLineOf wire_form line (piece side bytes)
     from h = record {
       fits = record { spelling = record { some = some; bytes = h.1 }; short = h.2 };
       spelled = e ∙ ap (spaced (side_letter side)) h.0;
     }
 
 -- where no side is read, no piece is spelled
-pub no_side : (line : List ℕ) → side_at line ≡ None → IsNoPiece line
+pub no_side : (line : List ℕ) → side_at line ≡ None → WordsDepart Syntax line
 no_side line none p h spelled = none_is (ap side_at (sym spelled) ∙ none)
   where
     none_is : side_at (piece_text p) ≡ None → ⊥
@@ -84,7 +84,7 @@ limited_within : (most : ℕ) (bytes : List ℕ) → length bytes ≤ most → l
 limited_within most bytes h = rw (le-leb (length bytes) most h) refl
 
 pub no_piece : (line digits : List ℕ) (side : Side) (r : Result (List ℕ) Departure) → length line ≤ MAX_LINE →
-    line ≡ spaced (side_letter side) digits → bytes_at MAX_PIECE digits ≡ r → IsNothing r → IsNoPiece line
+    line ≡ spaced (side_letter side) digits → bytes_at MAX_PIECE digits ≡ r → IsNothing r → WordsDepart Syntax line
 no_piece line digits side r short e read n p h spelled =
     let same : digits ≡ bytes_text p.bytes = spaced_back side p.side digits (bytes_text p.bytes) (sym e ∙ spelled) in
     let again : Ok p.bytes ≡ r =

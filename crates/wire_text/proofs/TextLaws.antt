@@ -1,10 +1,9 @@
 -- What the lines of pieces keep, so that a text of them is read in one way alone.
 use Rattle.std.proofs.Common.{◌≡◌, List, ℕ, refl, arith}
-use Rattle.std.specs.Prelude.{codes}
 use Rattle.capture.specs.declared.fault.Departure.{Departure}
 use Rattle.capture.specs.declared.fault.Departure.TheVariants.{Syntax, TooLong, TooMany}
-use Rattle.capture.proofs.LackLaws.{lacks}
-use Rattle.capture.proofs.ListedText.{AreLinesOf}
+use Rattle.capture.specs.ListLines.{AreLinesOf}
+use Rattle.capture.proofs.ListedLines.{no_lf}
 use Rattle.wire_text.specs.WireText.{Piece, piece_text, wire_form, IsPiece, WordsDepart}
 use Rattle.wire_text.proofs.PieceLaws.{same_piece}
 use Rattle.wire_text.proofs.LackLaws.{piece_lacks, piece_short}
@@ -23,10 +22,11 @@ words_once line Syntax TooMany p q = absurd q
 
 pub lines : AreLinesOf wire_form
 lines = record {
-  lacks = λ piece h. piece_lacks piece h.spelling;
+  lacks = λ piece h. no_lf (piece_text piece) (piece_lacks piece h.spelling);
   short = piece_short;
   same = λ p q h k. same_piece p q h.spelling k.spelling;
   fit = words_fit;
   once = words_once;
-  first = record { lack = lacks 10 (codes "ddwire 1 ") refl; short = omega arith };
+  first_lacks = refl;
+  first_short = omega arith;
 }

@@ -1,4 +1,1 @@
 pub mod WireText
-pub mod Reader
-pub mod SoFar
-pub mod inner

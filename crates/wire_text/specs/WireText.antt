@@ -1,12 +1,12 @@
 -- The text of what passed on a line, and how a text departs from it. Lines, addresses and BYTES are those of a capture.
-use Rattle.std.specs.Prelude.{◌≡◌, ℕ, ◌≤◌, List, [], codes, length}
+use Rattle.std.specs.Prelude.{◌≡◌, ℕ, ◌≤◌, List, codes, length}
 use Rattle.hex.specs.Hex.{IsBytes}
 use Rattle.wire_base.specs.declared.side.Side.{Side}
 use Rattle.wire_base.specs.Side.{side_letter}
 use Rattle.capture.specs.declared.fault.Departure.{Departure}
 use Rattle.capture.specs.declared.fault.Departure.TheVariants.{Syntax, TooLong, TooMany}
 use Rattle.capture.specs.Text.{bytes_text, spaced}
-use Rattle.capture.specs.Listed.{Listed, ListForm, list_head, item_line, BeginsWithList, ItemDeparts, ListHeadDeparts}
+use Rattle.capture.specs.Listed.{Listed, ListForm, item_line, ItemDeparts, ListHeadDeparts}
 use Rattle.wire_text.specs.declared.limit.TheConstants.{MAX_PIECE, MAX_PIECES}
 
 -- ---- pieces
@@ -16,11 +16,12 @@ pub record Piece : Type 0 where
   pub side : Side
   pub bytes : List ℕ
 
+abbrev pub piece : Side → List ℕ → Piece
+piece side bytes = record { side = side; bytes = bytes }
+
 -- the addresses of both nodes, and the pieces in the order in which they passed
-pub record Wire : Type 0 where
-  pub node_a : ℕ
-  pub node_b : ℕ
-  pub pieces : List Piece
+abbrev pub Wire : Type 0
+Wire = Listed Piece
 
 -- a piece's line, without its LF: the letter of its side, and two digits for each byte
 abbrev pub piece_text : Piece → List ℕ
@@ -57,23 +58,8 @@ wire_form = record {
   WordsDepart = WordsDepart;
 }
 
--- its pieces are the items
-abbrev pub listed : Wire → Listed Piece
-listed wire = record { node_a = wire.node_a; node_b = wire.node_b; items = wire.pieces }
-
--- the head, without its LF
-abbrev pub wire_head : (node_a node_b : ℕ) → List ℕ
-wire_head node_a node_b = list_head wire_form.first_words node_a node_b
-
 abbrev pub piece_line : Piece → List ℕ
 piece_line piece = item_line wire_form piece
-
--- the text begins with these pieces, and goes on with these bytes
-abbrev pub BeginsWithWire : (text : List ℕ) (wire : Wire) (rest : List ℕ) → Type 0
-BeginsWithWire text wire rest = BeginsWithList wire_form text (listed wire) rest
-
-abbrev pub IsWireText : Wire → List ℕ → Type 0
-IsWireText wire text = BeginsWithWire text wire []
 
 -- The first line of what is to come departs, after this many pieces
 abbrev pub PieceDeparts : ℕ → Departure → List ℕ → Type 0

@@ -5,11 +5,8 @@
 //! file or a clock, nor what the pieces mean: where a unit begins in them is `framer`'s.
 #![tactic(auto)]
 
-mod laws;
 mod limit;
 mod wire_reader;
-mod words;
 
-pub use laws::{known_wire, one_wire, one_wire_departure, wire_read_on};
 pub use limit::{MAX_PIECE, MAX_PIECES};
-pub use wire_reader::WireReader;
+pub use wire_reader::{Pieces, WireReader};

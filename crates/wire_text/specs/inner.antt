@@ -1,3 +1,0 @@
--- What contracts of private functions speak of, with what the toolchain wants of a type; no public claim rests on it
-pub mod Reading
-pub mod Fields
