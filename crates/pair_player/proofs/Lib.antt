@@ -1,9 +1,7 @@
 pub mod StepLaws
 pub mod LineWords
-pub mod TakeLaws
 pub mod LackLaws
 pub mod TextLaws
-pub mod SoFarLaws
 pub mod PlayLaws
 pub mod WholeLaws
 pub mod RunLaws

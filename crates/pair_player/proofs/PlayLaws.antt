@@ -1,7 +1,7 @@
 -- What was played of a script, from one step to the next.
 use Rattle.std.proofs.Common.{◌≡◌, ℕ, ◌+◌, ◌<◌, true, false, inl, inr, List, [], ◌∷◌, ◌++◌, length, Option, Some, None, Result, Ok, Err, refl, sym}
 use Rattle.std.proofs.Common.{ap, subst, ◌∙◌, arith, length-append, append-nil, append_assoc}
-use Rattle.std.specs.Option.{IfSome, IsSomeAnd}
+use Rattle.std.specs.Option.{IfSome}
 use Rattle.std.specs.Io.KnownBytes.{Consumes, IsAtEnd}
 use Rattle.wire_base.specs.declared.side.Side.{Side}
 use Rattle.wire_base.specs.declared.side.Side.TheVariants.{A, B}
@@ -9,11 +9,12 @@ use Rattle.capture.specs.declared.format.Format.TheVariants.{One}
 use Rattle.capture.specs.declared.hint.HintForm.TheVariants.{Number}
 use Rattle.capture.specs.declared.phase.Phase.TheVariants.{Reading}
 use Rattle.capture.specs.declared.record.Record.{Record}
-use Rattle.capture.specs.Lines.{IsCut, IsCutBehind, to_come}
+use Rattle.capture.specs.Lines.{IsCutBehind, to_come}
+use Rattle.capture.specs.ListReader.{Advances, ListState}
 use Rattle.capture.specs.Paged.{HandsOver}
 use Rattle.capture.specs.Text.{capture_text, head_line, record_lines, record_line}
 use Rattle.dna_play.specs.Script.{ScriptStep}
-use Rattle.dna_play.specs.ScriptText.{IsStep, StepDeparts, script_line, MAX_STEPS}
+use Rattle.dna_play.specs.ScriptText.{IsStep, StepDeparts, listed, script_form, script_line, MAX_STEPS}
 use Rattle.dna_play.specs.KeptPlayed.{KeptMade, KeptPair, KeptPlayed, KeptStopped, if_made, kept_not_begun, kept_plays_all, kept_plays_step}
 use Rattle.dna_play.specs.KeptPlayed.{with_records}
 use Rattle.dna_play.specs.Stepped.{Stop, BadStep, Full}
@@ -29,15 +30,13 @@ use Rattle.pair_player.specs.Playing.{DepartsBehind, EndsBehind, HasPlayed, HasW
 use Rattle.pair_player.specs.Playing.{StopsBehind, held, text_a, text_b}
 use Rattle.capture.specs.Faulty.{is_read_fault}
 use Rattle.capture.specs.Reader.{FaultShows, WhereReadFails}
-use Rattle.pair_player.specs.Reader.{Advances, ScriptState}
 use Rattle.pair_player.specs.SoFar.{no_steps, with_step}
 use Rattle.player_end.specs.Stepping.{StopMeans}
 use Rattle.pair_player.specs.inner.Making.{PutsLines, Standing, Steps, StopsStep, standing}
 use Rattle.pair_player.specs.inner.Waiting.{EndsAll}
 use Rattle.capture.specs.inner.Outlets.{FailsAt, Outlet, outlet}
+use Rattle.capture.proofs.ListedSoFar.{opened, one_more}
 use Rattle.capture.proofs.OverLaws.{all_over, beginning_over, more_over, nothing_over, on_over, some_over}
-use Rattle.pair_player.proofs.SoFarLaws.{opened, one_more}
-use Rattle.pair_player.proofs.TakeLaws.{cut_behind}
 
 -- ---- texts
 
@@ -51,17 +50,11 @@ pub text-more : (own peer : ℕ) (rs more : List Record) → capture_text One ow
 text-more own peer rs more = ap (λ (x : List ℕ). head_line One own peer ++ x) (lines-append rs more) ∙
     sym (append_assoc (head_line One own peer) (record_lines Number rs) (record_lines Number more))
 
--- the step that was read
-read_step : (read : Option ScriptStep) (step : ScriptStep) (after come : Option (List ℕ)) → read ≡ Some step →
-    IsSomeAnd read (λ step. IsStep step × Consumes come after (script_line step))
-    → IsStep step × Consumes come after (script_line step)
-read_step read step after come e h = subst (λ (x : Option ScriptStep). IsSomeAnd x (λ step. IsStep step × Consumes come after (script_line step))) e h
-
 -- ---- between two steps
 
 -- what the script's reader is, and what is to come; both ends; the lines that wait and what the writers hold; and how many steps were made
 pub record Place : Type 0 where
-  pub lines : ScriptState
+  pub lines : ListState
   pub come : Option (List ℕ)
   pub pair : KeptPair
   pub a : List ℕ
@@ -69,7 +62,7 @@ pub record Place : Type 0 where
   pub now : Held
   pub steps : ℕ
 
-abbrev pub place : ScriptState → Option (List ℕ) → Standing → Held → ℕ → Place
+abbrev pub place : ListState → Option (List ℕ) → Standing → Held → ℕ → Place
 place lines come at now steps = record { lines = lines; come = come; pair = at.pair; a = at.a; b = at.b; now = now; steps = steps }
 
 -- so many steps were read and made; a part of both texts was written, and the rest waits
@@ -79,20 +72,23 @@ pub record IsUnderWay (text : Option (List ℕ)) (old : Held) (p : Place) : Type
   pub come_is : reached.come ≡ p.come
   pub pair_is : reached.played.pair ≡ p.pair
   pub count : length reached.script.steps ≡ p.steps
-  pub counted : p.lines.steps ≡ p.steps
+  pub counted : p.lines.items ≡ p.steps
   pub reading : p.lines.phase ≡ Reading
   pub over_a : HandsOver (text_a reached) p.a old.a p.now.a
   pub over_b : HandsOver (text_b reached) p.b old.b p.now.b
 
-abbrev no_step : ScriptState → Option (List ℕ) → Reached
+abbrev no_step : ListState → Option (List ℕ) → Reached
 no_step lines left = let script = no_steps lines.node_a lines.node_b in record { script = script; played = kept_not_begun script; come = left }
 
 -- the heads wait
-pub under_way : (text left : Option (List ℕ)) (old : Held) (lines : ScriptState) (at : Standing) → IsBegun text left lines at →
+pub under_way : (text left : Option (List ℕ)) (old : Held) (lines : ListState) (at : Standing) → IsBegun text left lines at →
     IsUnderWay text old (place lines (to_come lines.unread left) at old 0)
 under_way text left old lines at begun = let opens = begun.0 in record {
   reached = no_step lines (to_come lines.unread left);
-  played = record { read = opened text left lines opens; made = refl };
+  played = record {
+    read = opened script_form text (to_come lines.unread left) lines.node_a lines.node_b opens.0 opens.1 opens.4;
+    made = refl;
+  };
   come_is = refl;
   pair_is = sym begun.1;
   count = refl;
@@ -141,7 +137,7 @@ module _ (text : Option (List ℕ)) (old : Held) (p : Place) (h : IsUnderWay tex
       Consumes p.come after (script_line step)
       → kept_plays_step p.pair step ≡ Ok made → HasPlayed text (reached_on step made after)
   played_on step made after fits few consumes e = record {
-    read = one_more text h.reached.come after h.reached.script step h.played.read few fits
+    read = one_more script_form text h.reached.come after (listed h.reached.script) step h.played.read few fits
         (subst (λ (x : Option (List ℕ)). Consumes x after (script_line step)) (sym h.come_is) consumes);
     made = steps-push 0 (kept_not_begun h.reached.script) h.reached.played h.reached.script.steps step made h.played.made
         (ap (λ (x : KeptPair). kept_plays_step x step) h.pair_is ∙ e);
@@ -162,21 +158,20 @@ module _ (text : Option (List ℕ)) (old : Held) (p : Place) (h : IsUnderWay tex
         (text-more h.reached.script.node_b h.reached.script.node_a h.reached.played.of_b made.records) puts.1,
   )
 
-  few_steps : p.lines.steps < MAX_STEPS → length h.reached.script.steps < MAX_STEPS
+  few_steps : p.lines.items < MAX_STEPS → length h.reached.script.steps < MAX_STEPS
   few_steps before = let count = h.count in let counted = h.counted in omega arith
 
   -- the step that was read is made
-  pub step_on : (step : ScriptStep) (lines : ScriptState) (after : Option (List ℕ)) (at : Standing) → lines.step ≡ Some step →
-      Advances p.lines lines p.come after (Ok true)
+  pub step_on : (step : ScriptStep) (lines : ListState) (after : Option (List ℕ)) (at : Standing) →
+      Advances script_form p.lines lines p.come after (Ok (Some step))
       → Steps step (standing p.pair p.a p.b) at → IsUnderWay text old (place lines after at p.now (p.steps + 1))
-  step_on step lines after at is advances steps =
+  step_on step lines after at advances steps =
       let count = h.count in
       let counted = h.counted in
-      let found = read_step lines.step step after p.come is advances.0 in
       let puts = put_on step.side steps.made at.a at.b steps.puts in
       record {
         reached = reached_on step steps.made after;
-        played = played_on step steps.made after found.0 (few_steps advances.1) found.1 steps.makes;
+        played = played_on step steps.made after advances.0 (few_steps advances.1) advances.4 steps.makes;
         come_is = refl;
         pair_is = pair_with h.reached.played step.side steps.made ∙ sym steps.pair;
         count = omega (arith, length-append h.reached.script.steps (step ∷ []));
@@ -249,19 +244,19 @@ module _ (text : Option (List ℕ)) (old : Held) (p : Place) (h : IsUnderWay tex
       subst (Plays text old (held new.0.held new.1.held)) (sym some.2) (fails text old p h some.0 n m new some.1)
 
   -- the script has ended
-  pub at_end : (lines : ScriptState) (after : Option (List ℕ)) → Advances p.lines lines p.come after (Ok false) →
+  pub at_end : (lines : ListState) (after : Option (List ℕ)) → Advances script_form p.lines lines p.come after (Ok None) →
       Meant h.reached (Ok (record { steps = p.steps }))
   at_end lines after advances = record { end = subst IsAtEnd (sym h.come_is) advances.0; steps_are = sym h.count }
 
   -- its next line is not known
-  pub at_fault : (lines : ScriptState) (after : Option (List ℕ)) (fault : CaptureFault) → Advances p.lines lines p.come after (Err fault) →
-      (fault ≡ of_script.OutOfMemory → ⊥) → Meant h.reached (Err (fault_of fault))
+  pub at_fault : (lines : ListState) (after : Option (List ℕ)) (fault : CaptureFault) →
+      Advances script_form p.lines lines p.come after (Err fault) → (fault ≡ of_script.OutOfMemory → ⊥) → Meant h.reached (Err (fault_of fault))
   at_fault lines after fault advances memory = by_fault fault advances.0 memory
     where
-      same : p.lines.steps ≡ length h.reached.script.steps
+      same : p.lines.items ≡ length h.reached.script.steps
       same = h.counted ∙ sym h.count
 
-      by_fault : (fault : CaptureFault) → FaultShows (StepDeparts p.lines.steps) (p.lines.steps + 2) p.come fault →
+      by_fault : (fault : CaptureFault) → FaultShows (StepDeparts p.lines.items) (p.lines.items + 2) p.come fault →
           (fault ≡ of_script.OutOfMemory → ⊥) → Meant h.reached (Err (fault_of fault))
       by_fault (of_script.Departs kind line) shows memory = record {
         departs = subst (λ (x : Option (List ℕ)). IfSome x (StepDeparts (length h.reached.script.steps) kind)) (sym h.come_is)
@@ -273,45 +268,41 @@ module _ (text : Option (List ℕ)) (old : Held) (p : Place) (h : IsUnderWay tex
       by_fault of_script.Failed shows memory = absurd shows
 
   -- its next step isn't made
-  at_stop : (step : ScriptStep) (lines : ScriptState) (after : Option (List ℕ)) (fault : StepFault) → lines.step ≡ Some step →
-      Advances p.lines lines p.come after (Ok true)
+  at_stop : (step : ScriptStep) (lines : ListState) (after : Option (List ℕ)) (fault : StepFault) →
+      Advances script_form p.lines lines p.come after (Ok (Some step))
       → StopMeans (kept_plays_step p.pair step) fault → Meant h.reached (Err (fault_at (p.steps + 2) fault))
-  at_stop step lines after fault is advances means = by_fault fault means
+  at_stop step lines after fault advances means = by_fault fault means
     where
       behind : (why : Stop) → kept_plays_step p.pair step ≡ Err why → StopsBehind why (p.steps + 2) h.reached
-      behind why e =
-          let found = read_step lines.step step after p.come is advances.0 in
-          record {
-            step = step;
-            fits = found.0;
-            few = few_steps text old p h advances.1;
-            later = after;
-            spelled = subst (λ (x : Option (List ℕ)). Consumes x after (script_line step)) (sym h.come_is) found.1;
-            stops = ap (λ (x : KeptPair). kept_plays_step x step) h.pair_is ∙ e;
-            line_is = ap (λ n. n + 2) (sym h.count);
-          }
+      behind why e = record {
+        step = step;
+        fits = advances.0;
+        few = few_steps text old p h advances.1;
+        later = after;
+        spelled = subst (λ (x : Option (List ℕ)). Consumes x after (script_line step)) (sym h.come_is) advances.4;
+        stops = ap (λ (x : KeptPair). kept_plays_step x step) h.pair_is ∙ e;
+        line_is = ap (λ n. n + 2) (sym h.count);
+      }
 
       by_fault : (fault : StepFault) → StopMeans (kept_plays_step p.pair step) fault → Meant h.reached (Err (fault_at (p.steps + 2) fault))
       by_fault stops.BadStep e = behind BadStep e
       by_fault stops.Full e = behind Full e
-      by_fault stops.OutOfMemory e =
-          let found = read_step lines.step step after p.come is advances.0 in
-          record {
-            step = step;
-            fits = found.0;
-            few = few_steps text old p h advances.1;
-            later = after;
-            spelled = subst (λ (x : Option (List ℕ)). Consumes x after (script_line step)) (sym h.come_is) found.1;
-          }
+      by_fault stops.OutOfMemory e = record {
+        step = step;
+        fits = advances.0;
+        few = few_steps text old p h advances.1;
+        later = after;
+        spelled = subst (λ (x : Option (List ℕ)). Consumes x after (script_line step)) (sym h.come_is) advances.4;
+      }
 
   -- the same where the lines that wait are seen behind it
-  pub stopped : (step : ScriptStep) (lines : ScriptState) (after : Option (List ℕ)) (at : Standing) (fault : StepFault)
-      (answer : Result Played PlayFault) (n m : ℕ) (new : Outlet × Outlet) → lines.step ≡ Some step
-      → Advances p.lines lines p.come after (Ok true) → StopsStep step (standing p.pair p.a p.b) at fault →
+  pub stopped : (step : ScriptStep) (lines : ListState) (after : Option (List ℕ)) (at : Standing) (fault : StepFault)
+      (answer : Result Played PlayFault) (n m : ℕ) (new : Outlet × Outlet)
+      → Advances script_form p.lines lines p.come after (Ok (Some step)) → StopsStep step (standing p.pair p.a p.b) at fault →
       EndsAll (Err (fault_at (p.steps + 2) fault)) (outlet at.a p.now.a n, outlet at.b p.now.b m) new answer
       → Plays text old (held new.0.held new.1.held) answer
-  stopped step lines after at fault answer n m new is advances stops ends =
-      ended (Err (fault_at (p.steps + 2) fault)) answer n m new (at_stop step lines after fault is advances stops.means)
+  stopped step lines after at fault answer n m new advances stops ends =
+      ended (Err (fault_at (p.steps + 2) fault)) answer n m new (at_stop step lines after fault advances stops.means)
       (subst (λ (x : List ℕ). EndsAll (Err (fault_at (p.steps + 2) fault)) (outlet p.a p.now.a n, outlet x p.now.b m) new answer) stops.b
       (subst (λ (x : List ℕ). EndsAll (Err (fault_at (p.steps + 2) fault)) (outlet x p.now.a n, outlet at.b p.now.b m) new answer) stops.a ends))
 
@@ -333,29 +324,24 @@ lines_stopped text left old new line stops.OutOfMemory = tt
 
 module _ (text left : Option (List ℕ)) (old : Held) (p : Place) (h : IsUnderWay text old p) where
   -- its next line is not known
-  pub lines_at_fault : (lines : ScriptState) (fault : CaptureFault) (answer : Result Played PlayFault) (n m : ℕ) (new : Outlet × Outlet) →
-      Advances p.lines lines p.come (to_come lines.unread left) (Err fault)
+  pub lines_at_fault : (fault : CaptureFault) (answer : Result Played PlayFault) (n m : ℕ) (new : Outlet × Outlet) →
+      FaultShows (StepDeparts p.lines.items) (p.lines.items + 2) p.come fault → WhereReadFails (is_read_fault fault) (IsCutBehind p.come left)
       → EndsAll (Err (fault_of fault)) (outlet p.a p.now.a n, outlet p.b p.now.b m) new answer →
       PlaysWholeLines text left old (held new.0.held new.1.held) answer
-  lines_at_fault lines fault answer n m new advances (inr some) = subst (PlaysWholeLines text left old (held new.0.held new.1.held)) (sym some.2) tt
-  lines_at_fault lines fault answer n m new advances (inl all) =
-      subst (PlaysWholeLines text left old (held new.0.held new.1.held)) (sym all.4) (by_fault fault advances.0 advances.4)
+  lines_at_fault fault answer n m new shows cut (inr some) = subst (PlaysWholeLines text left old (held new.0.held new.1.held)) (sym some.2) tt
+  lines_at_fault fault answer n m new shows cut (inl all) =
+      subst (PlaysWholeLines text left old (held new.0.held new.1.held)) (sym all.4) (by_fault fault shows cut)
     where
-      by_fault : (fault : CaptureFault) → FaultShows (StepDeparts p.lines.steps) (p.lines.steps + 2) p.come fault →
-          WhereReadFails (is_read_fault fault) (IsCut lines.unread p.come (to_come lines.unread left))
+      by_fault : (fault : CaptureFault) → FaultShows (StepDeparts p.lines.items) (p.lines.items + 2) p.come fault →
+          WhereReadFails (is_read_fault fault) (IsCutBehind p.come left)
           → PlaysWholeLines text left old (held new.0.held new.1.held) (Err (fault_of fault))
       by_fault (of_script.Departs kind line) shows cut = tt
       by_fault of_script.Read shows cut = inr (
         h.reached,
         h.played,
         written text old p h (held new.0.held new.1.held) new.0.text new.1.text all.0.over all.1.over all.2 all.3,
-        subst (λ (x : Option (List ℕ)). IsCutBehind x left) (sym h.come_is) (cut_behind lines.unread p.come left cut),
+        subst (λ (x : Option (List ℕ)). IsCutBehind x left) (sym h.come_is) cut,
       )
       by_fault of_script.OutOfMemory shows cut = tt
       by_fault of_script.Failed shows cut = absurd shows
 
--- a step that was read is some step
-pub some_step : (read : Option ScriptStep) (come after : Option (List ℕ)) →
-    IsSomeAnd read (λ step. IsStep step × Consumes come after (script_line step)) → (step : ScriptStep) × (read ≡ Some step)
-some_step None come after h = absurd h
-some_step (Some step) come after h = (step, refl)

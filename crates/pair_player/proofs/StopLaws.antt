@@ -1,6 +1,7 @@
 -- A step that can't be made, behind steps that start each side at most once, goes by its rule on true numbers.
 use Rattle.std.proofs.Common.{◌≡◌, ℕ, List, Option, Result, Err, ap, subst, ◌∙◌}
-use Rattle.dna_play.specs.ScriptText.{IsScript}
+use Rattle.capture.proofs.ListedSoFar.{one_more}
+use Rattle.dna_play.specs.ScriptText.{IsScript, listed, script_form}
 use Rattle.dna_play.specs.Stepped.{Stop}
 use Rattle.dna_play.specs.Played.{Played, plays_step}
 use Rattle.dna_play.specs.PlayRun.{StartsOnce}
@@ -12,7 +13,6 @@ use Rattle.dna_play.proofs.Played.Ruled.{next_goes_by_rule}
 use Rattle.pair_player.specs.Playing.{HasPlayed, Reached, StopsBehind}
 use Rattle.pair_player.specs.Runs.{StopsByRule}
 use Rattle.pair_player.specs.SoFar.{with_step}
-use Rattle.pair_player.proofs.SoFarLaws.{one_more}
 use Rattle.pair_player.proofs.RunLaws.{of_truth}
 
 pub by_its_rule : (text : Option (List ℕ)) (r : Reached) (stop : Stop) (line : ℕ) → HasPlayed text r → StartsOnce r.script.steps →
@@ -21,7 +21,8 @@ by_its_rule text r stop line h once s =
     let found = of_truth text r h once in
     let so_far : Played = found.0 in
     let read = h.read.fits in
-    let fits : IsScript (with_step r.script s.step) = (one_more text r.come s.later r.script s.step h.read s.few s.fits s.spelled).fits in
+    let fits : IsScript (with_step r.script s.step) =
+    (one_more script_form text r.come s.later (listed r.script) s.step h.read s.few s.fits s.spelled).fits in
     let same : kept_plays_step (kept_pair so_far) s.step ≡ Err stop =
     ap (λ (p : KeptPlayed). kept_plays_step p.pair s.step) found.1.keeps ∙ s.stops in
     let stops : plays_step so_far s.step ≡ Err stop = stops_too r.script read so_far found.1.makes once s.step stop s.fits

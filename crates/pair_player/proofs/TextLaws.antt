@@ -1,11 +1,10 @@
 -- What the lines of steps keep, so that a text of them is read in one way alone.
 use Rattle.std.proofs.Common.{◌≡◌, ℕ, List, length, Result, Ok, Err, refl, sym, ap, ◌∙◌, arith}
-use Rattle.std.specs.Prelude.{codes}
 use Rattle.std.proofs.lemmas.Bool.{le-leb, lt-leb}
 use Rattle.capture.specs.declared.fault.Departure.{Departure}
 use Rattle.capture.specs.declared.fault.Departure.TheVariants.{Syntax, TooLong, TooMany}
-use Rattle.capture.proofs.LackLaws.{lacks}
-use Rattle.capture.proofs.ListedText.{AreLinesOf}
+use Rattle.capture.specs.ListLines.{AreLinesOf}
+use Rattle.capture.proofs.ListedLines.{no_lf}
 use Rattle.dna_play.specs.Script.{ScriptStep}
 use Rattle.dna_play.specs.ScriptText.{line_text, script_form, step_bytes, most_bytes, IsStep, WordsDepart}
 use Rattle.pair_player.specs.inner.Reading.{line_at}
@@ -40,10 +39,11 @@ words_once line TooLong Syntax p q = absurd (q p.0 p.1 p.3)
 
 pub lines : AreLinesOf script_form
 lines = record {
-  lacks = λ line h. line_lacks line h.spelling;
+  lacks = λ line h. no_lf (line_text line) (line_lacks line h.spelling);
   short = line_short;
   same = same_line;
   fit = words_fit;
   once = words_once;
-  first = record { lack = lacks 10 (codes "ddplay 1 ") refl; short = omega arith };
+  first_lacks = refl;
+  first_short = omega arith;
 }

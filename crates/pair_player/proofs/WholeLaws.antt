@@ -2,7 +2,8 @@
 use Rattle.std.proofs.Common.{◌≡◌, ℕ, ◌+◌, inl, inr, List, [], ◌∷◌, ◌++◌, length, Option, Some, None, Result, Ok, Err, sym, ap, ◌∙◌}
 use Rattle.std.specs.Option.{IfSome}
 use Rattle.capture.specs.declared.fault.Departure.{Departure}
-use Rattle.capture.proofs.ListedSoFar.{departs_nowhere, goes_on, head_stands, whole}
+use Rattle.capture.specs.Listed.{IsBeginningOf, Listed}
+use Rattle.capture.proofs.ListedSoFar.{departs_nowhere, goes_on, head_stands, one_list, one_more, whole}
 use Rattle.dna_play.specs.KeptPlayed.{KeptMade, KeptPlayed, KeptStopped, if_made, kept_not_begun, kept_play, kept_plays_all, kept_plays_step}
 use Rattle.dna_play.specs.KeptPlayed.{new_pair, with_records}
 use Rattle.dna_play.specs.Script.{ScriptStep, Script}
@@ -12,9 +13,8 @@ use Rattle.pair_player.specs.declared.fault.PlayFault.TheVariants as faults
 use Rattle.pair_player.specs.declared.fault.PlayFault.{PlayFault}
 use Rattle.pair_player.specs.declared.played.Played.{Played}
 use Rattle.pair_player.specs.Playing.{AnswersWhole, HasPlayed, HasWritten, Held, Plays, Reached, StopsBehind}
-use Rattle.pair_player.specs.SoFar.{IsBeginningOf, IsReadSoFar, with_step}
+use Rattle.pair_player.specs.SoFar.{IsReadSoFar, with_step}
 use Rattle.pair_player.proofs.PlayLaws.{same_Ok}
-use Rattle.pair_player.proofs.SoFarLaws.{one_more, one_script}
 use Rattle.pair_player.proofs.TextLaws.{lines}
 
 -- ---- where a step stops, no more are made
@@ -57,6 +57,13 @@ same_play a a' b b' steps steps' e f g = ap (λ (x : ℕ). play_of x b steps) e 
 
 -- ---- of a whole text
 
+script_of : Listed ScriptStep → Script
+script_of list = record { node_a = list.node_a; node_b = list.node_b; steps = list.items }
+
+-- a text has one script
+one_script : (bytes : List ℕ) (p q : Script) → IsScriptText p bytes → IsScriptText q bytes → p ≡ q
+one_script bytes p q h k = ap script_of (one_list script_form lines bytes (listed p) (listed q) h k)
+
 module _ (bytes : List ℕ) (script : Script) (played : KeptPlayed) (is_text : IsScriptText script bytes) (made : kept_play script ≡ Ok played) where
   nowhere : (kind : Departure) (line : ℕ) (r : Reached) (come : Option (List ℕ)) → IsReadSoFar (Some bytes) r.script come →
       IfSome come (StepDeparts (length r.script.steps) kind) → ⊥
@@ -65,14 +72,16 @@ module _ (bytes : List ℕ) (script : Script) (played : KeptPlayed) (is_text : I
       departs_nowhere script_form lines bytes rest (listed r.script) (listed script) kind is_text
       (record { fits = read.fits; spelled = read.begins }) departs
 
-  begun_of : (begun : Script) (come : Option (List ℕ)) → IsReadSoFar (Some bytes) begun come → IsBeginningOf begun script
+  begun_of : (begun : Script) (come : Option (List ℕ)) → IsReadSoFar (Some bytes) begun come →
+      IsBeginningOf (listed begun) (listed script)
   begun_of begun None read = absurd read.begins
   begun_of begun (Some rest) read =
       goes_on script_form lines bytes rest (listed begun) (listed script) is_text (record { fits = read.fits; spelled = read.begins })
 
   not_stopped : (stop : Stop) (line : ℕ) (r : Reached) → HasPlayed (Some bytes) r → StopsBehind stop line r → ⊥
   not_stopped stop line r h s =
-      let begun = begun_of (with_step r.script s.step) s.later (one_more (Some bytes) r.come s.later r.script s.step h.read s.few s.fits s.spelled) in
+      let begun = begun_of (with_step r.script s.step) s.later
+      (one_more script_form (Some bytes) r.come s.later (listed r.script) s.step h.read s.few s.fits s.spelled) in
       stops_behind 0 (kept_not_begun r.script) r.played played r.script.steps s.step begun.more stop h.made s.stops
       (sym (same_play script.node_a r.script.node_a script.node_b r.script.node_b script.steps ((r.script.steps ++ s.step ∷ []) ++ begun.more)
       begun.node_a begun.node_b begun.items) ∙ made)

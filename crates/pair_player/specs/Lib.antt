@@ -1,5 +1,4 @@
 pub mod Step
-pub mod Reader
 pub mod SoFar
 pub mod Playing
 pub mod Runs

@@ -1,7 +1,6 @@
 -- A text of a script as far as it was read.
 use Rattle.std.specs.Prelude.{ℕ, List, [], ◌∷◌, ◌++◌, Option}
 use Rattle.capture.specs.Listed.{IsListSoFar}
-use Rattle.capture.specs.Listed.{IsBeginningOf as IsListBeginning}
 use Rattle.dna_play.specs.Script.{ScriptStep, Script}
 use Rattle.dna_play.specs.ScriptText.{script_form, listed}
 
@@ -16,7 +15,3 @@ no_steps node_a node_b = record { node_a = node_a; node_b = node_b; steps = [] }
 -- the same script with one step more
 abbrev pub with_step : Script → ScriptStep → Script
 with_step script step = record script { steps = script.steps ++ step ∷ [] }
-
--- the second script begins as the first, and may have more steps
-abbrev pub IsBeginningOf : (begun all : Script) → Type 0
-IsBeginningOf begun all = IsListBeginning (listed begun) (listed all)

@@ -2,6 +2,7 @@
 use Rattle.std.specs.Prelude.{ℕ, List, []}
 use Rattle.dna_play.specs.Script.{StepValue, ScriptStep, Start, Halt, Timer, Send, Deliver, Refuse, Lose, Damage, Noise, Open, Accept, Reject, In}
 use Rattle.dna_play.specs.Script.{Close, Retry}
+use Rattle.pair_player.specs.declared.step.LineEntry.{LineEntry}
 use Rattle.pair_player.specs.declared.step.Step.{Step}
 use Rattle.pair_player.specs.declared.step.Step.TheVariants as steps
 use Rattle.pair_player.specs.declared.step.ScriptStep as lines
@@ -26,6 +27,10 @@ step_with (steps.Retry link) bytes = Retry link
 -- with no bytes
 abbrev pub plain : Step → StepValue
 plain step = step_with step []
+
+-- a line of these two parts
+abbrev pub line_with : LineEntry → List ℕ → ScriptStep
+line_with line message = record { side = line.side; step = step_with line.step message }
 
 abbrev pub view_of_line : lines.ScriptStep → ScriptStep
 view_of_line line = record { side = line.side; step = step_with line.step line.bytes.now }

@@ -19,7 +19,7 @@ mod words;
 
 pub use ends::Ends;
 pub use fault::PlayFault;
-pub use laws::{known_script, one_script, one_script_departure, played_whole, script_read_on};
+pub use laws::played_whole;
 pub use limit::MAX_STEPS;
 pub use played::Played;
 pub use player_end::StepFault;
@@ -28,5 +28,5 @@ pub use run_laws::{
     answered_as_true_ends, starts_once_throughout, stopped_by_its_rule, what_an_end_may_send,
     written_captures_are_a_run, written_captures_are_texts,
 };
-pub use script_reader::ScriptReader;
-pub use step::{ScriptStep, Step};
+pub use script_reader::{ScriptReader, Steps};
+pub use step::{LineEntry, ScriptStep, Step};

@@ -1,14 +1,13 @@
 //! A script is read, its steps are made, and both captures are written.
 
-ghost use Rattle.std.specs.Prelude.{◌≡◌, ℕ, List, Option, Some, Ok, IfOk, IfErr, IsSomeAnd};
+ghost use Rattle.std.specs.Prelude.{◌≡◌, ℕ, List, Option, IfOk, IfErr};
 ghost use Rattle.wire_base.specs.Tally.{tally_faults, tally_lent};
 ghost use Rattle.wire_base.specs.declared.side.Side.TheVariants as of_side;
 ghost use Rattle.capture.specs.declared.phase.Phase.TheVariants as Phase;
 ghost use Rattle.capture.specs.Faulty.{CountsReads};
-ghost use Rattle.dna_play.specs.Script.{ScriptStep as StepOfScript};
-ghost use Rattle.dna_play.specs.ScriptText.{IsStep};
 ghost use Rattle.pair_player.specs.inner.Beginning.{HeadFault, IsBegun, fault_at, fault_of, is_failed_read};
 ghost use Rattle.pair_player.specs.Playing.{CountsReadsOf, CountsWritesOf, Plays, PlaysWholeLines, held};
+ghost use Rattle.pair_player.specs.Step.{line_with};
 ghost use Rattle.pair_player.specs.inner.Making.{StepsOrStops, standing};
 ghost use Rattle.pair_player.specs.inner.Waiting.{EndsAll};
 ghost use Rattle.capture.specs.inner.Outlets.{outlet};
@@ -18,6 +17,7 @@ use crate::fault::PlayFault;
 use crate::limit::MAX_STEPS;
 use crate::played::Played;
 use crate::script_reader::ScriptReader;
+use crate::step::LineEntry;
 use crate::texts::Texts;
 use capture::CaptureFault;
 use player_end::StepFault;
@@ -70,7 +70,7 @@ fn play_steps<R: Read, A: Write, B: Write>(
     a: &mut Tally<A>,
     b: &mut Tally<B>,
 ) -> Result<Played, PlayFault>
-    requires { (begun.now.lines.phase ≡ Phase.Reading) × (begun.now.lines.steps ≡ 0) }
+    requires { (begun.now.lines.phase ≡ Phase.Reading) × (begun.now.lines.items ≡ 0) }
     ensures plays { (text : Option (List ℕ)) → IsBegun text (R.remaining (tally_lent script.old)) begun.old.lines
         (standing begun.old.ends begun.old.texts.a.items begun.old.texts.b.items)
         → Plays text (held (A.contents (tally_lent a.old)) (B.contents (tally_lent b.old)))
@@ -89,7 +89,7 @@ fn play_steps<R: Read, A: Write, B: Write>(
     }
     for steps in 0..MAX_STEPS + 1 {
         match begun.lines.advance(script) {
-            Ok(true) => match make_step(&begun.lines, &mut begun.ends, &mut begun.texts) {
+            Ok(Some(line)) => match make_step(line, &begun.lines, &mut begun.ends, &mut begun.texts) {
                 Ok(()) => {
                     if let Err(side) = begun.texts.write_full(a, b) {
                         return Err(PlayFault::Write { side });
@@ -97,7 +97,7 @@ fn play_steps<R: Read, A: Write, B: Write>(
                 }
                 Err(stop) => return end(&mut begun.texts, a, b, Err(stop_fault(stop, steps + 2))),
             },
-            Ok(false) => return end(&mut begun.texts, a, b, Ok(Played { steps })),
+            Ok(None) => return end(&mut begun.texts, a, b, Ok(Played { steps })),
             Err(fault) => return end(&mut begun.texts, a, b, Err(play_fault(fault))),
         }
     }
@@ -127,15 +127,17 @@ fn begin<R: Read>(alloc: Global, script: &mut Tally<R>) -> Result<Begun, PlayFau
     Ok(Begun { lines, ends, texts })
 }
 
-// Makes the step that was read last: the lines of its records stand behind those of its side.
-fn make_step(lines: &ScriptReader, ends: &mut Ends, texts: &mut Texts) -> Result<(), StepFault>
-    requires { IsSomeAnd lines.now.step IsStep }
-    ensures { (step : StepOfScript) → lines.now.step ≡ Some step → StepsOrStops step
+// Makes the step that was read last, which is of this line: the lines of its records stand behind those of its side.
+fn make_step(
+    line: LineEntry,
+    lines: &ScriptReader,
+    ends: &mut Ends,
+    texts: &mut Texts,
+) -> Result<(), StepFault>
+    ensures { StepsOrStops (line_with line lines.now.bytes)
         (standing ends.old texts.old.a.items texts.old.b.items) (standing ends.new texts.new.a.items texts.new.b.items) result }
 {
-    let Some(step) = lines.step() else {
-        unreachable!()
-    };
+    let step = line.with(lines.bytes());
     texts.step.clear();
     match ends.play_step(step, &mut texts.step) {
         Ok(()) => match texts.put_step(step.side) {

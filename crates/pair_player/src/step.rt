@@ -3,8 +3,7 @@
 ghost use Rattle.std.specs.Prelude.{◌≡◌, ◌≤◌};
 ghost use Rattle.capture.specs.declared.limit.TheConstants.{MAX_MESSAGE as MOST};
 ghost use Rattle.dna_play.specs.ScriptText.{most_bytes};
-ghost use Rattle.pair_player.specs.Step.{plain, view_of_line};
-ghost use Rattle.pair_player.specs.inner.Entries.{line_with};
+ghost use Rattle.pair_player.specs.Step.{line_with, plain, view_of_line};
 
 use capture::{MAX_MESSAGE, MAX_UNIT};
 use wire_base::Side;

@@ -14,10 +14,10 @@ use Rattle.framer.specs.SoFar.{IsFramedSoFar, nothing}
 use Rattle.framer.proofs.Framings.{framing-nil}
 use Rattle.framer.proofs.SoFarLaws.{start}
 use Rattle.placing.specs.Placed.{Waiting}
-use Rattle.wire_text.specs.Reader.{Opens, WireState}
-use Rattle.wire_text.specs.SoFar.{IsReadSoFar, no_pieces}
-use Rattle.wire_text.specs.WireText.{Wire, WireHeadDeparts}
-use Rattle.wire_text.proofs.SoFarLaws as read
+use Rattle.capture.specs.ListReader.{ListState, Opens}
+use Rattle.capture.specs.Listed.{IsListSoFar, no_items}
+use Rattle.wire_text.specs.WireText.{Wire, WireHeadDeparts, wire_form}
+use Rattle.capture.proofs.ListedSoFar as read
 use Rattle.wire_tap.specs.Tapping.{HasCut, HaveFirst, Held, Reached, Taps, TakesNothing, held}
 use Rattle.capture.specs.Passing.{AppendsSome}
 use Rattle.capture.specs.inner.Outlets.{FailsAt, Outlet, outlet}
@@ -46,15 +46,15 @@ no_head last text old of_text.Failed shows = absurd shows
 pub none_taken : (last : Option (Side × ℕ)) (text : Option (List ℕ)) (old : Held) → Taps last text old old (Err faults.OutOfMemory)
 none_taken last text old = inl (takes_nothing old)
 
-module _ (text left : Option (List ℕ)) (old : Held) (state : WireState) (opens : Opens text left (Ok state)) where
+module _ (text left : Option (List ℕ)) (old : Held) (state : ListState) (opens : Opens wire_form.first_words text left (Ok state)) where
   abbrev pub wire_begun : Wire
-  wire_begun = no_pieces state.node_a state.node_b
+  wire_begun = no_items state.node_a state.node_b
 
   abbrev pub come_begun : Option (List ℕ)
   come_begun = to_come state.unread left
 
-  read_begun : IsReadSoFar text wire_begun come_begun
-  read_begun = read.opened text left state opens
+  read_begun : IsListSoFar wire_form text wire_begun come_begun
+  read_begun = read.opened wire_form text come_begun state.node_a state.node_b opens.0 opens.1 opens.4
 
   abbrev nothing_sent : Reached
   nothing_sent = record { wire = wire_begun; come = come_begun; a = []; b = [] }
@@ -98,7 +98,7 @@ module _ (text left : Option (List ℕ)) (old : Held) (state : WireState) (opens
 
   -- both heads are written
   pub line_begun : (now : Held) (a b : SideTap) (of_a of_b : List ℕ) → IsNew a → IsNew b → of_a ≡ head_a wire_begun → of_b ≡ head_b wire_begun →
-      HandsOver of_a [] old.a now.a → HandsOver of_b [] old.b now.b → IsLineUnderWay text old (line_state state.pieces come_begun a b now)
+      HandsOver of_a [] old.a now.a → HandsOver of_b [] old.b now.b → IsLineUnderWay text old (line_state state.items come_begun a b now)
   line_begun now a b of_a of_b new_a new_b is_a is_b over_a over_b = record {
     wire = wire_begun;
     read = read_begun;

@@ -106,7 +106,7 @@ module _ (last : Option (Side × ℕ)) (text : Option (List ℕ)) (old : Held) (
       pub text_fault : (fault : CaptureFault) → StopsAs h last (stops.Text fault) → Taps last text old later (Err (fault_of fault))
       text_fault fault stop = by_fault fault stop.1 stop.2
         where
-          by_fault : (fault : CaptureFault) → FaultShows (PieceDeparts (length h.wire.pieces)) (length h.wire.pieces + 2) h.come fault →
+          by_fault : (fault : CaptureFault) → FaultShows (PieceDeparts (length h.wire.items)) (length h.wire.items + 2) h.come fault →
               (fault ≡ of_text.OutOfMemory → ⊥) → Taps last text old later (Err (fault_of fault))
           by_fault (of_text.Departs kind at) shows memory =
               inr (reached, h.read, written, (have_all stop.0, record { departs = shows.1; line_is = shows.0 }))

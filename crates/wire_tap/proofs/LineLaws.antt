@@ -10,11 +10,11 @@ use Rattle.capture.specs.declared.fault.CaptureFault.TheVariants as of_text
 use Rattle.capture.specs.Paged.{HandsOver}
 use Rattle.capture.specs.Reader.{FaultShows}
 use Rattle.placing.specs.Placed.{Waiting}
-use Rattle.wire_text.specs.Reader.{Advances, WireState, piece}
-use Rattle.wire_text.specs.SoFar.{IsReadSoFar, with_piece}
-use Rattle.wire_text.specs.WireText.{Piece, PieceDeparts, Wire}
+use Rattle.capture.specs.ListReader.{Advances, ListState}
+use Rattle.capture.specs.Listed.{IsListSoFar, with_item}
+use Rattle.wire_text.specs.WireText.{Piece, PieceDeparts, Wire, piece, wire_form}
 use Rattle.wire_text.specs.declared.limit.TheConstants.{MAX_PIECES}
-use Rattle.wire_text.proofs.SoFarLaws as read
+use Rattle.capture.proofs.ListedSoFar as read
 use Rattle.wire_tap.specs.Tapping.{Held, held}
 use Rattle.wire_tap.specs.Units.{bytes_of, messages}
 use Rattle.wire_tap.specs.declared.stop.Stop.TheVariants as stops
@@ -64,22 +64,22 @@ module _ (text : Option (List ℕ)) (old : Held) (line : LineState) (h : IsLineU
     b = written_on _ _ _ _ line.b h.b later.b b over_b same_b;
   }
 
-  module _ (side : Side) (was now : WireState) (same : line.pieces ≡ was.pieces) (after : Option (List ℕ)) (a b : SideState)
-      (advances : Advances was now line.come after (Ok (Some side))) where
+  module _ (side : Side) (was now : ListState) (same : line.pieces ≡ was.items) (after : Option (List ℕ)) (a b : SideState)
+      (advances : Advances wire_form was now line.come after (Ok (Some (piece side now.bytes)))) where
     abbrev pub line_on : LineState
-    line_on = record { pieces = now.pieces; come = after; a = a; b = b; now = line.now }
+    line_on = record { pieces = now.items; come = after; a = a; b = b; now = line.now }
 
     abbrev wire_on : Wire
-    wire_on = with_piece h.wire (piece side now.bytes)
+    wire_on = with_item h.wire (piece side now.bytes)
 
-    few_read : length h.wire.pieces < MAX_PIECES
+    few_read : length h.wire.items < MAX_PIECES
     few_read = let few = advances.1 in omega (arith, h.count)
 
-    read_on : IsReadSoFar text wire_on after
-    read_on = read.one_more text line.come after h.wire (piece side now.bytes) h.read few_read advances.0 advances.4
+    read_on : IsListSoFar wire_form text wire_on after
+    read_on = read.one_more wire_form text line.come after h.wire (piece side now.bytes) h.read few_read advances.0 advances.4
 
-    count_on : length wire_on.pieces ≡ now.pieces
-    count_on = let more = advances.2 in omega (arith, length-append h.wire.pieces (piece side now.bytes ∷ []), h.count, same)
+    count_on : length wire_on.items ≡ now.items
+    count_on = let more = advances.2 in omega (arith, length-append h.wire.items (piece side now.bytes ∷ []), h.count, same)
 
   -- the bytes of the other side
   beside_a : (pieces : List Piece) (bytes : List ℕ) → bytes_of A (pieces ++ piece B bytes ∷ []) ≡ bytes_of A pieces
@@ -89,27 +89,27 @@ module _ (text : Option (List ℕ)) (old : Held) (line : LineState) (h : IsLineU
   beside_b pieces bytes = bytes_more B pieces (piece A bytes) ∙ append-nil (bytes_of B pieces)
 
   -- the piece passed
-  pub line_goes : (last : Option (Side × ℕ)) (side : Side) (was now : WireState) (same : line.pieces ≡ was.pieces)
-      (after : Option (List ℕ)) (a b : SideState) (advances : Advances was now line.come after (Ok (Some side)))
+  pub line_goes : (last : Option (Side × ℕ)) (side : Side) (was now : ListState) (same : line.pieces ≡ was.items)
+      (after : Option (List ℕ)) (a b : SideState) (advances : Advances wire_form was now line.come after (Ok (Some (piece side now.bytes))))
       → PassesPiece last side now.bytes (line.a, line.b) (a, b) None → IsLineUnderWay text old (line_on side was now same after a b advances)
   line_goes last A was now same after a b advances p = record {
     wire = wire_on A was now same after a b advances;
     read = read_on A was now same after a b advances;
     count = count_on A was now same after a b advances;
-    a = piece_on _ _ _ _ line.a h.a now.bytes _ a (bytes_more A h.wire.pieces (piece A now.bytes)) p.0;
-    b = beside _ _ _ _ line.b h.b _ b (beside_b h.wire.pieces now.bytes) p.1;
+    a = piece_on _ _ _ _ line.a h.a now.bytes _ a (bytes_more A h.wire.items (piece A now.bytes)) p.0;
+    b = beside _ _ _ _ line.b h.b _ b (beside_b h.wire.items now.bytes) p.1;
   }
   line_goes last B was now same after a b advances p = record {
     wire = wire_on B was now same after a b advances;
     read = read_on B was now same after a b advances;
     count = count_on B was now same after a b advances;
-    a = beside _ _ _ _ line.a h.a _ a (beside_a h.wire.pieces now.bytes) p.0;
-    b = piece_on _ _ _ _ line.b h.b now.bytes _ b (bytes_more B h.wire.pieces (piece B now.bytes)) p.1;
+    a = beside _ _ _ _ line.a h.a _ a (beside_a h.wire.items now.bytes) p.0;
+    b = piece_on _ _ _ _ line.b h.b now.bytes _ b (bytes_more B h.wire.items (piece B now.bytes)) p.1;
   }
 
   -- the captures end with a unit of it
-  pub over_on : (last : Option (Side × ℕ)) (side : Side) (was now : WireState) (same : line.pieces ≡ was.pieces)
-      (after : Option (List ℕ)) (a b : SideState) (advances : Advances was now line.come after (Ok (Some side)))
+  pub over_on : (last : Option (Side × ℕ)) (side : Side) (was now : ListState) (same : line.pieces ≡ was.items)
+      (after : Option (List ℕ)) (a b : SideState) (advances : Advances wire_form was now line.come after (Ok (Some (piece side now.bytes))))
       (ending : Ending) → PassesPiece last side now.bytes (line.a, line.b) (a, b) (Some ending)
       → Stopped last text old (line_on side was now same after a b advances) (stops.Ends ending)
   unfolding over_some over_all
@@ -121,8 +121,8 @@ module _ (text : Option (List ℕ)) (old : Held) (line : LineState) (h : IsLineU
         wire = wire_on A was now same after a b advances;
         come = after;
         read = read_on A was now same after a b advances;
-        a = over_some _ _ _ _ line.a h.a now.bytes p.0.come a p.0.some _ (bytes_more A h.wire.pieces (piece A now.bytes));
-        b = over_all _ _ _ _ b (beside _ _ _ _ line.b h.b _ b (beside_b h.wire.pieces now.bytes) p.1);
+        a = over_some _ _ _ _ line.a h.a now.bytes p.0.come a p.0.some _ (bytes_more A h.wire.items (piece A now.bytes));
+        b = over_all _ _ _ _ b (beside _ _ _ _ line.b h.b _ b (beside_b h.wire.items now.bytes) p.1);
       }
 
       same_a : units_at A over < 2 ^ 64 → units_at A over ≡ line.a.units.count + length (messages p.0.some.found.units)
@@ -135,8 +135,8 @@ module _ (text : Option (List ℕ)) (old : Held) (line : LineState) (h : IsLineU
         wire = wire_on B was now same after a b advances;
         come = after;
         read = read_on B was now same after a b advances;
-        a = over_all _ _ _ _ a (beside _ _ _ _ line.a h.a _ a (beside_a h.wire.pieces now.bytes) p.0);
-        b = over_some _ _ _ _ line.b h.b now.bytes p.1.come b p.1.some _ (bytes_more B h.wire.pieces (piece B now.bytes));
+        a = over_all _ _ _ _ a (beside _ _ _ _ line.a h.a _ a (beside_a h.wire.items now.bytes) p.0);
+        b = over_some _ _ _ _ line.b h.b now.bytes p.1.come b p.1.some _ (bytes_more B h.wire.items (piece B now.bytes));
       }
 
       same_b : units_at B over < 2 ^ 64 → units_at B over ≡ line.b.units.count + length (messages p.1.some.found.units)

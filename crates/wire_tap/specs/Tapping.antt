@@ -10,8 +10,8 @@ use Rattle.capture.specs.declared.fault.Departure.{Departure}
 use Rattle.capture.specs.declared.format.Format.TheVariants.{One}
 use Rattle.capture.specs.declared.record.Record.{Record}
 use Rattle.capture.specs.Text.{capture_text}
-use Rattle.wire_text.specs.SoFar.{IsReadSoFar}
-use Rattle.wire_text.specs.WireText.{PieceDeparts, Wire, WireHeadDeparts}
+use Rattle.capture.specs.Listed.{IsListSoFar}
+use Rattle.wire_text.specs.WireText.{PieceDeparts, Wire, WireHeadDeparts, wire_form}
 use Rattle.placing.specs.Placed.{units_sent}
 use Rattle.wire_tap.specs.Units.{units_of}
 use Rattle.wire_tap.specs.declared.fault.TapFault.{TapFault}
@@ -118,12 +118,12 @@ pub record HeadDepartsAt (text : Option (List ℕ)) (kind : Departure) (line : �
 
 -- the next line departs in this way
 pub record DepartsBehind (kind : Departure) (line : ℕ) (r : Reached) : Type 0 where
-  pub departs : IfSome r.come (PieceDeparts (length r.wire.pieces) kind)
-  pub line_is : line ≡ length r.wire.pieces + 2
+  pub departs : IfSome r.come (PieceDeparts (length r.wire.items) kind)
+  pub line_is : line ≡ length r.wire.items + 2
 
 -- some of the text was read, both captures were written, and this holds of them
 abbrev pub TapsTo : Option (List ℕ) → Held → Held → (Reached → Type 0) → Type 0
-TapsTo text old new Behind = (r : Reached) × IsReadSoFar text r.wire r.come × HasWritten old new r × Behind r
+TapsTo text old new Behind = (r : Reached) × IsListSoFar wire_form text r.wire r.come × HasWritten old new r × Behind r
 
 -- One call, where this text was to come, by its answer. At each fault what was written is a beginning of both captures: of all that passed before a
 -- line that departs or that can't be read; or as far as there was memory, or as the writers took it.
@@ -132,9 +132,9 @@ Taps last text old new (Ok tapped) = TapsTo text old new (EndsAs last tapped.end
 Taps last text old new (Err (faults.Departs kind line)) = (HeadDepartsAt text kind line × TakesNothing old new)
     ⊎ TapsTo text old new (λ r. HaveAll r × DepartsBehind kind line r)
 Taps last text old new (Err faults.Read) = TakesNothing old new ⊎ TapsTo text old new HaveAll
-Taps last text old new (Err (faults.Write side)) = (r : Reached) × IsReadSoFar text r.wire r.come × HaveFirst r × HasCut side old new r
+Taps last text old new (Err (faults.Write side)) = (r : Reached) × IsListSoFar wire_form text r.wire r.come × HaveFirst r × HasCut side old new r
 Taps last text old new (Err faults.OutOfMemory) = TakesNothing old new
-    ⊎ ((r : Reached) × IsReadSoFar text r.wire r.come × HaveFirst r × HasBegun old new r)
+    ⊎ ((r : Reached) × IsListSoFar wire_form text r.wire r.come × HaveFirst r × HasBegun old new r)
 
 -- ---- counts of failed calls
 

@@ -33,4 +33,4 @@ messages (unit ∷ units) = message_of (kind_of (slice_index unit 0)) unit ++ me
 
 -- the units that a side sent, all that are whole and no maintenance messages, in their order
 abbrev pub units_of : Side → Wire → List (List ℕ)
-units_of side wire = messages (framing (bytes_of side wire.pieces)).units
+units_of side wire = messages (framing (bytes_of side wire.items)).units

@@ -9,7 +9,8 @@ ghost use Rattle.capture.specs.declared.format.Format.TheVariants as Layout;
 ghost use Rattle.capture.specs.Faulty.{CountsReads};
 ghost use Rattle.capture.specs.Lines.{to_come};
 ghost use Rattle.capture.specs.Text.{head_line};
-ghost use Rattle.wire_text.specs.Reader.{Advances, WireState};
+ghost use Rattle.capture.specs.ListReader.{Advances, ListState};
+ghost use Rattle.wire_text.specs.WireText.{piece, wire_form};
 ghost use Rattle.wire_text.specs.declared.limit.TheConstants.{MAX_PIECES};
 ghost use Rattle.wire_tap.specs.Tapping.{CountsReadsOf, CountsWritesOf, Held, Taps, held};
 ghost use Rattle.wire_tap.specs.inner.Side.{IsNew, side_state};
@@ -139,8 +140,8 @@ fn tap_rest<W: Read, A: Write, B: Write>(
     a: &mut Tally<A>,
     b: &mut Tally<B>,
 ) -> Result<Tapped, TapFault>
-    requires { (reader.old.phase ≡ Phase.Reading) × (reader.old.pieces ≡ 0) }
-    ensures taps { (text : Option (List ℕ)) (old : Held) → IsLineUnderWay text old (line_state reader.old.pieces
+    requires { (reader.old.phase ≡ Phase.Reading) × (reader.old.items ≡ 0) }
+    ensures taps { (text : Option (List ℕ)) (old : Held) → IsLineUnderWay text old (line_state reader.old.items
         (to_come reader.old.unread (W.remaining (tally_lent wire.old))) sides.old.a sides.old.b
         (held (A.contents (tally_lent a.old)) (B.contents (tally_lent b.old))))
         → Taps last text old (held (A.contents (tally_lent a.new)) (B.contents (tally_lent b.new))) result
@@ -173,11 +174,11 @@ fn pass_pieces<W: Read, A: Write, B: Write>(
     a: &mut Tally<A>,
     b: &mut Tally<B>,
 ) -> Result<Stop, TapFault>
-    requires { (reader.old.phase ≡ Phase.Reading) × (reader.old.pieces ≡ 0) }
-    ensures stops { (text : Option (List ℕ)) (old : Held) → IsLineUnderWay text old (line_state reader.old.pieces
+    requires { (reader.old.phase ≡ Phase.Reading) × (reader.old.items ≡ 0) }
+    ensures stops { (text : Option (List ℕ)) (old : Held) → IsLineUnderWay text old (line_state reader.old.items
         (to_come reader.old.unread (W.remaining (tally_lent wire.old))) sides.old.a sides.old.b
         (held (A.contents (tally_lent a.old)) (B.contents (tally_lent b.old))))
-        → Stops last text old (line_state reader.new.pieces
+        → Stops last text old (line_state reader.new.items
         (to_come reader.new.unread (W.remaining (tally_lent wire.new))) sides.new.a sides.new.b
         (held (A.contents (tally_lent a.new)) (B.contents (tally_lent b.new)))) result }
     ensures reads { CountsReads (is_failed_reading result) (tally_faults wire.old) (tally_faults wire.new) }
@@ -204,21 +205,21 @@ fn turn<W: Read, A: Write, B: Write>(
     b: &mut Tally<B>,
 ) -> Result<Option<Stop>, TapFault>
     requires { reader.old.phase ≡ Phase.Reading }
-    ensures turns { (text : Option (List ℕ)) (old : Held) → IsLineUnderWay text old (line_state reader.old.pieces
+    ensures turns { (text : Option (List ℕ)) (old : Held) → IsLineUnderWay text old (line_state reader.old.items
         (to_come reader.old.unread (W.remaining (tally_lent wire.old))) sides.old.a sides.old.b
         (held (A.contents (tally_lent a.old)) (B.contents (tally_lent b.old))))
-        → Turns last text old (line_state reader.new.pieces
+        → Turns last text old (line_state reader.new.items
         (to_come reader.new.unread (W.remaining (tally_lent wire.new))) sides.new.a sides.new.b
         (held (A.contents (tally_lent a.new)) (B.contents (tally_lent b.new)))) result }
-    ensures on { result ≡ Ok None → (reader.new.phase ≡ Phase.Reading) × (reader.old.pieces < MAX_PIECES)
-        × (reader.new.pieces ≡ reader.old.pieces + 1) }
+    ensures on { result ≡ Ok None → (reader.new.phase ≡ Phase.Reading) × (reader.old.items < MAX_PIECES)
+        × (reader.new.items ≡ reader.old.items + 1) }
     ensures reads { CountsReads (is_failed_turn result) (tally_faults wire.old) (tally_faults wire.new) }
     ensures writes_a { CountsWritesOf of_side.A result (tally_faults a.old) (tally_faults a.new) }
     ensures writes_b { CountsWritesOf of_side.B result (tally_faults b.old) (tally_faults b.new) }
 {
     match reader.advance(wire) {
         Ok(Some(side)) => {
-            let line = reader.pieces().saturating_add(1);
+            let line = reader.items().saturating_add(1);
             pass_on(reader, sides, At { side, line, last }, a, b)
         }
         Ok(None) => Ok(Some(Stop::Ends(Ending::Whole))),
@@ -234,11 +235,11 @@ fn pass_on<A: Write, B: Write>(
     a: &mut Tally<A>,
     b: &mut Tally<B>,
 ) -> Result<Option<Stop>, TapFault>
-    ensures turns { (was : WireState) (before after text : Option (List ℕ)) (old : Held) →
-        IsLineUnderWay text old (line_state was.pieces before sides.old.a sides.old.b
+    ensures turns { (was : ListState) (before after text : Option (List ℕ)) (old : Held) →
+        IsLineUnderWay text old (line_state was.items before sides.old.a sides.old.b
         (held (A.contents (tally_lent a.old)) (B.contents (tally_lent b.old))))
-        → Advances was reader.now before after (Ok (Some at.side))
-        → Turns at.last text old (line_state reader.now.pieces after sides.new.a sides.new.b
+        → Advances wire_form was reader.now before after (Ok (Some (piece at.side reader.now.bytes)))
+        → Turns at.last text old (line_state reader.now.items after sides.new.a sides.new.b
         (held (A.contents (tally_lent a.new)) (B.contents (tally_lent b.new)))) result }
     ensures reads { is_failed_turn result ≡ false }
     ensures writes_a { CountsWritesOf of_side.A result (tally_faults a.old) (tally_faults a.new) }

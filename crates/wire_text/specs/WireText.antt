@@ -6,7 +6,7 @@ use Rattle.wire_base.specs.Side.{side_letter}
 use Rattle.capture.specs.declared.fault.Departure.{Departure}
 use Rattle.capture.specs.declared.fault.Departure.TheVariants.{Syntax, TooLong, TooMany}
 use Rattle.capture.specs.Text.{bytes_text, spaced}
-use Rattle.capture.specs.Listed.{Listed, ListForm, item_line, ItemDeparts, ListHeadDeparts}
+use Rattle.capture.specs.Listed.{Listed, ListForm, ItemDeparts, ListHeadDeparts}
 use Rattle.wire_text.specs.declared.limit.TheConstants.{MAX_PIECE, MAX_PIECES}
 
 -- ---- pieces
@@ -57,9 +57,6 @@ wire_form = record {
   most = MAX_PIECES;
   WordsDepart = WordsDepart;
 }
-
-abbrev pub piece_line : Piece → List ℕ
-piece_line piece = item_line wire_form piece
 
 -- The first line of what is to come departs, after this many pieces
 abbrev pub PieceDeparts : ℕ → Departure → List ℕ → Type 0

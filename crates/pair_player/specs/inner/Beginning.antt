@@ -2,8 +2,10 @@
 use Rattle.std.specs.Prelude.{◌≡◌, ℕ, Bool, true, false, List, Option, Result, Ok, Err}
 use Rattle.capture.specs.declared.format.Format.TheVariants.{One}
 use Rattle.capture.specs.Lines.{IsCutBehind}
+use Rattle.capture.specs.ListReader.{ListState, Opens}
 use Rattle.capture.specs.Text.{head_line}
 use Rattle.dna_play.specs.KeptPlayed.{new_pair}
+use Rattle.dna_play.specs.ScriptText.{script_form}
 use Rattle.pair_player.specs.declared.fault.PlayFault.{PlayFault}
 use Rattle.pair_player.specs.declared.fault.PlayFault.TheVariants as faults
 use Rattle.capture.specs.declared.fault.CaptureFault.{CaptureFault}
@@ -12,7 +14,6 @@ use Rattle.player_end.specs.declared.fault.StepFault.{StepFault}
 use Rattle.player_end.specs.declared.fault.StepFault.TheVariants as stops
 use Rattle.pair_player.specs.inner.Making.{Standing}
 use Rattle.pair_player.specs.Playing.{HeadDepartsAt}
-use Rattle.pair_player.specs.Reader.{Opens, ScriptState}
 
 -- ---- faults
 
@@ -44,9 +45,9 @@ is_failed_read (Err fault) = is_read_fault fault
 -- ---- before the first step
 
 -- Where a head was read: its ends stand as they do before a step, and the heads of both captures wait
-abbrev pub IsBegun : (text left : Option (List ℕ)) → ScriptState → Standing → Type 0
+abbrev pub IsBegun : (text left : Option (List ℕ)) → ListState → Standing → Type 0
 IsBegun text left lines at =
-    Opens text left (Ok lines) × (at.pair ≡ new_pair lines.node_a lines.node_b)
+    Opens script_form.first_words text left (Ok lines) × (at.pair ≡ new_pair lines.node_a lines.node_b)
     × (at.a ≡ head_line One lines.node_a lines.node_b) × (at.b ≡ head_line One lines.node_b lines.node_a)
 
 -- Where no head was read: this text departs from one, or can't be read further behind a piece of its first line, or memory was wanting

@@ -16,8 +16,8 @@ use Rattle.capture.specs.Text.{head_line, record_lines}
 use Rattle.framer.specs.Framing.{Framing, framing, only_left}
 use Rattle.framer.specs.SoFar.{IsFramedSoFar}
 use Rattle.placing.specs.Placed.{Waiting, units_sent}
-use Rattle.wire_text.specs.SoFar.{IsReadSoFar}
-use Rattle.wire_text.specs.WireText.{PieceDeparts, Wire}
+use Rattle.capture.specs.Listed.{IsListSoFar}
+use Rattle.wire_text.specs.WireText.{PieceDeparts, Wire, wire_form}
 use Rattle.wire_tap.specs.Tapping.{Held, Taps}
 use Rattle.wire_tap.specs.Units.{bytes_of, messages}
 use Rattle.wire_tap.specs.inner.Side.{Aim, EndsAt, MovesOn, PassesBytes, SideState, UnitsState, aim, counted, side_state}
@@ -83,18 +83,18 @@ head_b wire = head_line One wire.node_b wire.node_a
 
 pub record IsLineUnderWay (text : Option (List ℕ)) (old : Held) (line : LineState) : Type 0 where
   pub wire : Wire
-  pub read : IsReadSoFar text wire line.come
-  pub count : length wire.pieces ≡ line.pieces
-  pub a : IsUnderWay (bytes_of A wire.pieces) (head_a wire) old.a line.now.a line.a
-  pub b : IsUnderWay (bytes_of B wire.pieces) (head_b wire) old.b line.now.b line.b
+  pub read : IsListSoFar wire_form text wire line.come
+  pub count : length wire.items ≡ line.pieces
+  pub a : IsUnderWay (bytes_of A wire.items) (head_a wire) old.a line.now.a line.a
+  pub b : IsUnderWay (bytes_of B wire.items) (head_b wire) old.b line.now.b line.b
 
 -- where no more is read, and this is to come
 pub record IsLineOver (text : Option (List ℕ)) (old : Held) (line : LineState) : Type 0 where
   pub wire : Wire
   pub come : Option (List ℕ)
-  pub read : IsReadSoFar text wire come
-  pub a : IsOver (bytes_of A wire.pieces) (head_a wire) old.a line.now.a line.a.units.waiting
-  pub b : IsOver (bytes_of B wire.pieces) (head_b wire) old.b line.now.b line.b.units.waiting
+  pub read : IsListSoFar wire_form text wire come
+  pub a : IsOver (bytes_of A wire.items) (head_a wire) old.a line.now.a line.a.units.waiting
+  pub b : IsOver (bytes_of B wire.items) (head_b wire) old.b line.now.b line.b.units.waiting
 
 -- the units of a side that have no record and don't wait
 abbrev pub others_at : {text : Option (List ℕ)} → {old : Held} → {line : LineState} → Side → IsLineOver text old line → List (List ℕ)
@@ -123,7 +123,7 @@ module _ {text : Option (List ℕ)} {old : Held} {line : LineState} (over : IsLi
   StopsAs last (stops.Ends (TooWide passed)) = EndsOver passed
   StopsAs last (stops.Ends (Asked passed)) = EndsOver passed × (last ≡ Some (passed.side, passed.unit))
   StopsAs last (stops.Text fault) =
-      IsAllOver × FaultShows (PieceDeparts (length over.wire.pieces)) (length over.wire.pieces + 2) over.come fault
+      IsAllOver × FaultShows (PieceDeparts (length over.wire.items)) (length over.wire.items + 2) over.come fault
       × (fault ≡ of_text.OutOfMemory → ⊥)
 
 -- ---- one turn

@@ -4,8 +4,9 @@ use Rattle.capture.specs.Lines.{to_come}
 use Rattle.pair_player.specs.inner.Beginning.{fault_of}
 use Rattle.pair_player.specs.inner.Making.{standing}
 use Rattle.pair_player.specs.Playing.{held}
+use Rattle.pair_player.specs.Step.{line_with}
 use Rattle.capture.specs.inner.Outlets.{outlet}
-use Rattle.pair_player.proofs.PlayLaws.{at_end, at_fault, ended, fails, lines_at_fault, lines_on, lines_stopped, moved_on, some_step, step_on}
+use Rattle.pair_player.proofs.PlayLaws.{at_end, at_fault, ended, fails, lines_at_fault, lines_on, lines_stopped, moved_on, step_on}
 use Rattle.pair_player.proofs.PlayLaws.{stopped, under_way}
 use Rattle.pair_player.proofs.playing.play_steps.Goals as goal
 
@@ -42,11 +43,10 @@ pub returns-in-Err-write_full-clause-plays : goal.returns-in-Err-write_full-clau
 returns-in-Err-write_full-clause-plays g c text is =
     let h = c.loop-steps.invariant.0 text is in
     let after = to_come c.advance.new.self.unread (g.R.Read.remaining (tally_lent c.advance.new.reader)) in
-    let advances = rw c.in-Ok-true.field-0-test at c.in-Ok-true.ensures.advances c.loop-steps.invariant.1 in
-    let some = some_step c.advance.new.self.step _ after advances.0 in
-    let made = c.in-Ok.ensures some.0 some.1 in
-    let on = step_on _ _ _ h some.0 c.advance.new.self after
-    (standing c.make_step.new.ends c.make_step.new.texts.a.items c.make_step.new.texts.b.items) some.1 advances made in
+    let advances = rw c.in-Ok-Some.field-0-is at c.in-Ok-Some.ensures.advances c.loop-steps.invariant.1 in
+    let step = line_with c.in-Ok-Some.line c.advance.new.self.bytes in
+    let on = step_on _ _ _ h step c.advance.new.self after
+    (standing c.make_step.new.ends c.make_step.new.texts.a.items c.make_step.new.texts.b.items) advances c.in-Ok.ensures in
     fails _ _ _ on c.in-Err-write_full.side (tally_faults c.loop-steps.a) (tally_faults c.loop-steps.b) (
       outlet c.write_full.new.self.a.items (g.A.Write.contents (tally_lent c.write_full.new.a)) (tally_faults c.write_full.new.a),
       outlet c.write_full.new.self.b.items (g.B.Write.contents (tally_lent c.write_full.new.b)) (tally_faults c.write_full.new.b),
@@ -56,25 +56,24 @@ pub returns-in-Err-make_step-clause-plays : goal.returns-in-Err-make_step-clause
 returns-in-Err-make_step-clause-plays g c text is =
     let h = c.loop-steps.invariant.0 text is in
     let after = to_come c.advance.new.self.unread (g.R.Read.remaining (tally_lent c.advance.new.reader)) in
-    let advances = rw c.in-Ok-true.field-0-test at c.in-Ok-true.ensures.advances c.loop-steps.invariant.1 in
-    let some = some_step c.advance.new.self.step _ after advances.0 in
-    let stops = c.in-Err-make_step.ensures some.0 some.1 in
-    stopped _ _ _ h some.0 c.advance.new.self after (standing c.make_step.new.ends c.make_step.new.texts.a.items c.make_step.new.texts.b.items)
+    let advances = rw c.in-Ok-Some.field-0-is at c.in-Ok-Some.ensures.advances c.loop-steps.invariant.1 in
+    let step = line_with c.in-Ok-Some.line c.advance.new.self.bytes in
+    stopped _ _ _ h step c.advance.new.self after (standing c.make_step.new.ends c.make_step.new.texts.a.items c.make_step.new.texts.b.items)
     c.in-Err-make_step.stop c.end.result
     (tally_faults c.loop-steps.a) (tally_faults c.loop-steps.b) (
       outlet c.end.new.texts.a.items (g.A.Write.contents (tally_lent c.end.new.a)) (tally_faults c.end.new.a),
       outlet c.end.new.texts.b.items (g.B.Write.contents (tally_lent c.end.new.b)) (tally_faults c.end.new.b),
-    ) some.1 advances stops (rw c.stop_fault.ensures at c.end.ensures)
+    ) advances c.in-Err-make_step.ensures (rw c.stop_fault.ensures at c.end.ensures)
 
-pub returns-in-Ok-false-clause-plays : goal.returns-in-Ok-false-clause-plays
-returns-in-Ok-false-clause-plays g c text is =
+pub returns-in-Ok-None-clause-plays : goal.returns-in-Ok-None-clause-plays
+returns-in-Ok-None-clause-plays g c text is =
     let h = c.loop-steps.invariant.0 text is in
     let after = to_come c.advance.new.self.unread (g.R.Read.remaining (tally_lent c.advance.new.reader)) in
-    let advances = rw c.in-Ok-false.field-0-test at c.in-Ok-false.ensures.advances c.loop-steps.invariant.1 in
-    ended _ _ _ h (Ok (record { steps = c.loop-steps.steps })) c.end-in-Ok-false.result (tally_faults c.loop-steps.a) (tally_faults c.loop-steps.b) (
-      outlet c.end-in-Ok-false.new.texts.a.items (g.A.Write.contents (tally_lent c.end-in-Ok-false.new.a)) (tally_faults c.end-in-Ok-false.new.a),
-      outlet c.end-in-Ok-false.new.texts.b.items (g.B.Write.contents (tally_lent c.end-in-Ok-false.new.b)) (tally_faults c.end-in-Ok-false.new.b),
-    ) (at_end _ _ _ h c.advance.new.self after advances) c.end-in-Ok-false.ensures
+    let advances = rw c.in-Ok-None.field-0-is at c.in-Ok-None.ensures.advances c.loop-steps.invariant.1 in
+    ended _ _ _ h (Ok (record { steps = c.loop-steps.steps })) c.end-in-Ok-None.result (tally_faults c.loop-steps.a) (tally_faults c.loop-steps.b) (
+      outlet c.end-in-Ok-None.new.texts.a.items (g.A.Write.contents (tally_lent c.end-in-Ok-None.new.a)) (tally_faults c.end-in-Ok-None.new.a),
+      outlet c.end-in-Ok-None.new.texts.b.items (g.B.Write.contents (tally_lent c.end-in-Ok-None.new.b)) (tally_faults c.end-in-Ok-None.new.b),
+    ) (at_end _ _ _ h c.advance.new.self after advances) c.end-in-Ok-None.ensures
 
 pub returns-in-Err-advance-clause-plays : goal.returns-in-Err-advance-clause-plays
 returns-in-Err-advance-clause-plays g c text is =
@@ -94,20 +93,19 @@ returns-in-Err-advance-clause-plays g c text is =
 pub loop-steps-preserved : goal.loop-steps-preserved
 loop-steps-preserved g c =
     let after = to_come c.advance.new.self.unread (g.R.Read.remaining (tally_lent c.advance.new.reader)) in
-    let advances = rw c.in-Ok-true.field-0-test at c.in-Ok-true.ensures.advances c.loop-steps.invariant.1 in
-    let some = some_step c.advance.new.self.step _ after advances.0 in
-    let made = c.in-Ok.ensures some.0 some.1 in
+    let advances = rw c.in-Ok-Some.field-0-is at c.in-Ok-Some.ensures.advances c.loop-steps.invariant.1 in
+    let step = line_with c.in-Ok-Some.line c.advance.new.self.bytes in
     let passes = c.in_default-write_full.ensures.writes in (
       λ text is.
           let h = c.loop-steps.invariant.0 text is in
-          let on = step_on _ _ _ h some.0 c.advance.new.self after
-          (standing c.make_step.new.ends c.make_step.new.texts.a.items c.make_step.new.texts.b.items) some.1 advances made in
+          let on = step_on _ _ _ h step c.advance.new.self after
+          (standing c.make_step.new.ends c.make_step.new.texts.a.items c.make_step.new.texts.b.items) advances c.in-Ok.ensures in
           moved_on _ _ _ on (held (g.A.Write.contents (tally_lent c.write_full.new.a)) (g.B.Write.contents (tally_lent c.write_full.new.b)))
           c.write_full.new.self.a.items c.write_full.new.self.b.items passes.0.over passes.1.over,
       advances.3,
       advances.2 ∙ ap (λ n. n + 1) c.loop-steps.invariant.2,
       (let few = advances.1 in let counted = c.loop-steps.invariant.2 in omega arith),
-      c.in-Ok-true.ensures.reads ∙ c.loop-steps.invariant.4,
+      c.in-Ok-Some.ensures.reads ∙ c.loop-steps.invariant.4,
       passes.0.faults ∙ c.loop-steps.invariant.5,
       passes.1.faults ∙ c.loop-steps.invariant.6,
     )
@@ -120,10 +118,10 @@ returns-in-Err-make_step-clause-lines g c text is =
 pub returns-in-Err-advance-clause-lines : goal.returns-in-Err-advance-clause-lines
 returns-in-Err-advance-clause-lines g c text is =
     let h = c.loop-steps.invariant.0 text is in
-    lines_at_fault _ (g.R.Read.remaining (tally_lent c.advance.new.reader)) _ _ h c.advance.new.self c.in-Err-advance.fault
+    lines_at_fault _ (g.R.Read.remaining (tally_lent c.advance.new.reader)) _ _ h c.in-Err-advance.fault
     c.end-in-Err-advance.result (tally_faults c.loop-steps.a) (tally_faults c.loop-steps.b) (
       outlet c.end-in-Err-advance.new.texts.a.items (g.A.Write.contents (tally_lent c.end-in-Err-advance.new.a))
           (tally_faults c.end-in-Err-advance.new.a),
       outlet c.end-in-Err-advance.new.texts.b.items (g.B.Write.contents (tally_lent c.end-in-Err-advance.new.b))
           (tally_faults c.end-in-Err-advance.new.b),
-    ) (c.in-Err-advance.ensures.advances c.loop-steps.invariant.1) (rw c.play_fault.ensures at c.end-in-Err-advance.ensures)
+    ) (c.in-Err-advance.ensures.advances c.loop-steps.invariant.1).0 (c.in-Err-advance.ensures.cut c.loop-steps.invariant.1) (rw c.play_fault.ensures at c.end-in-Err-advance.ensures)

@@ -18,7 +18,7 @@ invariant-loop-steps g l =
     (standing l.begun.ends l.begun.texts.a.items l.begun.texts.b.items)
     (held (g.A.Write.contents (tally_lent l.a)) (g.B.Write.contents (tally_lent l.b))) l.steps))
     × (l.begun.lines.phase ≡ Reading)
-    × (l.begun.lines.steps ≡ l.steps)
+    × (l.begun.lines.items ≡ l.steps)
     × (l.steps ≤ MAX_STEPS)
     × (tally_faults l.script ≡ tally_faults l.fn.script)
     × (tally_faults l.a ≡ tally_faults l.fn.a)

@@ -30,7 +30,7 @@ returns-in-Err-write_full-clause-turns g c was before after text old h advances 
 pub returns-in-Ok-Some-clause-turns : goal.returns-in-Ok-Some-clause-turns
 returns-in-Ok-Some-clause-turns g c was before after text old h advances =
     let p = rw c.bytes.ensures at (rw c.in-Ok-Some.field-0-is at c.in-Ok-Some.ensures) in (
-      c.args.reader.now.pieces,
+      c.args.reader.now.items,
       after,
       over_on text old _ h c.args.at.last c.args.at.side was c.args.reader.now refl after
           (side_state c.pass_piece.new.self.a) (side_state c.pass_piece.new.self.b) advances c.in-Ok-Some.ending p,

@@ -9,14 +9,14 @@ use Rattle.wire_tap.proofs.tapping.pass_pieces.Given as goal
 
 abbrev pub invariant-loop : goal.invariant-loop
 invariant-loop g l = record {
-  line : (text : Option (List ℕ)) (old : Held) → IsLineUnderWay text old (line_state l.fn.reader.pieces
+  line : (text : Option (List ℕ)) (old : Held) → IsLineUnderWay text old (line_state l.fn.reader.items
       (to_come l.fn.reader.unread (g.W.Read.remaining (tally_lent l.fn.wire))) l.fn.sides.a l.fn.sides.b
       (held (g.A.Write.contents (tally_lent l.fn.a)) (g.B.Write.contents (tally_lent l.fn.b))))
-      → IsLineUnderWay text old (line_state l.reader.pieces
+      → IsLineUnderWay text old (line_state l.reader.items
       (to_come l.reader.unread (g.W.Read.remaining (tally_lent l.wire))) l.sides.a l.sides.b
       (held (g.A.Write.contents (tally_lent l.a)) (g.B.Write.contents (tally_lent l.b))));
   reading : l.reader.phase ≡ Reading;
-  counted : l.reader.pieces ≡ l.counter;
+  counted : l.reader.items ≡ l.counter;
   few : l.counter ≤ MAX_PIECES;
   reads : tally_faults l.wire ≡ tally_faults l.fn.wire;
   writes_a : tally_faults l.a ≡ tally_faults l.fn.a;

@@ -48,7 +48,7 @@ returns-in-Text-clause-taps g c text old h =
           (held (g.A.Write.contents (tally_lent c.write_both.new.a)) (g.B.Write.contents (tally_lent c.write_both.new.b)))
           c.write_both.new.of_a.text c.write_both.new.of_b.text c.in_default-write_both.ensures.empty_a c.in_default-write_both.ensures.empty_b
           passes.0.over passes.1.over c.in-Text.fault stopped.2.1),
-      rw c.reading_fault.ensures (reads_text _ _ _ refl (PieceDeparts (length stopped.2.0.wire.pieces)) (length stopped.2.0.wire.pieces + 2)
+      rw c.reading_fault.ensures (reads_text _ _ _ refl (PieceDeparts (length stopped.2.0.wire.items)) (length stopped.2.0.wire.items + 2)
           stopped.2.0.come c.in-Text.fault stopped.2.1.1 (rw c.in-Text.is at c.in-Ok.ensures.reads)),
     )
 
