@@ -344,4 +344,3 @@ module _ (text left : Option (List ℕ)) (old : Held) (p : Place) (h : IsUnderWa
       )
       by_fault of_script.OutOfMemory shows cut = tt
       by_fault of_script.Failed shows cut = absurd shows
-

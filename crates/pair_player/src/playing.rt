@@ -89,7 +89,12 @@ fn play_steps<R: Read, A: Write, B: Write>(
     }
     for steps in 0..MAX_STEPS + 1 {
         match begun.lines.advance(script) {
-            Ok(Some(line)) => match make_step(line, &begun.lines, &mut begun.ends, &mut begun.texts) {
+            Ok(Some(line)) => match make_step(
+                line,
+                &begun.lines,
+                &mut begun.ends,
+                &mut begun.texts,
+            ) {
                 Ok(()) => {
                     if let Err(side) = begun.texts.write_full(a, b) {
                         return Err(PlayFault::Write { side });
