@@ -57,7 +57,7 @@ same_play a a' b b' steps steps' e f g = ap (λ (x : ℕ). play_of x b steps) e 
 
 -- ---- of a whole text
 
-script_of : Listed ScriptStep → Script
+abbrev script_of : Listed ScriptStep → Script
 script_of list = record { node_a = list.node_a; node_b = list.node_b; steps = list.items }
 
 -- a text has one script
