@@ -1,20 +1,18 @@
 -- The units in some bytes of a side, one after another.
-use Rattle.std.proofs.Common.{◌≡◌, ℕ, ◌+◌, ◌-◌, ◌<◌, ◌≤◌, ◌^◌, min, List, [], ◌∷◌, ◌++◌, length, Option, Some, None, refl, sym, ap, subst}
-use Rattle.std.proofs.Common.{◌∙◌, arith, append_assoc, append-nil, length-append}
+use Rattle.std.proofs.Common.{◌≡◌, ℕ, ◌+◌, ◌<◌, ◌≤◌, ◌^◌, List, [], ◌∷◌, ◌++◌, length, Option, Some, refl, sym, ap, subst}
+use Rattle.std.proofs.Common.{◌∙◌, arith, append-nil, length-append}
 use Rattle.std.specs.Prelude.{slice_index}
 use Rattle.wire_base.specs.declared.side.Side.{Side}
 use Rattle.framer.specs.declared.kind.Kind.{Kind}
-use Rattle.framer.specs.Framing.{Framing, framing, joined, kind_of, only_left, behind_strays, behind_unit}
-use Rattle.framer.specs.Given.{EndsWith, IsUnitFound, NoneFound}
+use Rattle.framer.specs.Framing.{Framing, framing, joined, kind_of}
+use Rattle.framer.specs.Given.{IsUnitFound}
 use Rattle.framer.specs.SoFar.{IsFramedSoFar, nothing, with_strays, with_unit}
-use Rattle.framer.proofs.Passing.{ends_on}
-use Rattle.framer.proofs.SoFarLaws.{strays_more, unit_more, whole}
-use Rattle.placing.specs.Placed.{Waiting}
+use Rattle.framer.proofs.SoFarLaws.{strays_more, unit_more}
 use Rattle.wire_tap.specs.Units.{message_of, messages}
 use Rattle.wire_tap.specs.declared.tapped.Ending.{Ending}
 use Rattle.wire_tap.specs.declared.tapped.Ending.TheVariants.{Whole, Unplaced, TooWide, Asked}
 use Rattle.wire_tap.specs.declared.tapped.Passed.{Passed}
-use Rattle.wire_tap.specs.inner.Side.{Aim, EndsAt, EndsWithUnit, IsUnitAt, MayEndAt, MovesOn, PassUnits, PassesAll, PassesFound}
+use Rattle.wire_tap.specs.inner.Side.{Aim, EndsAt, EndsWithUnit, IsUnitAt, MayEndAt, PassUnits, PassesAll, PassesFound}
 use Rattle.wire_tap.specs.inner.Side.{PassesNone, PassesSome, PassesUnit, SideState, UnitsState}
 use Rattle.wire_tap.proofs.MoveLaws.{messages-append, pass_from, pass_nothing, pass_then}
 

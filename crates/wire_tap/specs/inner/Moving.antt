@@ -20,7 +20,7 @@ use Rattle.capture.specs.Listed.{IsListSoFar}
 use Rattle.wire_text.specs.WireText.{PieceDeparts, Wire, wire_form}
 use Rattle.wire_tap.specs.Tapping.{Held, Taps}
 use Rattle.wire_tap.specs.Units.{bytes_of, messages}
-use Rattle.wire_tap.specs.inner.Side.{Aim, EndsAt, MovesOn, PassesBytes, SideState, UnitsState, aim, counted, side_state}
+use Rattle.wire_tap.specs.inner.Side.{MovesOn, PassesBytes, SideState, aim, counted, side_state}
 use Rattle.wire_tap.specs.declared.fault.TapFault.{TapFault}
 use Rattle.wire_tap.specs.declared.fault.TapFault.TheVariants as faults
 use Rattle.wire_tap.specs.declared.side_tap.SideTap.{SideTap}

@@ -1,5 +1,3 @@
-use Rattle.std.proofs.Common.{List, ℕ, [], sym, append-nil}
-use Rattle.capture.specs.Paged.{HandsOver}
 use Rattle.capture.proofs.OverLaws.{begun_over, whole_over}
 use Rattle.wire_tap.proofs.outlet.write_heads.Goals as goal
 

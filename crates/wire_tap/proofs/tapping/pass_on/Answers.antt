@@ -1,7 +1,6 @@
-use Rattle.std.proofs.Common.{Some, None, refl}
+use Rattle.std.proofs.Common.{refl}
 use Rattle.wire_base.specs.Tally.{tally_faults, tally_lent}
 use Rattle.wire_tap.specs.Tapping.{held}
-use Rattle.wire_tap.specs.inner.Moving.{line_state}
 use Rattle.capture.specs.inner.Outlets.{outlet}
 use Rattle.wire_tap.specs.inner.Side.{side_state}
 use Rattle.wire_tap.proofs.EndLaws.{fails, refused}

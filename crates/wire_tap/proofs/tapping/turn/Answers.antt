@@ -1,4 +1,4 @@
-use Rattle.std.proofs.Common.{Some, None, refl, ap, Err}
+use Rattle.std.proofs.Common.{ap, Err}
 use Rattle.wire_base.specs.Tally.{tally_lent}
 use Rattle.capture.specs.Lines.{to_come}
 use Rattle.wire_tap.proofs.LineLaws.{line_departs, line_ends}

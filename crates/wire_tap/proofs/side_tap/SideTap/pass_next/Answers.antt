@@ -1,5 +1,4 @@
-use Rattle.std.proofs.Common.{◌++◌}
-use Rattle.wire_tap.specs.inner.Side.{aim, side_state, units_state}
+use Rattle.wire_tap.specs.inner.Side.{side_state, units_state}
 use Rattle.wire_tap.proofs.PassLaws.{ends_found}
 use Rattle.wire_tap.proofs.side_tap.SideTap.pass_next.Goals as goal
 
