@@ -78,20 +78,26 @@ module _ {Item : Type 0} (form : ListForm Item) (lines : AreLinesOf form) where
   no_end_departure items kind (inr d) = let ended_line = d.1.ended in cc
 
   -- where a head's line comes first, nothing departs
+  head_first : (node_a node_b : ℕ) (rest : List ℕ) → IsNode node_a → IsNode node_b →
+      (first_line (ended (list_head form.first_words node_a node_b) ++ rest) ≡ list_head form.first_words node_a node_b)
+      × (has_lf (ended (list_head form.first_words node_a node_b) ++ rest) ≡ true)
+  head_first node_a node_b rest p q =
+      ended_first (list_head form.first_words node_a node_b) rest (head_lacks form.first_words node_a node_b (first_words form lines) p q)
+
   pub no_head_departure : (kind : Departure) (node_a node_b : ℕ) (rest : List ℕ) → IsNode node_a → IsNode node_b →
       ListHeadDeparts form.first_words kind (ended (list_head form.first_words node_a node_b) ++ rest) → ⊥
   no_head_departure TooMany node_a node_b rest p q d = d
   no_head_departure TooLong node_a node_b rest p q d =
-      let first = ended_first (list_head form.first_words node_a node_b) rest (head_lacks form.first_words node_a node_b (first_words form lines) p q) in
+      let first = head_first node_a node_b rest p q in
       let short = head_short form.first_words node_a node_b (first_words form lines) p q in
       omega (arith, ap length first.0)
   no_head_departure Syntax node_a node_b rest p q (inl d) =
-      let first = ended_first (list_head form.first_words node_a node_b) rest (head_lacks form.first_words node_a node_b (first_words form lines) p q) in
+      let first = head_first node_a node_b rest p q in
       let open_line = d.1 in
       let ended_line = first.1 in
       cc
   no_head_departure Syntax node_a node_b rest p q (inr d) =
-      let first = ended_first (list_head form.first_words node_a node_b) rest (head_lacks form.first_words node_a node_b (first_words form lines) p q) in
+      let first = head_first node_a node_b rest p q in
       let none : IsNoHead form.first_words (list_head form.first_words node_a node_b) = subst (IsNoHead form.first_words) first.0 d.1 in
       none node_a node_b p q refl
 

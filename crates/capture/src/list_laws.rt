@@ -4,7 +4,8 @@ ghost use Rattle.std.specs.Prelude.{◌≡◌, ℕ, ◌<◌, [], length, List, O
 ghost use Rattle.std.specs.Io.KnownBytes.{Consumes, IsAtEnd};
 ghost use Rattle.capture.specs.declared.fault.Departure.{Departure as Kind};
 ghost use Rattle.capture.specs.Lines.{to_come};
-ghost use Rattle.capture.specs.Listed.{BeginsWithList, IsBeginningOf, IsListSoFar, ItemDeparts, ListHeadDeparts, Listed, item_line, no_items, with_item};
+ghost use Rattle.capture.specs.Listed.{BeginsWithList, IsBeginningOf, IsListSoFar, ItemDeparts, ListHeadDeparts, Listed};
+ghost use Rattle.capture.specs.Listed.{item_line, no_items, with_item};
 ghost use Rattle.capture.specs.ListReader.{ListState, Opens};
 
 use crate::list_item::ListItem;
