@@ -34,7 +34,8 @@ unfolding line_at
 line_shows text =
     shows_must (IsLineOf script_form text) (IsLongLineOf text) (side_at text) _ (λ parts cut.
     let front = side_takes text parts cut in
-    shows_map (IsStepOf parts.1) (IsLongStepOf parts.1) (IsLineOf script_form text) (IsLongLineOf text) (at_side parts.0) (step_at parts.1) (step_shows parts.1)
+    shows_map (IsStepOf parts.1) (IsLongStepOf parts.1) (IsLineOf script_form text) (IsLongLineOf text) (at_side parts.0) (step_at parts.1)
+    (step_shows parts.1)
     (λ step h. record {
       fits = record { spelling = record { numbers = h.1; bytes = h.2 }; short = h.3 };
       spelled = front ∙ ap (spaced (side_letter parts.0)) h.0;

@@ -124,4 +124,5 @@ returns-in-Err-advance-clause-lines g c text is =
           (tally_faults c.end-in-Err-advance.new.a),
       outlet c.end-in-Err-advance.new.texts.b.items (g.B.Write.contents (tally_lent c.end-in-Err-advance.new.b))
           (tally_faults c.end-in-Err-advance.new.b),
-    ) (c.in-Err-advance.ensures.advances c.loop-steps.invariant.1).0 (c.in-Err-advance.ensures.cut c.loop-steps.invariant.1) (rw c.play_fault.ensures at c.end-in-Err-advance.ensures)
+    ) (c.in-Err-advance.ensures.advances c.loop-steps.invariant.1).0 (c.in-Err-advance.ensures.cut c.loop-steps.invariant.1)
+    (rw c.play_fault.ensures at c.end-in-Err-advance.ensures)
