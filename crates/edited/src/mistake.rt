@@ -76,15 +76,17 @@ impl fmt::Display for MistakeOf {
         let side = self.side;
         match self.mistake {
             Mistake::WrongLetter { line, kept } => write_letter(f, side, line, kept),
-            Mistake::SentMissing { before, unit, like } => write_sent(f, side, before, unit, like),
+            Mistake::SentMissing { before, unit, like } => {
+                write_sent(f, unit_missing(side, before, unit, like))
+            }
             Mistake::ReceiptMissing {
                 before,
                 kept,
                 unit,
                 like,
-            } => write_receipt(f, side, before, kept, unit, like),
+            } => write_receipt(f, unit_missing(side, before, unit, like), kept),
             Mistake::DamagedMissing { before, unit, like } => {
-                write_damaged(f, side, before, unit, like)
+                write_damaged(f, unit_missing(side, before, unit, like))
             }
             Mistake::NoiseMissing { before } => write_missing(f, side, "an `n` line", before),
             Mistake::UserMissing { before, entry } => write_user_line(f, side, entry, before),
@@ -130,29 +132,39 @@ fn write_missing<W: fmt::Write>(
     write!(f, "{what} is missing before line {before} of {side}")
 }
 
-fn write_sent<W: fmt::Write>(
-    f: &mut fmt::Formatter<W>,
+// A line of a unit that is missing before a line of a side, and the line of the other side that tells of the unit.
+#[derive(Clone, Copy)]
+struct Missing {
     side: Side,
     before: u64,
     unit: u64,
     like: u64,
-) -> fmt::Result {
-    write_missing(f, side, "an `s` line", before)?;
-    let other = side.other();
+}
+
+fn unit_missing(side: Side, before: u64, unit: u64, like: u64) -> Missing {
+    Missing {
+        side,
+        before,
+        unit,
+        like,
+    }
+}
+
+fn write_sent<W: fmt::Write>(f: &mut fmt::Formatter<W>, missing: Missing) -> fmt::Result {
+    write_missing(f, missing.side, "an `s` line", missing.before)?;
+    let (unit, like) = (missing.unit, missing.like);
+    let other = missing.side.other();
     write!(f, ": unit {unit}, with the bytes of line {like} of {other}")
 }
 
-// With the unit of the other side, and the line there that has its bytes.
 fn write_receipt<W: fmt::Write>(
     f: &mut fmt::Formatter<W>,
-    side: Side,
-    before: u64,
+    missing: Missing,
     kept: bool,
-    unit: u64,
-    like: u64,
 ) -> fmt::Result {
-    write_missing(f, side, receipt_line(kept), before)?;
-    let other = side.other();
+    write_missing(f, missing.side, receipt_line(kept), missing.before)?;
+    let (unit, like) = (missing.unit, missing.like);
+    let other = missing.side.other();
     write!(
         f,
         ": unit {unit} of {other}, with the bytes of line {like} of {other}"
@@ -163,15 +175,11 @@ fn receipt_line(kept: bool) -> &'static str {
     if kept { "a `k` line" } else { "a `r` line" }
 }
 
-fn write_damaged<W: fmt::Write>(
-    f: &mut fmt::Formatter<W>,
-    side: Side,
-    before: u64,
-    unit: u64,
-    like: u64,
-) -> fmt::Result {
-    write_missing(f, side, "the `r` line of a damaged unit", before)?;
-    let other = side.other();
+fn write_damaged<W: fmt::Write>(f: &mut fmt::Formatter<W>, missing: Missing) -> fmt::Result {
+    let what = "the `r` line of a damaged unit";
+    write_missing(f, missing.side, what, missing.before)?;
+    let (unit, like) = (missing.unit, missing.like);
+    let other = missing.side.other();
     write!(
         f,
         ": unit {unit} of {other}, sent in line {like} of {other}"
