@@ -12,12 +12,13 @@ use Rattle.pair_judge.specs.Judged.{AcceptsOrFails, Answer, IfTold, IsAnswer, Is
 use Rattle.pair_player.specs.declared.fault.PlayFault.{PlayFault}
 use Rattle.pair_player.specs.declared.fault.PlayFault.TheVariants.{Departs, BadStep, Full, Read, Write, OutOfMemory}
 use Rattle.pair_player.specs.declared.played.Played.{Played}
-use Rattle.pair_player.specs.Playing.{HasPlayed, HasWritten, Held, Plays, PlaysTo, Reached, held, text_a, text_b}
+use Rattle.pair_player.specs.Playing.{HasPlayed, HasWritten, Held, Plays, Reached, held, text_a, text_b}
 use Rattle.pair_player.specs.Runs.{AreARun, StartsOnceThroughout}
 use Rattle.pair_player.proofs.RunLaws.{a_run}
 use Rattle.ddcap.specs.Accepting.{HasCaptures, IsAcceptedStatus, PlaysThenChecks, empty_captures}
 use Rattle.ddcap.specs.Playing.{TellsPlayed}
 use Rattle.ddcap.specs.Printed.{Moved, Prints, verdict_text}
+use Rattle.ddcap.proofs.PlayedBehind.{behind_the_head}
 
 -- ---- of what was played
 
@@ -37,20 +38,11 @@ reached text r written answer h once wrote judged =
 
 -- ---- of what was answered
 
-module _ (text : Option (List ℕ)) (written : Held) (answer : Answer) (once : StartsOnceThroughout text)
-    (judged : IsAnswer both_layers written.a written.b answer) where
-  played_to : {Behind : Reached → Type 0} → PlaysTo text empty_captures written Behind → AcceptsOrFails answer
-  played_to plays = reached text plays.0 written answer plays.1 (once plays.0 plays.1) plays.2 judged
-
-  pub answered : (played : Result Played PlayFault) → Plays text empty_captures written played → HasCaptures played → AcceptsOrFails answer
-  answered (Ok played) plays has = played_to plays
-  answered (Err (Departs kind line)) (inl head) has = let first = head.0.line_is in absurd (omega arith)
-  answered (Err (Departs kind line)) (inr plays) has = played_to plays
-  answered (Err (BadStep line)) plays has = played_to plays
-  answered (Err (Full line)) plays has = played_to plays
-  answered (Err Read) plays has = absurd has
-  answered (Err (Write side)) plays has = absurd has
-  answered (Err OutOfMemory) plays has = absurd has
+pub answered : (text : Option (List ℕ)) (written : Held) (answer : Answer) → StartsOnceThroughout text →
+    IsAnswer both_layers written.a written.b answer → (played : Result Played PlayFault) → Plays text empty_captures written played →
+    HasCaptures played → AcceptsOrFails answer
+answered text written answer once judged =
+    behind_the_head (AcceptsOrFails answer) text written (λ r h wrote. reached text r written answer h (once r h) wrote judged)
 
 -- ---- of what is printed
 

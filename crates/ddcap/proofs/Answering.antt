@@ -8,7 +8,7 @@ use Rattle.pair_judge.specs.declared.fault.JudgeFault.TheVariants.{Capture, OutO
 use Rattle.pair_judge.specs.declared.fault.TextFault.TheVariants.{Departs, Read}
 use Rattle.pair_judge.specs.declared.verdict.Verdict.{Verdict}
 use Rattle.pair_judge.specs.Faulty.{is_failed_read_of}
-use Rattle.pair_judge.specs.Judged.{IfTold, IsAcceptance, IsAnswer, IsExact, IsFaultyWhere}
+use Rattle.pair_judge.specs.Judged.{IfTold, IsAcceptance, IsAnswer, IsExact}
 use Rattle.ddcap.specs.Printed.{Checks, Moved, TellsFault}
 
 module _ (nodes : NodeKind) where
@@ -17,29 +17,18 @@ module _ (nodes : NodeKind) where
   no_text (Some bytes_a) None = tt
   no_text (Some bytes_a) (Some bytes_b) = λ head_a head_b of_a of_b is_a is_b run. tt
 
-  pub nothing_accepted : (text_a text_b : Option (List ℕ)) (fault : JudgeFault) →
-      IfTold text_a text_b (λ bytes_a bytes_b. IsAcceptance nodes bytes_a bytes_b (Err fault))
-  nothing_accepted None text_b fault = tt
-  nothing_accepted (Some bytes_a) None fault = tt
-  nothing_accepted (Some bytes_a) (Some bytes_b) fault = tt
+  nothing_accepted : (text_a text_b : Option (List ℕ)) →
+      IfTold text_a text_b (λ bytes_a bytes_b. IsAcceptance nodes bytes_a bytes_b (Err OutOfMemory))
+  nothing_accepted None text_b = tt
+  nothing_accepted (Some bytes_a) None = tt
+  nothing_accepted (Some bytes_a) (Some bytes_b) = tt
 
   pub without_memory : (text_a text_b : Option (List ℕ)) → IsAnswer nodes text_a text_b (Err OutOfMemory)
   without_memory text_a text_b = record {
     exact = no_text text_a text_b;
-    accepted = nothing_accepted text_a text_b OutOfMemory;
+    accepted = nothing_accepted text_a text_b;
     refused = tt;
     faulty = tt;
-  }
-
-  -- what the judge says of a fault
-  pub answered_fault : (text_a text_b : Option (List ℕ)) (fault : JudgeFault) →
-      IfTold text_a text_b (λ bytes_a bytes_b. IsExact nodes bytes_a bytes_b (Err fault)) → IsFaultyWhere nodes text_a text_b (Err fault) →
-      IsAnswer nodes text_a text_b (Err fault)
-  answered_fault text_a text_b fault exact faulty = record {
-    exact = exact;
-    accepted = nothing_accepted text_a text_b fault;
-    refused = tt;
-    faulty = faulty;
   }
 
   module _ (text : Verdict → List ℕ) where

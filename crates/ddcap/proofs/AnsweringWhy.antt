@@ -1,8 +1,8 @@
 -- What is printed where both ends are told, and where there was no memory for the text.
-use Rattle.std.proofs.Common.{◌≡◌, ◌⊎◌, ℕ, List, Option, Ok, Err, inl, inr, sym, subst}
+use Rattle.std.proofs.Common.{◌≡◌, ℕ, List, Option, Ok, Err, inl, inr, sym, subst}
 use Rattle.dna_node.specs.Kind.{both_layers}
 use Rattle.pair_judge.specs.Ends.{ShownEnds, StandsFor}
-use Rattle.pair_judge.specs.Judged.{IsAnswer}
+use Rattle.pair_judge.specs.Judged.{Answer, IsAnswer}
 use Rattle.pair_judge.specs.declared.fault.JudgeFault.{JudgeFault}
 use Rattle.pair_judge.specs.declared.fault.JudgeFault.TheVariants.{OutOfMemory}
 use Rattle.pair_judge.specs.declared.summary.Summary.{Summary}
@@ -14,9 +14,13 @@ use Rattle.ddcap.specs.declared.telling.Form.{Form}
 use Rattle.ddcap.specs.declared.telling.Refused.{Refused}
 use Rattle.ddcap.proofs.Answering.{without_memory}
 
--- a fact of what is lent is one of what it is lent from
-pub carried : {X : Type 0} {x y : X} → x ≡ y → (F : X → Type 0) → F x → F y
-carried same F h = subst F same h
+-- what is said of what two readers lend is said of what they are lent
+module _ {X Y : Type 0} {x x' : X} {y y' : Y} (is_x : x ≡ x') (is_y : y ≡ y') where
+  pub judged_there : (read_x : X → Option (List ℕ)) (read_y : Y → Option (List ℕ)) (answer : Answer) →
+      IsAnswer both_layers (read_x x) (read_y y) answer → IsAnswer both_layers (read_x x') (read_y y') answer
+  judged_there read_x read_y answer judged =
+      subst (λ (lent : Y). IsAnswer both_layers (read_x x') (read_y lent) answer) is_y
+      (subst (λ (lent : X). IsAnswer both_layers (read_x lent) (read_y y) answer) is_x judged)
 
 module _ (form : Form) (text_a text_b : Option (List ℕ)) (out err : Moved) (status : ℕ) where
   pub explains_nothing : TellsFault err OutOfMemory status → out.new ≡ out.old → Explains form text_a text_b (out, err) status

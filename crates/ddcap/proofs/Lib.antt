@@ -4,6 +4,7 @@ pub mod Pictures
 pub mod Answering
 pub mod AnsweringAlone
 pub mod AcceptLaws
+mod PlayedBehind
 mod TextsStand
 mod InTwo
 pub mod Rungs

@@ -1,5 +1,5 @@
 -- What is printed of the captures that a tap wrote.
-use Rattle.std.proofs.Common.{◌≡◌, ℕ, List, Err, Ok, inl, inr, refl, Result}
+use Rattle.std.proofs.Common.{◌≡◌, ℕ, List, Err, Ok, inl, inr, subst, Result}
 use Rattle.capture.specs.Faulty.{CountsReads}
 use Rattle.wire_base.specs.declared.side.Side.TheVariants.{A, B}
 use Rattle.dna_node.specs.Kind.{NodeKind}
@@ -13,7 +13,7 @@ use Rattle.wire_tap.specs.declared.tapped.Tapped.{Tapped}
 use Rattle.tap_answer.specs.Telling.{telling}
 use Rattle.tap_answer.specs.declared.told.Told.{Told}
 use Rattle.tap_answer.specs.declared.told.Told.TheVariants.{Accepted, Unexplained, UnexplainedEnd, TooWide}
-use Rattle.ddcap.specs.Printed.{TellsFault}
+use Rattle.ddcap.specs.Printed.{Moved, TellsFault}
 use Rattle.ddcap.specs.declared.tap.RefusedAt.{RefusedAt}
 use Rattle.ddcap.specs.PrintedTap.{ChecksTap, IsRefusedAt, Streams}
 use Rattle.ddcap.specs.inner.TapParts.{TellsNoMemory, TellsTold, both_streams}
@@ -26,6 +26,10 @@ told_there words tapped s Accepted status told = told
 told_there words tapped s (Unexplained passed reason) status told = told
 told_there words tapped s (UnexplainedEnd reason) status told = told
 told_there words tapped s (TooWide passed) status told = told
+
+pub told_as : (words : List ℕ) (tapped : Tapped) (out err : Moved) (status : ℕ) {said told : Told} → said ≡ told →
+    TellsTold words tapped (both_streams out err) said status → TellsTold words tapped (both_streams out err) told status
+told_as words tapped out err status is = subst (λ (each : Told). TellsTold words tapped (both_streams out err) each status) is
 
 module _ (nodes : NodeKind) (text : Verdict → List ℕ) (tapped : Tapped) (s : Streams) where
   abbrev pub CountsOf : Result Verdict JudgeFault → Type 0

@@ -10,12 +10,13 @@ use Rattle.pair_judge.specs.declared.fault.TextFault.TheVariants as of_text
 use Rattle.dna_node.specs.Kind.{both_layers}
 use Rattle.pair_judge.specs.Judged.{Answer, IsAnswer, IsFaultyWhere}
 use Rattle.pair_player.specs.declared.fault.PlayFault.{PlayFault}
-use Rattle.pair_player.specs.declared.fault.PlayFault.TheVariants.{Departs, BadStep, Full, Read, Write, OutOfMemory}
+use Rattle.pair_player.specs.declared.fault.PlayFault.TheVariants.{Departs}
 use Rattle.pair_player.specs.declared.played.Played.{Played}
-use Rattle.pair_player.specs.Playing.{HasPlayed, HasWritten, Held, Plays, PlaysTo, Reached, text_a, text_b}
+use Rattle.pair_player.specs.Playing.{HasPlayed, HasWritten, Held, Plays, Reached, text_a, text_b}
 use Rattle.pair_player.specs.Runs.{AreTexts}
 use Rattle.pair_player.proofs.RunLaws.{all_texts}
 use Rattle.ddcap.specs.Accepting.{HasCaptures, NamesNoText, empty_captures}
+use Rattle.ddcap.proofs.PlayedBehind.{behind_the_head}
 
 -- ---- of what was played
 
@@ -49,19 +50,10 @@ reached text r written answer h wrote judged = told r (all_texts text r h) writt
 
 -- ---- of what was answered
 
-module _ (text : Option (List ℕ)) (written : Held) (answer : Answer) (judged : IsAnswer both_layers written.a written.b answer) where
-  played_to : {Behind : Reached → Type 0} → PlaysTo text empty_captures written Behind → NamesNoText answer
-  played_to plays = reached text plays.0 written answer plays.1 plays.2 judged
-
-  pub answered : (played : Result Played PlayFault) → Plays text empty_captures written played → HasCaptures played → NamesNoText answer
-  answered (Ok played) plays has = played_to plays
-  answered (Err (Departs kind line)) (inl head) has = let first = head.0.line_is in absurd (omega arith)
-  answered (Err (Departs kind line)) (inr plays) has = played_to plays
-  answered (Err (BadStep line)) plays has = played_to plays
-  answered (Err (Full line)) plays has = played_to plays
-  answered (Err Read) plays has = absurd has
-  answered (Err (Write side)) plays has = absurd has
-  answered (Err OutOfMemory) plays has = absurd has
+pub answered : (text : Option (List ℕ)) (written : Held) (answer : Answer) → IsAnswer both_layers written.a written.b answer →
+    (played : Result Played PlayFault) → Plays text empty_captures written played → HasCaptures played → NamesNoText answer
+answered text written answer judged =
+    behind_the_head (NamesNoText answer) text written (λ r h wrote. reached text r written answer h wrote judged)
 
 -- ---- a row: where the head of a script departs, no capture is there
 

@@ -49,16 +49,17 @@ refused_text side place reason =
     codes "refused " ++ (side_letter side ++ (codes " " ++ (decimal place ++ (codes " line " ++ (decimal (place + 2)
     ++ (codes ": " ++ (decimal (reason_number reason) ++ (codes " " ++ (reason_name reason ++ codes "\n")))))))))
 
--- `accepted`, and a line a side; or what is refused
+-- `accepted`, and a line a side, as it is told here; or what is refused
+abbrev pub verdict_text_by : (line : Side → SideSummary → List ℕ) → Verdict → List ℕ
+verdict_text_by line (Accepted summary) = codes "accepted\n" ++ (line A summary.a ++ (codes "\n" ++ (line B summary.b ++ codes "\n")))
+verdict_text_by line (Refused side place reason) = refused_text side place reason
+
 abbrev pub verdict_text : Verdict → List ℕ
-verdict_text (Accepted summary) = codes "accepted\n" ++ (side_line A summary.a ++ (codes "\n" ++ (side_line B summary.b ++ codes "\n")))
-verdict_text (Refused side place reason) = refused_text side place reason
+verdict_text = verdict_text_by side_line
 
 -- the same of stations alone
 abbrev pub line_verdict_text : Verdict → List ℕ
-line_verdict_text (Accepted summary) =
-    codes "accepted\n" ++ (station_line A summary.a ++ (codes "\n" ++ (station_line B summary.b ++ codes "\n")))
-line_verdict_text (Refused side place reason) = refused_text side place reason
+line_verdict_text = verdict_text_by station_line
 
 -- what was wrong with a text, behind its side
 abbrev pub text_fault : TextFault → List ℕ

@@ -1,6 +1,7 @@
 -- What `alone` prints of an answer of the judge of one end, byte by byte, and with which status it ends.
 use Rattle.std.specs.Prelude.{◌≡◌, ℕ, ◌+◌, ◌⊎◌, List, ◌++◌, Ok, Err, codes}
 use Rattle.std.specs.Fmt.{decimal}
+use Rattle.wire_base.specs.declared.side.Side.{Side}
 use Rattle.wire_base.specs.declared.side.Side.TheVariants.{A}
 use Rattle.capture.specs.declared.fault.CaptureFault.{CaptureFault}
 use Rattle.capture.specs.declared.fault.CaptureFault.TheVariants.{Departs, Read, OutOfMemory, Failed}
@@ -10,6 +11,7 @@ use Rattle.pair_judge.specs.declared.end_verdict.Accused.TheVariants.{ThisEnd, O
 use Rattle.pair_judge.specs.declared.end_verdict.EndVerdict.{EndVerdict}
 use Rattle.pair_judge.specs.declared.end_verdict.EndVerdict.TheVariants.{Passed, Refused}
 use Rattle.pair_judge.specs.declared.reason.Reason.{Reason}
+use Rattle.pair_judge.specs.declared.summary.SideSummary.{SideSummary}
 use Rattle.pair_judge.specs.EndJudged.{EndAnswer, IsJudgedAlone}
 use Rattle.pair_judge.specs.EndKind.{EndKind}
 use Rattle.pair_judge.specs.Reason.{reason_name, reason_number}
@@ -27,15 +29,17 @@ refused_alone_text place accused reason =
     codes "refused a " ++ (decimal place ++ (codes " line " ++ (decimal (place + 2) ++ (codes ": " ++ (decimal (reason_number reason)
     ++ (codes " " ++ (reason_name reason ++ by_whom accused)))))))
 
--- `passed`, and a line of counts; or what is refused
+-- `passed`, and a line of counts, as it is told here; or what is refused
+abbrev pub end_text_by : (line : Side → SideSummary → List ℕ) → EndVerdict → List ℕ
+end_text_by line (Passed counts) = codes "passed\n" ++ (line A counts ++ codes "\n")
+end_text_by line (Refused place accused reason) = refused_alone_text place accused reason
+
 abbrev pub end_text : EndVerdict → List ℕ
-end_text (Passed counts) = codes "passed\n" ++ (side_line A counts ++ codes "\n")
-end_text (Refused place accused reason) = refused_alone_text place accused reason
+end_text = end_text_by side_line
 
 -- the same of a station alone
 abbrev pub line_end_text : EndVerdict → List ℕ
-line_end_text (Passed counts) = codes "passed\n" ++ (station_line A counts ++ codes "\n")
-line_end_text (Refused place accused reason) = refused_alone_text place accused reason
+line_end_text = end_text_by station_line
 
 -- 0: passed; 1: refused
 abbrev pub end_status : EndVerdict → ℕ

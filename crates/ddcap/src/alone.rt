@@ -6,12 +6,13 @@ ghost use Rattle.pair_judge.specs.EndKind.{layers_alone, station_alone};
 ghost use Rattle.ddcap.specs.Printed.{moved};
 ghost use Rattle.ddcap.specs.PrintedAlone.{ChecksEnd, TellsEndFault};
 ghost use Rattle.ddcap.specs.PrintedAlone.{end_text as end_text_of, line_end_text as line_end_text_of};
+ghost use Rattle.ddcap.specs.inner.Layers.{end_of, end_text_over};
 
 use crate::check::{print, print_failed_read, print_out_of_memory};
-use crate::end_text::{end_status, end_text, line_end_text};
+use crate::end_text::{end_status, end_text};
+use crate::layers::{Layers, judge_end_over};
 use crate::text::{FAULTY, line_fault_text};
 use capture::CaptureFault;
-use pair_judge::{judge_end, judge_line_end};
 use std::alloc::Global;
 use std::io::{Read, Write};
 use wire_base::{Side, Tally};
@@ -31,13 +32,7 @@ pub fn alone_to<A: Read, O: Write, E: Write>(
     ensures { ChecksEnd layers_alone end_text_of (moved A.remaining a.old a.new) (moved O.contents out.old out.new)
         (moved E.contents err.old err.new) result }
 {
-    match judge_end(alloc, a) {
-        Ok(verdict) => match end_text(alloc, verdict) {
-            Ok(text) => print(out, text.as_bytes(), end_status(verdict)),
-            Err(_) => print_out_of_memory(err),
-        },
-        Err(fault) => print_end_fault(alloc, fault, err),
-    }
+    alone_over(alloc, Layers::Both, a, out, err)
 }
 
 /// Judges station and line alone, and prints the answer as `alone_to` does, but that the line of counts ends with the periods.
@@ -50,8 +45,22 @@ pub fn alone_line_to<A: Read, O: Write, E: Write>(
     ensures { ChecksEnd station_alone line_end_text_of (moved A.remaining a.old a.new) (moved O.contents out.old out.new)
         (moved E.contents err.old err.new) result }
 {
-    match judge_line_end(alloc, a) {
-        Ok(verdict) => match line_end_text(alloc, verdict) {
+    alone_over(alloc, Layers::Station, a, out, err)
+}
+
+// The same over these layers.
+fn alone_over<A: Read, O: Write, E: Write>(
+    alloc: Global,
+    layers: Layers,
+    a: &mut Tally<A>,
+    out: &mut Tally<O>,
+    err: &mut Tally<E>,
+) -> u8
+    ensures { ChecksEnd (end_of layers) (end_text_over layers) (moved A.remaining a.old a.new) (moved O.contents out.old out.new)
+        (moved E.contents err.old err.new) result }
+{
+    match judge_end_over(alloc, layers, a) {
+        Ok(verdict) => match end_text(alloc, layers, verdict) {
             Ok(text) => print(out, text.as_bytes(), end_status(verdict)),
             Err(_) => print_out_of_memory(err),
         },

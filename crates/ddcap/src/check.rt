@@ -5,11 +5,11 @@ ghost use Rattle.pair_judge.specs.declared.fault.TextFault.TheVariants.{Read as 
 ghost use Rattle.dna_node.specs.Kind.{both_layers, stations_alone};
 ghost use Rattle.ddcap.specs.Printed.{Checks, TellsFault, Writes, moved, stream_of};
 ghost use Rattle.ddcap.specs.Printed.{fault_text as text_of, line_verdict_text as line_verdict_text_of, verdict_text as verdict_text_of};
+ghost use Rattle.ddcap.specs.inner.Layers.{nodes_of, verdict_text_over};
 
-use crate::text::{
-    FAILED, FAULTY, line_fault_text, line_verdict_text, verdict_status, verdict_text,
-};
-use pair_judge::{JudgeFault, TextFault, judge, judge_line};
+use crate::layers::{Layers, judge_over};
+use crate::text::{FAILED, FAULTY, line_fault_text, verdict_status, verdict_text};
+use pair_judge::{JudgeFault, TextFault};
 use std::alloc::Global;
 use std::io::{Read, Write};
 use wire_base::{Side, Tally, write_whole};
@@ -31,13 +31,7 @@ pub fn check_to<A: Read, B: Read, O: Write, E: Write>(
     ensures { Checks both_layers verdict_text_of (moved A.remaining a.old a.new) (moved B.remaining b.old b.new)
         (moved O.contents out.old out.new) (moved E.contents err.old err.new) result }
 {
-    match judge(alloc, a, b) {
-        Ok(verdict) => match verdict_text(alloc, verdict) {
-            Ok(text) => print(out, text.as_bytes(), verdict_status(verdict)),
-            Err(_) => print_out_of_memory(err),
-        },
-        Err(fault) => print_fault(alloc, fault, err),
-    }
+    check_over(alloc, Layers::Both, a, b, out, err)
 }
 
 /// Judges stations and line alone, and prints the answer as `check_to` does, but that a side's line of counts ends with its periods.
@@ -51,8 +45,23 @@ pub fn check_line_to<A: Read, B: Read, O: Write, E: Write>(
     ensures { Checks stations_alone line_verdict_text_of (moved A.remaining a.old a.new) (moved B.remaining b.old b.new)
         (moved O.contents out.old out.new) (moved E.contents err.old err.new) result }
 {
-    match judge_line(alloc, a, b) {
-        Ok(verdict) => match line_verdict_text(alloc, verdict) {
+    check_over(alloc, Layers::Station, a, b, out, err)
+}
+
+// The same over these layers.
+fn check_over<A: Read, B: Read, O: Write, E: Write>(
+    alloc: Global,
+    layers: Layers,
+    a: &mut Tally<A>,
+    b: &mut Tally<B>,
+    out: &mut Tally<O>,
+    err: &mut Tally<E>,
+) -> u8
+    ensures { Checks (nodes_of layers) (verdict_text_over layers) (moved A.remaining a.old a.new) (moved B.remaining b.old b.new)
+        (moved O.contents out.old out.new) (moved E.contents err.old err.new) result }
+{
+    match judge_over(alloc, layers, a, b) {
+        Ok(verdict) => match verdict_text(alloc, layers, verdict) {
             Ok(text) => print(out, text.as_bytes(), verdict_status(verdict)),
             Err(_) => print_out_of_memory(err),
         },

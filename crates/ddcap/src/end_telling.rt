@@ -1,13 +1,14 @@
 //! `why` of one end: which record was refused, what was seen and what was allowed there, and the end as it was before it.
 
-ghost use Rattle.std.specs.Prelude.{IfOk, string_bytes};
+ghost use Rattle.std.specs.Prelude.{IfOk, IfSome, string_bytes};
 ghost use Rattle.ddcap.specs.Printed.{moved};
-ghost use Rattle.ddcap.specs.PrintedWhyEnd.{AreEndRows, ExplainsEnd, PrintsPass, TellsEnd, stop};
+ghost use Rattle.ddcap.specs.PrintedWhyEnd.{AreEndRows, ExplainsEnd, IsToldOf, PrintsPass, TellsEnd, stop};
 
 use crate::alone::print_end_fault;
 use crate::check::{print, print_out_of_memory};
 use crate::end_text::end_text;
 use crate::last_rows::LastRows;
+use crate::layers::Layers;
 use crate::telling::{Form, REFUSED, ladder_text};
 use ladder::Ladder;
 use pair_judge::{EndVerdict, SideEnd, SideSummary, WatchedEnd, judge_end_watched};
@@ -65,7 +66,7 @@ fn print_passed<O: Write, E: Write>(
 {
     match form {
         Form::Json => print(out, b"{\"what\": \"passed\"}\n", 0),
-        Form::Rows => match end_text(alloc, EndVerdict::Passed(counts)) {
+        Form::Rows => match end_text(alloc, Layers::Both, EndVerdict::Passed(counts)) {
             Ok(text) => print(out, text.as_bytes(), 0),
             Err(_) => print_out_of_memory(err),
         },
@@ -85,8 +86,24 @@ fn refused_text(
         end,
         observer: LastRows { mut ladder },
     } = watched;
+    let Some(refusal) = refusal_of(verdict, &end) else {
+        return end_text(alloc, Layers::Both, verdict);
+    };
+    match printout.form {
+        Form::Json => why_end_json(alloc, refusal, &end),
+        Form::Rows => {
+            ladder.refused(Side::A, refusal.says, refusal.bytes);
+            rows_text(alloc, printout.name, verdict, refusal, &end, &ladder)
+        }
+    }
+}
+
+// What is told of the refused record; `None` where none is ahead.
+fn refusal_of(verdict: EndVerdict, end: &SideEnd) -> Option<EndRefusal<'_>>
+    ensures { IfSome result (λ told. IsToldOf told (stop verdict end.now)) }
+{
     let Some((entry, bytes)) = end.ahead() else {
-        return end_text(alloc, verdict);
+        return None;
     };
     let EndVerdict::Refused {
         place,
@@ -94,23 +111,16 @@ fn refused_text(
         reason,
     } = verdict
     else {
-        return end_text(alloc, verdict);
+        return None;
     };
-    let refusal = EndRefusal {
+    Some(EndRefusal {
         place,
         reason,
         accusation: Accusation::of_end(accused, reason, is_of_user(entry)),
         failed: end.failed_alone(reason),
         says: entry,
         bytes,
-    };
-    match printout.form {
-        Form::Json => why_end_json(alloc, refusal, &end),
-        Form::Rows => {
-            ladder.refused(Side::A, entry, bytes);
-            rows_text(alloc, printout.name, verdict, refusal, &end, &ladder)
-        }
-    }
+    })
 }
 
 // The line of the verdict, and the rows of a refusal.
@@ -126,7 +136,7 @@ fn rows_text(
 {
     let drawn = ladder.drawn(alloc)?;
     let rungs = ladder_text(alloc, &drawn)?;
-    let first = end_text(alloc, verdict)?;
+    let first = end_text(alloc, Layers::Both, verdict)?;
     let rows = why_end_rows(alloc, refusal, end, name, rungs.as_str())?;
     format!(in alloc; "{first}\n{rows}")
 }

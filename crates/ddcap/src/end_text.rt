@@ -2,40 +2,23 @@
 
 ghost use Rattle.std.specs.Prelude.{◌≡◌, IfOk, string_bytes};
 ghost use Rattle.ddcap.specs.PrintedAlone as printed;
+ghost use Rattle.ddcap.specs.inner.Layers.{end_text_over};
 
-use crate::text::{SideLine, StationLine};
+use crate::layers::Layers;
+use crate::text::CountsLine;
 use pair_judge::{Accused, EndVerdict, Reason};
 use std::alloc::{AllocError, Global};
 use wire_base::Side;
 
 /// The text of a verdict on one end: `passed` and its line of counts, or `refused a RECORD line LINE: NUMBER NAME` and by whom, each line with its
 /// LF. Fails for want of memory alone.
-pub fn end_text(alloc: Global, verdict: EndVerdict) -> Result<String, AllocError>
-    ensures { IfOk result (λ text. string_bytes text ≡ printed.end_text verdict) }
+pub fn end_text(alloc: Global, layers: Layers, verdict: EndVerdict) -> Result<String, AllocError>
+    ensures { IfOk result (λ text. string_bytes text ≡ end_text_over layers verdict) }
 {
     match verdict {
         EndVerdict::Passed(counts) => {
-            let line = SideLine {
-                side: Side::A,
-                counts,
-            };
-            format!(in alloc; "passed\n{line}\n")
-        }
-        EndVerdict::Refused {
-            place,
-            accused,
-            reason,
-        } => refused_alone_text(alloc, place, accused, reason),
-    }
-}
-
-/// The text of a verdict on a station alone: the same, without the counts of links. Fails for want of memory alone.
-pub fn line_end_text(alloc: Global, verdict: EndVerdict) -> Result<String, AllocError>
-    ensures { IfOk result (λ text. string_bytes text ≡ printed.line_end_text verdict) }
-{
-    match verdict {
-        EndVerdict::Passed(counts) => {
-            let line = StationLine {
+            let line = CountsLine {
+                layers,
                 side: Side::A,
                 counts,
             };

@@ -1,7 +1,7 @@
 //! The files that the words name: how they are opened, and what is told where one can't be.
 
 ghost use Rattle.std.specs.IoError.{error_kind};
-ghost use Rattle.ddcap.specs.Printed.{Writes, not_opened_says, stream_of};
+ghost use Rattle.ddcap.specs.Printed.{Writes, not_opened_says, not_opened_text, stream_of};
 
 use crate::check::{print, print_out_of_memory};
 use crate::text::FAILED;
@@ -66,6 +66,13 @@ fn print_not_opened<W: Write>(err: &mut Tally<W>, named: Named, error: &io::Erro
     if error.kind() == ErrorKind::OutOfMemory {
         return print_out_of_memory(err);
     }
+    print_cannot_open(err, named)
+}
+
+// Prints that a file can't be opened, from a constant, and answers the status.
+fn print_cannot_open<W: Write>(err: &mut Tally<W>, named: Named) -> u8
+    ensures { Writes (stream_of W.contents err.old) (stream_of W.contents err.new) (not_opened_text named) 3 result }
+{
     match named {
         Named::Script => print(err, b"script: cannot open\n", FAILED),
         Named::Wire => print(err, b"wire: cannot open\n", FAILED),

@@ -27,6 +27,7 @@ mod help_pages;
 mod judging_pages;
 mod last_rows;
 mod laws;
+mod layers;
 mod near;
 mod picture;
 mod play;

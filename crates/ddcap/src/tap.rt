@@ -8,12 +8,14 @@ ghost use Rattle.ddcap.specs.Printed.{Writes, fault_text, moved, stream_of};
 ghost use Rattle.ddcap.specs.Printed.{line_verdict_text as line_verdict_text_of, verdict_text as verdict_text_of};
 ghost use Rattle.ddcap.specs.PrintedTap.{ChecksTap, IsRefusedAt, TellsTapFault, streams, wire_line_text};
 ghost use Rattle.ddcap.specs.inner.TapParts.{TellsTold, WritesBehind, both_streams};
+ghost use Rattle.ddcap.specs.inner.Layers.{nodes_of, verdict_text_over};
 
 use crate::check::{print, print_fault, print_out_of_memory};
+use crate::layers::{Layers, judge_over};
 use crate::play::print_failed_write;
-use crate::text::{FAILED, FAULTY, FaultyLine, line_verdict_text, verdict_text};
+use crate::text::{FAILED, FAULTY, FaultyLine, verdict_text};
 use capture::Departure;
-use pair_judge::{Verdict, judge, judge_line};
+use pair_judge::Verdict;
 use std::alloc::{AllocError, Global};
 use std::io::{Read, Write};
 use tap_answer::{
@@ -53,16 +55,7 @@ pub fn tap_to<A: Read, B: Read, O: Write, E: Write>(
         (moved O.contents out.old out.new) (moved E.contents err.old err.new)) result }
     ensures cut { is_cut ≡ true → is_ok result ≡ true }
 {
-    match judge(alloc, a, b) {
-        Ok(verdict) => {
-            if let Some(refused) = to_be_cut(verdict, is_cut) {
-                return Err(refused);
-            }
-            let text = verdict_text(alloc, verdict);
-            Ok(print_told(alloc, verdict, text, tapped, out, err))
-        }
-        Err(fault) => Ok(print_fault(alloc, fault, err)),
-    }
+    tap_over(alloc, Layers::Both, a, b, tapped, is_cut, out, err)
 }
 
 /// Judges stations and line alone, and prints the answer as `tap_to` does, with the verdict as `check_line_to` prints it.
@@ -79,12 +72,30 @@ pub fn tap_line_to<A: Read, B: Read, O: Write, E: Write>(
         (moved O.contents out.old out.new) (moved E.contents err.old err.new)) result }
     ensures cut { is_cut ≡ true → is_ok result ≡ true }
 {
-    match judge_line(alloc, a, b) {
+    tap_over(alloc, Layers::Station, a, b, tapped, is_cut, out, err)
+}
+
+// The same over these layers.
+fn tap_over<A: Read, B: Read, O: Write, E: Write>(
+    alloc: Global,
+    layers: Layers,
+    a: &mut Tally<A>,
+    b: &mut Tally<B>,
+    tapped: Tapped,
+    is_cut: bool,
+    out: &mut Tally<O>,
+    err: &mut Tally<E>,
+) -> Result<u8, RefusedAt>
+    ensures checks { ChecksTap (nodes_of layers) (verdict_text_over layers) tapped (streams (moved A.remaining a.old a.new)
+        (moved B.remaining b.old b.new) (moved O.contents out.old out.new) (moved E.contents err.old err.new)) result }
+    ensures cut { is_cut ≡ true → is_ok result ≡ true }
+{
+    match judge_over(alloc, layers, a, b) {
         Ok(verdict) => {
             if let Some(refused) = to_be_cut(verdict, is_cut) {
                 return Err(refused);
             }
-            let text = line_verdict_text(alloc, verdict);
+            let text = verdict_text(alloc, layers, verdict);
             Ok(print_told(alloc, verdict, text, tapped, out, err))
         }
         Err(fault) => Ok(print_fault(alloc, fault, err)),

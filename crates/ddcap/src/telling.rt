@@ -1,11 +1,12 @@
 //! `why`: which record was refused, what was seen and what was allowed there, and both ends as they were before it.
 
-ghost use Rattle.std.specs.Prelude.{IfOk, string_bytes};
+ghost use Rattle.std.specs.Prelude.{IfOk, IfSome, string_bytes};
 ghost use Rattle.ddcap.specs.Printed.{moved};
-ghost use Rattle.ddcap.specs.PrintedWhy.{AreObjects, AreRows, Explains, PrintsAcceptance, TellsRefusal};
+ghost use Rattle.ddcap.specs.PrintedWhy.{AreObjects, AreRows, Explains, IsTold, PrintsAcceptance, TellsRefusal};
 
 use crate::check::{print, print_fault, print_out_of_memory};
 use crate::last_rows::{LastRows, ROWS_BEFORE};
+use crate::layers::Layers;
 use crate::recorder::{ComesLater, Tried, try_edits};
 use crate::text::verdict_text;
 use capture::Entry;
@@ -105,7 +106,7 @@ fn print_accepted<O: Write, E: Write>(
 {
     match form {
         Form::Json => print(out, b"{\"what\": \"accepted\"}\n", 0),
-        Form::Rows => match verdict_text(alloc, Verdict::Accepted(summary)) {
+        Form::Rows => match verdict_text(alloc, Layers::Both, Verdict::Accepted(summary)) {
             Ok(text) => print(out, text.as_bytes(), 0),
             Err(_) => print_out_of_memory(err),
         },
@@ -126,13 +127,30 @@ fn refused_text(
         ends,
         observer: LastRows { mut ladder },
     } = watched;
+    let Some(refusal) = refusal_of(refused, &ends, &tried) else {
+        return verdict_text(alloc, Layers::Both, ends.verdict());
+    };
+    match printout.form {
+        Form::Json => objects_text(alloc, refusal, &ends, &tried),
+        Form::Rows => {
+            ladder.refused(refused.side, refusal.says, refusal.bytes);
+            tell_later(&mut ladder, &tried.later);
+            rows_text(alloc, printout, refusal, &ends, &ladder, &tried)
+        }
+    }
+}
+
+// What is told of the record; `None` where none is ahead, or no check is named.
+fn refusal_of<'t>(refused: Refused, ends: &'t JudgedEnds, tried: &'t Tried) -> Option<Refusal<'t>>
+    ensures { IfSome result (λ told. IsTold ends.now refused told) }
+{
     let Some((entry, bytes)) = ends.ahead(refused.side) else {
-        return verdict_text(alloc, ends.verdict());
+        return None;
     };
     let Some((_, failed)) = ends.failed() else {
-        return verdict_text(alloc, ends.verdict());
+        return None;
     };
-    let refusal = Refusal {
+    Some(Refusal {
         side: refused.side,
         place: refused.place,
         reason: refused.reason,
@@ -141,15 +159,7 @@ fn refused_text(
         says: entry,
         bytes,
         unit_name: tried.unit_name.as_str(),
-    };
-    match printout.form {
-        Form::Json => objects_text(alloc, refusal, &ends, &tried),
-        Form::Rows => {
-            ladder.refused(refused.side, entry, bytes);
-            tell_later(&mut ladder, &tried.later);
-            rows_text(alloc, printout, refusal, &ends, &ladder, &tried)
-        }
-    }
+    })
 }
 
 // The ladder is told what comes later.
@@ -201,7 +211,7 @@ fn rows_text(
         tried: tried.counts,
         edits: tried.rows.as_str(),
     };
-    let first = verdict_text(alloc, ends.verdict())?;
+    let first = verdict_text(alloc, Layers::Both, ends.verdict())?;
     let rows = why_rows(alloc, refusal, ends, shown)?;
     format!(in alloc; "{first}\n{rows}")
 }

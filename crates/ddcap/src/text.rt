@@ -6,7 +6,9 @@ ghost use Rattle.pair_judge.specs.declared.fault.JudgeFault.TheVariants.{Capture
 ghost use Rattle.pair_judge.specs.declared.fault.TextFault.TheVariants.{Departs};
 ghost use Rattle.ddcap.specs.Covering as covering;
 ghost use Rattle.ddcap.specs.Printed as printed;
+ghost use Rattle.ddcap.specs.inner.Layers.{counts_line, verdict_text_over};
 
+use crate::layers::Layers;
 use capture::Departure;
 use pair_judge::{Reason, SideSummary, Verdict};
 use std::alloc::{AllocError, Global};
@@ -19,17 +21,18 @@ pub const FAULTY: u8 = 2;
 /// The status where a device or the memory failed.
 pub const FAILED: u8 = 3;
 
-/// The line of one side of an accepted pair.
+/// The line of one side of an accepted pair, or of an end that passed: of a station alone it ends with the periods.
 #[derive(Clone, Copy)]
-pub struct SideLine {
+pub struct CountsLine {
+    pub layers: Layers,
     pub side: Side,
     pub counts: SideSummary,
 }
 
-impl fmt::Display for SideLine {
+impl fmt::Display for CountsLine {
     ghost use Rattle.std.specs.Prelude.{Some};
 
-    ghost output = { λ line. Some (printed.side_line line.side line.counts) };
+    ghost output = { λ line. Some (counts_line line.layers line.side line.counts) };
 
     fn fmt<W: fmt::Write>(&self, f: &mut fmt::Formatter<W>) -> fmt::Result {
         let side = self.side;
@@ -43,40 +46,16 @@ impl fmt::Display for SideLine {
             links,
             up,
         } = self.counts;
-        write!(
-            f,
-            "{side} records {records} sent {sent} received {received} damaged {damaged} kept {kept} periods {periods} links {links} up {up}"
-        )
-    }
-}
-
-/// The line of one side of an accepted pair of stations alone.
-#[derive(Clone, Copy)]
-pub struct StationLine {
-    pub side: Side,
-    pub counts: SideSummary,
-}
-
-impl fmt::Display for StationLine {
-    ghost use Rattle.std.specs.Prelude.{Some};
-
-    ghost output = { λ line. Some (printed.station_line line.side line.counts) };
-
-    fn fmt<W: fmt::Write>(&self, f: &mut fmt::Formatter<W>) -> fmt::Result {
-        let side = self.side;
-        let SideSummary {
-            records,
-            sent,
-            received,
-            damaged,
-            kept,
-            periods,
-            ..
-        } = self.counts;
-        write!(
-            f,
-            "{side} records {records} sent {sent} received {received} damaged {damaged} kept {kept} periods {periods}"
-        )
+        match self.layers {
+            Layers::Both => write!(
+                f,
+                "{side} records {records} sent {sent} received {received} damaged {damaged} kept {kept} periods {periods} links {links} up {up}"
+            ),
+            Layers::Station => write!(
+                f,
+                "{side} records {records} sent {sent} received {received} damaged {damaged} kept {kept} periods {periods}"
+            ),
+        }
     }
 }
 
@@ -100,40 +79,18 @@ impl fmt::Display for FaultyLine {
 
 /// The text of a verdict: `accepted` and a line a side, or `refused SIDE RECORD line LINE: NUMBER NAME`, each line with
 /// its LF. Fails for want of memory alone.
-pub fn verdict_text(alloc: Global, verdict: Verdict) -> Result<String, AllocError>
-    ensures { IfOk result (λ text. string_bytes text ≡ printed.verdict_text verdict) }
+pub fn verdict_text(alloc: Global, layers: Layers, verdict: Verdict) -> Result<String, AllocError>
+    ensures { IfOk result (λ text. string_bytes text ≡ verdict_text_over layers verdict) }
 {
     match verdict {
         Verdict::Accepted(summary) => {
-            let line_a = SideLine {
+            let line_a = CountsLine {
+                layers,
                 side: Side::A,
                 counts: summary.a,
             };
-            let line_b = SideLine {
-                side: Side::B,
-                counts: summary.b,
-            };
-            format!(in alloc; "accepted\n{line_a}\n{line_b}\n")
-        }
-        Verdict::Refused {
-            side,
-            place,
-            reason,
-        } => refused_text(alloc, side, place, reason),
-    }
-}
-
-/// The text of a verdict on stations alone: the same, without the counts of links. Fails for want of memory alone.
-pub fn line_verdict_text(alloc: Global, verdict: Verdict) -> Result<String, AllocError>
-    ensures { IfOk result (λ text. string_bytes text ≡ printed.line_verdict_text verdict) }
-{
-    match verdict {
-        Verdict::Accepted(summary) => {
-            let line_a = StationLine {
-                side: Side::A,
-                counts: summary.a,
-            };
-            let line_b = StationLine {
+            let line_b = CountsLine {
+                layers,
                 side: Side::B,
                 counts: summary.b,
             };

@@ -5,7 +5,7 @@ use std::fmt;
 use wire_base::Side;
 
 /// What a recorder may have done wrong in the capture of one side. Lines are those of the capture as it stands, counted from 1.
-#[derive(Clone, Copy, Debug, PartialEq, Eq)]
+#[derive(Clone, Copy, Debug)]
 pub enum Mistake {
     /// A receipt has the wrong one of `k` and `r`; `kept` is what it should say.
     WrongLetter {
@@ -65,7 +65,7 @@ pub enum Mistake {
 /// A mistake with the side whose capture has it, to be printed.
 ///
 /// `line 36 of b is `k`, not `r``.
-#[derive(Clone, Copy, Debug, PartialEq, Eq)]
+#[derive(Clone, Copy, Debug)]
 pub struct MistakeOf {
     pub side: Side,
     pub mistake: Mistake,
@@ -74,99 +74,178 @@ pub struct MistakeOf {
 impl fmt::Display for MistakeOf {
     fn fmt<W: fmt::Write>(&self, f: &mut fmt::Formatter<W>) -> fmt::Result {
         let side = self.side;
-        let other = side.other();
         match self.mistake {
-            Mistake::WrongLetter { line, kept } => {
-                let (right, wrong) = (letter(kept), letter(!kept));
-                write!(f, "line {line} of {side} is `{right}`, not `{wrong}`")
-            }
+            Mistake::WrongLetter { line, kept } => write_letter(f, side, line, kept),
             Mistake::SentMissing { before, unit, like } => {
-                write_missing("an `s` line", before, side, f)?;
-                write!(f, ": unit {unit}, with the bytes of line {like} of {other}")
+                write_sent(f, unit_missing(side, before, unit, like))
             }
             Mistake::ReceiptMissing {
                 before,
                 kept,
                 unit,
                 like,
-            } => {
-                write_missing(receipt_line(kept), before, side, f)?;
-                write_like(other, unit, like, f)
-            }
+            } => write_receipt(f, unit_missing(side, before, unit, like), kept),
             Mistake::DamagedMissing { before, unit, like } => {
-                write_missing("the `r` line of a damaged unit", before, side, f)?;
-                write!(
-                    f,
-                    ": unit {unit} of {other}, sent in line {like} of {other}"
-                )
+                write_damaged(f, unit_missing(side, before, unit, like))
             }
-            Mistake::NoiseMissing { before } => write_missing("an `n` line", before, side, f),
-            Mistake::UserMissing { before, entry } => {
-                write_user(entry, f)?;
-                write!(f, " is missing before line {before} of {side}")
-            }
-            Mistake::TooLate { line, before } => {
-                write!(f, "line {line} of {side} stands too late: ")?;
-                write!(f, "it belongs before line {before}")
-            }
+            Mistake::NoiseMissing { before } => write_missing(f, side, "an `n` line", before),
+            Mistake::UserMissing { before, entry } => write_user_line(f, side, entry, before),
+            Mistake::TooLate { line, before } => write_moved(
+                f, side, line, "late", "before", before,
+            ),
             Mistake::TooEarly { line, behind } => {
-                write!(f, "line {line} of {side} stands too early: ")?;
-                write!(f, "it belongs behind line {behind}")
+                write_moved(f, side, line, "early", "behind", behind)
             }
             Mistake::WrongHint { line, unit } => {
                 write!(f, "line {line} of {side} alone has a wrong hint: ")?;
-                write!(f, "it is unit {unit} of {other}")
+                write_unit(f, side, unit)
             }
             Mistake::WrongHints { line, unit } => {
                 write!(f, "from line {line} of {side} on the hints are shifted: ")?;
-                write!(f, "it is unit {unit} of {other}")
+                write_unit(f, side, unit)
             }
         }
     }
 }
 
-// The unit of the other side that a receipt is of, and the line there that has its bytes.
-fn write_like<W: fmt::Write>(
-    other: Side,
-    unit: u64,
-    like: u64,
+fn write_letter<W: fmt::Write>(
     f: &mut fmt::Formatter<W>,
-) -> fmt::Result {
-    write!(
-        f,
-        ": unit {unit} of {other}, with the bytes of line {like} of {other}"
-    )
-}
-
-// That this is missing before a line of this side.
-fn write_missing<W: fmt::Write>(
-    what: &str,
-    before: u64,
     side: Side,
-    f: &mut fmt::Formatter<W>,
+    line: u64,
+    kept: bool,
 ) -> fmt::Result {
-    write!(f, "{what} is missing before line {before} of {side}")
-}
-
-fn receipt_line(kept: bool) -> &'static str {
-    if kept { "a `k` line" } else { "a `r` line" }
+    let (right, wrong) = (letter(kept), letter(!kept));
+    write!(f, "line {line} of {side} is `{right}`, not `{wrong}`")
 }
 
 fn letter(kept: bool) -> &'static str {
     if kept { "k" } else { "r" }
 }
 
+// That this is missing before a line of this side.
+fn write_missing<W: fmt::Write>(
+    f: &mut fmt::Formatter<W>,
+    side: Side,
+    what: &str,
+    before: u64,
+) -> fmt::Result {
+    write!(f, "{what} is missing before line {before} of {side}")
+}
+
+// A line of a unit that is missing before a line of a side, and the line of the other side that tells of the unit.
+#[derive(Clone, Copy)]
+struct Missing {
+    side: Side,
+    before: u64,
+    unit: u64,
+    like: u64,
+}
+
+fn unit_missing(side: Side, before: u64, unit: u64, like: u64) -> Missing {
+    Missing {
+        side,
+        before,
+        unit,
+        like,
+    }
+}
+
+fn write_sent<W: fmt::Write>(f: &mut fmt::Formatter<W>, missing: Missing) -> fmt::Result {
+    write_missing(f, missing.side, "an `s` line", missing.before)?;
+    let (unit, like) = (missing.unit, missing.like);
+    let other = missing.side.other();
+    write!(f, ": unit {unit}, with the bytes of line {like} of {other}")
+}
+
+fn write_receipt<W: fmt::Write>(
+    f: &mut fmt::Formatter<W>,
+    missing: Missing,
+    kept: bool,
+) -> fmt::Result {
+    write_missing(f, missing.side, receipt_line(kept), missing.before)?;
+    let (unit, like) = (missing.unit, missing.like);
+    let other = missing.side.other();
+    write!(
+        f,
+        ": unit {unit} of {other}, with the bytes of line {like} of {other}"
+    )
+}
+
+fn receipt_line(kept: bool) -> &'static str {
+    if kept { "a `k` line" } else { "a `r` line" }
+}
+
+fn write_damaged<W: fmt::Write>(f: &mut fmt::Formatter<W>, missing: Missing) -> fmt::Result {
+    let what = "the `r` line of a damaged unit";
+    write_missing(f, missing.side, what, missing.before)?;
+    let (unit, like) = (missing.unit, missing.like);
+    let other = missing.side.other();
+    write!(
+        f,
+        ": unit {unit} of {other}, sent in line {like} of {other}"
+    )
+}
+
+fn write_user_line<W: fmt::Write>(
+    f: &mut fmt::Formatter<W>,
+    side: Side,
+    entry: Entry,
+    before: u64,
+) -> fmt::Result {
+    write_user(f, entry)?;
+    write_missing(f, side, "", before)
+}
+
 // The line of the user, where it has a message without that.
-fn write_user<W: fmt::Write>(entry: Entry, f: &mut fmt::Formatter<W>) -> fmt::Result {
+fn write_user<W: fmt::Write>(f: &mut fmt::Formatter<W>, entry: Entry) -> fmt::Result {
     match entry {
         Entry::Start => f.write_str("`u start`"),
         Entry::Halt => f.write_str("`u halt`"),
-        Entry::Open { link } => write!(f, "`u open {link}`"),
-        Entry::Accept { partner, link } => write!(f, "`u accept {partner} {link}`"),
-        Entry::Reject { partner, link } => write!(f, "`u reject {partner} {link}`"),
-        Entry::In { link } => write!(f, "`u in {link}` with the message"),
-        Entry::Up { link } => write!(f, "`u up {link}` with the message"),
-        Entry::Close { link } => write!(f, "`u close {link}`"),
+        Entry::Open { link } => write_of_link(f, "open", link, ""),
+        Entry::Accept { partner, link } => write_of_links(f, "accept", partner, link),
+        Entry::Reject { partner, link } => write_of_links(f, "reject", partner, link),
+        Entry::In { link } => write_of_link(f, "in", link, " with the message"),
+        Entry::Up { link } => write_of_link(f, "up", link, " with the message"),
+        Entry::Close { link } => write_of_link(f, "close", link, ""),
         Entry::Sent | Entry::Received { .. } | Entry::Noise => f.write_str("a line"),
     }
+}
+
+fn write_of_link<W: fmt::Write>(
+    f: &mut fmt::Formatter<W>,
+    event: &str,
+    link: u16,
+    message: &str,
+) -> fmt::Result {
+    write!(f, "`u {event} {link}`{message}")
+}
+
+fn write_of_links<W: fmt::Write>(
+    f: &mut fmt::Formatter<W>,
+    event: &str,
+    partner: u16,
+    link: u16,
+) -> fmt::Result {
+    write!(f, "`u {event} {partner} {link}`")
+}
+
+// That a line stands too late or too early, and where it belongs.
+fn write_moved<W: fmt::Write>(
+    f: &mut fmt::Formatter<W>,
+    side: Side,
+    line: u64,
+    when: &str,
+    belongs: &str,
+    to: u64,
+) -> fmt::Result {
+    write!(
+        f,
+        "line {line} of {side} stands too {when}: it belongs {belongs} line {to}"
+    )
+}
+
+// The unit that a receipt of this side is of.
+fn write_unit<W: fmt::Write>(f: &mut fmt::Formatter<W>, side: Side, unit: u64) -> fmt::Result {
+    let other = side.other();
+    write!(f, "it is unit {unit} of {other}")
 }

@@ -12,7 +12,7 @@ use Rattle.ladder.specs.declared.told.What.TheVariants as what
 use Rattle.ladder.specs.declared.row.Row.{Row}
 use Rattle.ladder.specs.declared.row.Fate.{Fate}
 use Rattle.ladder.specs.declared.row.Fate.TheVariants as fate
-use Rattle.ladder.specs.Row.{after, fate_after, faces, joined, last_joined, passed, with_next, with_record, with_row}
+use Rattle.ladder.specs.Row.{after, fate_after, faces, joined, last_joined, passed, with_record, with_row}
 use Rattle.ladder.specs.Places.{Place, place, places, receipt_line, receipt_places, row_places}
 use Rattle.ladder.proofs.Arrows.{is_arrow}
 use Rattle.ladder.proofs.Lists.{split_last}

@@ -168,7 +168,6 @@ impl Rows {
         }
     }
 
-    #[tactic(auto, using(crate::proofs::Orders::row_taken))]
     fn copied(&self, alloc: Global) -> Result<Vec<Row>, AllocError>
         ensures { IfOk result (λ rows. rows.items ≡ self.now.rows) }
     {

@@ -11,14 +11,15 @@ fn a_line_is_put_in_the_place_of_another(rt: HostRuntime) -> io::Result<()> {
     let alloc = rt.alloc();
     let mut changes = Vec::new(alloc);
     changes.push(Change {
-        passed: 1,
+        passed: 2,
         put: Vec::from_slice(alloc, b"new\n")?,
         dropped: 1,
     })?;
-    let mut reader = EditedReader::new(alloc, changes, b"one\ntwo\nthree\n".as_slice())?;
-    let mut text = Vec::new(alloc);
-    reader.read_to_end(&mut text)?;
-    assert_eq!(rt; text.as_slice(), b"one\nnew\nthree\n".as_slice());
+    let text = b"one\ntwo\nthree\nfour\n".as_slice();
+    let mut reader = EditedReader::new(alloc, changes, text)?;
+    let mut edited = Vec::new(alloc);
+    reader.read_to_end(&mut edited)?;
+    assert_eq!(rt; edited.as_slice(), b"one\ntwo\nnew\nfour\n".as_slice());
     Ok(())
 }
 

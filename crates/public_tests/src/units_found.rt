@@ -77,3 +77,21 @@ fn units_come_back_from_pieces_of_any_size(rt: HostRuntime) -> Result<(), AllocE
     }
     Ok(())
 }
+
+// The header of a maintenance message with as much data as a count can say, and how long that message is.
+const LONGEST: [u8; 8] = [0x90, 0xff, 0xff, 0x00, 0x00, 0x01, 0xf8, 0x90];
+
+const LONGEST_LEN: usize = 16_393;
+
+#[test]
+fn the_longest_unit_is_found_whole(rt: HostRuntime) -> Result<(), AllocError> {
+    let mut line = Vec::from_slice(rt.alloc(), LONGEST.as_slice())?;
+    line.resize(LONGEST_LEN, 0)?;
+    let mut framer = Framer::new(rt.alloc())?;
+    let len = match framer.next(line.as_slice()) {
+        Found::Unit { unit, .. } => unit.len(),
+        _ => 0,
+    };
+    assert_eq!(rt; len, LONGEST_LEN);
+    Ok(())
+}

@@ -1,8 +1,7 @@
 //! Hints that are shifted.
 
 use super::Near;
-use super::missing::lowest_unit;
-use super::moves::{first_receipt, last_receipt};
+use super::moves::{first_receipt, last_receipt, lowest_unit};
 use crate::change::Change;
 use crate::edits::Edits;
 use crate::line_changes::line_replaced;
@@ -88,18 +87,20 @@ fn add_hint(
     };
     let mut changes = line_replaced(near.alloc, line, put)?;
     if let Some(next) = next {
-        add_next_distance(&mut changes, near, (line, unit), next)?;
+        let passed = next.line.saturating_sub(line).saturating_sub(1);
+        add_next_distance(&mut changes, near, unit, passed, next)?;
     }
     edits.add(near.side, Mistake::WrongHint { line, unit }, changes)
 }
 
-fn add_next_distance(
+// In format 2 the distance of this receipt is counted from one of that unit, behind which so many lines pass before it.
+pub(crate) fn add_next_distance(
     changes: &mut Vec<Change>,
     near: Near<'_>,
-    replaced: (u64, u64),
+    unit: u64,
+    passed: u64,
     next: &Row,
 ) -> Result<(), AllocError> {
-    let (line, unit) = replaced;
     let HintForm::Distance { mark: _ } = near.row.form else {
         return Ok(());
     };
@@ -113,7 +114,7 @@ fn add_next_distance(
         return Ok(());
     };
     changes.push(Change {
-        passed: next.line.saturating_sub(line).saturating_sub(1),
+        passed,
         put,
         dropped: 1,
     })?;

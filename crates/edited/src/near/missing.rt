@@ -1,14 +1,14 @@
 //! Lines that are missing.
 
 use super::Near;
-use super::moves::{first_receipt, last_receipt};
-use crate::change::Change;
+use super::hints::add_next_distance;
+use super::moves::{first_receipt, lowest_unit};
 use crate::edits::Edits;
 use crate::line_changes::put_before;
 use crate::mistake::Mistake;
 use crate::row::{Damage, Due, Row};
 use crate::spelling::{line_of, receipt_line};
-use capture::{Entry, HintForm};
+use capture::Entry;
 use std::alloc::AllocError;
 use wire_base::Side;
 
@@ -139,17 +139,6 @@ pub(crate) fn add_receipts(
     Ok(())
 }
 
-// The unit behind that of the last receipt.
-pub(crate) fn lowest_unit(before: &[Row]) -> u64 {
-    match last_receipt(before) {
-        Some(row) => match row.received() {
-            Some(unit) => unit.saturating_add(1),
-            None => 0,
-        },
-        None => 0,
-    }
-}
-
 // Whether the next receipt is of this unit or a lower one.
 fn is_taken(near: Near<'_>, unit: u64) -> bool {
     match next_receipt(near) {
@@ -232,35 +221,9 @@ fn add_receipt_line(
         return Ok(());
     };
     let mut changes = put_before(near.alloc, near.row.line, put)?;
-    add_next_distance(&mut changes, near, entry.1)?;
+    if let Some(next) = next_receipt(near) {
+        let passed = next.line.saturating_sub(near.row.line);
+        add_next_distance(&mut changes, near, entry.1, passed, next)?;
+    }
     edits.add(near.side, mistake, changes)
-}
-
-// In format 2 the next receipt's distance is counted from the one that was put in.
-fn add_next_distance(
-    changes: &mut Vec<Change>,
-    near: Near<'_>,
-    unit: u64,
-) -> Result<(), AllocError> {
-    let HintForm::Distance { mark: _ } = near.row.form else {
-        return Ok(());
-    };
-    let Some(next) = next_receipt(near) else {
-        return Ok(());
-    };
-    let form = HintForm::Distance {
-        mark: unit.saturating_add(1),
-    };
-    let Entry::Received { kept, hint } = next.entry else {
-        return Ok(());
-    };
-    let Some(put) = receipt_line(near.alloc, form, (kept, hint), &next.bytes)? else {
-        return Ok(());
-    };
-    changes.push(Change {
-        passed: next.line.saturating_sub(near.row.line),
-        put,
-        dropped: 1,
-    })?;
-    Ok(())
 }

@@ -60,6 +60,17 @@ pub(crate) fn last_receipt(rows: &[Row]) -> Option<&Row> {
     None
 }
 
+// The unit behind that of the last receipt.
+pub(crate) fn lowest_unit(before: &[Row]) -> u64 {
+    match last_receipt(before) {
+        Some(row) => match row.received() {
+            Some(unit) => unit.saturating_add(1),
+            None => 0,
+        },
+        None => 0,
+    }
+}
+
 // The next receipt belongs in front of the refused record, or further in front.
 fn add_next_receipt(edits: &mut Edits, near: Near<'_>) -> Result<(), AllocError> {
     let Some(row) = first_receipt(near.behind) else {

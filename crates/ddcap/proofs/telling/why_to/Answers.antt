@@ -1,11 +1,8 @@
 -- Where there is no memory for the rows, an edit or the text, the answer is `out of memory`. What the judge says of the lent files is said of the
 -- files.
-use Rattle.std.proofs.Common.{Ok, refl, sym, ◌∙◌, subst, List, ℕ}
-use Rattle.dna_node.specs.Kind.{both_layers}
-use Rattle.pair_judge.specs.Judged.{IsRefusalWhere}
-use Rattle.wire_base.specs.Tally.{tally_lent}
+use Rattle.std.proofs.Common.{refl, sym, ◌∙◌, subst, List, ℕ}
 use Rattle.ddcap.specs.Printed.{Writes, moved, stream_of}
-use Rattle.ddcap.proofs.AnsweringWhy.{carried, explains_acceptance, explains_nothing, explains_refusal}
+use Rattle.ddcap.proofs.AnsweringWhy.{explains_acceptance, explains_nothing, explains_refusal, judged_there}
 use Rattle.ddcap.proofs.telling.why_to.Goals as goal
 
 pub returns-in_default : goal.returns-in_default
@@ -22,28 +19,18 @@ returns-in-Accepted g c =
     let told = c.in-Ok-judge_watched in
     let of_a = c.new-tally_a.ensures.lent in
     let of_b = c.new-tally_b.ensures.lent in
-    explains_acceptance c.args.printout.form _ _ _ _ _ told.watched.ends (record {
-      exact = rw (of_a, of_b) at told.ensures.answer.exact;
-      accepted = rw (of_a, of_b) at told.ensures.answer.accepted;
-      refused = carried of_b (λ lent. IsRefusalWhere both_layers (g.A.Read.remaining c.args.a.now) (g.B.Read.remaining lent.now)
-          (Ok told.watched.ends.verdict)) (carried of_a (λ lent. IsRefusalWhere both_layers (g.A.Read.remaining lent.now)
-          (g.B.Read.remaining (tally_lent c.new-tally_b.result).now) (Ok told.watched.ends.verdict)) told.ensures.answer.refused);
-      faulty = told.ensures.answer.faulty;
-    }) (rw (of_a, of_b) at told.ensures.stands) c.in-Accepted.summary (sym c.verdict.ensures ∙ c.in-Accepted.is) c.print_accepted.ensures
+    explains_acceptance c.args.printout.form _ _ _ _ _ told.watched.ends
+    (judged_there of_a of_b (λ lent. g.A.Read.remaining lent.now) (λ lent. g.B.Read.remaining lent.now) _ told.ensures.answer)
+    (rw (of_a, of_b) at told.ensures.stands) c.in-Accepted.summary (sym c.verdict.ensures ∙ c.in-Accepted.is) c.print_accepted.ensures
 
 pub returns-in-Ok-refused_text : goal.returns-in-Ok-refused_text
 returns-in-Ok-refused_text g c =
     let told = c.in-Ok-judge_watched in
     let of_a = c.new-tally_a.ensures.lent in
     let of_b = c.new-tally_b.ensures.lent in
-    explains_refusal c.args.printout.form _ _ _ (moved g.E.Write.contents c.args.err.now c.args.err.now) _ told.watched.ends (record {
-      exact = rw (of_a, of_b) at told.ensures.answer.exact;
-      accepted = rw (of_a, of_b) at told.ensures.answer.accepted;
-      refused = carried of_b (λ lent. IsRefusalWhere both_layers (g.A.Read.remaining c.args.a.now) (g.B.Read.remaining lent.now)
-          (Ok told.watched.ends.verdict)) (carried of_a (λ lent. IsRefusalWhere both_layers (g.A.Read.remaining lent.now)
-          (g.B.Read.remaining (tally_lent c.new-tally_b.result).now) (Ok told.watched.ends.verdict)) told.ensures.answer.refused);
-      faulty = told.ensures.answer.faulty;
-    }) (rw (of_a, of_b) at told.ensures.stands)
+    explains_refusal c.args.printout.form _ _ _ (moved g.E.Write.contents c.args.err.now c.args.err.now) _ told.watched.ends
+    (judged_there of_a of_b (λ lent. g.A.Read.remaining lent.now) (λ lent. g.B.Read.remaining lent.now) _ told.ensures.answer)
+    (rw (of_a, of_b) at told.ensures.stands)
     (record { side = c.in-Refused.side; place = c.in-Refused.place; reason = c.in-Refused.reason })
     (sym c.verdict.ensures ∙ c.in-Refused.is) _ c.in-Ok-refused_text.ensures
     (subst (λ (bytes : List ℕ). Writes (stream_of g.O.Write.contents c.args.out.now) (stream_of g.O.Write.contents c.print.new.stream) bytes 1

@@ -1,0 +1,58 @@
+//! Whether the links on top of the stations are judged too.
+
+ghost use Rattle.std.specs.Prelude.{◌≢◌, IfErr};
+ghost use Rattle.capture.specs.declared.fault.CaptureFault.TheVariants as CaptureFault;
+ghost use Rattle.capture.specs.Faulty.{CountsReads, is_failed_read};
+ghost use Rattle.pair_judge.specs.EndJudged.{IsJudgedAlone};
+ghost use Rattle.pair_judge.specs.Faulty.{is_failed_read_of};
+ghost use Rattle.pair_judge.specs.Judged.{IsAnswer};
+ghost use Rattle.wire_base.specs.Tally.{tally_faults, tally_lent};
+ghost use Rattle.ddcap.specs.inner.Layers.{end_of, nodes_of};
+
+use capture::CaptureFault;
+use pair_judge::{EndVerdict, JudgeFault, Verdict, judge, judge_end, judge_line, judge_line_end};
+use std::alloc::Global;
+use std::io::Read;
+use wire_base::{Side, Tally};
+
+/// What is judged.
+#[derive(Clone, Copy, Debug, PartialEq, Eq)]
+pub enum Layers {
+    /// Stations with their links on top.
+    Both,
+    /// Stations and line alone.
+    Station,
+}
+
+/// Judges the captures that two readers give.
+pub fn judge_over<A: Read, B: Read>(
+    alloc: Global,
+    layers: Layers,
+    a: &mut Tally<A>,
+    b: &mut Tally<B>,
+) -> Result<Verdict, JudgeFault>
+    ensures judged { IsAnswer (nodes_of layers) (A.remaining (tally_lent a.old)) (B.remaining (tally_lent b.old)) result }
+    ensures reads_a { CountsReads (is_failed_read_of Side.A result) (tally_faults a.old) (tally_faults a.new) }
+    ensures reads_b { CountsReads (is_failed_read_of Side.B result) (tally_faults b.old) (tally_faults b.new) }
+{
+    match layers {
+        Layers::Both => judge(alloc, a, b),
+        Layers::Station => judge_line(alloc, a, b),
+    }
+}
+
+/// Judges the capture that a reader gives without that of the other end.
+pub fn judge_end_over<A: Read>(
+    alloc: Global,
+    layers: Layers,
+    a: &mut Tally<A>,
+) -> Result<EndVerdict, CaptureFault>
+    ensures judged { IsJudgedAlone (end_of layers) (A.remaining (tally_lent a.old)) result }
+    ensures first { IfErr result (λ fault. fault ≢ CaptureFault.Failed) }
+    ensures reads { CountsReads (is_failed_read result) (tally_faults a.old) (tally_faults a.new) }
+{
+    match layers {
+        Layers::Both => judge_end(alloc, a),
+        Layers::Station => judge_line_end(alloc, a),
+    }
+}
