@@ -14,6 +14,7 @@ use crate::course::Ahead;
 use crate::end_verdict::EndVerdict;
 use crate::layers::{LinksOnTop, LinksOnTopLeft, NothingOnTop};
 use crate::lone_end::{LoneEnd, MadeAlone};
+use crate::made_entry::MadeEntry;
 use crate::observer::{Nobody, Observer};
 use crate::reason::Reason;
 use crate::side_end::SideEnd;
@@ -22,7 +23,7 @@ use crate::top::Top;
 use capture::{CaptureFault, CaptureReader, MAX_RECORDS, text_read_on, whole_text};
 use dna_node::Cause;
 use dna_station::Head;
-use std::alloc::{AllocError, Global};
+use std::alloc::Global;
 use std::io::Read;
 use wire_base::{Side, Tally};
 
@@ -143,10 +144,17 @@ fn stop_end<T: Top, O: Observer, R: Read>(
     for number in 0..MAX_RECORDS + 1 {
         match capture.advance(a) {
             Ok(Some(entry)) => match end.make::<T>(entry, capture.bytes()) {
-                Ok(MadeAlone::Done) => match observer.made(Side::A, entry, capture.bytes(), false) {
-                    Ok(()) => {}
-                    Err(AllocError) => return Err(CaptureFault::OutOfMemory),
-                },
+                Ok(MadeAlone::Done) => {
+                    let next = MadeEntry {
+                        side: Side::A,
+                        entry,
+                        bytes: capture.bytes(),
+                        sound: false,
+                    };
+                    let Ok(()) = observer.made(&next) else {
+                        return Err(CaptureFault::OutOfMemory);
+                    };
+                }
                 Ok(MadeAlone::Fails { accused, refusal }) => {
                     let stopped = StoppedEnd {
                         verdict: EndVerdict::Refused {
