@@ -44,7 +44,6 @@ pub fn judge_end<R: Read>(alloc: Global, a: &mut Tally<R>) -> Result<EndVerdict,
     ensures first { IfErr result (λ fault. fault ≢ CaptureFault.Failed) }
     ensures reads { CountsReads (is_failed_read result) (tally_faults a.old) (tally_faults a.new) }
 {
-    whole_text();
     find_end::<LinksOnTop, R>(alloc, a)
 }
 
@@ -58,7 +57,6 @@ pub fn judge_line_end<R: Read>(alloc: Global, a: &mut Tally<R>) -> Result<EndVer
     ensures first { IfErr result (λ fault. fault ≢ CaptureFault.Failed) }
     ensures reads { CountsReads (is_failed_read result) (tally_faults a.old) (tally_faults a.new) }
 {
-    whole_text();
     find_end::<NothingOnTop, R>(alloc, a)
 }
 
@@ -91,8 +89,7 @@ pub fn judge_end_watched<O: Observer, R: Read>(
     ensures first { IfErr result (λ fault. fault ≢ CaptureFault.Failed) }
     ensures reads { CountsReads (is_failed_read result) (tally_faults a.old) (tally_faults a.new) }
 {
-    whole_text();
-    match stop_end::<LinksOnTopLeft, O, R>(alloc, a, observer) {
+    match decide_end::<LinksOnTopLeft, O, R>(alloc, a, observer) {
         Ok((stopped, observer)) => {
             let verdict = stopped.verdict;
             let end = SideEnd::alone(stopped.capture, stopped.end, stopped.ahead);
@@ -106,13 +103,33 @@ pub fn judge_end_watched<O: Observer, R: Read>(
     }
 }
 
-// The same over either top, of whatever the reader tells.
+// The same over either top.
 fn find_end<T: Top, R: Read>(alloc: Global, a: &mut Tally<R>) -> Result<EndVerdict, CaptureFault>
-    ensures answer { IsEndAnswer T.top.end (R.remaining (tally_lent a.old)) result }
+    ensures judged { IsJudgedAlone T.top.end (R.remaining (tally_lent a.old)) result }
+    ensures first { IfErr result (λ fault. fault ≢ CaptureFault.Failed) }
     ensures reads { CountsReads (is_failed_read result) (tally_faults a.old) (tally_faults a.new) }
 {
-    match stop_end::<T, Nobody, R>(alloc, a, Nobody) {
+    match decide_end::<T, Nobody, R>(alloc, a, Nobody) {
         Ok((stopped, _)) => Ok(stopped.verdict),
+        Err(fault) => Err(fault),
+    }
+}
+
+// Decides the same while this observer is told of the records, and keeps the end as it is then.
+fn decide_end<T: Top, O: Observer, R: Read>(
+    alloc: Global,
+    a: &mut Tally<R>,
+    observer: O,
+) -> Result<(StoppedEnd, O), CaptureFault>
+    requires { O.told observer [] }
+    ensures judged { IsJudgedAlone T.top.end (R.remaining (tally_lent a.old)) (only result (λ stop. stop.0.verdict)) }
+    ensures stopped { IfOk result (λ stop. IsEndStopped T.top (R.remaining (tally_lent a.old)) (O.told stop.1) stop.0) }
+    ensures first { IfErr result (λ fault. fault ≢ CaptureFault.Failed) }
+    ensures reads { CountsReads (is_failed_read result) (tally_faults a.old) (tally_faults a.new) }
+{
+    whole_text();
+    match stop_end::<T, O, R>(alloc, a, observer) {
+        Ok(stop) => Ok(stop),
         Err(fault) => Err(fault),
     }
 }
