@@ -39,7 +39,7 @@ use Rattle.coverage.specs.Rows.{record_rows, sent_rows, received_rows, sent_row,
 use Rattle.coverage.specs.inner.Met.{counted, met, met_sent, met_receipt, met_damage, met_event, tracked_event}
 use Rattle.coverage.specs.inner.Tracked.{tracker_of, after_event}
 use Rattle.coverage.proofs.Counting.{option_counted}
-use Rattle.coverage.proofs.Tracks.{IsBounded, arrival_tracks, effects_bounded, event_tracks, event_bounded, sending_tracks, sending_bounded}
+use Rattle.coverage.proofs.Tracks.{IsBounded, arrival_tracks, effects_bounded, event_tracks, event_bounded, sending_on}
 use Rattle.coverage.proofs.Walks.{StationNode}
 
 abbrev Wire : Type 0
@@ -86,10 +86,11 @@ module _ (counts : Counts) (n : StationNode) (rows : List Row) (bounded : IsBoun
 
   sent_made : (m : MessageValue) (o : Option StationRefusal) → wire_sending_refusal w m ≡ o →
       GoesOn (met_sent half (Sound m)) (alone.sends n (unless_refused o (wire_after_sending w m, wire_tag w))) (sent_rows w.variables (Sound m))
-  sent_made m None none end is = made (met_sent half (Sound m)) (record n { station = wire_after_sending w m }) end (sent_rows w.variables (Sound m))
-      (record {
-        tracks = sym (sending_tracks w bounded m none);
-        bounded = sending_bounded w bounded m none;
+  sent_made m None none end is =
+      let on = sending_on w bounded m none in
+      made (met_sent half (Sound m)) (record n { station = wire_after_sending w m }) end (sent_rows w.variables (Sound m)) (record {
+        tracks = sym on.0;
+        bounded = on.1;
         counts = two_counted counts.met rows (sent_row w.variables.state (wire_is_new w.variables) m) (link_sends (wire_is_new w.variables) m) are;
       }) is
   sent_made m (Some refusal) none end is = absurd cc

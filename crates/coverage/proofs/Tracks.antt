@@ -132,31 +132,27 @@ module _ {L : Type 0} where
     abbrev newest : HeldPacket L
     newest = record { body = body; label = None }
 
-    packet_tracks : (new : Bool) → HasRoom new k → (new ≡ false → k.ahead < length k.held) →
-        tracker_of (record k { ahead = k.ahead + 1; held = with_new new k.held body }) ≡ with_packet new (tracker_of k)
-    packet_tracks true room old =
+    abbrev sent_on : Bool → StationVariables L
+    sent_on new = record k { ahead = k.ahead + 1; held = with_new new k.held body }
+
+    packet_on : (new : Bool) → HasRoom new k → (new ≡ false → k.ahead < length k.held) →
+        (tracker_of (sent_on new) ≡ with_packet new (tracker_of k)) × IsBounded (sent_on new)
+    packet_on true room old =
         let longer = length-append k.held (newest ∷ []) in
         let few = room refl in
         let within = bounded.within in
         let one : k.ahead + 1 ≡ tracked.next_count k.ahead = omega arith in
-        let two : length (k.held ++ newest ∷ []) ≡ tracked.next_count (length k.held) = omega arith in
-        ap₂ (λ (a o : ℕ). record (tracker_of k) { ahead = a; outstanding = o }) one two
-    packet_tracks false room old =
+        let two : length (k.held ++ newest ∷ []) ≡ tracked.next_count (length k.held) = omega arith in (
+          ap₂ (λ (a o : ℕ). record (tracker_of k) { ahead = a; outstanding = o }) one two,
+          record { most = omega arith; within = omega arith },
+        )
+    packet_on false room old =
         let most = bounded.most in
         let below = old refl in
-        let one : k.ahead + 1 ≡ tracked.next_count k.ahead = omega arith in
-        ap (λ (a : ℕ). record (tracker_of k) { ahead = a }) one
-
-    packet_bounded : (new : Bool) → HasRoom new k → (new ≡ false → k.ahead < length k.held) →
-        IsBounded (record k { ahead = k.ahead + 1; held = with_new new k.held body })
-    packet_bounded true room old =
-        let longer = length-append k.held (newest ∷ []) in
-        let few = room refl in
-        let within = bounded.within in
-        record { most = omega arith; within = omega arith }
-    packet_bounded false room old =
-        let below = old refl in
-        record { most = bounded.most; within = omega arith }
+        let one : k.ahead + 1 ≡ tracked.next_count k.ahead = omega arith in (
+          ap (λ (a : ℕ). record (tracker_of k) { ahead = a }) one,
+          record { most = bounded.most; within = omega arith },
+        )
 
     -- what is not new comes before the end
     pub is_old : wire_is_new k ≡ false → k.ahead < length k.held
@@ -166,23 +162,13 @@ module _ {L : Type 0} where
         omega arith
 
   module _ (w : WireStation L) (bounded : IsBounded w.variables) where
-    pub sending_tracks : (m : MessageValue) → wire_sending_refusal w m ≡ None →
-        tracker_of (wire_after_sending w m).variables ≡ after_sending (tracker_of w.variables) m
-    sending_tracks (Data flags resp num body) none =
-        packet_tracks w.variables body bounded (wire_is_new w.variables) (room_in w flags resp num body w.variables.state none)
+    pub sending_on : (m : MessageValue) → wire_sending_refusal w m ≡ None →
+        (tracker_of (wire_after_sending w m).variables ≡ after_sending (tracker_of w.variables) m) × IsBounded (wire_after_sending w m).variables
+    sending_on (Data flags resp num body) none =
+        packet_on w.variables body bounded (wire_is_new w.variables) (room_in w flags resp num body w.variables.state none)
         (is_old w.variables body bounded)
-    sending_tracks (Ack flags resp) none = refl
-    sending_tracks (Nak flags reason resp) none = refl
-    sending_tracks (Rep flags num) none = refl
-    sending_tracks (Strt flags) none = refl
-    sending_tracks (Stack flags) none = refl
-
-    pub sending_bounded : (m : MessageValue) → wire_sending_refusal w m ≡ None → IsBounded (wire_after_sending w m).variables
-    sending_bounded (Data flags resp num body) none =
-        packet_bounded w.variables body bounded (wire_is_new w.variables) (room_in w flags resp num body w.variables.state none)
-        (is_old w.variables body bounded)
-    sending_bounded (Ack flags resp) none = bounded
-    sending_bounded (Nak flags reason resp) none = bounded
-    sending_bounded (Rep flags num) none = bounded
-    sending_bounded (Strt flags) none = bounded
-    sending_bounded (Stack flags) none = bounded
+    sending_on (Ack flags resp) none = (refl, bounded)
+    sending_on (Nak flags reason resp) none = (refl, bounded)
+    sending_on (Rep flags num) none = (refl, bounded)
+    sending_on (Strt flags) none = (refl, bounded)
+    sending_on (Stack flags) none = (refl, bounded)

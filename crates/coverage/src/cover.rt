@@ -8,8 +8,7 @@ ghost use Rattle.coverage.specs.inner.Told.{Told};
 use crate::counts::Counts;
 use crate::half::Half;
 use crate::tracker::Tracker;
-use capture::Entry;
-use pair_judge::Observer;
+use pair_judge::{MadeEntry, Observer};
 use std::alloc::AllocError;
 use wire_base::Side;
 
@@ -48,20 +47,14 @@ impl Observer for Cover {
 
     // Out of line, so that the judge's way is as short as where nobody looks on.
     #[inline(never)]
-    fn made(
-        &mut self,
-        side: Side,
-        entry: Entry,
-        bytes: &[u8],
-        sound: bool,
-    ) -> Result<(), AllocError> {
-        match side {
+    fn made(&mut self, next: &MadeEntry<'_>) -> Result<(), AllocError> {
+        match next.side {
             Side::A => {
-                self.a.meet(entry, bytes, sound);
+                self.a.meet(next);
                 Ok(())
             }
             Side::B => {
-                self.b.meet(entry, bytes, sound);
+                self.b.meet(next);
                 Ok(())
             }
         }

@@ -1,10 +1,10 @@
 //! What is kept of one side: its station, and how often it went through each row.
 
-ghost use Rattle.std.specs.Prelude.{◌≡◌, true};
+ghost use Rattle.std.specs.Prelude.{◌≡◌};
 ghost use Rattle.capture.specs.declared.event.Event.TheVariants as Event;
 ghost use Rattle.capture.specs.Entries.{record_with};
 ghost use Rattle.ddcmp_msg.specs.Message.{view};
-ghost use Rattle.ddcmp_msg.specs.Reading.{IsSound, Sound, reading, reading_view};
+ghost use Rattle.ddcmp_msg.specs.Reading.{Sound, reading, reading_view};
 ghost use Rattle.coverage.specs.inner.Met as spec;
 
 use crate::counts::Counts;
@@ -14,6 +14,7 @@ use crate::tracker::Tracker;
 use capture::Entry;
 use ddcmp_msg::{Message, Reading, read_sound, read_unit};
 use dna_station::{State, StationEvent};
+use pair_judge::MadeEntry;
 
 /// One side.
 #[derive(Clone, Copy, Debug, PartialEq, Eq)]
@@ -25,20 +26,20 @@ pub struct Half {
 impl Half {
     /// This record was made. What is said to be sound is read without its checks.
     #[inline(always)]
-    pub(crate) fn meet(&mut self, entry: Entry, bytes: &[u8], sound: bool)
-        requires { sound ≡ true → IsSound (reading bytes.now) }
-        ensures { self.new ≡ spec.met self.old (record_with entry bytes.now) }
+    pub(crate) fn meet(&mut self, next: &MadeEntry<'_>)
+        ensures { self.new ≡ spec.met self.old (record_with next.now.entry next.now.bytes) }
     {
-        match entry {
+        let bytes = next.bytes;
+        match next.entry {
             Entry::Sent => {
-                if sound {
+                if next.sound {
                     self.sent(&read_sound(bytes));
                 } else {
                     self.sent_unread(bytes);
                 }
             }
             Entry::Received { kept, .. } => {
-                if sound {
+                if next.sound {
                     self.received(kept, &read_sound(bytes));
                 } else {
                     self.received_unread(kept, bytes);

@@ -3,11 +3,9 @@
 ghost use Rattle.std.specs.Prelude.{[], IfOk, IfErr};
 ghost use Rattle.ddcap.specs.inner.LastRows.{WereTold};
 
-use capture::Entry;
 use ladder::{Keep, Ladder};
-use pair_judge::Observer;
+use pair_judge::{MadeEntry, Observer};
 use std::alloc::{AllocError, Global};
-use wire_base::Side;
 
 /// How many rows there are before that of the refused record.
 pub const ROWS_BEFORE: usize = 10;
@@ -31,13 +29,7 @@ impl LastRows {
 impl Observer for LastRows {
     ghost told = { λ rows order. WereTold rows.ladder order };
 
-    fn made(
-        &mut self,
-        side: Side,
-        entry: Entry,
-        bytes: &[u8],
-        _sound: bool,
-    ) -> Result<(), AllocError> {
-        self.ladder.made(side, entry, bytes)
+    fn made(&mut self, next: &MadeEntry<'_>) -> Result<(), AllocError> {
+        self.ladder.made(next.side, next.entry, next.bytes)
     }
 }

@@ -1,29 +1,26 @@
 -- The first records, and one more.
-use Rattle.std.proofs.Common.{◌≡◌, ◌≤◌, ◌<◌, ℕ, ◌+◌, Bool, true, false, arith}
+use Rattle.std.proofs.Common.{◌≡◌, ◌≤◌, ◌<◌, ℕ, Bool, true, false, arith}
 use Rattle.std.proofs.Common.{List, [], ◌∷◌, ◌++◌, length, map, refl, sym, ◌∙◌, ap, subst}
-use Rattle.std.proofs.lemmas.List.{append_assoc, append-nil, length-map, length_push, map-append}
+use Rattle.std.proofs.lemmas.List.{append_assoc, append-nil, map-append}
 use Rattle.ladder.specs.Ladder.{LadderView}
 use Rattle.ladder.specs.Rows.{Kept, no_rows}
 use Rattle.ladder.specs.declared.rows.Keep.TheVariants as keep
-use Rattle.pair_judge.specs.Order.{MadeRecord}
+use Rattle.pair_judge.specs.Order.{MadeEntry, MadeRecord, TellsNext, record_told}
 use Rattle.drawing.specs.declared.begun.Begun.{Begun}
 use Rattle.drawing.specs.declared.first.First.{First}
 use Rattle.drawing.specs.declared.first.TheConstants.{LATER}
 use Rattle.drawing.specs.declared.log.TheConstants.{RECORDS}
 use Rattle.drawing.specs.declared.told_record.Later.{Later}
-use Rattle.capture.specs.declared.entry.Entry.{Entry}
-use Rattle.wire_base.specs.declared.side.Side.{Side}
-use Rattle.drawing.specs.Telling as telling
-use Rattle.drawing.specs.Telling.{ToldView, WereTold, ladder_behind, ladder_told, later_entry, record_told, with_no_rows}
+use Rattle.drawing.specs.Telling.{ladder_behind, ladder_told, later_entry, with_no_rows}
 use Rattle.drawing.specs.inner.Ending.{IsBegun}
-use Rattle.drawing.specs.inner.Kept.{IsFirst, Rest, Tells}
+use Rattle.drawing.specs.inner.Kept.{IsFirst, Rest}
 use Rattle.drawing.proofs.Told.{order_more}
 
 pub first_none : (first : First) → first.records.items ≡ [] → first.later.items ≡ [] → first.is_all ≡ true → IsFirst first []
 first_none first none later all = record {
   later = [];
   rest = [];
-  of_order = ap (λ (l : List ToldView). map record_told (l ++ []) ++ []) none;
+  of_order = ap (λ (l : List MadeEntry). map record_told (l ++ []) ++ []) none;
   is_later = later;
   no_later = λ few. refl;
   no_rest = λ few. all;
@@ -46,17 +43,17 @@ rest_by : (is_all : Bool) (rest : List MadeRecord) (known : Bool) → is_all ≡
 rest_by is_all rest known is told = subst (λ (b : Bool). Rest b rest) (sym is) told
 
 -- what was told, where nothing is left out
-whole_order : (items later : List ToldView) (rest order : List MadeRecord) → rest ≡ [] → map record_told (items ++ later) ++ rest ≡ order
+whole_order : (items later : List MadeEntry) (rest order : List MadeRecord) → rest ≡ [] → map record_told (items ++ later) ++ rest ≡ order
     → map record_told (items ++ later) ≡ order
 whole_order items later rest order none is =
     sym (append-nil (map record_told (items ++ later))) ∙ ap (λ (r : List MadeRecord). map record_told (items ++ later) ++ r) (sym none) ∙ is
 
-none_later : (items : List Later) (later : List ToldView) → items ≡ map later_entry later → later ≡ [] → length items ≡ 0
-none_later items later is none = ap length (is ∙ ap (λ (l : List ToldView). map later_entry l) none)
+none_later : (items : List Later) (later : List MadeEntry) → items ≡ map later_entry later → later ≡ [] → length items ≡ 0
+none_later items later is none = ap length (is ∙ ap (λ (l : List MadeEntry). map later_entry l) none)
 
-pub first_more : (before after : First) (next : ToldView) → length before.records.items < RECORDS
+pub first_more : (before after : First) (next : MadeEntry) → length before.records.items < RECORDS
     → after.records.items ≡ before.records.items ++ next ∷ [] → after.later.items ≡ before.later.items → after.is_all ≡ before.is_all
-    → Tells IsFirst before after next
+    → TellsNext IsFirst before after (record_told next)
 first_more before after next room is same all order told =
     let none : told.later ≡ [] = told.no_later room in
     let no_items : length before.later.items ≡ 0 = none_later before.later.items told.later told.is_later none in
@@ -64,27 +61,25 @@ first_more before after next room is same all order told =
     let is_all : after.is_all ≡ true = all ∙ told.no_rest few in
     let no_rest : told.rest ≡ [] = no_rest_by before.is_all told.rest (told.no_rest few) told.whole in
     let old : map record_told before.records.items ≡ order =
-    ap (λ (l : List ToldView). map record_told l) (sym (append-nil before.records.items))
-    ∙ ap (λ (l : List ToldView). map record_told (before.records.items ++ l)) (sym none)
+    ap (λ (l : List MadeEntry). map record_told l) (sym (append-nil before.records.items))
+    ∙ ap (λ (l : List MadeEntry). map record_told (before.records.items ++ l)) (sym none)
     ∙ whole_order before.records.items told.later told.rest order no_rest told.of_order in
     record {
       later = [];
       rest = [];
       of_order = append-nil (map record_told (after.records.items ++ []))
-          ∙ ap (λ (l : List ToldView). map record_told l) (append-nil after.records.items ∙ is)
+          ∙ ap (λ (l : List MadeEntry). map record_told l) (append-nil after.records.items ∙ is)
           ∙ order_more [] before.records.items next order old;
-      is_later = same ∙ told.is_later ∙ ap (λ (l : List ToldView). map later_entry l) none;
+      is_later = same ∙ told.is_later ∙ ap (λ (l : List MadeEntry). map later_entry l) none;
       no_later = λ r. refl;
       no_rest = λ r. is_all;
       whole = rest_by after.is_all [] true is_all refl;
     }
 
-pub first_later : (before after : First) (side : Side) (entry : Entry) (bytes : List ℕ) → RECORDS ≤ length before.records.items
-    → length before.later.items < LATER → after.records.items ≡ before.records.items
-    → after.later.items ≡ before.later.items ++ record { side = side; entry = entry } ∷ []
-    → after.is_all ≡ before.is_all → Tells IsFirst before after (telling.told side entry bytes)
-first_later before after side entry bytes full room same is all order told =
-    let next : ToldView = telling.told side entry bytes in
+pub first_later : (before after : First) (next : MadeEntry) → RECORDS ≤ length before.records.items → length before.later.items < LATER
+    → after.records.items ≡ before.records.items → after.later.items ≡ before.later.items ++ later_entry next ∷ []
+    → after.is_all ≡ before.is_all → TellsNext IsFirst before after (record_told next)
+first_later before after next full room same is all order told =
     let as_many : length after.records.items ≡ length before.records.items = ap length same in
     let is_all : after.is_all ≡ true = all ∙ told.no_rest room in
     let no_rest : told.rest ≡ [] = no_rest_by before.is_all told.rest (told.no_rest room) told.whole in
@@ -94,7 +89,7 @@ first_later before after side entry bytes full room same is all order told =
       later = told.later ++ next ∷ [];
       rest = [];
       of_order = append-nil (map record_told (after.records.items ++ (told.later ++ next ∷ [])))
-          ∙ ap (λ (l : List ToldView). map record_told (l ++ (told.later ++ next ∷ []))) same
+          ∙ ap (λ (l : List MadeEntry). map record_told (l ++ (told.later ++ next ∷ []))) same
           ∙ order_more before.records.items told.later next order old;
       is_later = is ∙ ap (λ (l : List Later). l ++ later_entry next ∷ []) told.is_later
           ∙ sym (map-append later_entry told.later (next ∷ []));
@@ -103,35 +98,35 @@ first_later before after side entry bytes full room same is all order told =
       whole = rest_by after.is_all [] true is_all refl;
     }
 
-pub first_left : (before after : First) (next : ToldView) → RECORDS ≤ length before.records.items → LATER ≤ length before.later.items
+pub first_left : (before after : First) (next : MadeRecord) → RECORDS ≤ length before.records.items → LATER ≤ length before.later.items
     → after.records.items ≡ before.records.items → after.later.items ≡ before.later.items → after.is_all ≡ false
-    → Tells IsFirst before after next
+    → TellsNext IsFirst before after next
 first_left before after next full full_later same same_later all order told =
     let as_many : length after.records.items ≡ length before.records.items = ap length same in
     let as_many_later : length after.later.items ≡ length before.later.items = ap length same_later in
     record {
       later = told.later;
-      rest = told.rest ++ record_told next ∷ [];
-      of_order = ap (λ (l : List ToldView). map record_told (l ++ told.later) ++ (told.rest ++ record_told next ∷ [])) same
-          ∙ sym (append_assoc (map record_told (before.records.items ++ told.later)) told.rest (record_told next ∷ []))
-          ∙ ap (λ (o : List MadeRecord). o ++ record_told next ∷ []) told.of_order;
+      rest = told.rest ++ next ∷ [];
+      of_order = ap (λ (l : List MadeEntry). map record_told (l ++ told.later) ++ (told.rest ++ next ∷ [])) same
+          ∙ sym (append_assoc (map record_told (before.records.items ++ told.later)) told.rest (next ∷ []))
+          ∙ ap (λ (o : List MadeRecord). o ++ next ∷ []) told.of_order;
       is_later = same_later ∙ told.is_later;
       no_later = λ few. absurd (not_full RECORDS (length after.records.items) (length before.records.items) as_many full few);
       no_rest = λ few. absurd (not_full LATER (length after.later.items) (length before.later.items) as_many_later full_later few);
-      whole = rest_by after.is_all (told.rest ++ record_told next ∷ []) false all (some_rest told.rest (record_told next));
+      whole = rest_by after.is_all (told.rest ++ next ∷ []) false all (some_rest told.rest next);
     }
 
 -- where one was left out already
-pub first_rest : (first : First) (next : ToldView) → first.is_all ≡ false → Tells IsFirst first first next
+pub first_rest : (first : First) (next : MadeRecord) → first.is_all ≡ false → TellsNext IsFirst first first next
 first_rest first next all order told = record {
   later = told.later;
-  rest = told.rest ++ record_told next ∷ [];
-  of_order = sym (append_assoc (map record_told (first.records.items ++ told.later)) told.rest (record_told next ∷ []))
-      ∙ ap (λ (o : List MadeRecord). o ++ record_told next ∷ []) told.of_order;
+  rest = told.rest ++ next ∷ [];
+  of_order = sym (append_assoc (map record_told (first.records.items ++ told.later)) told.rest (next ∷ []))
+      ∙ ap (λ (o : List MadeRecord). o ++ next ∷ []) told.of_order;
   is_later = told.is_later;
   no_later = told.no_later;
   no_rest = told.no_rest;
-  whole = rest_by first.is_all (told.rest ++ record_told next ∷ []) false all (some_rest told.rest (record_told next));
+  whole = rest_by first.is_all (told.rest ++ next ∷ []) false all (some_rest told.rest next);
 }
 
 -- no record of which nothing was told
@@ -144,8 +139,8 @@ nothing_told first order none told =
     let few_later : length first.later.items < LATER = omega arith in
     let no_rest : told.rest ≡ [] = no_rest_by first.is_all told.rest (told.no_rest few_later) told.whole in
     sym (whole_order first.records.items told.later told.rest order no_rest told.of_order)
-    ∙ ap (λ (l : List ToldView). map record_told (l ++ told.later)) none
-    ∙ ap (λ (l : List ToldView). map record_told l) no_later
+    ∙ ap (λ (l : List MadeEntry). map record_told (l ++ told.later)) none
+    ∙ ap (λ (l : List MadeEntry). map record_told l) no_later
 
 -- ---- a ladder that is told of them
 

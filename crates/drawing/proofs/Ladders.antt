@@ -1,9 +1,9 @@
 -- A ladder that was told of what is kept, and what is answered of it.
-use Rattle.std.proofs.Common.{◌≡◌, ◌⊎◌, ℕ, Bool, true, false, List, [], ◌∷◌, Option, Some, None, Result, Ok, Err, inl, inr, refl, sym, ◌∙◌, ap, subst}
+use Rattle.std.proofs.Common.{◌≡◌, ℕ, Bool, true, false, List, [], Option, Some, None, Result, Ok, Err, inl, inr, refl, sym, ◌∙◌, ap, subst}
 use Rattle.wire_base.specs.declared.side.Side.{Side}
 use Rattle.capture.specs.Entries.{record_with}
 use Rattle.capture.specs.declared.entry.Entry.{Entry}
-use Rattle.dna_node.specs.Kind.{NodeKind, both_layers, stations_alone}
+use Rattle.dna_node.specs.Kind.{NodeKind}
 use Rattle.ladder.specs.Drawn.{DrawnView, IsDrawn}
 use Rattle.ladder.specs.Ladder.{LadderView, refused}
 use Rattle.ladder.specs.declared.rows.Keep.{Keep}
@@ -18,6 +18,7 @@ use Rattle.pair_judge.specs.declared.fault.JudgeFault.TheVariants.{Capture, OutO
 use Rattle.pair_judge.specs.declared.fault.TextFault.TheVariants.{Departs, Read}
 use Rattle.pair_judge.specs.declared.verdict.Verdict.{Verdict}
 use Rattle.pair_judge.specs.declared.verdict.Verdict.TheVariants.{Accepted, Refused}
+use Rattle.pair_judge.proofs.Orders.{told_so}
 use Rattle.drawing.specs.declared.begun.Begun.{Begun}
 use Rattle.drawing.specs.declared.drawing.DrawnPair.{DrawnPair}
 use Rattle.drawing.specs.declared.range.Judging.{Judging}
@@ -100,40 +101,11 @@ picture_so range text_a text_b ends drawn begun after told judged ending drawn_s
       gives = refl;
       made = begun.ladder;
       rest = all.0;
-      told = record {
-        order = told.order;
-        is_told = all.1;
-        read_a = told.read_a;
-        read_b = told.read_b;
-        from_a = told.from_a;
-        from_b = told.from_b;
-        all_a = told.all_a;
-        all_b = told.all_b;
-        records_a = told.records_a;
-        records_b = told.records_b;
-        is_run = told.is_run;
-      };
+      told = told_so (kind_by range.judging) text_a text_b ends _ (WereTold (keep_of range ends.verdict) range.rows begun.ladder all.0) told all.1;
       after = after;
       ladder = ending all.0 all.2;
       drawn_so = drawn_so;
     }
-
--- what is told of one thing is told of another, where that follows
-told_of : (nodes : NodeKind) (text_a text_b : Option (List ℕ)) (ends : ShownEnds) (one other : List MadeRecord → Type 0)
-    → ((order : List MadeRecord) → one order → other order) → WasTold nodes text_a text_b ends one → WasTold nodes text_a text_b ends other
-told_of nodes text_a text_b ends one other follows told = record {
-  order = told.order;
-  is_told = follows told.order told.is_told;
-  read_a = told.read_a;
-  read_b = told.read_b;
-  from_a = told.from_a;
-  from_b = told.from_b;
-  all_a = told.all_a;
-  all_b = told.all_b;
-  records_a = told.records_a;
-  records_b = told.records_b;
-  is_run = told.is_run;
-}
 
 drawing_so : (range : Range) (text_a text_b : Option (List ℕ)) (ends : ShownEnds) (begun : Begun) (result : Result DrawnPair JudgeFault)
     → IsAnswer (kind_by range.judging) text_a text_b (Ok ends.verdict)
@@ -153,8 +125,8 @@ ends_so range text_a text_b ends telling begun result none judged told begins en
     let keeps : keep_of range ends.verdict ≡ keep_for keep.First keep.Last ends.verdict =
     ap (λ (start : Option Start). keep_for (keep_by keep.First start) (keep_by keep.Last start) ends.verdict) none in
     drawing_so range text_a text_b ends begun result judged
-    (told_of (kind_by range.judging) text_a text_b ends (IsEnds telling) (IsBegun (keep_of range ends.verdict) range.rows begun)
-    (λ order was. subst (λ (k : Keep). IsBegun k range.rows begun order) (sym keeps) (begins order was)) told)
+    (told_so (kind_by range.judging) text_a text_b ends (IsEnds telling) (IsBegun (keep_of range ends.verdict) range.rows begun) told
+    (subst (λ (k : Keep). IsBegun k range.rows begun told.order) (sym keeps) (begins told.order told.is_told)))
     ending
 
 same_keep : (side : Side) (line : ℕ) (verdict : Verdict) → keep_for (keep.From side line) (keep.From side line) verdict ≡ keep.From side line
@@ -171,8 +143,8 @@ onward_so range text_a text_b ends telling start begun result some judged told b
     ap (λ (s : Option Start). keep_for (keep_by keep.First s) (keep_by keep.Last s) ends.verdict) some
     ∙ same_keep start.side start.line ends.verdict in
     drawing_so range text_a text_b ends begun result judged
-    (told_of (kind_by range.judging) text_a text_b ends (IsOnward telling) (IsBegun (keep_of range ends.verdict) range.rows begun)
-    (λ order was. subst (λ (k : Keep). IsBegun k range.rows begun order) (sym keeps) (begins order was)) told)
+    (told_so (kind_by range.judging) text_a text_b ends (IsOnward telling) (IsBegun (keep_of range ends.verdict) range.rows begun) told
+    (subst (λ (k : Keep). IsBegun k range.rows begun told.order) (sym keeps) (begins told.order told.is_told)))
     ending
 
 -- ---- the refused record

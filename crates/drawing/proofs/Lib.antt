@@ -1,5 +1,4 @@
 mod Told
-mod Results
 mod Logs
 mod Recents
 mod Firsts

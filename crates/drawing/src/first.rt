@@ -1,21 +1,19 @@
 //! The first records.
 
-ghost use Rattle.std.specs.Prelude.{◌≡◌, ◌≤◌, true, List, [], IfOk, OnOk};
-ghost use Rattle.pair_judge.specs.Order.{MadeRecord};
-ghost use Rattle.ddcmp_msg.specs.Reading.{IsSound, reading};
-ghost use Rattle.drawing.specs.Telling.{ladder_behind, ladder_told, told};
+ghost use Rattle.std.specs.Prelude.{◌≡◌, ◌≤◌, List, [], IfOk, OnOk};
+ghost use Rattle.pair_judge.specs.Order.{MadeRecord, TellsNext, record_told};
+ghost use Rattle.drawing.specs.Telling.{ladder_behind, ladder_told};
 ghost use Rattle.ladder.specs.declared.rows.Keep.TheVariants as Keep;
 ghost use Rattle.drawing.specs.inner.Ending.{IsBegun};
-ghost use Rattle.drawing.specs.inner.Kept.{IsFirst, Tells};
+ghost use Rattle.drawing.specs.inner.Kept.{IsFirst};
 
 use crate::begun::Begun;
 use crate::log::RECORDS;
 use crate::tell::{follow_all, tell_all};
 use crate::told_record::{Later, ToldRecord};
-use capture::Entry;
 use ladder::{Keep, Ladder};
+use pair_judge::MadeEntry;
 use std::alloc::{AllocError, Global};
-use wire_base::Side;
 
 // So many records behind them are looked at, to see what becomes of the units that the first ones sent.
 const LATER: usize = 4000;
@@ -47,40 +45,22 @@ impl First {
     /// One more record was made. `AllocError` where there is no memory for it.
     #[tactic(auto, using(crate::proofs::Firsts::first_rest))]
     #[inline(always)]
-    pub fn made(
-        &mut self,
-        side: Side,
-        entry: Entry,
-        bytes: &[u8],
-        sound: bool,
-    ) -> Result<(), AllocError>
-        requires { sound ≡ true → IsSound (reading bytes.now) }
-        ensures { OnOk result (Tells IsFirst self.old self.new (told side entry bytes.now)) }
+    pub fn made(&mut self, next: &MadeEntry<'_>) -> Result<(), AllocError>
+        ensures { OnOk result (TellsNext IsFirst self.old self.new (record_told next.now)) }
     {
-        if self.is_all {
-            self.take(side, entry, bytes, sound)
-        } else {
-            Ok(())
-        }
+        if self.is_all { self.take(next) } else { Ok(()) }
     }
 
     // One more record was made, and all were told so far.
     #[tactic(auto, using(crate::proofs::Firsts::first_more, crate::proofs::Firsts::first_later, crate::proofs::Firsts::first_left))]
-    fn take(
-        &mut self,
-        side: Side,
-        entry: Entry,
-        bytes: &[u8],
-        sound: bool,
-    ) -> Result<(), AllocError>
-        requires { sound ≡ true → IsSound (reading bytes.now) }
-        ensures { OnOk result (Tells IsFirst self.old self.new (told side entry bytes.now)) }
+    fn take(&mut self, next: &MadeEntry<'_>) -> Result<(), AllocError>
+        ensures { OnOk result (TellsNext IsFirst self.old self.new (record_told next.now)) }
     {
         if self.records.len() < RECORDS {
-            let next = ToldRecord::new(self.alloc, side, entry, bytes, sound)?;
-            self.records.push(next)?;
+            let own = ToldRecord::new(self.alloc, next)?;
+            self.records.push(own)?;
         } else if self.later.len() < LATER {
-            self.later.push(Later { side, entry })?;
+            self.later.push(Later::of(next))?;
         } else {
             self.is_all = false;
         }

@@ -1,15 +1,12 @@
 //! Records one behind the other, in memory that is used again.
 
 ghost use Rattle.std.specs.Prelude.{◌≡◌, ◌++◌, ◌∷◌, ◌<◌, ◌≤◌, [], true, false, length, OnOk};
-ghost use Rattle.ddcmp_msg.specs.Reading.{IsSound, reading};
 ghost use Rattle.drawing.specs.declared.log.TheConstants.{RECORDS};
-ghost use Rattle.drawing.specs.Telling.{told};
 
 use crate::told_record::ToldRecord;
-use capture::Entry;
+use pair_judge::MadeEntry;
 use std::alloc::{AllocError, Global};
 use std::marker::Model;
-use wire_base::Side;
 
 /// So many of the last records are kept at least: four for each row that may be drawn. A row has two at most, and some more tell better how those
 /// near the end stand.
@@ -27,9 +24,9 @@ pub struct Log {
 impl Model for Log {
     ghost use Rattle.std.specs.Prelude.{◌≤◌, List, length, take};
     ghost use Rattle.drawing.specs.declared.log.TheConstants.{RECORDS};
-    ghost use Rattle.drawing.specs.Telling.{ToldView};
+    ghost use Rattle.pair_judge.specs.Order.{MadeEntry};
 
-    ghost Value = { List ToldView };
+    ghost Value = { List MadeEntry };
 
     ghost view = { λ log. take log.count log.records.items };
 
@@ -60,41 +57,27 @@ impl Log {
 
     /// One record more. `AllocError` where there is no memory for it; then the log is of no use.
     #[inline(always)]
-    pub fn put(
-        &mut self,
-        side: Side,
-        entry: Entry,
-        bytes: &[u8],
-        sound: bool,
-    ) -> Result<(), AllocError>
-        requires room { length self.old < RECORDS }
-        requires sound { sound ≡ true → IsSound (reading bytes.now) }
-        ensures { OnOk result (self.new ≡ self.old ++ told side entry bytes.now ∷ []) }
+    pub fn put(&mut self, next: &MadeEntry<'_>) -> Result<(), AllocError>
+        requires { length self.old < RECORDS }
+        ensures { OnOk result (self.new ≡ self.old ++ next.now ∷ []) }
     {
         let Some(slot) = self.records.get_mut(self.count) else {
-            return self.grow(side, &entry, bytes, sound);
+            return self.grow(next);
         };
-        slot.refill(side, entry, bytes, sound)?;
+        slot.refill(next)?;
         self.count += 1;
         Ok(())
     }
 
     // One record more in memory of its own.
     #[inline(never)]
-    fn grow(
-        &mut self,
-        side: Side,
-        entry: &Entry,
-        bytes: &[u8],
-        sound: bool,
-    ) -> Result<(), AllocError>
-        requires room { length self.old < RECORDS }
-        requires sound { sound ≡ true → IsSound (reading bytes.now) }
-        ensures { OnOk result (self.new ≡ self.old ++ told side entry.now bytes.now ∷ []) }
+    fn grow(&mut self, next: &MadeEntry<'_>) -> Result<(), AllocError>
+        requires { length self.old < RECORDS }
+        ensures { OnOk result (self.new ≡ self.old ++ next.now ∷ []) }
     {
-        let next = ToldRecord::new(self.alloc, side, *entry, bytes, sound)?;
+        let own = ToldRecord::new(self.alloc, next)?;
         self.records.truncate(self.count);
-        self.records.push(next)?;
+        self.records.push(own)?;
         self.count += 1;
         Ok(())
     }

@@ -1,22 +1,20 @@
 //! The last records, and those before them.
 
-ghost use Rattle.std.specs.Prelude.{◌≡◌, ◌<◌, ◌≤◌, true, length, List, [], IfOk, OnOk};
-ghost use Rattle.ddcmp_msg.specs.Reading.{IsSound, reading};
-ghost use Rattle.pair_judge.specs.Order.{MadeRecord};
+ghost use Rattle.std.specs.Prelude.{◌≡◌, ◌<◌, ◌≤◌, length, List, [], IfOk, OnOk};
+ghost use Rattle.pair_judge.specs.Order.{MadeRecord, TellsNext, record_told};
 ghost use Rattle.ladder.specs.declared.rows.Keep.TheVariants.{Last};
 ghost use Rattle.drawing.specs.declared.log.TheConstants.{RECORDS};
-ghost use Rattle.drawing.specs.Telling.{ladder_told, told};
+ghost use Rattle.drawing.specs.Telling.{ladder_told};
 ghost use Rattle.drawing.specs.inner.Ending.{IsBegun};
-ghost use Rattle.drawing.specs.inner.Kept.{IsRecent, Tells, WasToldOf};
+ghost use Rattle.drawing.specs.inner.Kept.{IsRecent, WasToldOf};
 
 use crate::begun::Begun;
 use crate::log::Log;
 use crate::tell::{teach_all, tell_all};
-use capture::Entry;
 use ladder::{Keep, Ladder};
+use pair_judge::MadeEntry;
 use std::alloc::{AllocError, Global};
 use std::mem;
-use wire_base::Side;
 
 /// The last records that were told, at least as many as a log has, and what a ladder knows of those before them. They stand in two logs: where the
 /// newer one is full, the ladder learns the older one, whose memory the next records take.
@@ -43,18 +41,11 @@ impl Recent {
     /// One more record was made. `AllocError` where there is no memory for it; then this is of no use.
     #[inline(always)]
     #[tactic(auto, using(crate::proofs::Recents::recent_made))]
-    pub fn made(
-        &mut self,
-        side: Side,
-        entry: Entry,
-        bytes: &[u8],
-        sound: bool,
-    ) -> Result<(), AllocError>
-        requires { sound ≡ true → IsSound (reading bytes.now) }
-        ensures { OnOk result (Tells IsRecent self.old self.new (told side entry bytes.now)) }
+    pub fn made(&mut self, next: &MadeEntry<'_>) -> Result<(), AllocError>
+        ensures { OnOk result (TellsNext IsRecent self.old self.new (record_told next.now)) }
     {
         self.make_room();
-        self.newer.put(side, entry, bytes, sound)
+        self.newer.put(next)
     }
 
     // The newer log has room for a record.

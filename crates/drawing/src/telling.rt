@@ -1,10 +1,8 @@
 //! Who is told of the records of a pair that is drawn.
 
-ghost use Rattle.std.specs.Prelude.{◌≡◌, ◌≤◌, true, List, [], IfOk, IsTrue, OnOk};
+ghost use Rattle.std.specs.Prelude.{◌≡◌, ◌≤◌, List, [], IfOk, IsTrue, OnOk};
 ghost use Rattle.ladder.specs.declared.rows.Keep.TheVariants as keep;
-ghost use Rattle.capture.specs.Entries.{record_with};
-ghost use Rattle.ddcmp_msg.specs.Reading.{IsSound, reading};
-ghost use Rattle.pair_judge.specs.Order.{MadeRecord, TellsNext, made_by};
+ghost use Rattle.pair_judge.specs.Order.{MadeRecord, TellsNext, record_told};
 ghost use Rattle.drawing.specs.inner.Ending.{IsBegun};
 ghost use Rattle.drawing.specs.inner.Kept.{IsEnds, IsOnward};
 
@@ -12,9 +10,8 @@ use crate::begun::Begun;
 use crate::first::First;
 use crate::range::Start;
 use crate::recent::Recent;
-use capture::Entry;
 use ladder::Keep;
-use pair_judge::Observer;
+use pair_judge::{MadeEntry, Observer};
 use std::alloc::{AllocError, Global};
 use wire_base::Side;
 
@@ -41,18 +38,11 @@ impl BothEnds {
     // One more record was made, and all were kept so far.
     #[inline(never)]
     #[tactic(auto, using(crate::proofs::Onwards::ends_more))]
-    fn keep(
-        &mut self,
-        side: Side,
-        entry: &Entry,
-        bytes: &[u8],
-        sound: bool,
-    ) -> Result<(), AllocError>
-        requires { sound ≡ true → IsSound (reading bytes.now) }
-        ensures { OnOk result (TellsNext IsEnds self.old self.new (made_by side (record_with entry.now bytes.now))) }
+    fn keep(&mut self, next: &MadeEntry<'_>) -> Result<(), AllocError>
+        ensures { OnOk result (TellsNext IsEnds self.old self.new (record_told next.now)) }
     {
-        self.first.made(side, *entry, bytes, sound)?;
-        self.recent.made(side, *entry, bytes, sound)
+        self.first.made(next)?;
+        self.recent.made(next)
     }
 }
 
@@ -60,17 +50,11 @@ impl Observer for BothEnds {
     ghost told = { λ ends order. IsEnds ends order };
 
     #[tactic(auto, using(crate::proofs::Onwards::ends_rest))]
-    fn made(
-        &mut self,
-        side: Side,
-        entry: Entry,
-        bytes: &[u8],
-        sound: bool,
-    ) -> Result<(), AllocError> {
+    fn made(&mut self, next: &MadeEntry<'_>) -> Result<(), AllocError> {
         if self.first.is_all {
-            return self.keep(side, &entry, bytes, sound);
+            return self.keep(next);
         }
-        self.recent.made(side, entry, bytes, sound)
+        self.recent.made(next)
     }
 }
 
@@ -132,21 +116,14 @@ impl Onward {
 
     // A record before the one with which the rows begin.
     #[tactic(auto, using(crate::proofs::Onwards::onward_before))]
-    fn learn(
-        &mut self,
-        side: Side,
-        entry: Entry,
-        bytes: &[u8],
-        sound: bool,
-    ) -> Result<(), AllocError>
-        requires none { self.old.first.records.items ≡ [] }
-        requires sound { sound ≡ true → IsSound (reading bytes.now) }
-        ensures { OnOk result (TellsNext IsOnward self.old self.new (made_by side (record_with entry bytes.now))) }
+    fn learn(&mut self, next: &MadeEntry<'_>) -> Result<(), AllocError>
+        requires { self.old.first.records.items ≡ [] }
+        ensures { OnOk result (TellsNext IsOnward self.old self.new (record_told next.now)) }
     {
-        if side == self.start.side {
+        if next.side == self.start.side {
             self.line = self.line.saturating_add(1);
         }
-        self.before.made(side, entry, bytes, sound)
+        self.before.made(next)
     }
 }
 
@@ -154,17 +131,11 @@ impl Observer for Onward {
     ghost told = { λ onward order. IsOnward onward order };
 
     #[tactic(auto, using(crate::proofs::Onwards::onward_more))]
-    fn made(
-        &mut self,
-        side: Side,
-        entry: Entry,
-        bytes: &[u8],
-        sound: bool,
-    ) -> Result<(), AllocError> {
-        if self.is_before(side) {
-            self.learn(side, entry, bytes, sound)
+    fn made(&mut self, next: &MadeEntry<'_>) -> Result<(), AllocError> {
+        if self.is_before(next.side) {
+            self.learn(next)
         } else {
-            self.first.made(side, entry, bytes, sound)
+            self.first.made(next)
         }
     }
 }

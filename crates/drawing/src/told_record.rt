@@ -1,12 +1,12 @@
 //! A record, as the judge told of it.
 
-ghost use Rattle.std.specs.Prelude.{◌≡◌, true, IfOk, OnOk};
-ghost use Rattle.ddcmp_msg.specs.Reading.{IsSound, reading};
+ghost use Rattle.std.specs.Prelude.{◌≡◌, IfOk, OnOk};
 ghost use Rattle.ladder.specs.Ladder.{learned, made};
-ghost use Rattle.drawing.specs.Telling.{told};
+ghost use Rattle.drawing.specs.Telling.{later_entry};
 
 use capture::Entry;
 use ladder::Ladder;
+use pair_judge::MadeEntry;
 use std::alloc::{AllocError, Global};
 use std::marker::Model;
 use wire_base::Side;
@@ -27,9 +27,9 @@ pub struct ToldRecord {
 impl Model for ToldRecord {
     ghost use Rattle.std.specs.Prelude.{◌≡◌, true};
     ghost use Rattle.ddcmp_msg.specs.Reading.{IsSound, reading};
-    ghost use Rattle.drawing.specs.Telling.{ToldView};
+    ghost use Rattle.pair_judge.specs.Order.{MadeEntry};
 
-    ghost Value = { ToldView };
+    ghost Value = { MadeEntry };
 
     ghost view = { λ t. record { side = t.side; entry = t.entry; bytes = t.bytes.items } };
 
@@ -37,45 +37,31 @@ impl Model for ToldRecord {
 }
 
 impl ToldRecord {
-    /// The record of this entry and a copy of these bytes. `AllocError` where there is no memory for it.
-    pub fn new(
-        alloc: Global,
-        side: Side,
-        entry: Entry,
-        bytes: &[u8],
-        sound: bool,
-    ) -> Result<ToldRecord, AllocError>
-        requires { sound ≡ true → IsSound (reading bytes.now) }
-        ensures { IfOk result (λ record_of. record_of ≡ told side entry bytes.now) }
+    /// This record with a copy of its bytes. `AllocError` where there is no memory for it.
+    pub fn new(alloc: Global, next: &MadeEntry<'_>) -> Result<ToldRecord, AllocError>
+        ensures { IfOk result (λ own. own ≡ next.now) }
     {
-        let mut own = Vec::with_capacity(alloc, bytes.len().max(LEAST))?;
-        own.extend_from_slice(bytes)?;
+        let mut bytes = Vec::with_capacity(alloc, next.bytes.len().max(LEAST))?;
+        bytes.extend_from_slice(next.bytes)?;
         Ok(ToldRecord {
-            side,
-            entry,
-            bytes: own,
-            sound,
+            side: next.side,
+            entry: next.entry,
+            bytes,
+            sound: next.sound,
         })
     }
 
     /// Another record stands in the memory of this one. `AllocError` where it has no room and there is no memory for more; then it is of no use.
     #[inline(always)]
-    pub fn refill(
-        &mut self,
-        side: Side,
-        entry: Entry,
-        bytes: &[u8],
-        sound: bool,
-    ) -> Result<(), AllocError>
-        requires { sound ≡ true → IsSound (reading bytes.now) }
-        ensures { OnOk result (self.new ≡ told side entry bytes.now) }
+    pub fn refill(&mut self, next: &MadeEntry<'_>) -> Result<(), AllocError>
+        ensures { OnOk result (self.new ≡ next.now) }
     {
-        self.side = side;
-        self.entry = entry;
+        self.side = next.side;
+        self.entry = next.entry;
         self.bytes.clear();
-        match self.bytes.extend_from_slice(bytes) {
+        match self.bytes.extend_from_slice(next.bytes) {
             Ok(()) => {
-                self.sound = sound;
+                self.sound = next.sound;
                 Ok(())
             }
             Err(error) => {
@@ -106,4 +92,16 @@ impl ToldRecord {
 pub struct Later {
     pub side: Side,
     pub entry: Entry,
+}
+
+impl Later {
+    /// What this record tells.
+    pub fn of(next: &MadeEntry<'_>) -> Later
+        ensures { result ≡ later_entry next.now }
+    {
+        Later {
+            side: next.side,
+            entry: next.entry,
+        }
+    }
 }

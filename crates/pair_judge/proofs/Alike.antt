@@ -74,27 +74,28 @@ module _ (nodes : NodeKind) where
 
   -- ---- two verdicts
 
-  module _ (laws : WholeLaws) (one : OneList) (a b : WholeCapture) (bytes_a bytes_b other_a other_b : List ℕ) (here : AreTexts a b bytes_a bytes_b)
-      (there : AreTexts a b other_a other_b) where
-    same_refusal : (side of : Side) (place at : ℕ) (reason why : Reason) → IsRefusal nodes (Some bytes_a) (Some bytes_b) side place reason →
-        IsRefusal nodes (Some other_a) (Some other_b) of at why → ◌≡◌ {A = Verdict} (Refused side place reason) (Refused of at why)
-    same_refusal side of place at reason why refusal other =
+  module _ (laws : WholeLaws) (one : OneList) (a b : WholeCapture) (bytes_a bytes_b other_a other_b : List ℕ) where
+    same_refusal : (side of : Side) (place at : ℕ) (reason why : Reason) → AreTexts a b bytes_a bytes_b → AreTexts a b other_a other_b →
+        IsRefusal nodes (Some bytes_a) (Some bytes_b) side place reason → IsRefusal nodes (Some other_a) (Some other_b) of at why →
+        ◌≡◌ {A = Verdict} (Refused side place reason) (Refused of at why)
+    same_refusal side of place at reason why here there refusal other =
         let r = refused_captures nodes laws a b bytes_a bytes_b side place reason here.of_a here.of_b refusal in
         let s = refused_captures nodes laws a b other_a other_b of at why there.of_a there.of_b other in
         let same = one_finding nodes a.head b.head a.records b.records (findings.Refused side place r.cause) (findings.Refused of at s.cause)
         (record { verdict = r.verdict; first = r.first }) (record { verdict = s.verdict; first = s.first }) in
         cc (same, r.is_reason, s.is_reason)
 
-    pub same_verdict : (verdict other : Verdict) → IsAnswer nodes (Some bytes_a) (Some bytes_b) (Ok verdict) →
-        IsAnswer nodes (Some other_a) (Some other_b) (Ok other) → verdict ≡ other
-    same_verdict (Accepted summary) (Accepted other) x y =
+    pub same_verdict : (verdict other : Verdict) → AreTexts a b bytes_a bytes_b → AreTexts a b other_a other_b →
+        IsAnswer nodes (Some bytes_a) (Some bytes_b) (Ok verdict) → IsAnswer nodes (Some other_a) (Some other_b) (Ok other) → verdict ≡ other
+    same_verdict (Accepted summary) (Accepted other) here there x y =
         ap Accepted (same_summary a.head b.head a.records b.records summary other (counted_of one a b bytes_a bytes_b summary here x.accepted)
         (counted_of one a b other_a other_b other there y.accepted))
-    same_verdict (Accepted summary) (Refused side place reason) x y =
+    same_verdict (Accepted summary) (Refused side place reason) here there x y =
         absurd (never_accepted laws one a b other_a other_b bytes_a bytes_b side place reason summary there here y.refused x.accepted)
-    same_verdict (Refused side place reason) (Accepted summary) x y =
+    same_verdict (Refused side place reason) (Accepted summary) here there x y =
         absurd (never_accepted laws one a b bytes_a bytes_b other_a other_b side place reason summary here there x.refused y.accepted)
-    same_verdict (Refused side place reason) (Refused of at why) x y = same_refusal side of place at reason why x.refused y.refused
+    same_verdict (Refused side place reason) (Refused of at why) here there x y =
+        same_refusal side of place at reason why here there x.refused y.refused
 
   pub judges : WholeLaws → (a b : WholeCapture) (bytes_a bytes_b : List ℕ) (answer : Answer) → AreTexts a b bytes_a bytes_b →
       IsAnswer nodes (Some bytes_a) (Some bytes_b) answer → JudgesOrFails answer

@@ -9,13 +9,13 @@ use Rattle.capture.specs.declared.record.Record.{Record}
 use Rattle.capture.specs.declared.hint.HintForm.{HintForm}
 use Rattle.capture.specs.Range.{IsText}
 use Rattle.capture.specs.SoFar.{Behind, ToCome, TheEnd, ReadSoFar, so_far, IsReadSoFar, GoesOn, GoesOnBy, DepartsBehind, HeadDepartsAt}
-use Rattle.two_nodes.specs.Nodes.{World, Run}
+use Rattle.two_nodes.specs.Nodes.{World}
 use Rattle.dna_node.specs.declared.finding.Cause.{Cause}
 use Rattle.dna_node.specs.declared.finding.Cause.TheVariants.{Step, NoSuchUnit, NoOrder}
 use Rattle.dna_node.specs.declared.finding.Finding.{Finding}
 use Rattle.dna_node.specs.declared.finding.Finding.TheVariants as findings
 use Rattle.dna_station.specs.declared.head.Head.{Head}
-use Rattle.dna_node.specs.Kind.{NodeKind, KindNode, KindUnit, kind_pair, kind_start, IsRunOf}
+use Rattle.dna_node.specs.Kind.{NodeKind, KindNode, KindUnit, kind_start, IsRunOf}
 use Rattle.dna_node.specs.Verdict.{IsVerdict, IsWrong, IsWrongOfB}
 use Rattle.pair_judge.specs.declared.judging.Found.{Found}
 use Rattle.pair_judge.specs.declared.summary.Summary.{Summary}

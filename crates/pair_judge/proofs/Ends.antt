@@ -1,5 +1,5 @@
 -- Both ends where the judge stops show the world in which the named record is refused, or waits.
-use Rattle.std.proofs.Common.{◌≡◌, ℕ, ◌+◌, ◌-◌, ◌≤◌, List, [], ◌∷◌, ◌++◌, length, drop, map, Option, Some, refl, sym, ap, ap₂, subst, ◌∙◌}
+use Rattle.std.proofs.Common.{◌≡◌, ℕ, List, [], ◌∷◌, ◌++◌, length, map, Option, Some, refl, sym, ap, ap₂, subst, ◌∙◌}
 use Rattle.std.proofs.Common.{arith, length-drop}
 use Rattle.std.specs.List.{slice_get}
 use Rattle.std.specs.Option.{option_to_list}
@@ -26,6 +26,7 @@ use Rattle.dna_node.specs.WireLayers.{WireLayers, wire_layers_start}
 use Rattle.ddcmp_station.specs.View.{true_view, view_of}
 use Rattle.pair_judge.specs.declared.course.Ahead.{Ahead}
 use Rattle.pair_judge.specs.declared.course.Ahead.TheVariants.{Unread, Waits, Ended}
+use Rattle.pair_judge.specs.declared.course.Course.{Course}
 use Rattle.pair_judge.specs.declared.end.End.{End}
 use Rattle.pair_judge.specs.declared.line.Line.{Line}
 use Rattle.pair_judge.specs.declared.stopped.Stopped.{Stopped}
@@ -115,6 +116,15 @@ module _ (laws : EndLaws) (own : End) (incoming : Line) (w : JudgeHalf) (half : 
 
   front_true : incoming.gone ≡ half.state.front
   front_true = sym stands.front ∙ shows.front
+
+node_shown : EndLaws → (own : Course) (incoming : Line) (w : JudgeHalf) (half : NodeHalf) → StandsForHalf own.end incoming w →
+    ShowsHalf links_on_top_left w half → IsOrdered half.state.station.station → ShowsNode (shown_end own incoming.gone) half
+node_shown laws own incoming w half stands shows ordered = record {
+  station = station_true laws own.end incoming w half stands shows ordered;
+  links = links_true laws own.end incoming w half stands shows;
+  sent = sent_true laws own.end incoming w half stands shows;
+  front = front_true laws own.end incoming w half stands shows;
+}
 
 -- ---- what the observer was told, of either kind of node
 
@@ -214,20 +224,10 @@ module _ (laws : EndLaws) (text_a text_b : Option (List ℕ)) (tells : List Made
         cause = cause;
         is_reason = refl;
         becomes = becomes_at side cause q.next h.world x q.becomes;
-        shows_a = record {
-          station = station_true laws s.a.end s.b.end.line h.world.a x.world.a h.stands_a x.shows_a
-              (laws.ordered_a s.a.end.head s.b.end.head x.world i.made_a i.made_b x.run);
-          links = links_true laws s.a.end s.b.end.line h.world.a x.world.a h.stands_a x.shows_a;
-          sent = sent_true laws s.a.end s.b.end.line h.world.a x.world.a h.stands_a x.shows_a;
-          front = front_true laws s.a.end s.b.end.line h.world.a x.world.a h.stands_a x.shows_a;
-        };
-        shows_b = record {
-          station = station_true laws s.b.end s.a.end.line h.world.b x.world.b h.stands_b x.shows_b
-              (laws.ordered_b s.a.end.head s.b.end.head x.world i.made_a i.made_b x.run);
-          links = links_true laws s.b.end s.a.end.line h.world.b x.world.b h.stands_b x.shows_b;
-          sent = sent_true laws s.b.end s.a.end.line h.world.b x.world.b h.stands_b x.shows_b;
-          front = front_true laws s.b.end s.a.end.line h.world.b x.world.b h.stands_b x.shows_b;
-        };
+        shows_a = node_shown laws s.a s.b.end.line h.world.a x.world.a h.stands_a x.shows_a
+            (laws.ordered_a s.a.end.head s.b.end.head x.world i.made_a i.made_b x.run);
+        shows_b = node_shown laws s.b s.a.end.line h.world.b x.world.b h.stands_b x.shows_b
+            (laws.ordered_b s.a.end.head s.b.end.head x.world i.made_a i.made_b x.run);
         records_a = ap (λ (c : SideSummary). c.records) h.counts_a;
         records_b = ap (λ (c : SideSummary). c.records) h.counts_b;
       }

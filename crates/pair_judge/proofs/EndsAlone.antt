@@ -1,9 +1,6 @@
 -- One end where its judge stops shows the node that its records led to.
-use Rattle.std.proofs.Common.{◌≡◌, ℕ, List, ◌++◌, Option, refl, sym, ap, subst, ◌∙◌}
+use Rattle.std.proofs.Common.{ℕ, List, ◌++◌, Option, refl, ap, ◌∙◌}
 use Rattle.capture.specs.declared.record.Record.{Record}
-use Rattle.dna_node.specs.Alone.{ends_from, layers_end}
-use Rattle.dna_node.specs.WireLayers.{new_wire_layers_node}
-use Rattle.pair_judge.specs.declared.course.Ahead.{Ahead}
 use Rattle.pair_judge.specs.declared.end_verdict.EndVerdict.{EndVerdict}
 use Rattle.pair_judge.specs.declared.end_verdict.EndVerdict.TheVariants.{Passed, Refused}
 use Rattle.pair_judge.specs.declared.stopped_end.StoppedEnd.{StoppedEnd}
@@ -11,7 +8,7 @@ use Rattle.pair_judge.specs.declared.summary.SideSummary.{SideSummary}
 use Rattle.pair_judge.specs.EndShown.{StandsAlone, StopsWith}
 use Rattle.pair_judge.specs.Ends.{record_ahead}
 use Rattle.pair_judge.specs.Order.{MadeRecord}
-use Rattle.pair_judge.specs.inner.EndStopped.{IsEndStopped, StandsAfter, StopsThere, shown_lone}
+use Rattle.pair_judge.specs.inner.EndStopped.{IsEndStopped, StopsThere, shown_lone}
 use Rattle.pair_judge.specs.inner.LoneEnd.{node_of_end}
 use Rattle.pair_judge.specs.inner.Tops.{links_on_top_left}
 use Rattle.pair_judge.proofs.Ends.{ahead_listed, is_ahead}

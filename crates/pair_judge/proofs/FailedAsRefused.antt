@@ -17,7 +17,7 @@ use Rattle.dna_packet.specs.ReadingPacket.{packet_at}
 use Rattle.dna_station.specs.declared.link_refusal.LinkRefusal.{LinkRefusal}
 use Rattle.dna_station.specs.declared.refusal.StationRefusal.{StationRefusal}
 use Rattle.dna_station.specs.declared.refusal.StepRefusal.{StepRefusal}
-use Rattle.dna_station.specs.declared.refusal.StepRefusal.TheVariants.{BadPacket, BadNsp, Links as OfLinks, Station as OfStation}
+use Rattle.dna_station.specs.declared.refusal.StepRefusal.TheVariants.{BadPacket, BadNsp, Links as OfLinks}
 use Rattle.dna_station.specs.declared.state.State.{State}
 use Rattle.dna_station.specs.declared.state.State.TheVariants.{Halted, Istrt, Astrt, Running}
 use Rattle.dna_station.specs.declared.state.StationEvent.TheVariants.{Start, Halt}
@@ -29,13 +29,11 @@ use Rattle.dna_station.specs.WireBook.{gives_new, wire_book, wire_sending_refusa
 use Rattle.dna_station.specs.WireStation.{WireStation}
 use Rattle.dna_links.specs.declared.tag.LinkTag.{LinkTag}
 use Rattle.dna_links.specs.Links.{Carried}
-use Rattle.dna_links.specs.Sending.{Sent}
 use Rattle.dna_links.specs.User.{LinkEventValue, Open, Accept, Reject, In, Up, Close}
-use Rattle.dna_links.specs.WireFlow.{WireFlow}
-use Rattle.dna_links.specs.WireLinks.{WireLinks, wire_links_arrived, wire_links_sent, wire_links_user}
+use Rattle.dna_links.specs.WireLinks.{wire_links_arrived, wire_links_sent, wire_links_user}
 use Rattle.dna_node.specs.declared.finding.Cause.{Cause}
 use Rattle.dna_node.specs.declared.finding.Cause.TheVariants.{Step}
-use Rattle.dna_node.specs.Content.{content, content_of, is_returned, link_event, message_in}
+use Rattle.dna_node.specs.Content.{content, content_of, is_returned, message_in}
 use Rattle.dna_node.specs.Rules.{judged}
 use Rattle.dna_node.specs.WireLayers.{LayersTag, WireLayers, tag_or_none, to_wire_station, wire_keeps, wire_keeps_packet, wire_layers_machine}
 use Rattle.dna_node.specs.WireLayers.{wire_meets_on, wire_sends_again, wire_sends_first, wire_sends_on, with_tag, with_wire_links, with_wire_station}
@@ -44,13 +42,10 @@ use Rattle.nsp_link.specs.FailedEvent as happens
 use Rattle.nsp_link.specs.FailedSending as sends
 use Rattle.nsp_link.specs.FailedSending.{or_next}
 use Rattle.nsp_link.specs.Missing.{refusal_in}
-use Rattle.nsp_link.specs.declared.failed.FailedLinkArrival.{FailedLinkArrival}
-use Rattle.nsp_link.specs.declared.failed.FailedLinkEvent.{FailedLinkEvent}
-use Rattle.nsp_link.specs.declared.failed.FailedLinkSending.{FailedLinkSending}
 use Rattle.nsp_link.proofs.FailedArrival.{arrival_same as link_arrival_same}
 use Rattle.nsp_link.proofs.FailedEvent.{event_same}
 use Rattle.nsp_link.proofs.FailedSending.{sending_same}
-use Rattle.pair_judge.specs.FailedCheck.{Lent, lent_of, carried, cause_in, cause_of, failed_arrival, failed_at_links, failed_first, failed_kept}
+use Rattle.pair_judge.specs.FailedCheck.{lent_of, carried, cause_in, cause_of, failed_arrival, failed_at_links, failed_first, failed_kept}
 use Rattle.pair_judge.specs.FailedCheck.{failed_lent, failed_message, failed_nsp, failed_packet, failed_start, failed_user}
 use Rattle.pair_judge.specs.inner.Steps.{with_link}
 use Rattle.pair_judge.specs.declared.failed_check.FailedCheck.{FailedCheck}
@@ -94,6 +89,17 @@ module _ {R : Type 0} (linked : Carried → Option FailedCheck) (keeps : Result 
   packet_same : (packet : List ℕ) → caused (failed_packet linked packet) ≡ cause_in (keeps (content packet))
   packet_same packet = lent_same (packet_at packet)
 
+-- what the links refuse, which the check names
+linked_same : {X Y R : Type 0} (check : X → FailedCheck) (refusal_of : X → LinkRefusal) (goes : Result Y LinkRefusal → Result R StepRefusal) →
+    ((failed : X) → cause_of (check failed) ≡ Step (OfLinks (refusal_of failed))) → ((made : Y) → cause_in (goes (Ok made)) ≡ None) →
+    ((refusal : LinkRefusal) → cause_in (goes (Err refusal)) ≡ Some (Step (OfLinks refusal))) →
+    (o : Option X) (r : Result Y LinkRefusal) → option_map refusal_of o ≡ refusal_in r → caused (option_map check o) ≡ cause_in (goes r)
+linked_same check refusal_of goes named made refused (Some failed) (Err refusal) same =
+    ap Some (named failed) ∙ ap (option_map (λ (e : LinkRefusal). Step (OfLinks e))) same ∙ sym (refused refusal)
+linked_same check refusal_of goes named made refused None (Ok given) same = sym (made given)
+linked_same check refusal_of goes named made refused (Some failed) (Ok given) same = absurd (cc)
+linked_same check refusal_of goes named made refused None (Err refusal) same = absurd (cc)
+
 -- ---- a message
 
 -- what the station makes of an arrival has nothing of the tag of its packet
@@ -101,13 +107,6 @@ pub without_link : (link : Option LinkTag) (arrival : ArrivalValue Tag) → to_w
 without_link link (Sound m tag) = refl
 without_link link HeaderBad = refl
 without_link link DataBad = refl
-
-linked_same : (after : WireStation LinkTag × Tag) (o : Option FailedLinkSending) (r : Result (Sent WireFlow (Unit {0})) LinkRefusal) →
-    option_map sends.refusal_of_sending o ≡ refusal_in r → caused (option_map LinkSending o) ≡ cause_in (with_tag after r)
-linked_same after (Some failed) (Err refusal) same = ap (option_map (λ (e : LinkRefusal). Step (OfLinks e))) same
-linked_same after None (Ok made) same = refl
-linked_same after (Some failed) (Ok made) same = absurd (cc)
-linked_same after None (Err refusal) same = absurd (cc)
 
 first_same : (s : WireLayers) (m : MessageValue) (after : WireStation LinkTag × Tag) →
     caused (failed_first s m) ≡ cause_in (wire_sends_on s m (Ok after))
@@ -117,7 +116,8 @@ first_same s m after = by_new (gives_new s.station m) where
       cause_in (cond b (wire_sends_first s after (content (body_of m))) (Ok (wire_sends_again s m after)))
   by_new true =
       packet_same (λ packet. option_map LinkSending (sends.failed_sending s.links packet)) (wire_sends_first s after) refl (λ refusal. refl)
-      (λ packet. linked_same after (sends.failed_sending s.links packet) (wire_links_sent s.links packet) (sending_same s.links packet))
+      (λ packet. linked_same LinkSending sends.refusal_of_sending (with_tag after) (λ failed. refl) (λ made. refl) (λ refusal. refl)
+      (sends.failed_sending s.links packet) (wire_links_sent s.links packet) (sending_same s.links packet))
       (body_of m)
   by_new false = refl
 
@@ -135,19 +135,13 @@ message_same s m =
 
 -- ---- an arrival
 
-taken_same : (s : WireLayers) (o : Option FailedLinkArrival) (r : Result WireLinks LinkRefusal) →
-    option_map arrives.refusal_of_arrival o ≡ refusal_in r → caused (option_map LinkArrival o) ≡ cause_in (with_wire_links s r)
-taken_same s (Some failed) (Err refusal) same = ap (option_map (λ (e : LinkRefusal). Step (OfLinks e))) same
-taken_same s None (Ok made) same = refl
-taken_same s (Some failed) (Ok made) same = absurd (cc)
-taken_same s None (Err refusal) same = absurd (cc)
-
 kept_same : (s : WireLayers) (after : WireStation LinkTag) (arrival : ArrivalValue LayersTag) →
     caused (failed_kept s arrival) ≡ cause_in (wire_keeps judged (record s { station = after }) arrival)
 kept_same s after (Sound m known) =
     packet_same (λ packet. option_map LinkArrival (arrives.failed_arrival s.links packet (tag_or_none known.link)))
     (wire_keeps_packet judged (record s { station = after }) (tag_or_none known.link)) refl (λ refusal. refl)
-    (λ packet. taken_same (record s { station = after }) (arrives.failed_arrival s.links packet (tag_or_none known.link))
+    (λ packet. linked_same LinkArrival arrives.refusal_of_arrival (with_wire_links (record s { station = after })) (λ failed. refl) (λ made. refl)
+    (λ refusal. refl) (arrives.failed_arrival s.links packet (tag_or_none known.link))
     (wire_links_arrived judged.partners s.links packet (tag_or_none known.link)) (link_arrival_same s.links packet (tag_or_none known.link)))
     (body_of m)
 kept_same s after HeaderBad = refl
@@ -192,16 +186,11 @@ halt_same s after Istrt = refl
 halt_same s after Astrt = refl
 halt_same s after Running = refl
 
-event_by : (s : WireLayers) (o : Option FailedLinkEvent) (r : Result WireLinks LinkRefusal) →
-    option_map happens.refusal_of_event o ≡ refusal_in r → caused (option_map LinkEvent o) ≡ cause_in (with_wire_links s r)
-event_by s (Some failed) (Err refusal) same = ap (option_map (λ (e : LinkRefusal). Step (OfLinks e))) same
-event_by s None (Ok made) same = refl
-event_by s (Some failed) (Ok made) same = absurd (cc)
-event_by s None (Err refusal) same = absurd (cc)
-
 links_same : (s : WireLayers) (event : LinkEventValue) →
     caused (failed_at_links s (Some event)) ≡ cause_in (with_wire_links s (wire_links_user s.links event))
-links_same s event = event_by s (happens.failed_event s.links event) (wire_links_user s.links event) (event_same s.links event)
+links_same s event =
+    linked_same LinkEvent happens.refusal_of_event (with_wire_links s) (λ failed. refl) (λ made. refl) (λ refusal. refl)
+    (happens.failed_event s.links event) (wire_links_user s.links event) (event_same s.links event)
 
 pub user_same : (s : WireLayers) (event : Event) → caused (failed_user s event) ≡ cause_in ((wire_layers_machine judged).user s event)
 user_same s events.Start = start_same s (wire_book.after_event s.station Start) s.station.variables.state

@@ -11,7 +11,7 @@ use Rattle.dna_node.specs.declared.finding.Cause.{Cause}
 use Rattle.dna_node.specs.declared.finding.Cause.TheVariants.{Step, NoSuchUnit, NoOrder}
 use Rattle.dna_node.specs.declared.finding.Finding.{Finding}
 use Rattle.dna_node.specs.declared.finding.Finding.TheVariants.{Accepted, Refused}
-use Rattle.pair_judge.specs.Finding.{EndsWhere, IsFinding}
+use Rattle.pair_judge.specs.Finding.{EndsWhere, IsFinding, of_side}
 use Rattle.pair_judge.specs.Order.{MadeRecord}
 use Rattle.pair_judge.specs.declared.course.Ahead.{Ahead}
 use Rattle.pair_judge.specs.declared.course.Ahead.TheVariants.{Unread, Waits, Ended}
@@ -26,7 +26,6 @@ use Rattle.pair_judge.specs.inner.Reached.{BecomesThere, HasReached, IsFound, Is
 use Rattle.pair_judge.specs.Summary.{counts_of, summary_at, summary_of, summary_with}
 use Rattle.pair_judge.specs.inner.Wire.{IfLeft, JudgeTop}
 use Rattle.pair_judge.proofs.Left.{left_any}
-use Rattle.pair_judge.proofs.Turns.{IsSame, reached_still}
 
 -- ---- what goes on behind what was read
 
@@ -69,28 +68,16 @@ module _ (kind : NodeKind) where
       same_b) v)
 
 module _ (top : JudgeTop) where
-  -- ---- where the judge stops: a record was read and not made, and both ends stand where they stood
+  -- ---- where the judge stops: a record was read and not made
 
-  pub stops_a : {order : List MadeRecord} (a b : Track) (old_a old_b : End) (cause : Cause) (r : Record)
-      (h : HasReached top order old_a old_b a.made b.made) →
-      IsSame old_a a.course.end old_a.line → IsSame old_b b.course.end old_b.line → IsWaiting a.course.capture.bytes a.course.ahead r →
-      BecomesThere top cause h.world.a h.world.b r → StopsAt top a b A (length a.made) cause
-  stops_a {order} a b old_a old_b cause r h same_a same_b ahead becomes = record {
+  pub stops_at : {order : List MadeRecord} (side : Side) (a b : Track) (cause : Cause) (r : Record)
+      (reached : HasReached top order a.course.end b.course.end a.made b.made) →
+      IsWaiting (of_side side a b).course.capture.bytes (of_side side a b).course.ahead r →
+      BecomesThere top cause (of_side side reached.world.a reached.world.b) (of_side side reached.world.b reached.world.a) r →
+      StopsAt top a b side (length (of_side side a b).made) cause
+  stops_at {order} side a b cause r reached ahead becomes = record {
     order = order;
-    reached = reached_still top order old_a a.course.end old_b b.course.end a.made b.made h same_a same_b;
-    next = r;
-    ahead = ahead;
-    becomes = becomes;
-    place_is = refl;
-  }
-
-  pub stops_b : {order : List MadeRecord} (a b : Track) (old_a old_b : End) (cause : Cause) (r : Record)
-      (h : HasReached top order old_a old_b a.made b.made) →
-      IsSame old_a a.course.end old_a.line → IsSame old_b b.course.end old_b.line → IsWaiting b.course.capture.bytes b.course.ahead r →
-      BecomesThere top cause h.world.b h.world.a r → StopsAt top a b B (length b.made) cause
-  stops_b {order} a b old_a old_b cause r h same_a same_b ahead becomes = record {
-    order = order;
-    reached = reached_still top order old_a a.course.end old_b b.course.end a.made b.made h same_a same_b;
+    reached = reached;
     next = r;
     ahead = ahead;
     becomes = becomes;

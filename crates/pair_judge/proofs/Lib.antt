@@ -10,6 +10,7 @@ pub mod LoneEnds
 pub mod LoneWalk
 pub mod Meets
 pub mod Events
+pub mod Entries
 pub mod Advances
 pub mod Left
 pub mod Courses

@@ -1,11 +1,14 @@
 -- The records of a side, where one more is made, and the order in which all are.
-use Rattle.std.proofs.Common.{◌≡◌, Bool, true, false, cond, ◌⊎◌, inl, inr, List, [], ◌∷◌, ◌++◌, refl, sym, ap, ap₂, subst, ◌∙◌, append-nil}
+use Rattle.std.proofs.Common.{◌≡◌, ℕ, Bool, true, false, cond, ◌⊎◌, inl, inr, Option, List, [], ◌∷◌, ◌++◌, refl, sym, ap, ap₂, subst, ◌∙◌, append-nil}
 use Rattle.wire_base.specs.declared.side.Side.{Side}
 use Rattle.wire_base.specs.declared.side.Side.TheVariants.{A, B}
 use Rattle.two_nodes.specs.Nodes.{Done, IsRun, Nodes, World}
 use Rattle.capture.specs.declared.record.Record.{Record}
 use Rattle.pair_judge.specs.Faulty.{is_side}
+use Rattle.dna_node.specs.Kind.{NodeKind}
+use Rattle.pair_judge.specs.Ends.{ShownEnds}
 use Rattle.pair_judge.specs.Order.{MadeRecord, IsRunInOrder, records_of}
+use Rattle.pair_judge.specs.Watched.{WasTold}
 
 behind_by : (b : Bool) (r : Record) (l k t : List Record) → l ≡ k ++ t → cond b (r ∷ l) l ≡ cond b (r ∷ k) k ++ t
 behind_by true r l k t is = ap (λ (rs : List Record). r ∷ rs) is
@@ -61,3 +64,20 @@ module _ {S U Z : Type 0} (nodes : Nodes S Record U Z) (start : World S U) where
       by_place : Stops order made done → ran done
       by_place (inl whole) = subst ran (sym whole) now
       by_place (inr left) = before done left.0 left.1
+
+-- in the order in which an observer was told one thing it was told another too
+pub told_so : (nodes : NodeKind) (text_a text_b : Option (List ℕ)) (ends : ShownEnds) (one other : List MadeRecord → Type 0) →
+    (told : WasTold nodes text_a text_b ends one) → other told.order → WasTold nodes text_a text_b ends other
+told_so nodes text_a text_b ends one other told is_told = record {
+  order = told.order;
+  is_told = is_told;
+  read_a = told.read_a;
+  read_b = told.read_b;
+  from_a = told.from_a;
+  from_b = told.from_b;
+  all_a = told.all_a;
+  all_b = told.all_b;
+  records_a = told.records_a;
+  records_b = told.records_b;
+  is_run = told.is_run;
+}

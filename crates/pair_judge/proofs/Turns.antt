@@ -176,6 +176,15 @@ module _ (top : JudgeTop) where
         load_b = omega (arith, m.load, h.load_b, length-append made_b (r ∷ []));
       }
 
+  pub stands_still : (own own' other other' : End) (half : JudgeHalf) → StandsFor own other.line half → IsSame own own' own.line →
+      IsSame other other' other.line → StandsFor own' other'.line half
+  stands_still own own' other other' half stands same same_other = record {
+    head = stands.head ∙ sym same.head;
+    layers = stands.layers ∙ sym same.layers;
+    front = stands.front ∙ ap (λ (l : Line). l.gone) (sym same_other.line);
+    sent = rw same.line stands.sent;
+  }
+
   -- nothing was made
   abbrev pub reached_still : (order : List MadeRecord) (a a' b b' : End) (made_a made_b : List Record) → HasReached top order a b made_a made_b →
       IsSame a a' a.line → IsSame b b' b.line → HasReached top order a' b' made_a made_b
@@ -185,35 +194,32 @@ module _ (top : JudgeTop) where
     in_order = ordered_so a b a' b' order same_a.head same_b.head h.in_order;
     of_a = h.of_a;
     of_b = h.of_b;
-    stands_a = record {
-      head = h.stands_a.head ∙ sym same_a.head;
-      layers = h.stands_a.layers ∙ sym same_a.layers;
-      front =
-          h.stands_a.front ∙ ap (λ (l : Line). l.gone) (sym same_b.line);
-      sent = rw same_a.line h.stands_a.sent;
-    };
-    stands_b = record {
-      head = h.stands_b.head ∙ sym same_b.head;
-      layers = h.stands_b.layers ∙ sym same_b.layers;
-      front =
-          h.stands_b.front ∙ ap (λ (l : Line). l.gone) (sym same_a.line);
-      sent = rw same_b.line h.stands_b.sent;
-    };
+    stands_a = stands_still a a' b b' h.world.a h.stands_a same_a same_b;
+    stands_b = stands_still b b' a a' h.world.b h.stands_b same_b same_a;
     counts_a = same_a.counts ∙ h.counts_a;
     counts_b = same_b.counts ∙ h.counts_b;
     load_a = subst (λ (l : WireLayers). load l.station ≤ length made_a) (sym same_a.layers) h.load_a;
     load_b = subst (λ (l : WireLayers). load l.station ≤ length made_b) (sym same_b.layers) h.load_b;
   }
 
-  -- a waits, or has ended: nothing was made
-  pub under_still : (order : List MadeRecord) (text_a text_b : Option (List ℕ)) (a a' b b' : Course) (come_a come_a' come_b : Option (List ℕ))
-      (made_a made_b : List Record) → IsUnderWay top order (along text_a a come_a made_a) (along text_b b come_b made_b) →
-      IsRead (along text_a a' come_a' made_a) → a'.end ≡ a.end → b'.capture ≡ b.capture → b'.ahead ≡ b.ahead → IsSame b.end b'.end b.end.line →
-      IsUnderWay top order (along text_a a' come_a' made_a) (along text_b b' come_b made_b)
-  under_still order text_a text_b a a' b b' come_a come_a' come_b made_a made_b under read_a same capture ahead same_b = record {
+  -- of b, while a's line was lent
+  abbrev pub reached_stayed : (order : List MadeRecord) (a b b' : End) (line : Line) (made_a made_b : List Record) →
+      HasReached top order a b made_a made_b → line ≡ a.line → b' ≡ b → HasReached top order (record a { line = line }) b' made_a made_b
+  reached_stayed order a b b' line made_a made_b h same_line same =
+      reached_still order a (record a { line = line }) b b' made_a made_b h
+      (record { head = refl; layers = refl; counts = refl; line = same_line }) (same_end b b' same)
+
+  -- a waits, or has ended: nothing was made, and b's line was lent
+  pub under_still : (order : List MadeRecord) (text_a text_b : Option (List ℕ)) (a a' b : Course) (line : Line)
+      (come_a come_a' come_b : Option (List ℕ)) (made_a made_b : List Record) →
+      IsUnderWay top order (along text_a a come_a made_a) (along text_b b come_b made_b) → IsRead (along text_a a' come_a' made_a) →
+      a'.end ≡ a.end → line ≡ b.end.line →
+      IsUnderWay top order (along text_a a' come_a' made_a) (along text_b (record b { end = record b.end { line = line } }) come_b made_b)
+  under_still order text_a text_b a a' b line come_a come_a' come_b made_a made_b under read_a same same_line = record {
     read_a = read_a;
-    read_b = same_read text_b b b' come_b made_b capture ahead same_b.head under.read_b;
-    reached = reached_still order a.end a'.end b.end b'.end made_a made_b under.reached (same_end a.end a'.end same) same_b;
+    read_b = same_read text_b b _ come_b made_b refl refl refl under.read_b;
+    reached = reached_still order a.end a'.end b.end (record b.end { line = line }) made_a made_b under.reached (same_end a.end a'.end same)
+        (record { head = refl; layers = refl; counts = refl; line = same_line });
   }
 
   -- it waits there as before

@@ -1,8 +1,10 @@
 -- The order in which a judge makes the records of both captures.
-use Rattle.std.specs.Prelude.{◌≡◌, if◌then◌else◌, List, [], ◌∷◌, ◌++◌}
+use Rattle.std.specs.Prelude.{◌≡◌, if◌then◌else◌, ℕ, List, [], ◌∷◌, ◌++◌}
 use Rattle.wire_base.specs.declared.side.Side.{Side}
 use Rattle.wire_base.specs.declared.side.Side.TheVariants.{A, B}
 use Rattle.two_nodes.specs.Nodes.{IsRun, Nodes, World}
+use Rattle.capture.specs.Entries.{record_with}
+use Rattle.capture.specs.declared.entry.Entry.{Entry}
 use Rattle.capture.specs.declared.record.Record.{Record}
 use Rattle.pair_judge.specs.Faulty.{is_side}
 
@@ -13,6 +15,15 @@ pub record MadeRecord : Type 0 where
 
 abbrev pub made_by : Side → Record → MadeRecord
 made_by side r = record { side = side; what = r }
+
+-- the same in two parts: what its line says, and the bytes beside it
+pub record MadeEntry : Type 0 where
+  pub side : Side
+  pub entry : Entry
+  pub bytes : List ℕ
+
+abbrev pub record_told : MadeEntry → MadeRecord
+record_told made = made_by made.side (record_with made.entry made.bytes)
 
 -- those of a side
 abbrev pub records_of : Side → List MadeRecord → List Record

@@ -17,6 +17,7 @@ ghost use Rattle.pair_judge.specs.inner.Reached.{IsHeldUp};
 
 use crate::end::End;
 use crate::line::Line;
+use crate::made_entry::MadeEntry;
 use crate::making::{Made, make};
 use crate::observer::Observer;
 use crate::top::Top;
@@ -176,15 +177,18 @@ impl Course {
     {
         let alloc = self.capture.alloc();
         match make::<T>(alloc, &mut self.end, incoming, entry, self.capture.bytes()) {
-            Ok(Made::Done { sound }) => match observer.made(
-                side,
-                entry,
-                self.capture.bytes(),
-                sound,
-            ) {
-                Ok(()) => Ok(Advance::Made),
-                Err(AllocError) => Err(CaptureFault::OutOfMemory),
-            },
+            Ok(Made::Done { sound }) => {
+                let next = MadeEntry {
+                    side,
+                    entry,
+                    bytes: self.capture.bytes(),
+                    sound,
+                };
+                match observer.made(&next) {
+                    Ok(()) => Ok(Advance::Made),
+                    Err(AllocError) => Err(CaptureFault::OutOfMemory),
+                }
+            }
             Ok(Made::Waits) => {
                 self.ahead = Ahead::Waits(entry);
                 Ok(Advance::Blocked)

@@ -22,6 +22,7 @@ use nsp_link::LinkEvent;
 
 /// The first check that this record does not pass at a side, to which this line leads from the other one, with what is seen there and what is
 /// allowed; `None` where it is made, or waits. The record is that of the entry and these bytes. Takes no memory.
+#[tactic(auto, using(crate::proofs::Entries::no_receipt))]
 pub fn failed_record(
     layers: &Layers,
     incoming: &Line,
@@ -32,16 +33,7 @@ pub fn failed_record(
 {
     match entry {
         Entry::Received { kept, hint } => failed_receipt(layers, incoming, hint, kept, bytes),
-        Entry::Sent
-        | Entry::Noise
-        | Entry::Start
-        | Entry::Halt
-        | Entry::Open { .. }
-        | Entry::Accept { .. }
-        | Entry::Reject { .. }
-        | Entry::In { .. }
-        | Entry::Up { .. }
-        | Entry::Close { .. } => failed_own(layers, entry, bytes),
+        _ => failed_own(layers, entry, bytes),
     }
 }
 

@@ -14,6 +14,7 @@ use crate::course::Ahead;
 use crate::end_verdict::EndVerdict;
 use crate::layers::{LinksOnTop, LinksOnTopLeft, NothingOnTop};
 use crate::lone_end::{LoneEnd, MadeAlone};
+use crate::made_entry::MadeEntry;
 use crate::observer::{Nobody, Observer};
 use crate::reason::Reason;
 use crate::side_end::SideEnd;
@@ -22,7 +23,7 @@ use crate::top::Top;
 use capture::{CaptureFault, CaptureReader, MAX_RECORDS, text_read_on, whole_text};
 use dna_node::Cause;
 use dna_station::Head;
-use std::alloc::{AllocError, Global};
+use std::alloc::Global;
 use std::io::Read;
 use wire_base::{Side, Tally};
 
@@ -43,7 +44,6 @@ pub fn judge_end<R: Read>(alloc: Global, a: &mut Tally<R>) -> Result<EndVerdict,
     ensures first { IfErr result (λ fault. fault ≢ CaptureFault.Failed) }
     ensures reads { CountsReads (is_failed_read result) (tally_faults a.old) (tally_faults a.new) }
 {
-    whole_text();
     find_end::<LinksOnTop, R>(alloc, a)
 }
 
@@ -57,7 +57,6 @@ pub fn judge_line_end<R: Read>(alloc: Global, a: &mut Tally<R>) -> Result<EndVer
     ensures first { IfErr result (λ fault. fault ≢ CaptureFault.Failed) }
     ensures reads { CountsReads (is_failed_read result) (tally_faults a.old) (tally_faults a.new) }
 {
-    whole_text();
     find_end::<NothingOnTop, R>(alloc, a)
 }
 
@@ -90,8 +89,7 @@ pub fn judge_end_watched<O: Observer, R: Read>(
     ensures first { IfErr result (λ fault. fault ≢ CaptureFault.Failed) }
     ensures reads { CountsReads (is_failed_read result) (tally_faults a.old) (tally_faults a.new) }
 {
-    whole_text();
-    match stop_end::<LinksOnTopLeft, O, R>(alloc, a, observer) {
+    match decide_end::<LinksOnTopLeft, O, R>(alloc, a, observer) {
         Ok((stopped, observer)) => {
             let verdict = stopped.verdict;
             let end = SideEnd::alone(stopped.capture, stopped.end, stopped.ahead);
@@ -105,13 +103,33 @@ pub fn judge_end_watched<O: Observer, R: Read>(
     }
 }
 
-// The same over either top, of whatever the reader tells.
+// The same over either top.
 fn find_end<T: Top, R: Read>(alloc: Global, a: &mut Tally<R>) -> Result<EndVerdict, CaptureFault>
-    ensures answer { IsEndAnswer T.top.end (R.remaining (tally_lent a.old)) result }
+    ensures judged { IsJudgedAlone T.top.end (R.remaining (tally_lent a.old)) result }
+    ensures first { IfErr result (λ fault. fault ≢ CaptureFault.Failed) }
     ensures reads { CountsReads (is_failed_read result) (tally_faults a.old) (tally_faults a.new) }
 {
-    match stop_end::<T, Nobody, R>(alloc, a, Nobody) {
+    match decide_end::<T, Nobody, R>(alloc, a, Nobody) {
         Ok((stopped, _)) => Ok(stopped.verdict),
+        Err(fault) => Err(fault),
+    }
+}
+
+// Decides the same while this observer is told of the records, and keeps the end as it is then.
+fn decide_end<T: Top, O: Observer, R: Read>(
+    alloc: Global,
+    a: &mut Tally<R>,
+    observer: O,
+) -> Result<(StoppedEnd, O), CaptureFault>
+    requires { O.told observer [] }
+    ensures judged { IsJudgedAlone T.top.end (R.remaining (tally_lent a.old)) (only result (λ stop. stop.0.verdict)) }
+    ensures stopped { IfOk result (λ stop. IsEndStopped T.top (R.remaining (tally_lent a.old)) (O.told stop.1) stop.0) }
+    ensures first { IfErr result (λ fault. fault ≢ CaptureFault.Failed) }
+    ensures reads { CountsReads (is_failed_read result) (tally_faults a.old) (tally_faults a.new) }
+{
+    whole_text();
+    match stop_end::<T, O, R>(alloc, a, observer) {
+        Ok(stop) => Ok(stop),
         Err(fault) => Err(fault),
     }
 }
@@ -143,10 +161,17 @@ fn stop_end<T: Top, O: Observer, R: Read>(
     for number in 0..MAX_RECORDS + 1 {
         match capture.advance(a) {
             Ok(Some(entry)) => match end.make::<T>(entry, capture.bytes()) {
-                Ok(MadeAlone::Done) => match observer.made(Side::A, entry, capture.bytes(), false) {
-                    Ok(()) => {}
-                    Err(AllocError) => return Err(CaptureFault::OutOfMemory),
-                },
+                Ok(MadeAlone::Done) => {
+                    let next = MadeEntry {
+                        side: Side::A,
+                        entry,
+                        bytes: capture.bytes(),
+                        sound: false,
+                    };
+                    let Ok(()) = observer.made(&next) else {
+                        return Err(CaptureFault::OutOfMemory);
+                    };
+                }
                 Ok(MadeAlone::Fails { accused, refusal }) => {
                     let stopped = StoppedEnd {
                         verdict: EndVerdict::Refused {

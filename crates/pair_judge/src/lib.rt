@@ -26,6 +26,7 @@ mod layers;
 mod line;
 mod line_unit;
 mod lone_end;
+mod made_entry;
 mod making;
 mod noise;
 mod observer;
@@ -56,6 +57,7 @@ pub use judging::{
     Watched, judge, judge_line, judge_line_told, judge_told, judge_watched, judge_with_ends,
 };
 pub use judging_end::{WatchedEnd, judge_end, judge_end_watched, judge_line_end};
+pub use made_entry::MadeEntry;
 pub use observer::{Nobody, Observer};
 pub use reason::Reason;
 pub use refusal::refused_captures;

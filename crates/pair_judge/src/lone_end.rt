@@ -79,6 +79,7 @@ impl LoneEnd {
 
     /// Makes one record: that of the entry and these bytes. An error: there is no memory for the packet that it sends, or for what the links keep
     /// of a packet or of an event.
+    #[tactic(auto, using(crate::proofs::Entries::is_event))]
     pub fn make<T: Top>(&mut self, entry: Entry, bytes: &[u8]) -> Result<MadeAlone, AllocError>
         requires room { HasRoomAlone self.old }
         requires numbers { NumbersFit (record_with entry bytes.now) }
@@ -89,14 +90,7 @@ impl LoneEnd {
             Entry::Sent => self.make_sent::<T>(bytes),
             Entry::Received { kept, hint } => self.make_received::<T>(hint, kept, bytes),
             Entry::Noise => Ok(self.make_noise::<T>(bytes)),
-            Entry::Start
-            | Entry::Halt
-            | Entry::Open { .. }
-            | Entry::Accept { .. }
-            | Entry::Reject { .. }
-            | Entry::In { .. }
-            | Entry::Up { .. }
-            | Entry::Close { .. } => self.make_event::<T>(entry, bytes),
+            _ => self.make_event::<T>(entry, bytes),
         }
     }
 

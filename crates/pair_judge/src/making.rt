@@ -44,6 +44,7 @@ pub enum Made {
 /// is no memory for the unit that the record sends, or for what the links keep of its packet or of its event. No other record takes
 /// any.
 #[inline(always)]
+#[tactic(auto, using(crate::proofs::Entries::is_event))]
 pub fn make<T: Top>(
     alloc: Global,
     own: &mut End,
@@ -68,14 +69,7 @@ pub fn make<T: Top>(
         Entry::Sent => make_sent::<T>(alloc, own, bytes),
         Entry::Received { kept, hint } => make_received::<T>(own, incoming, hint, kept, bytes),
         Entry::Noise => Ok(make_noise::<T>(own, bytes)),
-        Entry::Start
-        | Entry::Halt
-        | Entry::Open { .. }
-        | Entry::Accept { .. }
-        | Entry::Reject { .. }
-        | Entry::In { .. }
-        | Entry::Up { .. }
-        | Entry::Close { .. } => make_event_copied::<T>(own, entry, bytes),
+        _ => make_event_copied::<T>(own, entry, bytes),
     }
 }
 

@@ -1,15 +1,12 @@
 //! Who is told of each record that the judge makes.
 
-ghost use Rattle.std.specs.Prelude.{◌≡◌, true, List, OnOk};
-ghost use Rattle.capture.specs.Entries.{record_with};
-ghost use Rattle.ddcmp_msg.specs.Reading.{IsSound, reading};
-ghost use Rattle.pair_judge.specs.Order.{MadeRecord, TellsNext, made_by};
+ghost use Rattle.std.specs.Prelude.{List, OnOk};
+ghost use Rattle.pair_judge.specs.Order.{MadeRecord, TellsNext, record_told};
 
 use crate::fault::JudgeFault;
-use capture::Entry;
+use crate::made_entry::MadeEntry;
 use dna_node::Finding;
 use std::alloc::AllocError;
-use wire_base::Side;
 
 /// Who is told of each record that the judge makes: it is told each one, in the order in which they are made, which is a run. It is chosen when
 /// the program is made, so that no record asks whether anyone looks on.
@@ -17,17 +14,9 @@ pub trait Observer: Drop {
     // What it is after it was told these records.
     ghost told: { Self → List MadeRecord → Type 0 };
 
-    /// This side made the record of this entry and these bytes. `sound` says that they are a sound unit, which the judge found already;
-    /// `false` says nothing. `AllocError`: memory for what it keeps of that was refused; it has no use any more.
-    fn made(
-        &mut self,
-        side: Side,
-        entry: Entry,
-        bytes: &[u8],
-        sound: bool,
-    ) -> Result<(), AllocError>
-        requires { sound ≡ true → IsSound (reading bytes.now) }
-        ensures { OnOk result (TellsNext told self.old self.new (made_by side (record_with entry bytes.now))) };
+    /// This record was made. `AllocError`: memory for what it keeps of that was refused; it has no use any more.
+    fn made(&mut self, next: &MadeEntry<'_>) -> Result<(), AllocError>
+        ensures { OnOk result (TellsNext told self.old self.new (record_told next.now)) };
 }
 
 /// Nobody looks on.
@@ -38,13 +27,7 @@ impl Observer for Nobody {
     ghost told = { λ nobody order. Unit {0} };
 
     #[inline(always)]
-    fn made(
-        &mut self,
-        _side: Side,
-        _entry: Entry,
-        _bytes: &[u8],
-        _sound: bool,
-    ) -> Result<(), AllocError> {
+    fn made(&mut self, _next: &MadeEntry<'_>) -> Result<(), AllocError> {
         Ok(())
     }
 }

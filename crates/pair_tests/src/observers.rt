@@ -2,8 +2,7 @@
 
 ghost use Rattle.std.specs.Prelude.{◌≡◌, length};
 
-use capture::Entry;
-use pair_judge::{Observer, judge_end_watched, judge_watched};
+use pair_judge::{MadeEntry, Observer, judge_end_watched, judge_watched};
 use std::alloc::{AllocError, Global};
 use wire_base::{Side, Tally};
 
@@ -23,14 +22,8 @@ struct Letters {
 impl Observer for Letters {
     ghost told = { λ letters order. length letters.made.items ≡ length order };
 
-    fn made(
-        &mut self,
-        side: Side,
-        _entry: Entry,
-        _bytes: &[u8],
-        _sound: bool,
-    ) -> Result<(), AllocError> {
-        let letter = match side {
+    fn made(&mut self, next: &MadeEntry<'_>) -> Result<(), AllocError> {
+        let letter = match next.side {
             Side::A => b'a',
             Side::B => b'b',
         };

@@ -1,20 +1,14 @@
 -- What is kept of the records that were told, for the contracts of private functions.
-use Rattle.std.specs.Prelude.{◌≡◌, ◌⊎◌, ◌≤◌, ◌<◌, ℕ, Bool, true, false, List, [], ◌∷◌, ◌++◌, length, map}
-use Rattle.capture.specs.declared.entry.Entry.{Entry}
+use Rattle.std.specs.Prelude.{◌≡◌, ◌⊎◌, ◌≤◌, ◌<◌, Bool, true, false, List, [], ◌∷◌, ◌++◌, length, map}
 use Rattle.ladder.specs.Ladder.{LadderView}
-use Rattle.pair_judge.specs.Order.{MadeRecord}
-use Rattle.wire_base.specs.declared.side.Side.{Side}
+use Rattle.pair_judge.specs.Order.{MadeEntry, MadeRecord, record_told}
 use Rattle.drawing.specs.declared.first.First.{First}
 use Rattle.drawing.specs.declared.first.TheConstants.{LATER}
 use Rattle.drawing.specs.declared.recent.Recent.{Recent}
 use Rattle.drawing.specs.declared.log.TheConstants.{RECORDS}
 use Rattle.drawing.specs.declared.telling.BothEnds.{BothEnds}
 use Rattle.drawing.specs.declared.telling.Onward.{Onward}
-use Rattle.drawing.specs.Telling.{ToldView, ladder_knowing, ladder_told, later_entry, record_told}
-
--- before and after one record more
-abbrev pub Tells : {X : Type 0} → (X → List MadeRecord → Type 0) → (before after : X) → ToldView → Type 0
-Tells is before after next = (order : List MadeRecord) → is before order → is after (order ++ record_told next ∷ [])
+use Rattle.drawing.specs.Telling.{ladder_knowing, ladder_told, later_entry}
 
 pub record IsNew (ladder : LadderView) : Type 0 where
   pub ended : ladder.ended ≡ false
@@ -25,7 +19,7 @@ pub record IsNew (ladder : LadderView) : Type 0 where
 pub record IsRecent (recent : Recent) (order : List MadeRecord) : Type 0 where
   pub start : LadderView
   pub is_new : IsNew start
-  pub gone : List ToldView
+  pub gone : List MadeEntry
   pub of_order : map record_told (gone ++ (recent.older ++ recent.newer)) ≡ order
   pub before : recent.before ≡ ladder_knowing start gone
   pub enough : (gone ≡ []) ⊎ (RECORDS ≤ length recent.older)
@@ -34,8 +28,8 @@ pub record IsRecent (recent : Recent) (order : List MadeRecord) : Type 0 where
 pub record WasToldOf (ladder : LadderView) (order : List MadeRecord) : Type 0 where
   pub start : LadderView
   pub is_new : IsNew start
-  pub gone : List ToldView
-  pub near : List ToldView
+  pub gone : List MadeEntry
+  pub near : List MadeEntry
   pub of_order : map record_told (gone ++ near) ≡ order
   pub reached : ladder ≡ ladder_told (ladder_knowing start gone) near
 
@@ -46,7 +40,7 @@ Rest false rest = (next : MadeRecord) × (more : List MadeRecord) × (rest ≡ n
 
 -- the first records, those behind them, and the rest
 pub record IsFirst (first : First) (order : List MadeRecord) : Type 0 where
-  pub later : List ToldView
+  pub later : List MadeEntry
   pub rest : List MadeRecord
   pub of_order : map record_told (first.records.items ++ later) ++ rest ≡ order
   pub is_later : first.later.items ≡ map later_entry later

@@ -44,6 +44,7 @@ impl SideEnd {
         Some(check)
     }
 
+    #[tactic(auto, using(crate::proofs::Entries::no_receipt))]
     fn check_alone(&self, reason: Reason) -> Option<FailedCheck> {
         let Ahead::Waits(entry) = self.ahead else {
             return None;
@@ -51,16 +52,7 @@ impl SideEnd {
         let bytes = self.capture.bytes();
         match entry {
             Entry::Received { hint, .. } => failed_coming(reason, self.front, hint, bytes),
-            Entry::Sent
-            | Entry::Noise
-            | Entry::Start
-            | Entry::Halt
-            | Entry::Open { .. }
-            | Entry::Accept { .. }
-            | Entry::Reject { .. }
-            | Entry::In { .. }
-            | Entry::Up { .. }
-            | Entry::Close { .. } => failed_own(&self.layers, entry, bytes),
+            _ => failed_own(&self.layers, entry, bytes),
         }
     }
 

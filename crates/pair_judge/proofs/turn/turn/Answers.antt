@@ -8,8 +8,8 @@ use Rattle.pair_judge.proofs.Left.{left_so}
 use Rattle.pair_judge.specs.Order.{made_by}
 use Rattle.std.proofs.lemmas.Result.{IfErr-weaker, IfOk-weaker}
 use Rattle.pair_judge.specs.inner.Reached.{turned}
-use Rattle.pair_judge.proofs.Turns.{held_still, ordered, reached_by_a, same_end, under_still, same_read, next_place, turn_so}
-use Rattle.pair_judge.proofs.Found.{at_place, a_fails, stops_a}
+use Rattle.pair_judge.proofs.Turns.{held_still, ordered, reached_by_a, reached_still, same_end, under_still, same_read, next_place, turn_so}
+use Rattle.pair_judge.proofs.Found.{at_place, a_fails, stops_at}
 use Rattle.pair_judge.proofs.Faults.{faulty}
 use Rattle.pair_judge.proofs.turn.turn.Goals as goal
 
@@ -51,9 +51,9 @@ returns-in-Ok-Fails-clause-turn g c = λ order text_a text_b made_a made_b under
           c.in-Ok-Fails.refusal f.next
           f.read f.ahead
           (same_read text_b c.args.b.now _ _ made_b refl refl refl under.read_b)
-          (left_so g.T.Top.top.leaves (λ still. stops_a g.T.Top.top _ _ c.args.a.now.end c.args.b.now.end (Step c.in-Ok-Fails.refusal) f.next h
-          (same_end c.args.a.now.end c.advance.new.self.end still.same_end)
-          (record { head = refl; layers = refl; counts = refl; line = still.same_line }) f.ahead refused) f.still)
+          (left_so g.T.Top.top.leaves (λ still. stops_at g.T.Top.top A _ _ (Step c.in-Ok-Fails.refusal) f.next
+          (reached_still g.T.Top.top order c.args.a.now.end _ c.args.b.now.end _ made_a made_b h (same_end _ _ still.same_end)
+          (record { head = refl; layers = refl; counts = refl; line = still.same_line })) f.ahead refused) f.still)
           (λ rest_a rest_b. c.endings.ensures.a_refused _ _ h.world made_a rest_a made_b rest_b f.next c.in-Ok-Fails.refusal h.run refused)),
       ordered g.T.Top.top _ _ order c.args.a.now.end c.args.b.now.end h c.advance.ensures.head refl f.counts refl,
     )
@@ -89,8 +89,7 @@ returns-in-Ok-Blocked-clause-turn g c =
     (λ turn before. let h = rw same at before in λ order text_a text_b made_a made_b under.
     let m = blocked text_a made_a under.read_a in
     turn_so g.T.Top.top order _ turn text_a _ _ _ made_a _ c.turn_of_b-in-Ok-Blocked.ensures.same.0 (h order text_a text_b _ made_a made_b
-    (under_still g.T.Top.top order text_a text_b c.args.a.now c.advance.new.self c.args.b.now _ _ _ _ made_a made_b under m.read m.still.same_end refl
-    refl (record { head = refl; layers = refl; counts = refl; line = m.still.same_line }))
+    (under_still g.T.Top.top order text_a text_b c.args.a.now _ c.args.b.now _ _ _ _ made_a made_b under m.read m.still.same_end m.still.same_line)
     (held_still g.T.Top.top c.args.a.now c.advance.new.self c.args.b.now.end.line c.advance.new.incoming m.next m.ahead m.still.same_end
     m.still.same_line m.waits)))
     c.turn_of_b-in-Ok-Blocked.ensures.turn
@@ -102,8 +101,7 @@ returns-in-Ok-Blocked-clause-fault g c =
     (λ fault h. λ order text_a text_b made_a made_b under.
     let m = blocked text_a made_a under.read_a in
     h order text_a text_b _ made_a made_b
-    (under_still g.T.Top.top order text_a text_b c.args.a.now c.advance.new.self c.args.b.now _ _ _ _ made_a made_b under m.read m.still.same_end refl
-    refl (record { head = refl; layers = refl; counts = refl; line = m.still.same_line })))
+    (under_still g.T.Top.top order text_a text_b c.args.a.now _ c.args.b.now _ _ _ _ made_a made_b under m.read m.still.same_end m.still.same_line))
     c.turn_of_b-in-Ok-Blocked.ensures.fault
 
 pub returns-in-Ok-Ended-clause-turn : goal.returns-in-Ok-Ended-clause-turn
@@ -114,8 +112,7 @@ returns-in-Ok-Ended-clause-turn g c =
     (λ turn before. let h = rw same at before in λ order text_a text_b made_a made_b under.
     let m = over text_a made_a under.read_a in
     turn_so g.T.Top.top order _ turn text_a _ _ _ made_a _ c.turn_of_b-in-Ok-Ended.ensures.same.0 (h order text_a text_b _ made_a made_b
-    (under_still g.T.Top.top order text_a text_b c.args.a.now c.advance.new.self c.args.b.now _ _ _ _ made_a made_b under m.read m.still.same_end refl
-    refl (record { head = refl; layers = refl; counts = refl; line = m.still.same_line }))
+    (under_still g.T.Top.top order text_a text_b c.args.a.now _ c.args.b.now _ _ _ _ made_a made_b under m.read m.still.same_end m.still.same_line)
     m.ahead))
     c.turn_of_b-in-Ok-Ended.ensures.turn
 
@@ -126,6 +123,5 @@ returns-in-Ok-Ended-clause-fault g c =
     (λ fault h. λ order text_a text_b made_a made_b under.
     let m = over text_a made_a under.read_a in
     h order text_a text_b _ made_a made_b
-    (under_still g.T.Top.top order text_a text_b c.args.a.now c.advance.new.self c.args.b.now _ _ _ _ made_a made_b under m.read m.still.same_end refl
-    refl (record { head = refl; layers = refl; counts = refl; line = m.still.same_line })))
+    (under_still g.T.Top.top order text_a text_b c.args.a.now _ c.args.b.now _ _ _ _ made_a made_b under m.read m.still.same_end m.still.same_line))
     c.turn_of_b-in-Ok-Ended.ensures.fault

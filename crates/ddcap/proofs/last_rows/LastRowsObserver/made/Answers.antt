@@ -3,4 +3,4 @@ use Rattle.ddcap.proofs.Rungs.{tells_next}
 use Rattle.ddcap.proofs.last_rows.LastRowsObserver.made.Goals as goal
 
 pub returns : goal.returns
-returns c = on_ok_weaker c.made.result (tells_next _ _ c.args.side c.args.entry c.args.bytes.now) c.made.ensures.ok
+returns c = on_ok_weaker c.made.result (λ made. rw (← c.next.view_is) (tells_next _ _ _ made)) c.made.ensures.ok
